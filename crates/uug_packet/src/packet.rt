@@ -1,0 +1,23 @@
+use crate::control::Control;
+use crate::number::Seq;
+
+/// The bytes of the longest packet: a header and a field of 4,096 bytes.
+pub const PACKET_MAX: usize = 4102;
+
+/// A packet of the 'g' protocol.
+#[derive(Clone, Copy, Debug, PartialEq, Eq)]
+pub enum Packet<'a> {
+    /// A header alone.
+    Control(Control),
+    /// A data packet.
+    Carry {
+        /// Its number.
+        seq: Seq,
+        /// The number of the last packet correctly received.
+        ack: Seq,
+        /// The code of its field's size, 1 to 8: the field has `2^(k+4)` bytes.
+        k: u8,
+        /// The valid bytes of the field.
+        message: &'a [u8],
+    },
+}
