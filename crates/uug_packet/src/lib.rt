@@ -1,10 +1,22 @@
 //! The packets of the UUCP 'g' protocol, to and from bytes.
 #![tactic(auto)]
 
+mod checksum;
 mod control;
+mod decoding;
+mod encoding;
+mod field;
+mod header;
+pub mod laws;
 mod number;
 mod packet;
+#[cfg(test)]
+mod tests;
 
+pub use checksum::check;
 pub use control::Control;
+pub use decoding::{NoPacket, decode};
+pub use encoding::encode;
+pub use header::{CONTROL_K, HEADER_SIZE};
 pub use number::Seq;
 pub use packet::{PACKET_MAX, Packet};

@@ -18,6 +18,13 @@ impl Seq {
         if value < 8 { Some(Seq { value }) } else { None }
     }
 
+    /// The number in the three low bits of `bits`.
+    pub(crate) fn of_low_bits(bits: u8) -> Self
+        ensures { number_of result ≡ bits % 8 }
+    {
+        Seq { value: bits % 8 }
+    }
+
     /// The number itself, below 8.
     pub fn value(self) -> u8
         ensures value { result ≡ number_of self }

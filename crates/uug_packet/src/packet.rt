@@ -1,8 +1,10 @@
 use crate::control::Control;
+use crate::field::FIELD_MAX;
+use crate::header::HEADER_SIZE;
 use crate::number::Seq;
 
-/// The bytes of the longest packet: a header and a field of 4,096 bytes.
-pub const PACKET_MAX: usize = 4102;
+/// The bytes of the longest packet, 4,102: a header and the largest field.
+pub const PACKET_MAX: usize = HEADER_SIZE + FIELD_MAX;
 
 /// A packet of the 'g' protocol.
 #[derive(Clone, Copy, Debug, PartialEq, Eq)]
