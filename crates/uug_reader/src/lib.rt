@@ -1,0 +1,12 @@
+//! Packets in a stream of bytes that comes in pieces.
+#![tactic(auto)]
+
+mod found;
+pub mod laws;
+mod reader;
+mod search;
+#[cfg(test)]
+mod tests;
+
+pub use found::Found;
+pub use reader::{READER_SIZE, Reader};
