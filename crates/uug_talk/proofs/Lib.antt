@@ -1,0 +1,16 @@
+pub mod AnswerLemmas
+pub mod ChunkLemmas
+pub mod FirstTextLemmas
+pub mod GatherLemmas
+pub mod GathersBackLemmas
+pub mod HearLemmas
+pub mod JoinedLemmas
+pub mod ModeLemmas
+pub mod NameLemmas
+pub mod OrderLemmas
+pub mod RefusedLemmas
+pub mod ResultLemmas
+pub mod StandardFacts
+pub mod TextLemmas
+pub mod WordLemmas
+pub mod WriteLemmas

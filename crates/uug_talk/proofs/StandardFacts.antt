@@ -1,0 +1,143 @@
+-- Texts and messages whose reading is known, so that a wrong definition does not check.
+use Rattle.std.proofs.Common.{◌≡◌, ◌+◌, [], ◌∷◌, ◌++◌, length, map, replicate, codes, Some, None, Ok, Err, refl}
+use Rattle.uug_talk.specs.declared.answer.Answer.TheVariants.{SendYes, SendNever, SendLater, GiveYes, GiveNever, GiveLater, DoneYes, DoneYesMaster, DoneNever, DoneLater, HangYes, HangNo}
+use Rattle.uug_talk.specs.declared.error.BadText.TheVariants as fault
+use Rattle.uug_talk.specs.declared.hail.TheConstants.{HAIL_MAX}
+use Rattle.uug_talk.specs.declared.order.Order.TheVariants.{Send, Request, HangUp}
+use Rattle.uug_talk.specs.declared.words.TheConstants.{COMMAND_MAX}
+use Rattle.uug_talk.specs.Answer.{answer_of, answer_text}
+use Rattle.uug_talk.specs.Chunks.{command_messages, file_messages}
+use Rattle.uug_talk.specs.Name.{name_read}
+use Rattle.uug_talk.specs.Order.{order_of, order_text}
+use Rattle.uug_talk.specs.Texts.{Passing, Open, Whole, hear}
+
+-- commands
+pub record AreOrders : Type 0 where
+  pub plain : order_of (codes "S x y u - D.0 0644") ≡ Ok (Send (codes "x") (codes "y") (codes "u") None 420)
+  pub copied : order_of (codes "S x y u -C q 0644 n 12") ≡ Ok (Send (codes "x") (codes "y") (codes "u") (Some (codes "q")) 420)
+  pub later_option : order_of (codes "S  x y   u -dC q 10000644") ≡ Err fault.Mode
+  pub cut_mode : order_of (codes "  S  x y   u -dC q 7770644 ") ≡ Ok (Send (codes "x") (codes "y") (codes "u") (Some (codes "q")) 420)
+  pub request : order_of (codes "R q y u - more") ≡ Ok (Request (codes "q") (codes "y") (codes "u"))
+  pub hang_up : order_of (codes "H more") ≡ Ok HangUp
+  pub few_words : order_of (codes "S x y u - D.0") ≡ Err fault.Fields
+  pub no_dash : order_of (codes "R x y u C") ≡ Err fault.Fields
+  pub bad_name : order_of (83 ∷ 32 ∷ 1 ∷ codes " y u - D.0 0698") ≡ Err fault.Name
+  pub bad_mode : order_of (codes "S x y u - D.0 0698") ≡ Err fault.Mode
+  pub unknown : order_of (codes "E x y u - D.0 0644") ≡ Err fault.Unknown
+  pub longer_word : order_of (codes "HY") ≡ Err fault.Unknown
+  pub too_long : order_of (replicate (COMMAND_MAX + 1) 120) ≡ Err fault.TooLong
+  pub long : order_of (replicate COMMAND_MAX 120) ≡ Err fault.Unknown
+
+pub orders : AreOrders
+orders = record {
+  plain = refl;
+  copied = refl;
+  later_option = refl;
+  cut_mode = refl;
+  request = refl;
+  hang_up = refl;
+  few_words = refl;
+  no_dash = refl;
+  bad_name = refl;
+  bad_mode = refl;
+  unknown = refl;
+  longer_word = refl;
+  too_long = refl;
+  long = refl;
+}
+
+-- answers
+pub record AreAnswers : Type 0 where
+  pub send_yes : answer_of (codes "SY 0") ≡ Ok SendYes
+  pub send_never : answer_of (codes " SN22") ≡ Ok SendNever
+  pub send_later : answer_of (codes "SN9") ≡ Ok SendLater
+  pub give_yes : answer_of (codes "RYx 0600 0777") ≡ Ok (GiveYes 384)
+  pub give_default : answer_of (codes "RY0600") ≡ Ok (GiveYes 438)
+  pub give_no_mode : answer_of (codes "RY 8") ≡ Err fault.Mode
+  pub give_never : answer_of (codes "RN2") ≡ Ok GiveNever
+  pub give_later : answer_of (codes "RN") ≡ Ok GiveLater
+  pub done_yes : answer_of (codes "CY M") ≡ Ok DoneYes
+  pub done_master : answer_of (codes "CYM") ≡ Ok DoneYesMaster
+  pub done_never : answer_of (codes "CN5") ≡ Ok DoneNever
+  pub done_later : answer_of (codes "CN4") ≡ Ok DoneLater
+  pub hang_yes : answer_of (codes "HYes") ≡ Ok HangYes
+  pub hang_no : answer_of (codes "HN") ≡ Ok HangNo
+  pub unknown : answer_of (codes "XY") ≡ Err fault.Unknown
+  pub split : answer_of (codes "S Y") ≡ Err fault.Unknown
+  pub too_long : answer_of (replicate (COMMAND_MAX + 1) 120) ≡ Err fault.TooLong
+
+pub answers : AreAnswers
+answers = record {
+  send_yes = refl;
+  send_never = refl;
+  send_later = refl;
+  give_yes = refl;
+  give_default = refl;
+  give_no_mode = refl;
+  give_never = refl;
+  give_later = refl;
+  done_yes = refl;
+  done_master = refl;
+  done_never = refl;
+  done_later = refl;
+  hang_yes = refl;
+  hang_no = refl;
+  unknown = refl;
+  split = refl;
+  too_long = refl;
+}
+
+-- texts as they are written
+pub record AreWritten : Type 0 where
+  pub plain : order_text (Send (codes "x") (codes "y") (codes "u") None 420) ≡ codes "S x y u - D.0 0644"
+  pub copied : order_text (Send (codes "x") (codes "y") (codes "u") (Some (codes "q")) 420) ≡ codes "S x y u -C q 0644"
+  pub request : order_text (Request (codes "q") (codes "y") (codes "u")) ≡ codes "R q y u -"
+  pub hang_up : order_text HangUp ≡ codes "H"
+  pub give_yes : answer_text (GiveYes 420) ≡ codes "RY 0644"
+  pub send_later : answer_text SendLater ≡ codes "SN4"
+  pub done_never : answer_text DoneNever ≡ codes "CN5"
+  pub hang_no : answer_text HangNo ≡ codes "HN"
+
+pub written : AreWritten
+written = record {
+  plain = refl;
+  copied = refl;
+  request = refl;
+  hang_up = refl;
+  give_yes = refl;
+  send_later = refl;
+  done_never = refl;
+  hang_no = refl;
+}
+
+-- the lengths of messages
+pub record AreMessages : Type 0 where
+  pub whole_multiple : map length (file_messages 64 (replicate 128 7)) ≡ 64 ∷ 64 ∷ 0 ∷ []
+  pub shorter : map length (file_messages 64 (replicate 100 7)) ≡ 64 ∷ 36 ∷ 0 ∷ []
+  pub empty : file_messages 64 [] ≡ [] ∷ []
+  pub one : command_messages 64 (replicate 63 7) ≡ (replicate 63 7 ++ 0 ∷ []) ∷ []
+  pub two : command_messages 64 (replicate 64 7) ≡ replicate 64 7 ∷ replicate 64 0 ∷ []
+
+pub messages : AreMessages
+messages = record { whole_multiple = refl; shorter = refl; empty = refl; one = refl; two = refl }
+
+-- handshake texts
+pub record AreTexts : Type 0 where
+  pub chatter : hear Passing (codes "login:" ++ 16 ∷ codes "Shere=b" ++ 10 ∷ codes "zz") ≡ Some (15, Whole (codes "Shere=b"))
+  pub anew : hear Passing (16 ∷ 83 ∷ 16 ∷ 83 ∷ 97 ∷ 0 ∷ []) ≡ Some (6, Whole (codes "Sa"))
+  pub second_piece : hear (Open (codes "S")) (97 ∷ 0 ∷ []) ≡ Some (2, Whole (codes "Sa"))
+  pub longest : hear Passing (16 ∷ replicate HAIL_MAX 120) ≡ Some (HAIL_MAX + 1, Open (replicate HAIL_MAX 120))
+  pub too_long : hear Passing (16 ∷ replicate (HAIL_MAX + 1) 120) ≡ None
+
+pub texts : AreTexts
+texts = record { chatter = refl; anew = refl; second_piece = refl; longest = refl; too_long = refl }
+
+-- names
+pub record AreNameWords : Type 0 where
+  pub longest : name_read (replicate 200 120) ≡ Ok (replicate 200 120)
+  pub too_long : name_read (replicate 201 120) ≡ Err fault.Name
+  pub none : name_read [] ≡ Err fault.Name
+  pub space : name_read (codes "a b") ≡ Err fault.Name
+
+pub name_words : AreNameWords
+name_words = record { longest = refl; too_long = refl; none = refl; space = refl }

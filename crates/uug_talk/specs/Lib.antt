@@ -1,0 +1,12 @@
+pub mod Answer
+pub mod Chunks
+pub mod Gathering
+pub mod Hail
+pub mod Held
+pub mod MessagesLeft
+pub mod Mode
+pub mod Name
+pub mod Order
+pub mod Refusal
+pub mod Texts
+pub mod Words

@@ -1,0 +1,144 @@
+ghost use Rattle.std.specs.Prelude.{◌≡◌, ◌≢◌, ◌-◌, ◌<◌, ◌≤◌, [], ◌∷◌, ◌++◌, length, take, drop, replicate, All, MatchOption};
+ghost use Rattle.std.specs.Iterator.{YieldsFirstBy, item_count};
+ghost use Rattle.uug_talk.specs.declared.chunks.TheConstants.{MESSAGE_MAX};
+ghost use Rattle.uug_talk.specs.Chunks.{IsCommandText, command_messages, file_messages};
+
+use crate::words::COMMAND_MAX;
+use arrayvec::ArrayVec;
+
+/// The longest message, in bytes.
+pub const MESSAGE_MAX: usize = 4096;
+
+/// A message: what one packet carries.
+pub type Message = ArrayVec<u8, MESSAGE_MAX>;
+
+#[derive(Clone, Copy, Debug, PartialEq, Eq)]
+enum Ending {
+    // The last message is filled up with zeros, one at least.
+    Zeros,
+    // The last message is empty.
+    Empty,
+    // The last message was given.
+    Given,
+}
+
+/// The messages in which a command or a file travels, in order. A command goes as its text, one zero
+/// byte and zeros up to a multiple of the size, cut every `size` bytes. A file goes as its bytes, cut
+/// every `size` bytes, and one empty message.
+#[derive(Drop)]
+pub struct Chunks<'a> {
+    rest: &'a [u8],
+    size: usize,
+    ending: Ending,
+    ghost some: { 0 < size },
+    ghost fits: { size ≤ MESSAGE_MAX },
+}
+
+impl<'a> Chunks<'a> {
+    ghost use Rattle.uug_talk.specs.MessagesLeft.{messages_left};
+
+    /// The messages of a command.
+    pub fn command(text: &'a [u8], size: usize) -> Self
+        requires text { IsCommandText text.now }
+        requires some { 0 < size }
+        requires fits { size ≤ MESSAGE_MAX }
+        ensures { messages_left result ≡ command_messages size text.now }
+    {
+        Chunks {
+            rest: text,
+            size,
+            ending: Ending::Zeros,
+        }
+    }
+
+    /// The messages of a file.
+    pub fn file(bytes: &'a [u8], size: usize) -> Self
+        requires some { 0 < size }
+        requires fits { size ≤ MESSAGE_MAX }
+        ensures { messages_left result ≡ file_messages size bytes.now }
+    {
+        Chunks {
+            rest: bytes,
+            size,
+            ending: Ending::Empty,
+        }
+    }
+}
+
+impl<'a> Iterator for Chunks<'a> {
+    ghost use Rattle.uug_talk.specs.MessagesLeft.{messages_left};
+
+    type Item = Message;
+
+    ghost next_gives = { YieldsFirstBy (λ message. message.items) messages_left };
+
+    ghost remaining = { item_count messages_left };
+
+    fn next(&mut self) -> Option<Message> {
+        self.next_message()
+    }
+}
+
+impl Chunks<'_> {
+    ghost use Rattle.uug_talk.specs.MessagesLeft.{messages_left};
+
+    fn next_message(&mut self) -> Option<Message>
+        ensures { MatchOption result ((messages_left self.old ≡ []) × (messages_left self.new ≡ []))
+            (λ message. messages_left self.old ≡ message.items ∷ messages_left self.new) }
+    {
+        match self.ending {
+            Ending::Zeros => Some(self.next_of_command()),
+            Ending::Empty => Some(self.next_of_file()),
+            Ending::Given => None,
+        }
+    }
+
+    fn next_of_command(&mut self) -> Message
+        requires { self.old.ending ≡ Ending.Zeros }
+        ensures { messages_left self.old ≡ result.items ∷ messages_left self.new }
+    {
+        if self.rest.len() < self.size {
+            self.ending = Ending::Given;
+            return padded(self.rest, self.size);
+        }
+        self.cut_front()
+    }
+
+    fn next_of_file(&mut self) -> Message
+        requires { self.old.ending ≡ Ending.Empty }
+        ensures { messages_left self.old ≡ result.items ∷ messages_left self.new }
+    {
+        if self.rest.is_empty() {
+            self.ending = Ending::Given;
+            return ArrayVec::new();
+        }
+        self.cut_front()
+    }
+
+    // The first bytes that are left, as many as a message has.
+    fn cut_front(&mut self) -> Message
+        ensures message { result.items ≡ take self.old.size self.old.rest.now }
+        ensures rest { self.new.rest.now ≡ drop self.old.size self.old.rest.now }
+        ensures kept { (self.new.size ≡ self.old.size) × (self.new.ending ≡ self.old.ending) }
+    {
+        let (piece, rest) = self.rest.split_at(self.size.min(self.rest.len()));
+        self.rest = rest;
+        padded(piece, piece.len())
+    }
+}
+
+// The piece, and zeros behind it up to the size.
+fn padded(piece: &[u8], size: usize) -> Message
+    requires room { length piece.now ≤ size }
+    requires fits { size ≤ MESSAGE_MAX }
+    ensures { result.items ≡ piece.now ++ replicate (size - length piece.now) 0 }
+{
+    let mut message = ArrayVec::new();
+    let Ok(()) = message.try_extend_from_slice(piece) else {
+        unreachable!();
+    };
+    for _zero in 0..size - piece.len() {
+        message.push(0);
+    }
+    message
+}

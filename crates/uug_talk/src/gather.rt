@@ -1,0 +1,177 @@
+ghost use Rattle.std.specs.Prelude.{◌≡◌, ◌≢◌, ◌+◌, ◌<◌, ◌≤◌, ◌↔◌, ◌⊎◌, ℕ, List, [], ◌∷◌, ◌++◌, length, true, false, IsTrue, IfOk, IfErr, OnOk, OnErr, IsErrOf, MatchResult};
+ghost use Rattle.std.specs.List.{list_any, position_or_len};
+ghost use Rattle.uug_talk.specs.Gathering.{Gathering, OfCommand, OfFile, gathered, with_message, limit_of, part_of, ends, text_part, is_zero, is_empty};
+
+use crate::error::BadText;
+use crate::words::COMMAND_MAX;
+use arrayvec::ArrayVec;
+use std::alloc::Allocator;
+use std::marker::Model;
+
+/// The longest file, in bytes.
+pub const FILE_MAX: usize = 1_048_576;
+
+/// How far a command or a file has come.
+#[derive(Clone, Copy, Debug, PartialEq, Eq)]
+pub enum Progress {
+    /// More messages follow.
+    More,
+    /// This message was the last.
+    Whole,
+}
+
+#[derive(Drop)]
+enum Held<A: Allocator> {
+    Command(ArrayVec<u8, COMMAND_MAX>),
+    File(Vec<u8, A>),
+}
+
+/// Gathers a command or a file from its messages. A command is whole with its first zero byte, a file
+/// with its first empty message.
+#[derive(Drop)]
+pub struct Gather<A: Allocator> {
+    held: Held<A>,
+    whole: bool,
+}
+
+impl<A: Allocator> Model for Gather<A> {
+    ghost use Rattle.uug_talk.specs.Gathering.{Gathering};
+
+    ghost Value = { Gathering };
+
+    ghost use Rattle.uug_talk.specs.Held.{gathering_of};
+
+    ghost view = { λ g. gathering_of g.held g.whole };
+}
+
+impl<A: Allocator> Gather<A> {
+    /// Nothing of a command yet.
+    pub fn command() -> Self
+        ensures { result ≡ gathered OfCommand [] }
+    {
+        Gather {
+            held: Held::Command(ArrayVec::new()),
+            whole: false,
+        }
+    }
+
+    /// Nothing of a file yet. Its bytes will be kept in memory of `alloc`.
+    pub fn file(alloc: A) -> Self
+        ensures { result ≡ gathered OfFile [] }
+    {
+        Gather {
+            held: Held::File(Vec::new(alloc)),
+            whole: false,
+        }
+    }
+
+    /// The text or file so far.
+    pub fn bytes(&self) -> &[u8]
+        ensures { result.now ≡ self.now.bytes }
+    {
+        match &self.held {
+            Held::Command(text) => text.as_slice(),
+            Held::File(bytes) => bytes.as_slice(),
+        }
+    }
+
+    /// Takes the next message: of a command what stands before its first zero byte, of a file all of it.
+    ///
+    /// A message that would pass the limit is refused as `TooLong`, and then, of a file alone, one that
+    /// finds no memory as `Memory`.
+    pub fn push(&mut self, message: &[u8]) -> Result<Progress, BadText>
+        requires { self.old.whole ≡ false }
+        ensures ok { OnOk result (self.new ≡ with_message self.old message.now) }
+        ensures whole { IfOk result (λ progress. (progress ≡ Progress.Whole) ↔ IsTrue self.new.whole) }
+        ensures too_long { IsErrOf result BadText.TooLong
+            ↔ (limit_of self.old.kind < length self.old.bytes + length (part_of self.old.kind message.now)) }
+        ensures refusals { IfErr result (λ fault. (fault ≡ BadText.TooLong) ⊎ (fault ≡ BadText.Memory)) }
+
+        // Memory is asked for a file's message alone, and for no empty one.
+        ensures memory { IsErrOf result BadText.Memory
+            → (self.old.kind ≡ OfFile) × (message.now ≢ []) }
+        ensures err { OnErr result (self.new ≡ self.old) }
+
+        // What is held is what the messages that were taken say together.
+        ensures joined { OnOk result ((messages : List (List ℕ)) → self.old ≡ gathered self.old.kind messages
+            → self.new ≡ gathered self.old.kind (messages ++ message.now ∷ [])) }
+    {
+        self.add(message)
+    }
+
+    fn add(&mut self, message: &[u8]) -> Result<Progress, BadText>
+        requires { self.old.whole ≡ false }
+        ensures ok { OnOk result (self.new ≡ with_message self.old message.now) }
+        ensures whole { IfOk result (λ progress. (progress ≡ Progress.Whole) ↔ IsTrue self.new.whole) }
+        ensures too_long { IsErrOf result BadText.TooLong
+            ↔ (limit_of self.old.kind < length self.old.bytes + length (part_of self.old.kind message.now)) }
+        ensures refusals { IfErr result (λ fault. (fault ≡ BadText.TooLong) ⊎ (fault ≡ BadText.Memory)) }
+        ensures memory { IsErrOf result BadText.Memory
+            → (self.old.kind ≡ OfFile) × (message.now ≢ []) }
+        ensures err { OnErr result (self.new ≡ self.old) }
+    {
+        let progress = match &mut self.held {
+            Held::Command(text) => push_text(text, message)?,
+            Held::File(bytes) => push_bytes(bytes, message)?,
+        };
+        self.whole = progress == Progress::Whole;
+        Ok(progress)
+    }
+}
+
+fn push_text(text: &mut ArrayVec<u8, COMMAND_MAX>, message: &[u8]) -> Result<Progress, BadText>
+    ensures ok { OnOk result (text.new.items ≡ text.old.items ++ text_part message.now) }
+    ensures whole { IfOk result (λ progress. (progress ≡ Progress.Whole) ↔ IsTrue (list_any is_zero message.now)) }
+    ensures too_long { IsErrOf result BadText.TooLong
+        ↔ (COMMAND_MAX < length text.old.items + length (text_part message.now)) }
+    ensures refusal { IfErr result (λ fault. fault ≡ BadText.TooLong) }
+    ensures err { OnErr result (text.new ≡ text.old) }
+{
+    let len = text_len(message);
+    if text.try_extend_from_slice(&message[..len]).is_err() {
+        return Err(BadText::TooLong);
+    }
+    if len < message.len() {
+        Ok(Progress::Whole)
+    } else {
+        Ok(Progress::More)
+    }
+}
+
+fn push_bytes<A: Allocator>(bytes: &mut Vec<u8, A>, message: &[u8]) -> Result<Progress, BadText>
+    ensures ok { OnOk result (bytes.new.items ≡ bytes.old.items ++ message.now) }
+    ensures whole { IfOk result (λ progress. (progress ≡ Progress.Whole) ↔ (length message.now ≡ 0)) }
+    ensures too_long { IsErrOf result BadText.TooLong
+        ↔ (FILE_MAX < length bytes.old.items + length message.now) }
+    ensures refusals { IfErr result (λ fault. (fault ≡ BadText.TooLong) ⊎ (fault ≡ BadText.Memory)) }
+    ensures memory { IsErrOf result BadText.Memory → 0 < length message.now }
+    ensures err { OnErr result (bytes.new.items ≡ bytes.old.items) }
+{
+    if bytes.len().saturating_add(message.len()) > FILE_MAX {
+        return Err(BadText::TooLong);
+    }
+    if message.is_empty() {
+        return Ok(Progress::Whole);
+    }
+    if bytes.extend_from_slice(message).is_err() {
+        return Err(BadText::Memory);
+    }
+    Ok(Progress::More)
+}
+
+// How many bytes stand before the first zero byte.
+fn text_len(message: &[u8]) -> usize
+    ensures value { result ≡ position_or_len is_zero message.now }
+    ensures fits { result ≤ length message.now }
+    ensures zero { (result < length message.now) ↔ IsTrue (list_any is_zero message.now) }
+    ensures part { length (text_part message.now) ≡ result }
+{
+    zero_place(message)
+}
+
+fn zero_place(message: &[u8]) -> usize
+    ensures value { result ≡ position_or_len is_zero message.now }
+    ensures fits { result ≤ length message.now }
+{
+    message.iter().take_while(|b| **b != 0).count()
+}

@@ -1,0 +1,151 @@
+ghost use Rattle.std.specs.Prelude.{◌≡◌, ℕ, ◌≤◌, List, [], ◌∷◌, ◌++◌, length, take, All, Some, None, true, false, Ok, Err, MatchResult, IfOk, IfErr, OnOk, OnErr, IsTrue, ◌↔◌};
+ghost use Rattle.uug_talk.specs.Texts.{Heard, Passing, Open, Whole, IsWhole, is_whole, IsPlain, Holds, IsFirstText, IsTooLong, heard_byte, hear};
+
+use arrayvec::ArrayVec;
+use std::marker::Model;
+use thiserror::Error;
+
+/// The longest handshake text, without its 0x10 and its end byte.
+pub const HAIL_MAX: usize = 256;
+
+/// The room for a handshake text with its 0x10 and its zero byte.
+pub const HAIL_WRITTEN_MAX: usize = HAIL_MAX + 2;
+
+const TEXT_START: u8 = 0x10;
+
+/// More bytes than a handshake text may have came behind a 0x10.
+#[derive(Clone, Copy, Debug, PartialEq, Eq, Error)]
+#[error("handshake text too long")]
+pub struct TextTooLong;
+
+#[derive(Clone, Copy, Debug, PartialEq, Eq)]
+enum Stage {
+    Passing,
+    Open,
+    Whole,
+}
+
+/// Finds the handshake texts in a stream that comes in pieces: what stands between a 0x10 and the
+/// next zero byte or line feed, with no 0x10 between. A clause sees what was heard since the last
+/// text: nothing of a text, the front of one, or a whole one.
+#[derive(Drop)]
+pub struct Hail {
+    stage: Stage,
+    text: ArrayVec<u8, HAIL_MAX>,
+}
+
+impl Model for Hail {
+    ghost use Rattle.uug_talk.specs.Texts.{Heard};
+
+    ghost Value = { Heard };
+
+    ghost use Rattle.uug_talk.specs.Hail.{heard_of};
+
+    ghost view = { λ h. heard_of h.stage h.text.items };
+}
+
+impl Hail {
+    /// Nothing heard yet.
+    pub fn new() -> Self
+        ensures { result ≡ Passing }
+    {
+        Hail {
+            stage: Stage::Passing,
+            text: ArrayVec::new(),
+        }
+    }
+
+    /// Forgets what was heard.
+    pub fn clear(&mut self)
+        ensures { self.new ≡ Passing }
+    {
+        self.stage = Stage::Passing;
+    }
+
+    /// The whole text, without its 0x10 and its end byte.
+    pub fn text(&self) -> &[u8]
+        requires { IsWhole self.now }
+        ensures { self.now ≡ Whole result.now }
+    {
+        self.text.as_slice()
+    }
+
+    /// Takes bytes of the next piece, up to a text's end byte: how many, and whether a text is whole.
+    /// While a text is whole nothing is used. After `TextTooLong` nothing is heard, as after `clear`.
+    pub fn push(&mut self, piece: &[u8]) -> Result<(usize, bool), TextTooLong>
+        // What is heard is what the stream says, however it was cut into pieces.
+        ensures ok { IfOk result (λ found. (stream : List ℕ) → Holds self.old stream
+            → Holds self.new (stream ++ take found.0 piece.now)) }
+        ensures too_long { OnErr result ((stream : List ℕ) → Holds self.old stream
+            → (n : ℕ) × (n ≤ length piece.now) × IsTooLong (stream ++ take n piece.now)) }
+
+        // Nothing behind an end byte is used, and all of a piece without one.
+        ensures whole { IfOk result (λ found. found.1 ≡ is_whole self.new) }
+        ensures used { IfOk result (λ found. (found.0 ≤ length piece.now)
+            × (found.1 ≡ false → found.0 ≡ length piece.now)) }
+        ensures kept { IsWhole self.old → (result ≡ Ok (0, true)) × (self.new ≡ self.old) }
+        ensures err { OnErr result (self.new ≡ Passing) }
+
+        // The same as a function of what was heard and the piece.
+        ensures exact { MatchResult result (λ found. hear self.old piece.now ≡ Some (found.0, self.new))
+            (λ _. hear self.old piece.now ≡ None) }
+    {
+        let used = self.listen(piece)?;
+        Ok((used, self.is_whole()))
+    }
+
+    fn is_whole(&self) -> bool
+        ensures { result ≡ is_whole self.now }
+    {
+        self.stage == Stage::Whole
+    }
+
+    fn listen(&mut self, piece: &[u8]) -> Result<usize, TextTooLong>
+        ensures { MatchResult result (λ used. hear self.old piece.now ≡ Some (used, self.new))
+            (λ _. (hear self.old piece.now ≡ None) × (self.new ≡ Passing)) }
+    {
+        for (used, byte) in piece.iter().enumerate() {
+            if self.is_whole() {
+                return Ok(used);
+            }
+            self.hear_byte(*byte)?;
+        }
+        Ok(piece.len())
+    }
+
+    fn hear_byte(&mut self, byte: u8) -> Result<(), TextTooLong>
+        requires { is_whole self.old ≡ false }
+        ensures { MatchResult result (λ _. heard_byte self.old byte ≡ Some self.new)
+            (λ _. (heard_byte self.old byte ≡ None) × (self.new ≡ Passing)) }
+    {
+        if byte == TEXT_START {
+            self.text.clear();
+            self.stage = Stage::Open;
+        } else if self.stage == Stage::Open {
+            if byte == 0 || byte == b'\n' {
+                self.stage = Stage::Whole;
+            } else if self.text.try_push(byte).is_err() {
+                self.stage = Stage::Passing;
+                return Err(TextTooLong);
+            }
+        }
+        Ok(())
+    }
+}
+
+/// A handshake text as it goes out: 0x10, the text, a zero byte.
+pub fn write_hail(text: &[u8]) -> ArrayVec<u8, HAIL_WRITTEN_MAX>
+    requires short { length text.now ≤ HAIL_MAX }
+    requires plain { All IsPlain text.now }
+    ensures spelled { result.items ≡ TEXT_START ∷ text.now ++ 0 ∷ [] }
+    // It is heard as the text again.
+    ensures read_back { IsFirstText result.items text.now }
+{
+    let mut written = ArrayVec::new();
+    written.push(TEXT_START);
+    let Ok(()) = written.try_extend_from_slice(text) else {
+        unreachable!();
+    };
+    written.push(0);
+    written
+}

@@ -1,0 +1,54 @@
+ghost use Rattle.std.specs.Prelude.{◌≡◌, ◌≤◌, ◌↔◌, IsTrue};
+ghost use Rattle.uug_talk.specs.Mode.{IsModeWord, mode_of, mode_digits, mode_read};
+
+use crate::error::BadText;
+
+/// The greatest mode of a file: nine permissions and three further bits.
+pub const MODE_MAX: u16 = 0o7777;
+
+/// The longest mode that is read, in octal digits.
+pub(crate) const MODE_DIGITS_MAX: usize = 7;
+
+fn is_mode_word(word: &[u8]) -> bool
+    ensures { IsTrue result ↔ IsModeWord word.now }
+{
+    !word.is_empty()
+        && word.len() <= MODE_DIGITS_MAX
+        && word.iter().all(|b| matches!(*b, b'0'..=b'7'))
+}
+
+// The value of octal digits, with what passes a mode cut off.
+fn octal(word: &[u8]) -> u16
+    requires { IsModeWord word.now }
+    ensures { result ≡ mode_of word.now }
+{
+    let mut mode = 0;
+    for digit in word {
+        mode = (8 * mode + u16::from(*digit - b'0')) % (MODE_MAX + 1);
+    }
+    mode
+}
+
+/// The mode that a word spells.
+pub(crate) fn read_mode(word: &[u8]) -> Result<u16, BadText>
+    ensures { result ≡ mode_read word.now }
+{
+    if is_mode_word(word) {
+        Ok(octal(word))
+    } else {
+        Err(BadText::Mode)
+    }
+}
+
+/// A mode as it is written.
+pub(crate) fn mode_digits(mode: u16) -> [u8; 4]
+    requires { mode ≤ MODE_MAX }
+    ensures { result ≡ mode_digits mode }
+{
+    [
+        b'0' + (mode / 512 % 8) as u8,
+        b'0' + (mode / 64 % 8) as u8,
+        b'0' + (mode / 8 % 8) as u8,
+        b'0' + (mode % 8) as u8,
+    ]
+}
