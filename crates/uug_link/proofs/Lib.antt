@@ -1,0 +1,2 @@
+pub mod StandardFacts
+pub mod EntriesLemmas

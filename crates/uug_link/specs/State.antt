@@ -1,0 +1,61 @@
+-- The state of one end's link. Taylor UUCP manual, UUCP 'g' Protocol; the phases, the mark "told", the closing phase
+-- and the count of timeouts are this project's profile.
+use Rattle.std.specs.Prelude.{◌≡◌, ℕ, Bool, true, false, List, []}
+use Rattle.uug_link.specs.declared.phase.Phase.{Phase}
+use Rattle.uug_link.specs.declared.phase.Phase.TheVariants.{Fresh, AwaitsInitA, Up, Halted}
+use Rattle.uug_link.specs.declared.phase.Role.{Role}
+use Rattle.uug_link.specs.declared.phase.Role.TheVariants.{Caller, Called}
+use Rattle.uug_link.specs.Announced.{Announced}
+
+pub record State : Type 0 where
+  pub role : Role
+  pub phase : Phase
+  -- what the other end shall use
+  pub own : Announced
+  -- what the other end wants: the smaller of the windows in its INITA and INITC, and the code of the size in its
+  -- INITB; each is 0 until that packet has come
+  pub window : ℕ
+  pub size_code : ℕ
+  -- the messages that were sent and not acknowledged, oldest first, and the number of the oldest (of the next to be
+  -- sent, where there is none)
+  pub unacked : List (List ℕ)
+  pub oldest : ℕ
+  -- the number of the data packet that is to be taken next
+  pub expected : ℕ
+  -- whether a reject has gone out for the expected packet
+  pub told : Bool
+  -- the timeouts in a row without progress
+  pub timeouts : ℕ
+
+-- before anything has come; data packets are numbered from 1 in both directions
+abbrev pub first_state : Role → Phase → Announced → State
+first_state role phase own = record {
+  role = role;
+  phase = phase;
+  own = own;
+  window = 0;
+  size_code = 0;
+  unacked = [];
+  oldest = 1;
+  expected = 1;
+  told = false;
+  timeouts = 0;
+}
+
+abbrev pub caller_state : Announced → State
+caller_state own = first_state Caller Fresh own
+
+abbrev pub called_state : Announced → State
+called_state own = first_state Called AwaitsInitA own
+
+-- a caller's link on which `begin` has not answered Ok, and which has not ended
+abbrev pub IsFresh : State → Type 0
+IsFresh s = s.phase ≡ Fresh
+
+abbrev pub IsUp : State → Type 0
+IsUp s = s.phase ≡ Up
+
+-- the link has ended
+abbrev pub is_halted : Phase → Bool
+is_halted Halted = true
+is_halted _ = false

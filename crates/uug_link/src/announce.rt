@@ -1,0 +1,66 @@
+ghost use Rattle.std.specs.Prelude.{◌≡◌, ◌≢◌, ℕ, ◌<◌, ◌≤◌, ◌⊎◌, ◌↔◌, IfOk, IsErrOf, MatchOption};
+ghost use Rattle.uug_link.specs.Announced.{announced, IsWindow, size_of_code};
+ghost use Rattle.uug_packet.specs.Number.{number_of};
+
+use crate::limits::{SIZE_CODES, WINDOW_MAX};
+use uug_packet::Seq;
+
+/// What one end of a link announces: the window and the packet size that the other end shall use.
+#[derive(Clone, Copy, Debug, PartialEq, Eq)]
+pub struct Announce {
+    pub(crate) window: Seq,
+    pub(crate) size_code: Seq,
+}
+
+/// Why there is no such announcement.
+#[derive(Clone, Copy, Debug, PartialEq, Eq)]
+pub enum BadAnnounce {
+    /// The window is not 1 to 7.
+    BadWindow,
+    /// The size is not 32, 64, 128, 256, 512, 1024, 2048 or 4096.
+    BadSize,
+}
+
+impl Announce {
+    /// The announcement of a window, 1 to 7, and a size in bytes, a power of two from 32 to 4096. The window is
+    /// looked at first.
+    pub fn new(window: u8, size: usize) -> Result<Self, BadAnnounce>
+        ensures window { IfOk result (λ a. (announced a).window ≡ window) }
+        ensures size { IfOk result (λ a. size_of_code (announced a).size_code ≡ size) }
+        ensures bad_window { IsErrOf result BadAnnounce.BadWindow ↔ ((window < 1) ⊎ (WINDOW_MAX < window)) }
+        ensures bad_size { IsErrOf result BadAnnounce.BadSize ↔
+            (IsWindow window × ((y : ℕ) → y < SIZE_CODES → size ≢ size_of_code y)) }
+    {
+        let window = window_of(window).ok_or(BadAnnounce::BadWindow)?;
+        let size_code = code_of_size(size).ok_or(BadAnnounce::BadSize)?;
+        Ok(Announce { window, size_code })
+    }
+}
+
+fn window_of(window: u8) -> Option<Seq>
+    ensures { MatchOption result ((window < 1) ⊎ (WINDOW_MAX < window))
+        (λ n. IsWindow window × (number_of n ≡ window)) }
+{
+    if window < 1 || window > WINDOW_MAX {
+        return None;
+    }
+    Seq::new(window)
+}
+
+fn code_of_size(size: usize) -> Option<Seq>
+    ensures { MatchOption result ((y : ℕ) → y < SIZE_CODES → size ≢ size_of_code y)
+        (λ code. size_of_code (number_of code) ≡ size) }
+{
+    let code = match size {
+        32 => 0,
+        64 => 1,
+        128 => 2,
+        256 => 3,
+        512 => 4,
+        1024 => 5,
+        2048 => 6,
+        4096 => 7,
+        _ => return None,
+    };
+    Seq::new(code)
+}
