@@ -1,0 +1,43 @@
+//! It tells the bytes that its reader tells. Standard input tells none, since no proof knows what the system
+//! gives; and a body that always fails, and counts its faults, meets the contract over every reader. So the stored
+//! run of the program shows that bytes come in.
+ghost use Rattle.std.specs.Prelude.{◌≡◌};
+
+use crate::input::{Input, ReadFailed};
+use std::io::Read;
+
+/// A reader of the system as an input.
+#[derive(Drop)]
+pub struct SystemInput<R> {
+    reader: R,
+    faults: u64,
+}
+
+impl<R: Read> SystemInput<R> {
+    /// An input over the reader, which had no faults yet.
+    pub fn new(reader: R) -> Self
+        ensures { ⟦<SystemInput<R> as Input>⟧.fault_count result ≡ 0 }
+    {
+        SystemInput { reader, faults: 0 }
+    }
+}
+
+impl<R: Read> Input for SystemInput<R> {
+    ghost to_come = { λ input. R.remaining input.reader };
+
+    ghost fault_count = { λ input. input.faults };
+
+    fn read(&mut self, buffer: &mut [u8]) -> Result<usize, ReadFailed> {
+        match self.reader.read(buffer) {
+            Ok(count) => Ok(count),
+            Err(_) => {
+                self.faults = self.faults.saturating_add(1);
+                Err(ReadFailed)
+            }
+        }
+    }
+
+    fn faults(&self) -> u64 {
+        self.faults
+    }
+}
