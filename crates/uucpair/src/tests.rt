@@ -10,8 +10,10 @@ use crate::memory_output::MemoryOutput;
 use crate::output::{Output, WriteFailed};
 use crate::scan::scan_stream;
 use clap::error::ErrorKind;
-use linked_list_allocator::LocalHeap;
+use std::alloc::Global;
+use std::process::Abort;
 use std::test::Fail;
+use uug_refusal::Refusing;
 
 /// The packets of a start-up with windows of three and size 64, and of the link behind it.
 const LINK: [u8; 42] = [
@@ -212,16 +214,37 @@ fn stops_at_the_first_fault(rt: HostRuntime) {
 }
 
 #[test]
-fn passes_on_want_of_memory(rt: HostRuntime) -> Result<(), Fail> {
-    let heap = LocalHeap::new(rt.alloc(), 256)?;
+fn makes_a_refused_write_good(rt: HostRuntime) {
+    let heap = Refusing::new(rt.alloc(), 0);
     let mut output = MemoryOutput::new(&heap);
     assert_eq!(rt; output.write(b"REST"), Ok(4));
-    assert_eq!(rt; output.write(&[0; 300]), Err(WriteFailed::Memory));
+    heap.refuse(1);
+    assert_eq!(rt; output.write(&[0x20; 300]), Err(WriteFailed::Memory));
     assert_eq!(rt; output.bytes(), b"REST".as_slice());
+    assert_eq!(rt; output.write(&[0x20; 300]), Ok(300));
+    assert_eq!(rt; output.bytes().len(), 304);
+}
 
-    let mut input = MemoryInput::new(&[0; 300]);
-    let result = scan_stream(&heap, &mut input, &mut output);
-    assert_eq!(rt; result, Err(ToolFault::Memory));
+/// Refuses each request of a scan in turn: the reader's, the lines' and the output's. How many requests it makes.
+fn requests_of_a_scan(rt: &impl Abort, alloc: Global) -> Result<u64, Fail> {
+    for nth in 1..100 {
+        let heap = Refusing::new(alloc, nth);
+        let mut output = MemoryOutput::new(&heap);
+        let result = scan_stream(&heap, &mut MemoryInput::new(&LINK), &mut output);
+        if !heap.was_refused() {
+            assert_eq!(rt; result, Ok(()));
+            return Ok(nth - 1);
+        }
+        assert_eq!(rt; result, Err(ToolFault::Memory));
+        assert_eq!(rt; heap.requests(), nth, "went on after {nth}");
+    }
+    Err("a scan that is never done".into())
+}
+
+#[test]
+fn passes_on_want_of_memory(rt: HostRuntime) -> Result<(), Fail> {
+    let requests = requests_of_a_scan(&rt, rt.alloc())?;
+    assert!(rt; requests >= 10, "a reader, eight lines and an output");
     Ok(())
 }
 

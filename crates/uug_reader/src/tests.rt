@@ -1,9 +1,9 @@
 //! What no clause says: streams from outside in pieces, a reader that is full, and want of memory.
 
 use crate::{Found, READER_SIZE, Reader};
-use linked_list_allocator::LocalHeap;
 use std::test::Fail;
 use uug_packet::{Control, Packet, Seq};
+use uug_refusal::Refusing;
 
 /// Number 1, acknowledging 0, and 32 zeros as the message.
 const ZEROS_HEADER: [u8; 6] = [0x10, 0x01, 0x0d, 0x3a, 0x88, 0xbe];
@@ -99,8 +99,14 @@ fn is_full_at_the_longest_packet(rt: HostRuntime) -> Result<(), Fail> {
 }
 
 #[test]
-fn passes_on_want_of_memory(rt: HostRuntime) -> Result<(), Fail> {
-    let heap = LocalHeap::new(rt.alloc(), 1024)?;
+fn takes_memory_once(rt: HostRuntime) -> Result<(), Fail> {
+    let heap = Refusing::new(rt.alloc(), 1);
     assert!(rt; Reader::new(&heap).is_err());
+    let mut reader = Reader::new(&heap)?;
+    assert_eq!(rt; heap.requests(), 2, "the one refused, and this one");
+    assert_eq!(rt; reader.push(&[0x10; READER_SIZE]), READER_SIZE);
+    assert_eq!(rt; reader.find(), None);
+    assert_eq!(rt; reader.push(&[0x10; READER_SIZE]), READER_SIZE - 5);
+    assert_eq!(rt; heap.requests(), 2);
     Ok(())
 }

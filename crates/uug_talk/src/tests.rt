@@ -10,6 +10,7 @@ use crate::{
 use std::alloc::{AllocError, Allocator, Global};
 use std::process::Abort;
 use std::test::Fail;
+use uug_refusal::Refusing;
 
 fn name(text: &[u8]) -> Result<Name, Fail> {
     Ok(Name::new(text)?)
@@ -236,17 +237,39 @@ fn limits_hold(rt: HostRuntime) -> Result<(), Fail> {
     Ok(())
 }
 
-#[test]
-fn refused_memory_changes_nothing(rt: HostRuntime) {
-    let mut gather = Gather::file(rt.alloc());
-    match gather.push(b"abc") {
-        Ok(progress) => {
-            assert_eq!(rt; progress, Progress::More);
-            assert_eq!(rt; gather.bytes(), b"abc".as_slice());
+/// Refuses each request of a file's second message in turn. A refused message changes nothing: pushed again it is taken.
+/// How many requests it makes.
+fn requests_of_a_message(rt: &impl Abort, alloc: Global) -> Result<u64, Fail> {
+    for nth in 1..9 {
+        let heap = Refusing::new(alloc, 0);
+        let mut gather = Gather::file(&heap);
+        assert_eq!(rt; gather.push(b"abc")?, Progress::More);
+        heap.refuse(nth);
+        let answer = gather.push(b"0123456789abcdef");
+        if !heap.was_refused() {
+            assert_eq!(rt; answer, Ok(Progress::More));
+            return Ok(nth - 1);
         }
-        Err(fault) => {
-            assert_eq!(rt; fault, BadText::Memory);
-            assert_eq!(rt; gather.bytes(), b"".as_slice());
-        }
+        assert_eq!(rt; answer, Err(BadText::Memory));
+        assert_eq!(rt; gather.bytes(), b"abc".as_slice());
+        assert_eq!(rt; gather.push(b"0123456789abcdef")?, Progress::More);
+        assert_eq!(rt; gather.bytes(), b"abc0123456789abcdef".as_slice());
     }
+    Err("a message that is never taken".into())
+}
+
+#[test]
+fn makes_refused_messages_good(rt: HostRuntime) -> Result<(), Fail> {
+    assert_eq!(rt; requests_of_a_message(&rt, rt.alloc())?, 1);
+    Ok(())
+}
+
+// A command's gather is given no allocator that could be asked.
+#[test]
+fn asks_for_no_memory_at_the_end_of_a_file(rt: HostRuntime) -> Result<(), Fail> {
+    let heap = Refusing::new(rt.alloc(), 1);
+    let mut gather = Gather::file(&heap);
+    assert_eq!(rt; gather.push(b"")?, Progress::Whole);
+    assert_eq!(rt; heap.requests(), 0);
+    Ok(())
 }
