@@ -1,12 +1,12 @@
 -- That a reader drops what the scan of all bytes finds.
-use Rattle.std.proofs.Common.{◌≡◌, ℕ, List, [], ◌∷◌, ◌++◌, length, take, drop, refl, sym, ap, ◌∙◌, arith, subst, append_assoc, inl}
+use Rattle.std.proofs.Common.{◌≡◌, ℕ, List, [], ◌∷◌, ◌++◌, length, take, drop, refl, sym, ap, ◌∙◌, subst, append_assoc, inl}
 use Rattle.std.proofs.lemmas.List.{take-append-drop, append-nil}
 use Rattle.std.proofs.Math.Seq.{drop-append_seam}
 use Rattle.uug_packet.specs.Bytes.{AreBytes}
 use Rattle.uug_packet.proofs.PrefixLemmas.{waits_not-broken}
-use Rattle.uug_reader.specs.Calls.{Call, pushed, searched, dropped, Makes, Make, all_accepted, all_dropped}
+use Rattle.uug_reader.specs.Calls.{Call, pushed, searched, dropped, Make, all_accepted, all_dropped}
 use Rattle.uug_reader.specs.Cut.{Part, packet, broken, noise, CutsOff, IsCut, Item, found, bad, items_of}
-use Rattle.uug_reader.specs.Finding.{StandsFirst, PassesNoise}
+use Rattle.uug_reader.specs.Finding.{StandsFirst}
 use Rattle.uug_reader.proofs.CutLemmas.{CutsOff-append, CutsOff-join, items_of-append}
 use Rattle.uug_reader.proofs.OneCut.{AreBytes-drop, IsCut-some, IsCut-unique}
 

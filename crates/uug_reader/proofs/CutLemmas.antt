@@ -1,11 +1,8 @@
 -- Laws of the cut of a stream.
-use Rattle.std.proofs.Common.{◌≡◌, ℕ, ◌<◌, ◌≤◌, zero, suc, List, [], ◌∷◌, ◌++◌, length, take, drop, slice_index, refl, sym, ap, ◌∙◌, arith, append_assoc, length-append, length-take, inl, inr}
-use Rattle.std.proofs.lemmas.List.{take-append-le, take-append-drop}
-use Rattle.std.proofs.Math.Seq.{take-append_seam}
-use Rattle.uug_packet.specs.Packet.{PacketValue, control, carry}
+use Rattle.std.proofs.Common.{◌≡◌, ℕ, ◌<◌, zero, suc, List, [], ◌∷◌, ◌++◌, length, take, refl, ap, ◌∙◌, arith, append_assoc, inl, inr}
+use Rattle.uug_packet.specs.Packet.{PacketValue}
 use Rattle.uug_packet.specs.Spelling.{IsSpelling}
-use Rattle.uug_packet.specs.declared.header.TheConstants.{START, HEADER_SIZE}
-use Rattle.uug_packet.specs.Waits.{IsBroken, Waits}
+use Rattle.uug_packet.specs.Waits.{Waits}
 use Rattle.uug_packet.proofs.PrefixLemmas.{waits_not-spelling, Waits-shorter, settled, IsBroken-longer, IsBroken-shorter}
 use Rattle.uug_reader.specs.Cut.{BeginsWithPacket, IsNoise, Part, packet, broken, noise, CutsOff, found, bad, items_of}
 

@@ -1,10 +1,8 @@
 -- Laws of what is found first.
 use Rattle.std.proofs.Common.{◌≡◌, ℕ, ◌+◌, ◌-◌, ◌<◌, ◌≤◌, List, [], ◌∷◌, ◌++◌, length, take, drop, Option, Some, None, IsNone, IfSome, IsSomeAnd, MatchOption, ◌↔◌, refl, sym, ap, ◌∙◌, arith, subst, length-append, length-take, length-drop, inl, inr}
 use Rattle.std.proofs.lemmas.List.{take-append-drop, take-append-le, take_rest, drop-drop}
-use Rattle.uug_packet.specs.declared.header.TheConstants.{HEADER_SIZE}
-use Rattle.uug_packet.specs.Packet.{PacketValue}
 use Rattle.uug_packet.specs.Spelling.{IsSpelling}
-use Rattle.uug_packet.specs.Waits.{IsBroken, Waits}
+use Rattle.uug_packet.specs.Waits.{Waits}
 use Rattle.uug_packet.proofs.DecodedLemmas.{same_spelling}
 use Rattle.uug_packet.proofs.FieldLemmas.{field_size-most}
 use Rattle.uug_packet.proofs.PrefixLemmas.{waits_not-spelling, waits_not-broken, IsBroken-longer}

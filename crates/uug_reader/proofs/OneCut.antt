@@ -14,8 +14,8 @@ use Rattle.uug_packet.proofs.BrokenLemmas.{damage_of_broken, broken_of_damage}
 use Rattle.uug_packet.proofs.DecodeLemmas.{Waits-decoded, decoded-Waits}
 use Rattle.uug_packet.proofs.DecodedLemmas.{spelling-decoded, decoded-spelling, same_spelling}
 use Rattle.uug_packet.proofs.PrefixLemmas.{waits_not-spelling, waits_not-broken}
-use Rattle.uug_reader.specs.Cut.{BeginsWithPacket, IsNoise, Part, packet, broken, noise, CutsOff, IsCut, items_of}
-use Rattle.uug_reader.proofs.CutLemmas.{some_spelled, some_not_waiting, CutsOff-append, CutsOff-join}
+use Rattle.uug_reader.specs.Cut.{BeginsWithPacket, IsNoise, Part, packet, broken, noise, CutsOff, IsCut}
+use Rattle.uug_reader.proofs.CutLemmas.{some_spelled, CutsOff-append, CutsOff-join}
 
 -- ---- at most one
 

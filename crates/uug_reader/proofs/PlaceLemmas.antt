@@ -1,5 +1,5 @@
 -- Where the message of a data packet lies in its bytes.
-use Rattle.std.proofs.Common.{◌≡◌, ◌≢◌, ℕ, ◌+◌, ◌-◌, ◌/◌, ◌%◌, ◌<◌, ◌≤◌, ◌==◌, ◌&&◌, not, nat_le, if◌then◌else◌, true, false, List, [], ◌∷◌, ◌++◌, length, take, drop, slice_index, refl, sym, ap, ◌∙◌, arith, subst, length-append, length-drop, length-take, inl, inr}
+use Rattle.std.proofs.Common.{◌≡◌, ◌≢◌, ℕ, ◌+◌, ◌-◌, ◌/◌, ◌%◌, ◌<◌, ◌≤◌, List, [], ◌∷◌, ◌++◌, length, take, drop, sym, ap, ◌∙◌, arith, subst, length-append, length-drop, length-take, inl, inr}
 use Rattle.std.proofs.lemmas.Bool.Decides.{nat_tests}
 use Rattle.std.proofs.lemmas.List.{append-nil, drop-take, take-take, drop-drop}
 use Rattle.std.proofs.Math.Seq.{take-append_seam, drop-append_seam}
@@ -8,7 +8,6 @@ use Rattle.uug_packet.specs.declared.field.FieldKind.TheVariants.{Long, Short}
 use Rattle.uug_packet.specs.declared.header.TheConstants.{HEADER_SIZE}
 use Rattle.uug_packet.specs.Field.{field_size, Holds, HoldsShort}
 use Rattle.uug_packet.specs.Spelling.{SpellsCarry}
-use Rattle.uug_packet.proofs.DecodedLemmas.{length-holds}
 use Rattle.uug_reader.specs.Place.{front_length}
 
 -- behind n bytes of the field stands the message

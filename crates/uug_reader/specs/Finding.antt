@@ -1,5 +1,5 @@
 -- What is found first in a stream of bytes (this project's profile).
-use Rattle.std.specs.Prelude.{◌≡◌, ℕ, ◌<◌, ◌≤◌, List, [], length, take}
+use Rattle.std.specs.Prelude.{◌≡◌, ℕ, ◌≤◌, List, [], length, take}
 use Rattle.uug_packet.specs.Spelling.{IsSpelling}
 use Rattle.uug_packet.specs.Waits.{IsBroken}
 use Rattle.uug_reader.specs.Cut.{Part, CutsOff, IsCut, Item, found, bad, items_of}

@@ -1,9 +1,9 @@
-use Rattle.std.proofs.Common.{ap, sym, subst, arith, refl, ◌∙◌, length}
+use Rattle.std.proofs.Common.{ap, sym, subst, arith, refl, ◌∙◌}
 use Rattle.uug_reader.specs.Place.{item_of}
 use Rattle.uug_reader.specs.Reading.{held}
 use Rattle.uucpair.specs.Listing.{line_of}
 use Rattle.uucpair.specs.Streams.{Appends}
-use Rattle.uucpair.proofs.ScanLemmas.{ListsItem, lists_found, lists_ended}
+use Rattle.uucpair.proofs.ScanLemmas.{lists_found, lists_ended}
 use Rattle.uucpair.proofs.scan.list_items.Goals as goal
 use Rattle.uucpair.proofs.scan.list_items.Goals.{in-Packet+in_ok-line-in-Packet+in_ok-write_all-in-Packet, in-Bad+in_ok-write_all-in-Bad}
 

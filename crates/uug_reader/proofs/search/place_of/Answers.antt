@@ -1,9 +1,9 @@
-use Rattle.std.proofs.Common.{◌≡◌, ◌+◌, take, drop, sym, ap, subst, rules, arith, ◌∙◌}
+use Rattle.std.proofs.Common.{◌≡◌, take, drop, sym, ap, subst, arith, ◌∙◌}
 use Rattle.uug_packet.specs.Number.{number_of}
 use Rattle.uug_packet.specs.Packet.{PacketValue, carry, shown}
-use Rattle.uug_packet.specs.Spelling.{IsSpelling, SpellsCarry}
+use Rattle.uug_packet.specs.Spelling.{IsSpelling}
 use Rattle.uug_reader.specs.Cut.{found}
-use Rattle.uug_reader.proofs.PlaceLemmas.{LiesAt, message_lies}
+use Rattle.uug_reader.proofs.PlaceLemmas.{message_lies}
 use Rattle.uug_reader.proofs.search.place_of.Goals as goal
 
 pub returns-in-Carry-clause-item : goal.returns-in-Carry-clause-item
