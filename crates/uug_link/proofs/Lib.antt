@@ -1,2 +1,5 @@
 pub mod StandardFacts
 pub mod EntriesLemmas
+pub mod WindowMachineLemmas
+pub mod WindowMachineRuns
+pub mod WindowMachineFacts

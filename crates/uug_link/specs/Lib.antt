@@ -4,3 +4,4 @@ pub mod State
 pub mod Step
 pub mod Reactions
 pub mod Follows
+pub mod WindowMachine

@@ -3,6 +3,7 @@
 
 mod announce;
 mod entry;
+pub mod laws;
 mod limits;
 mod link;
 mod outbox;
