@@ -11,28 +11,28 @@ use Rattle.uug_packet.specs.Packet.{ControlValue, close, init_a, init_b, init_c,
 -- ---- runs of one link
 
 -- the state after some events
-abbrev after : State → List Event → State
+abbrev pub after : State → List Event → State
 after s [] = s
 after s (e ∷ es) = after (step s e).state es
 
 -- what some events emit, by event
-abbrev emitted : State → List Event → List (List Emission)
+abbrev pub emitted : State → List Event → List (List Emission)
 emitted s [] = []
 emitted s (e ∷ es) = (step s e).emitted ∷ emitted (step s e).state es
 
 -- what they answer
-abbrev outcomes : State → List Event → List OutcomeValue
+abbrev pub outcomes : State → List Event → List OutcomeValue
 outcomes s [] = []
 outcomes s (e ∷ es) = (step s e).outcome ∷ outcomes (step s e).state es
 
-abbrev found : ControlValue → Event
+abbrev pub found : ControlValue → Event
 found c = packet_found (control c)
 
-abbrev bytes : List Emission → List (List ℕ)
+abbrev pub bytes : List Emission → List (List ℕ)
 bytes [] = []
 bytes (e ∷ es) = bytes_of (written e) ∷ bytes es
 
-abbrev all_bytes : List (List Emission) → List (List (List ℕ))
+abbrev pub all_bytes : List (List Emission) → List (List (List ℕ))
 all_bytes [] = []
 all_bytes (es ∷ more) = bytes es ∷ all_bytes more
 
@@ -104,7 +104,7 @@ ignored_zero = refl
 abbrev begun : State
 begun = (step caller to_begin).state
 
-abbrev times : {A : Type 0} → ℕ → A → List A
+abbrev pub times : {A : Type 0} → ℕ → A → List A
 times zero x = []
 times (suc n) x = x ∷ times n x
 

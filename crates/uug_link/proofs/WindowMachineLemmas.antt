@@ -1,5 +1,6 @@
 -- What stays true in the window machine, whatever it does.
 use Rattle.std.proofs.Common.{◌≡◌, ℕ, ◌+◌, ◌<◌, ◌≤◌, List, [], ◌∷◌, ◌++◌, length, length-append, refl, arith}
+use Rattle.std.specs.Prelude.{⊤}
 use Rattle.std.proofs.lemmas.Bool.Decides.{nat_tests}
 use Rattle.uug_link.specs.Announced.{IsWindow}
 use Rattle.uug_link.specs.WindowMachine.{Flying, data_packet, acknowledgement, ack_of, Direction, Machine, empty, turned, Step, sends, repeats, acknowledges, loses, arrives, Permits, put, added, without_front, taken_with, after_arrival, after_step, Move, on_out, on_back, Allows, after_move, EachNumber, EachAck, Rise}
@@ -69,7 +70,7 @@ EachAck-between low (p ∷ ps) high h = (
 
 -- each number is within the window from those of the packets behind it
 abbrev InOrder : ℕ → List Flying → Type 0
-InOrder window [] = Unit {0}
+InOrder window [] = ⊤
 InOrder window (data_packet n a ∷ ps) = EachNumber (λ k. n < k + window) ps × InOrder window ps
 InOrder window (acknowledgement a ∷ ps) = InOrder window ps
 

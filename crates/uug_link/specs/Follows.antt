@@ -30,11 +30,13 @@ written e = packet (canonical e.packet) e.first
 
 -- The call did what the step says: the link's next state, exactly its packets behind those that the outbox held, and
 -- its answer. Or memory was refused and nothing has changed; that does not happen within what the outbox has to spare.
-pub record Follows (e : Effect) (before after : State) (held holds : Held) (answer : Option OutcomeValue) : Type 0 where
+-- Each packet lowers what it has to spare by at most one.
+pub record Follows (e : Effect) (before after : State) (held held_after : Held) (answer : Option OutcomeValue) : Type 0 where
   pub state : IfSome answer (λ _. after ≡ e.state)
-  pub emitted : IfSome answer (λ _. holds.entries ≡ held.entries ++ map written e.emitted)
+  pub emitted : IfSome answer (λ _. held_after.entries ≡ held.entries ++ map written e.emitted)
   pub outcome : IfSome answer (λ o. o ≡ e.outcome)
   pub unchanged : IfNone answer (after ≡ before)
-  pub kept : IfNone answer (holds.entries ≡ held.entries)
+  pub kept : IfNone answer (held_after.entries ≡ held.entries)
   pub memory : length e.emitted ≤ held.spare → IsSome answer
-  pub spare : held.spare ≤ holds.spare + length e.emitted
+  pub spare : held.spare ≤ held_after.spare + length e.emitted
+  pub spare_kept : IfNone answer (held.spare ≤ held_after.spare)

@@ -1,41 +1,54 @@
 -- What the program's values of a link mean.
-use Rattle.std.specs.Prelude.{false, List, [], Option, Some, None}
+use Rattle.std.specs.Prelude.{ℕ, ◌+◌, ◌%◌, List, [], drop, map}
+use Rattle.arrayvec.specs.ArrayVec.{ArrayVec}
 use Rattle.uug_link.specs.declared.outcome.Reply.{Reply}
 use Rattle.uug_link.specs.declared.outcome.Reply.TheVariants as replies
-use Rattle.uug_link.specs.declared.status.Reaction.{Reaction}
+use Rattle.uug_link.specs.declared.reaction.Emits.{Emits}
+use Rattle.uug_link.specs.declared.reaction.Emits.TheVariants as emits
+use Rattle.uug_link.specs.declared.reaction.Reaction.{Reaction}
 use Rattle.uug_link.specs.declared.status.Status.{Status}
 use Rattle.uug_link.specs.Announced.{announced}
 use Rattle.uug_link.specs.State.{State}
-use Rattle.uug_link.specs.Step.{Effect, Emission, only, OutcomeValue, nothing, up, closed, gave_up, halted}
-use Rattle.uug_packet.specs.declared.control.Control.{Control}
+use Rattle.uug_link.specs.Step.{Effect, Emission, only, outstanding, selected, OutcomeValue, nothing, up, taken, closed, gave_up, halted}
 use Rattle.uug_packet.specs.Number.{number_of}
 use Rattle.uug_packet.specs.Packet.{shown_control}
 
--- a link that has sent and taken no message
-abbrev pub state_of : Status → State
-state_of s = record {
+-- the messages that a link keeps, as lists of bytes
+abbrev pub messages_of : List (ArrayVec ℕ) → List (List ℕ)
+messages_of = map (λ message. message.items)
+
+-- a link, by its status and the messages that were sent and not acknowledged
+abbrev pub state_of : Status → List (List ℕ) → State
+state_of s unacked = record {
   role = s.role;
   phase = s.phase;
   own = announced s.own;
   window = number_of s.window;
   size_code = number_of s.size_code;
-  unacked = [];
-  oldest = 1;
-  expected = 1;
-  told = false;
+  unacked = unacked;
+  oldest = number_of s.oldest;
+  expected = (number_of s.received + 1) % 8;
+  told = s.told;
   timeouts = s.timeouts.count;
 }
 
 abbrev pub reply_of : Reply → OutcomeValue
 reply_of replies.Nothing = nothing
 reply_of replies.Up = up
+reply_of replies.Taken = taken
 reply_of replies.Closed = closed
 reply_of replies.GaveUp = gave_up
 reply_of replies.Halted = halted
 
-abbrev pub emitted_of : Option Control → List Emission
-emitted_of None = []
-emitted_of (Some c) = only (shown_control c)
+-- what goes out, of the link as it is then
+abbrev pub emitted_of : Emits → State → List Emission
+emitted_of emits.Nothing s = []
+emitted_of (emits.Control c) s = only (shown_control c)
+emitted_of emits.Outstanding s = outstanding s
+emitted_of (emits.Selected y) s = selected (number_of y) s
 
-abbrev pub effect_of : Reaction → Effect
-effect_of r = record { state = state_of r.status; emitted = emitted_of r.emits; outcome = reply_of r.reply }
+-- what a reaction is on a link that keeps these messages
+abbrev pub effect_of : Reaction → List (List ℕ) → Effect
+effect_of r unacked =
+    let after = state_of r.status (drop r.strikes unacked) in
+    record { state = after; emitted = emitted_of r.emits after; outcome = reply_of r.reply }

@@ -1,19 +1,19 @@
 -- The state of one end's link. Taylor UUCP manual, UUCP 'g' Protocol; the phases, the mark "told", the closing phase
 -- and the count of timeouts are this project's profile.
-use Rattle.std.specs.Prelude.{◌≡◌, ℕ, Bool, true, false, List, []}
+use Rattle.std.specs.Prelude.{◌≡◌, ℕ, ◌<◌, ◌≤◌, Bool, true, false, List, [], length, All, ⊤}
 use Rattle.uug_link.specs.declared.phase.Phase.{Phase}
-use Rattle.uug_link.specs.declared.phase.Phase.TheVariants.{Fresh, AwaitsInitA, Up, Halted}
+use Rattle.uug_link.specs.declared.phase.Phase.TheVariants.{Fresh, AwaitsInitA, Up, Closing, Halted}
 use Rattle.uug_link.specs.declared.phase.Role.{Role}
 use Rattle.uug_link.specs.declared.phase.Role.TheVariants.{Caller, Called}
-use Rattle.uug_link.specs.Announced.{Announced}
+use Rattle.uug_link.specs.Announced.{Announced, size_of_code}
 
 pub record State : Type 0 where
   pub role : Role
   pub phase : Phase
   -- what the other end shall use
   pub own : Announced
-  -- what the other end wants: the smaller of the windows in its INITA and INITC, and the code of the size in its
-  -- INITB; each is 0 until that packet has come
+  -- what the other end wants: the window of its INITA, and from its INITC on the smaller of both; and the code of the
+  -- size in its INITB; each is 0 until a packet has told it
   pub window : ℕ
   pub size_code : ℕ
   -- the messages that were sent and not acknowledged, oldest first, and the number of the oldest (of the next to be
@@ -54,6 +54,28 @@ IsFresh s = s.phase ≡ Fresh
 
 abbrev pub IsUp : State → Type 0
 IsUp s = s.phase ≡ Up
+
+-- whether the link has not come up
+abbrev pub IsStarting : Phase → Type 0
+IsStarting Up = ⊥
+IsStarting Closing = ⊥
+IsStarting Halted = ⊥
+IsStarting _ = ⊤
+
+-- the message fits a field of the size of that code
+abbrev pub Fits : ℕ → List ℕ → Type 0
+Fits size_code message = length message ≤ size_of_code size_code
+
+-- What every link keeps to: no more messages are outstanding than the other end's window lets, each fits the other
+-- end's size, and before the link is up there is none.
+pub record IsSound (s : State) : Type 0 where
+  pub within : length s.unacked ≤ s.window
+  pub fit : All (Fits s.size_code) s.unacked
+  pub none_before : IsStarting s.phase → s.unacked ≡ []
+
+-- one more message may go out
+abbrev pub HasRoom : State → Type 0
+HasRoom s = IsUp s × (length s.unacked < s.window)
 
 -- the link has ended
 abbrev pub is_halted : Phase → Bool

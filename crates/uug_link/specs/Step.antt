@@ -1,6 +1,6 @@
 -- What a link does on each event: its next state, the packets that it emits, and what it answers.
 -- Taylor UUCP manual, UUCP 'g' Protocol; what is this project's own profile is said beside it.
-use Rattle.std.specs.Prelude.{ℕ, ◌+◌, ◌%◌, min, ◌==◌, nat_lt, Bool, false, if◌then◌else◌, List, [], ◌∷◌}
+use Rattle.std.specs.Prelude.{ℕ, ◌+◌, ◌-◌, ◌%◌, min, ◌==◌, nat_lt, Bool, true, false, if◌then◌else◌, List, [], ◌∷◌, ◌++◌, length, drop, slice_get, option_to_list}
 use Rattle.uug_link.specs.declared.limits.TheConstants.{TIMEOUTS_MAX}
 use Rattle.uug_link.specs.declared.phase.Phase.{Phase}
 use Rattle.uug_link.specs.declared.phase.Phase.TheVariants.{AwaitsInitA, AwaitsInitB, AwaitsInitC, Up, Closing, Halted}
@@ -9,13 +9,14 @@ use Rattle.uug_link.specs.declared.phase.Role.TheVariants.{Caller, Called}
 use Rattle.uug_link.specs.State.{State, is_halted}
 use Rattle.uug_packet.specs.Packet.{ControlValue, close, rj, srj, rr, init_c, init_b, init_a, PacketValue, control, carry}
 
--- what may happen to a link: its caller begins or closes it; a packet was found in what came from the other end, or
--- a broken one; nothing has come for some time
+-- what may happen to a link: its caller begins it, sends a message or closes it; a packet was found in what came from
+-- the other end, or a broken one; nothing has come for some time
 pub data Event : Type 0 where
   to_begin : Event
   packet_found : PacketValue → Event
   bad_found : Event
   timed_out : Event
+  to_send : (message : List ℕ) → Event
   to_close : Event
 
 pub data OutcomeValue : Type 0 where
@@ -36,8 +37,12 @@ pub record Effect : Type 0 where
   pub emitted : List Emission
   pub outcome : OutcomeValue
 
+-- the link is then so, with no packet and nothing to answer
+abbrev pub quiet : State → Effect
+quiet s = record { state = s; emitted = []; outcome = nothing }
+
 abbrev pub ignored : State → Effect
-ignored s = record { state = s; emitted = []; outcome = nothing }
+ignored s = quiet s
 
 -- one control packet
 abbrev pub only : ControlValue → List Emission
@@ -92,6 +97,99 @@ abbrev pub on_close : Phase → State → Effect
 on_close Closing s = record { state = halt s; emitted = []; outcome = closed }
 on_close _ s = answers (halt s) close closed
 
+-- ---- data packets that go out
+
+-- the number of the last packet correctly received, which every data packet acknowledges as it goes out
+abbrev pub last_received : State → ℕ
+last_received s = (s.expected + 7) % 8
+
+-- the code of a data packet's field: it has the size that the other end wants, whatever the message's length
+abbrev pub field_code : State → ℕ
+field_code s = s.size_code + 1
+
+abbrev pub data_packet : State → (number : ℕ) → (message : List ℕ) → PacketValue
+data_packet s number message = carry number (last_received s) (field_code s) message
+
+-- messages that go out again, in order, in such packets, the first of them with that number
+abbrev pub sent_again : (ℕ → List ℕ → PacketValue) → (number : ℕ) → List (List ℕ) → List Emission
+sent_again packet_of number [] = []
+sent_again packet_of number (message ∷ messages) =
+    record { packet = packet_of number message; first = false } ∷ sent_again packet_of ((number + 1) % 8) messages
+
+-- all outstanding packets, oldest first
+abbrev pub outstanding : State → List Emission
+outstanding s = sent_again (data_packet s) s.oldest s.unacked
+
+-- how many steps lead from one number to the other
+abbrev pub distance : (from to : ℕ) → ℕ
+distance from to = (to + 8 - from) % 8
+
+-- the packet of that number, if it is outstanding
+abbrev pub selected : ℕ → State → List Emission
+selected y s = sent_again (data_packet s) y (option_to_list (slice_get s.unacked (distance s.oldest y)))
+
+-- the number that the next message gets
+abbrev pub next_number : State → ℕ
+next_number s = (s.oldest + length s.unacked) % 8
+
+abbrev pub on_send : List ℕ → State → Effect
+on_send message s = record {
+  state = record s { unacked = s.unacked ++ message ∷ [] };
+  emitted = record { packet = data_packet s (next_number s) message; first = true } ∷ [];
+  outcome = nothing;
+}
+
+-- ---- acknowledgements
+
+-- the oldest `count` messages have arrived
+abbrev pub struck : ℕ → State → State
+struck count s = record s { unacked = drop count s.unacked; oldest = (s.oldest + count) % 8; timeouts = 0 }
+
+-- An acknowledgement of packet y strikes all up to it. One that strikes none, or of a packet that isn't outstanding,
+-- changes nothing (this project's profile).
+abbrev pub acknowledged : ℕ → State → State
+acknowledged y s =
+    let count = distance s.oldest (y + 1) in
+    if count == 0 then s else if nat_lt (length s.unacked) count then s else struck count s
+
+abbrev pub on_rr : Phase → ℕ → State → Effect
+on_rr Up y s = quiet (acknowledged y s)
+on_rr _ y s = ignored s
+
+-- a reject is an acknowledgement, and asks for all that is then outstanding
+abbrev pub on_rj : Phase → ℕ → State → Effect
+on_rj Up y s =
+    let left = acknowledged y s in
+    record { state = left; emitted = outstanding left; outcome = nothing }
+on_rj _ y s = ignored s
+
+-- a selective reject asks for one packet, and acknowledges none
+abbrev pub on_srj : Phase → ℕ → State → Effect
+on_srj Up y s = record { state = s; emitted = selected y s; outcome = nothing }
+on_srj _ y s = ignored s
+
+-- ---- data packets that come
+
+-- One reject goes out for the expected packet, until it has come or a timeout passes (this project's profile).
+abbrev pub rejecting : State → Effect
+rejecting s = answers (record s { told = true }) (rj (last_received s)) nothing
+
+-- the expected packet is taken; each other is rejected or, where a reject has gone out, answered with the last number
+-- received
+abbrev pub on_number : ℕ → State → Effect
+on_number x s =
+    if x == s.expected
+    then answers (record s { expected = (s.expected + 1) % 8; told = false; timeouts = 0 }) (rr x) taken
+    else if s.told then answers s (rr (last_received s)) nothing else rejecting s
+
+abbrev pub on_data : Phase → (seq ack : ℕ) → State → Effect
+on_data Up seq ack s = on_number seq (acknowledged ack s)
+on_data _ seq ack s = ignored s
+
+abbrev pub on_bad : Phase → State → Effect
+on_bad Up s = if s.told then ignored s else rejecting s
+on_bad _ s = ignored s
+
 -- ---- packets
 
 -- a window of 0 is ignored (this project's profile)
@@ -100,26 +198,15 @@ on_control close s = on_close s.phase s
 on_control (init_a y) s = if y == 0 then ignored s else on_init_a s.role s.phase y s
 on_control (init_b y) s = on_init_b s.role s.phase y s
 on_control (init_c y) s = if y == 0 then ignored s else on_init_c s.role s.phase y s
-on_control (rj y) s = ignored s
-on_control (srj y) s = ignored s
-on_control (rr y) s = ignored s
+on_control (rj y) s = on_rj s.phase y s
+on_control (srj y) s = on_srj s.phase y s
+on_control (rr y) s = on_rr s.phase y s
 
 abbrev pub on_packet : PacketValue → State → Effect
 on_packet (control c) s = on_control c s
-on_packet (carry seq ack k message) s = ignored s
+on_packet (carry seq ack k message) s = on_data s.phase seq ack s
 
 -- ---- timeouts
-
--- Messages in order, numbered from the first number on: each in the size that the other end wants, and with the
--- number of the last packet correctly received.
-abbrev pub sent_again : State → ℕ → List (List ℕ) → List Emission
-sent_again s number [] = []
-sent_again s number (message ∷ messages) =
-    record { packet = carry (number % 8) ((s.expected + 7) % 8) (s.size_code + 1) message; first = false }
-    ∷ sent_again s (number + 1) messages
-
-abbrev pub outstanding : State → List Emission
-outstanding s = sent_again s s.oldest s.unacked
 
 -- what goes out again when nothing has come for some time (this project's profile)
 abbrev pub repeated : Role → Phase → State → List Emission
@@ -130,7 +217,7 @@ repeated _ Up s = outstanding s
 repeated _ Closing s = only close
 repeated _ _ s = []
 
--- The eighth timeout in a row without progress ends the link (this project's profile).
+-- The eighth timeout in a row without progress ends the link, with the count at eight (this project's profile).
 abbrev pub on_timeout : State → Effect
 on_timeout s =
     if nat_lt (s.timeouts + 1) TIMEOUTS_MAX
@@ -143,16 +230,19 @@ on_timeout s =
 
 -- ---- the step
 
+-- `to_begin` comes only to a link that is fresh, `to_send` to one that has room, with a message that fits, and `to_close`
+-- to one that is up.
 abbrev pub on_event : Event → State → Effect
 on_event to_begin s = answers (record s { phase = AwaitsInitA }) (own_init_a s) nothing
 on_event (packet_found p) s = on_packet p s
-on_event bad_found s = ignored s
+on_event bad_found s = on_bad s.phase s
 on_event timed_out s = on_timeout s
+on_event (to_send message) s = on_send message s
 on_event to_close s = answers (moved s Closing) close nothing
 
 -- nothing happens to a link that has ended
-abbrev pub refused : State → Effect
-refused s = record { state = s; emitted = []; outcome = halted }
+abbrev pub answers_halted : State → Effect
+answers_halted s = record { state = s; emitted = []; outcome = halted }
 
 abbrev pub step : State → Event → Effect
-step s event = if is_halted s.phase then refused s else on_event event s
+step s event = if is_halted s.phase then answers_halted s else on_event event s

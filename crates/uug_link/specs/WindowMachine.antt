@@ -1,7 +1,7 @@
 -- The window rules of the protocol on their own: two directions of whole numbers and lists without end, with no
--- numbers modulo eight, bytes, slots, timeouts or rejects. The machine repeats and acknowledges when it likes, and any
+-- numbers modulo eight, spellings, slots, timeouts or rejects. The machine repeats and acknowledges when it likes, and any
 -- packet may be lost. Taylor UUCP manual, UUCP 'g' Protocol.
-use Rattle.std.specs.Prelude.{◌≡◌, ℕ, ◌+◌, ◌<◌, ◌≤◌, ◌==◌, if◌then◌else◌, List, [], ◌∷◌, ◌++◌, length}
+use Rattle.std.specs.Prelude.{◌≡◌, ℕ, ◌+◌, ◌<◌, ◌≤◌, ◌==◌, if◌then◌else◌, List, [], ◌∷◌, ◌++◌, length, ⊤}
 use Rattle.uug_link.specs.Announced.{IsWindow}
 
 -- a packet in flight: a data packet has the place of its message among all that were sent, and each packet says how
@@ -57,7 +57,7 @@ pub data Step : Type 0 where
 abbrev pub Permits : Direction → Step → Type 0
 Permits d (sends message) = length d.sent < d.acked + d.window
 Permits d (repeats number) = (d.acked ≤ number) × (number < length d.sent)
-Permits d acknowledges = Unit {0}
+Permits d acknowledges = ⊤
 Permits d loses = 0 < length d.flight
 Permits d arrives = 0 < length d.flight
 
@@ -108,7 +108,7 @@ after_move m (on_out step) = after_step m step
 after_move m (on_back step) = turned (after_step (turned m) step)
 
 abbrev pub AllAllowed : Machine → List Move → Type 0
-AllAllowed m [] = Unit {0}
+AllAllowed m [] = ⊤
 AllAllowed m (move ∷ moves) = Allows m move × AllAllowed (after_move m move) moves
 
 abbrev pub after : Machine → List Move → Machine
@@ -129,13 +129,13 @@ Always P = (window other : ℕ) (m : Machine) → IsWindow window → IsWindow o
 
 -- the fact holds of the number of each data packet
 abbrev pub EachNumber : (ℕ → Type 0) → List Flying → Type 0
-EachNumber P [] = Unit {0}
+EachNumber P [] = ⊤
 EachNumber P (data_packet number ack ∷ packets) = P number × EachNumber P packets
 EachNumber P (acknowledgement ack ∷ packets) = EachNumber P packets
 
 -- the fact holds of the acknowledgement of each packet
 abbrev pub EachAck : (ℕ → Type 0) → List Flying → Type 0
-EachAck P [] = Unit {0}
+EachAck P [] = ⊤
 EachAck P (packet ∷ packets) = P (ack_of packet) × EachAck P packets
 
 -- the acknowledgements never fall, and lie from the least to the greatest

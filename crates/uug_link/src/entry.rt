@@ -1,7 +1,7 @@
 /// One thing that an end emitted.
 #[derive(Clone, Copy, Debug, PartialEq, Eq)]
 pub enum Entry<'a> {
-    /// A text of the handshake, or behind the link.
+    /// A text of the handshake, or the last one behind the packets of the link.
     Text(&'a [u8]),
     /// A packet of the link.
     Packet {

@@ -6,9 +6,10 @@ ghost use Rattle.uug_link.specs.declared.limits.TheConstants.{WINDOW_MAX};
 /// What holds after every run of the window machine, of each direction `d` and the opposite one `o`: whatever was sent,
 /// repeated and lost, numbers modulo eight tell as much as whole numbers do.
 ///
-/// Numbers with the same digit are the same, or at least eight apart. A receiver sees only data packets from seven
-/// before the expected one to six after it, so none that is eight away: only the expected one has its digit. A sender
-/// sees only acknowledgements from what counts as acknowledged to seven more, eight numbers with eight digits.
+/// On the line a number is written modulo eight: as its digit. Numbers with the same digit are the same, or at least
+/// eight apart. A receiver sees only data packets from seven before the expected one to six after it, so none that is
+/// eight away: only the expected one has its digit. A sender sees only acknowledgements from what counts as acknowledged
+/// to seven more, eight numbers with eight digits.
 pub fn the_window_is_safe()
     // What counts as acknowledged was taken, what was taken was sent, and no more is sent than the window allows.
     ensures counts { Always (λ d o.

@@ -1,4 +1,4 @@
-//! One end's link of the UUCP 'g' protocol: its start-up and shut-down, and what it emits.
+//! One end's link of the UUCP 'g' protocol: its start-up and shut-down, its sliding window, and what it emits.
 #![tactic(auto)]
 
 mod announce;
@@ -6,13 +6,18 @@ mod entry;
 pub mod laws;
 mod limits;
 mod link;
+mod message;
+mod number;
 mod outbox;
 mod outcome;
 mod phase;
+mod reaction;
+mod start_up;
 mod status;
 #[cfg(test)]
 mod tests;
 mod timeouts;
+mod window;
 
 pub use announce::{Announce, BadAnnounce};
 pub use entry::Entry;

@@ -1,7 +1,15 @@
 //! The limits of a link.
 
+use uug_packet::{HEADER_SIZE, PACKET_MAX};
+
 /// The greatest window: this many packets may be unacknowledged.
 pub const WINDOW_MAX: u8 = 7;
+
+/// For so many unacknowledged messages a link has room.
+pub(crate) const UNACKED_MAX: usize = WINDOW_MAX as usize;
+
+/// The greatest size of a message in bytes.
+pub(crate) const MESSAGE_MAX: usize = PACKET_MAX - HEADER_SIZE;
 
 /// The codes of sizes are 0 to 7.
 pub const SIZE_CODES: u8 = 8;

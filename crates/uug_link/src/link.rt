@@ -1,16 +1,22 @@
-ghost use Rattle.std.specs.Prelude.{◌≡◌, ℕ, ◌+◌, ◌≤◌, ◌++◌, length, map, OnOk, OnErr, IsOk, IsTrue, ◌↔◌};
+ghost use Rattle.std.specs.Prelude.{◌≡◌, ℕ, ◌+◌, ◌≤◌, ◌++◌, length, drop, map, OnOk, OnErr, IsOk, IsTrue, ◌↔◌};
+ghost use Rattle.arrayvec.specs.ArrayVec.{array_vec_len};
 ghost use Rattle.uug_link.specs.Announced.{announced, size_of_code};
 ghost use Rattle.uug_link.specs.Follows.{Follows, answered, done, written};
 ghost use Rattle.uug_link.specs.Reactions.{effect_of};
-ghost use Rattle.uug_link.specs.State.{caller_state, called_state, IsFresh, IsUp};
-ghost use Rattle.uug_link.specs.Step.{step, to_begin, packet_found, bad_found, timed_out, to_close};
+ghost use Rattle.uug_link.specs.State.{caller_state, called_state, HasRoom, IsFresh, IsSound, IsUp};
+ghost use Rattle.uug_link.specs.Step.{step, taken, to_begin, packet_found, bad_found, timed_out, to_send, to_close};
 ghost use Rattle.uug_packet.specs.Packet.{shown};
 
 use crate::announce::Announce;
+use crate::limits::{MESSAGE_MAX, UNACKED_MAX, WINDOW_MAX};
+use crate::message::Message;
+use crate::number::plus;
 use crate::outbox::Outbox;
 use crate::outcome::{LinkFault, Outcome};
 use crate::phase::{Phase, Role};
-use crate::status::{Reaction, Status};
+use crate::reaction::Reaction;
+use crate::status::Status;
+use arrayvec::ArrayVec;
 use std::alloc::{AllocError, Allocator};
 use std::marker::Model;
 use uug_packet::Packet;
@@ -20,16 +26,19 @@ use uug_packet::Packet;
 #[derive(Drop)]
 pub struct Link {
     status: Status,
+    /// The messages that were sent and not acknowledged, oldest first.
+    unacked: ArrayVec<Message, UNACKED_MAX>,
 }
 
 impl Model for Link {
-    ghost use Rattle.uug_link.specs.State.{State};
+    ghost use Rattle.uug_link.specs.State.{State, IsSound};
+    ghost use Rattle.uug_link.specs.Reactions.{messages_of, state_of};
 
     ghost Value = { State };
 
-    ghost use Rattle.uug_link.specs.Reactions.{state_of};
+    ghost view = { λ link. state_of link.status (messages_of link.unacked.items) };
 
-    ghost view = { λ link. state_of link.status };
+    ghost invariant = { λ link. IsSound (state_of link.status (messages_of link.unacked.items)) };
 }
 
 impl Link {
@@ -39,6 +48,7 @@ impl Link {
     {
         Link {
             status: Status::first(Role::Caller, Phase::Fresh, own),
+            unacked: ArrayVec::new(),
         }
     }
 
@@ -48,19 +58,22 @@ impl Link {
     {
         Link {
             status: Status::first(Role::Called, Phase::AwaitsInitA, own),
+            unacked: ArrayVec::new(),
         }
     }
 
-    /// Begins the start-up, of a caller's link on which this has not answered Ok and which has not ended.
+    /// Begins the start-up: emits INITA. Of a caller's link on which this has not answered Ok and which has not ended.
+    /// Without memory for the packet, link and outbox are as before.
     pub fn begin<A: Allocator>(&mut self, out: &mut Outbox<A>) -> Result<(), AllocError>
         requires { IsFresh self.old }
         ensures { Follows (step self.old to_begin) self.old self.new out.old out.new (done result) }
     {
         let reaction = self.status.after_begin();
-        self.emit(reaction, out)
+        self.apply(reaction, out)
     }
 
-    /// Takes up a packet that was found.
+    /// Takes up a packet that was found. The answer is `Taken` where its message is the next one, `Up` where the link has
+    /// come up, and `Closed` where CLOSE has ended it; it is never `GaveUp`.
     pub fn on_packet<A: Allocator>(
         &mut self,
         packet: &Packet<'_>,
@@ -69,11 +82,11 @@ impl Link {
         ensures { Follows (step self.old (packet_found (shown packet.now)))
             self.old self.new out.old out.new (answered result) }
     {
-        let reaction = self.status.after_packet(packet);
+        let reaction = self.status.after_packet(packet, self.unacked.len());
         self.react(reaction, out)
     }
 
-    /// Takes up that a broken packet was found.
+    /// Takes up that a broken packet was found, and asks for the expected one unless it has been asked for.
     pub fn on_bad<A: Allocator>(&mut self, out: &mut Outbox<A>) -> Result<Outcome, LinkFault>
         ensures { Follows (step self.old bad_found) self.old self.new out.old out.new (answered result) }
     {
@@ -81,7 +94,8 @@ impl Link {
         self.react(reaction, out)
     }
 
-    /// Takes up that nothing has come for some time.
+    /// Takes up that nothing has come for some time, and emits what may be lost again. The eighth time in a row without
+    /// progress ends the link: CLOSE is emitted, and the answer is `GaveUp`.
     pub fn on_timeout<A: Allocator>(&mut self, out: &mut Outbox<A>) -> Result<Outcome, LinkFault>
         ensures { Follows (step self.old timed_out) self.old self.new out.old out.new (answered result) }
     {
@@ -89,27 +103,67 @@ impl Link {
         self.react(reaction, out)
     }
 
-    /// Closes a link that is up.
+    /// Sends a message of at most `size` bytes, on a link that has room for one more. Without memory for the packet, link
+    /// and outbox are as before.
+    pub fn send<A: Allocator>(
+        &mut self,
+        message: &[u8],
+        out: &mut Outbox<A>,
+    ) -> Result<(), AllocError>
+        requires room { HasRoom self.old }
+        requires fits { length message.now ≤ size_of_code self.old.size_code }
+        ensures { Follows (step self.old (to_send message.now)) self.old self.new out.old out.new (done result) }
+    {
+        let number = plus(self.status.oldest, self.unacked.len());
+        out.add_packet(&self.status.data_packet(number, message), true)?;
+        self.unacked.push(kept(message));
+        Ok(())
+    }
+
+    /// Closes a link that is up: emits CLOSE. Without memory for the packet, link and outbox are as before.
     pub fn close<A: Allocator>(&mut self, out: &mut Outbox<A>) -> Result<(), AllocError>
         requires { IsUp self.old }
         ensures { Follows (step self.old to_close) self.old self.new out.old out.new (done result) }
     {
         let reaction = self.status.after_shutdown();
-        self.emit(reaction, out)
+        self.apply(reaction, out)
     }
 
     /// Whether messages may go both ways.
     pub fn is_up(&self) -> bool
         ensures { IsTrue result ↔ IsUp self.now }
     {
-        match self.status.phase {
-            Phase::Up => true,
+        matches!(self.status.phase, Phase::Up)
+    }
+
+    /// Whether `on_packet` would answer `Taken` to this packet, if it is not refused memory.
+    pub fn takes(&self, packet: &Packet<'_>) -> bool
+        ensures { IsTrue result ↔ ((step self.now (packet_found (shown packet.now))).outcome ≡ taken) }
+    {
+        match (self.status.phase, packet) {
+            (Phase::Up, Packet::Carry { seq, .. }) => *seq == self.status.received.next(),
             _ => false,
         }
     }
 
-    /// The greatest number of packets that may be unacknowledged: the smaller of the two windows that the other end
-    /// has announced.
+    /// Whether one more message may go out: the link is up, and fewer are unacknowledged than the window lets.
+    pub fn room(&self) -> bool
+        ensures { IsTrue result ↔ HasRoom self.now }
+    {
+        self.is_up() && self.unacked() < self.window()
+    }
+
+    /// How many messages were sent and not acknowledged.
+    pub fn unacked(&self) -> usize
+        ensures count { result ≡ length self.now.unacked }
+        ensures within { result ≤ self.now.window }
+        ensures most { result ≤ WINDOW_MAX }
+    {
+        self.unacked.len()
+    }
+
+    /// The greatest number of packets that may be unacknowledged, of a link that is up: the smaller of the two windows
+    /// that the other end has announced.
     pub fn window(&self) -> usize
         requires { IsUp self.now }
         ensures { result ≡ self.now.window }
@@ -117,7 +171,7 @@ impl Link {
         usize::from(self.status.window.value())
     }
 
-    /// The packet size in bytes that the other end has announced.
+    /// The packet size in bytes that the other end has announced, of a link that is up.
     pub fn size(&self) -> usize
         requires { IsUp self.now }
         ensures { result ≡ size_of_code self.now.size_code }
@@ -130,32 +184,57 @@ impl Link {
         reaction: Reaction,
         out: &mut Outbox<A>,
     ) -> Result<Outcome, LinkFault>
-        ensures { Follows (effect_of reaction) self.old self.new out.old out.new (answered result) }
+        requires struck { reaction.strikes ≤ length self.old.unacked }
+        requires sound { IsSound (effect_of reaction self.old.unacked).state }
+        ensures { Follows (effect_of reaction self.old.unacked)
+            self.old self.new out.old out.new (answered result) }
     {
-        if self.emit(reaction, out).is_err() {
+        if self.apply(reaction, out).is_err() {
             return Err(LinkFault::Memory);
         }
         reaction.reply.answer()
     }
 
     /// Emits first, since that may be refused, and changes the link then.
-    fn emit<A: Allocator>(
+    fn apply<A: Allocator>(
         &mut self,
         reaction: Reaction,
         out: &mut Outbox<A>,
     ) -> Result<(), AllocError>
-        ensures ok { OnOk result (self.new ≡ (effect_of reaction).state) }
+        requires struck { reaction.strikes ≤ length self.old.unacked }
+        requires sound { IsSound (effect_of reaction self.old.unacked).state }
+        ensures ok { OnOk result (self.new ≡ (effect_of reaction self.old.unacked).state) }
         ensures emitted { OnOk result
-            (out.new.entries ≡ out.old.entries ++ map written (effect_of reaction).emitted) }
+            (out.new.entries ≡ out.old.entries ++ map written (effect_of reaction self.old.unacked).emitted) }
         ensures unchanged { OnErr result (self.new ≡ self.old) }
         ensures kept { OnErr result (out.new.entries ≡ out.old.entries) }
-        ensures memory { length (effect_of reaction).emitted ≤ out.old.spare → IsOk result }
-        ensures spare { out.old.spare ≤ out.new.spare + length (effect_of reaction).emitted }
+        ensures spare_kept { OnErr result (out.old.spare ≤ out.new.spare) }
+        ensures memory { length (effect_of reaction self.old.unacked).emitted ≤ out.old.spare → IsOk result }
+        ensures spare { out.old.spare ≤ out.new.spare + length (effect_of reaction self.old.unacked).emitted }
     {
-        if let Some(control) = reaction.emits {
-            out.add_packet(&Packet::Control(control), false)?;
-        }
+        reaction.emit(self.unacked.as_slice(), out)?;
+        strike(&mut self.unacked, reaction.strikes);
         self.status = reaction.status;
         Ok(())
     }
+}
+
+/// Takes the oldest messages away.
+fn strike(unacked: &mut ArrayVec<Message, UNACKED_MAX>, count: usize)
+    requires { count ≤ array_vec_len unacked.old }
+    ensures { unacked.new.items ≡ drop count unacked.old.items }
+{
+    unacked.drain(..count);
+}
+
+/// A copy of a message.
+fn kept(message: &[u8]) -> Message
+    requires { length message.now ≤ MESSAGE_MAX }
+    ensures { result.items ≡ message.now }
+{
+    let mut kept = ArrayVec::new();
+    if kept.try_extend_from_slice(message).is_err() {
+        unreachable!()
+    }
+    kept
 }

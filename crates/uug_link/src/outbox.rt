@@ -82,7 +82,8 @@ impl<A: Allocator> Outbox<A> {
         (unused(&self.bytes) / PACKET_MAX).min(unused(&self.marks))
     }
 
-    /// Makes room for `n` more entries of at most `PACKET_MAX` bytes, `n` being at most `ENTRIES_MAX`.
+    /// Makes room for `n` more entries of at most `PACKET_MAX` bytes, `n` being at most `ENTRIES_MAX`. The entries stay,
+    /// with and without memory for it.
     pub fn reserve(&mut self, n: usize) -> Result<(), AllocError>
         requires { n ≤ ENTRIES_MAX }
         ensures entries { self.new.entries ≡ self.old.entries }
@@ -98,6 +99,7 @@ impl<A: Allocator> Outbox<A> {
     pub fn add_text(&mut self, bytes: &[u8]) -> Result<(), AllocError>
         ensures ok { OnOk result (self.new.entries ≡ self.old.entries ++ text bytes.now ∷ []) }
         ensures err { OnErr result (self.new.entries ≡ self.old.entries) }
+        ensures kept { OnErr result (self.old.spare ≤ self.new.spare) }
         ensures memory { length bytes.now ≤ PACKET_MAX → 0 < self.old.spare → IsOk result }
         ensures spare { length bytes.now ≤ PACKET_MAX → self.old.spare ≤ self.new.spare + 1 }
     {
@@ -110,6 +112,7 @@ impl<A: Allocator> Outbox<A> {
         ensures ok { OnOk result
             (self.new.entries ≡ self.old.entries ++ packet (canonical (shown item.now)) first ∷ []) }
         ensures err { OnErr result (self.new.entries ≡ self.old.entries) }
+        ensures kept { OnErr result (self.old.spare ≤ self.new.spare) }
         ensures memory { 0 < self.old.spare → IsOk result }
         ensures spare { self.old.spare ≤ self.new.spare + 1 }
     {
@@ -121,6 +124,7 @@ impl<A: Allocator> Outbox<A> {
     fn add(&mut self, kind: EntryKind, bytes: &[u8]) -> Result<(), AllocError>
         ensures ok { OnOk result (self.new.entries ≡ self.old.entries ++ entry_of kind bytes.now ∷ []) }
         ensures err { OnErr result (self.new.entries ≡ self.old.entries) }
+        ensures kept { OnErr result (self.old.spare ≤ self.new.spare) }
         ensures memory { length bytes.now ≤ PACKET_MAX → 0 < self.old.spare → IsOk result }
         ensures spare { length bytes.now ≤ PACKET_MAX → self.old.spare ≤ self.new.spare + 1 }
     {

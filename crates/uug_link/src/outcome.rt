@@ -31,6 +31,7 @@ pub enum LinkFault {
 pub(crate) enum Reply {
     Nothing,
     Up,
+    Taken,
     Closed,
     GaveUp,
     Halted,
@@ -43,6 +44,7 @@ impl Reply {
         match self {
             Reply::Nothing => Ok(Outcome::Nothing),
             Reply::Up => Ok(Outcome::Up),
+            Reply::Taken => Ok(Outcome::Taken),
             Reply::Closed => Ok(Outcome::Closed),
             Reply::GaveUp => Err(LinkFault::GaveUp),
             Reply::Halted => Err(LinkFault::Halted),

@@ -1,41 +1,20 @@
-//! Starts and ends of links with bytes from outside, and memory that is refused: what they catch beyond the clauses is
-//! a rule that the definitions state wrongly, a call that never gives an answer, and a refusal that cannot be made good.
+//! What the tests share: links that have begun and links that are up.
 
-use crate::{Announce, BadAnnounce, Entry, Link, LinkFault, Outbox, Outcome, TIMEOUTS_MAX};
-use linked_list_allocator::LocalHeap;
+mod memory;
+mod start;
+mod window;
+
+use crate::{Announce, Link, Outbox, Outcome};
 use std::alloc::{Allocator, Global};
-use std::process::Abort;
 use std::test::Fail;
-use uug_packet::decode;
-
-const INIT_A_0: [u8; 6] = [0x10, 0x09, 0x72, 0xaa, 0x38, 0xe9];
-
-const INIT_A_3: [u8; 6] = [0x10, 0x09, 0x6f, 0xaa, 0x3b, 0xf7];
-
-const INIT_A_7: [u8; 6] = [0x10, 0x09, 0x6b, 0xaa, 0x3f, 0xf7];
-
-const INIT_B_1: [u8; 6] = [0x10, 0x09, 0x79, 0xaa, 0x31, 0xeb];
-
-const INIT_C_2: [u8; 6] = [0x10, 0x09, 0x80, 0xaa, 0x2a, 0x09];
-
-const INIT_C_5: [u8; 6] = [0x10, 0x09, 0x7d, 0xaa, 0x2d, 0xf3];
-
-const CLOSE: [u8; 6] = [0x10, 0x09, 0xa2, 0xaa, 0x08, 0x09];
-
-/// What a caller with window 3 and size 64 emits in the start-up.
-const FROM_CALLER: [u8; 18] = [
-    0x10, 0x09, 0x6f, 0xaa, 0x3b, 0xf7, 0x10, 0x09, 0x79, 0xaa, 0x31, 0xeb, 0x10, 0x09, 0x7f, 0xaa,
-    0x2b, 0xf7,
-];
-
-/// What a called end with window 2 and size 32 emits in the start-up.
-const FROM_CALLED: [u8; 18] = [
-    0x10, 0x09, 0x70, 0xaa, 0x3a, 0xe9, 0x10, 0x09, 0x7a, 0xaa, 0x30, 0xe9, 0x10, 0x09, 0x80, 0xaa,
-    0x2a, 0x09,
-];
+use uug_packet::{Control, Packet, Seq};
 
 fn announce(window: u8, size: usize) -> Result<Announce, Fail> {
     Ok(Announce::new(window, size).ok().ok_or("an announcement")?)
+}
+
+fn number(value: u8) -> Result<Seq, Fail> {
+    Ok(Seq::new(value).ok_or("a number below 8")?)
 }
 
 /// A caller's link that has begun.
@@ -45,14 +24,35 @@ fn begun<A: Allocator>(out: &mut Outbox<A>) -> Result<Link, Fail> {
     Ok(link)
 }
 
-/// Takes up control packets, and gives the answer to the last.
-fn hear<A: Allocator>(link: &mut Link, bytes: &[u8], out: &mut Outbox<A>) -> Result<Outcome, Fail> {
-    let mut outcome = Outcome::Nothing;
-    for bytes in bytes.chunks(6) {
-        let (packet, _) = decode(bytes).ok().ok_or("a packet")?;
-        outcome = link.on_packet(&packet, out).ok().ok_or("an answer")?;
+/// A link that is up, where the other end has announced this window and the size `2^(size_code + 5)`.
+fn up(alloc: Global, window: u8, size_code: u8) -> Result<Link, Fail> {
+    let mut out = Outbox::new(alloc);
+    let mut link = begun(&mut out)?;
+    let start = [
+        Control::InitA(number(window)?),
+        Control::InitB(number(size_code)?),
+        Control::InitC(number(window)?),
+    ];
+    for control in start {
+        hear(&mut link, control, &mut out)?;
     }
-    Ok(outcome)
+    Ok(link)
+}
+
+fn hear<A: Allocator>(
+    link: &mut Link,
+    control: Control,
+    out: &mut Outbox<A>,
+) -> Result<Outcome, Fail> {
+    Ok(link.on_packet(&Packet::Control(control), out)?)
+}
+
+/// Sends a message, on a link that has room for it.
+fn send<A: Allocator>(link: &mut Link, message: &[u8], out: &mut Outbox<A>) -> Result<(), Fail> {
+    if !link.room() || message.len() > link.size() {
+        return Err("room for a message".into());
+    }
+    Ok(link.send(message, out)?)
 }
 
 /// Window and size of a link that is up.
@@ -62,180 +62,4 @@ fn terms(link: &Link) -> Option<(usize, usize)> {
     } else {
         None
     }
-}
-
-#[test]
-fn announces_windows_and_sizes(rt: HostRuntime) -> Result<(), Fail> {
-    let rows = [
-        (0, 64, BadAnnounce::BadWindow),
-        (8, 64, BadAnnounce::BadWindow),
-        (3, 48, BadAnnounce::BadSize),
-        (8, 48, BadAnnounce::BadWindow),
-    ];
-    for (window, size, refusal) in rows {
-        assert_eq!(rt; Announce::new(window, size), Err(refusal));
-    }
-    assert!(rt; Announce::new(7, 4096).is_ok());
-    Ok(())
-}
-
-#[test]
-fn starts_a_caller(rt: HostRuntime) -> Result<(), Fail> {
-    let mut out = Outbox::new(rt.alloc());
-    let mut link = begun(&mut out)?;
-    assert_eq!(rt; terms(&link), None);
-    assert_eq!(rt; hear(&mut link, &FROM_CALLED, &mut out)?, Outcome::Up);
-    assert_eq!(rt; out.bytes(), FROM_CALLER.as_slice());
-    assert_eq!(rt; terms(&link), Some((2, 32)));
-    Ok(())
-}
-
-#[test]
-fn starts_a_called_end(rt: HostRuntime) -> Result<(), Fail> {
-    let mut out = Outbox::new(rt.alloc());
-    let mut link = Link::called(announce(2, 32)?);
-    assert_eq!(rt; hear(&mut link, &INIT_A_0, &mut out)?, Outcome::Nothing);
-    assert_eq!(rt; hear(&mut link, &FROM_CALLER, &mut out)?, Outcome::Up);
-    assert_eq!(rt; out.bytes(), FROM_CALLED.as_slice());
-    assert_eq!(rt; terms(&link), Some((3, 64)));
-    // INITC once more, with another window
-    out.clear();
-    assert_eq!(rt; hear(&mut link, &INIT_C_5, &mut out)?, Outcome::Nothing);
-    assert_eq!(rt; out.bytes(), INIT_C_2.as_slice());
-    assert_eq!(rt; terms(&link), Some((3, 64)));
-    Ok(())
-}
-
-#[test]
-fn closes_a_link(rt: HostRuntime) -> Result<(), Fail> {
-    let mut out = Outbox::new(rt.alloc());
-    let mut link = Link::called(announce(7, 64)?);
-    for packet in [INIT_A_7, INIT_B_1, INIT_C_2] {
-        hear(&mut link, &packet, &mut out)?;
-    }
-    assert_eq!(rt; terms(&link), Some((2, 64)));
-    assert!(rt; link.is_up());
-    assert_eq!(rt; link.on_bad(&mut out), Ok(Outcome::Nothing));
-    out.clear();
-    assert!(rt; link.is_up());
-    link.close(&mut out)?;
-    assert_eq!(rt; hear(&mut link, &CLOSE, &mut out)?, Outcome::Closed);
-    assert_eq!(rt; out.bytes(), CLOSE.as_slice());
-    Ok(())
-}
-
-#[test]
-fn answers_close(rt: HostRuntime) -> Result<(), Fail> {
-    let mut out = Outbox::new(rt.alloc());
-    let mut link = Link::called(announce(3, 64)?);
-    assert_eq!(rt; hear(&mut link, &CLOSE, &mut out)?, Outcome::Closed);
-    assert_eq!(rt; out.bytes(), CLOSE.as_slice());
-    Ok(())
-}
-
-#[test]
-fn gives_up_at_the_eighth_timeout(rt: HostRuntime) -> Result<(), Fail> {
-    let mut out = Outbox::new(rt.alloc());
-    let mut link = begun(&mut out)?;
-    for _ in 1..TIMEOUTS_MAX {
-        out.clear();
-        assert_eq!(rt; link.on_timeout(&mut out), Ok(Outcome::Nothing));
-        assert_eq!(rt; out.bytes(), INIT_A_3.as_slice());
-    }
-    out.clear();
-    assert_eq!(rt; link.on_timeout(&mut out), Err(LinkFault::GaveUp));
-    assert_eq!(rt; link.on_timeout(&mut out), Err(LinkFault::Halted));
-    assert_eq!(rt; out.bytes(), CLOSE.as_slice());
-    Ok(())
-}
-
-#[test]
-fn holds_entries(rt: HostRuntime) -> Result<(), Fail> {
-    let mut out = Outbox::new(rt.alloc());
-    out.reserve(2)?;
-    assert!(rt; out.spare() >= 2);
-    begun(&mut out)?;
-    out.add_text(b"abc")?;
-    assert_eq!(rt; out.len(), 2);
-    assert_eq!(rt;
-        out.entry(0),
-        Entry::Packet {
-            bytes: &INIT_A_3,
-            first: false
-        }
-    );
-    assert_eq!(rt; out.entry(1), Entry::Text(b"abc"));
-    Ok(())
-}
-
-/// The bytes of the heap over which calls are refused memory.
-const HEAP: usize = 8192;
-
-/// The heap hands out multiples of this.
-const BLOCK: usize = 16;
-
-/// A call that takes memory, on a link and an outbox that were made for it.
-#[derive(Clone, Copy)]
-enum Call {
-    CloseFound,
-    LastTimeout,
-    Text,
-    Reserve,
-}
-
-/// The call, and whether it was done rather than refused memory.
-fn is_done<A: Allocator>(call: Call, link: &mut Link, out: &mut Outbox<A>) -> bool {
-    match call {
-        Call::CloseFound => match decode(&CLOSE) {
-            Ok((packet, _)) => link.on_packet(&packet, out) == Ok(Outcome::Closed),
-            Err(_) => false,
-        },
-        Call::LastTimeout => link.on_timeout(out) == Err(LinkFault::GaveUp),
-        Call::Text => out.add_text(b"abc").is_ok(),
-        Call::Reserve => out.reserve(1).is_ok(),
-    }
-}
-
-/// Which of the call's two growths were refused, as the room for it rises. Each refused call leaves link and outbox as
-/// they were: made again with more memory it is done.
-fn refused_growths(rt: &impl Abort, alloc: Global, call: Call) -> Result<(bool, bool), Fail> {
-    let mut refused = (false, false);
-    for blocks in 0..300 {
-        let heap = LocalHeap::new(alloc, HEAP)?;
-        let mut out = Outbox::new(&heap);
-        let mut link = Link::caller(announce(3, 64)?);
-        if let Call::LastTimeout = call {
-            for _ in 1..TIMEOUTS_MAX {
-                assert_eq!(rt; link.on_timeout(&mut out), Ok(Outcome::Nothing));
-            }
-        }
-        let filler = Vec::<u8, &LocalHeap>::with_capacity(&heap, HEAP - BLOCK * blocks)?;
-        let used = heap.used();
-        if is_done(call, &mut link, &mut out) {
-            continue;
-        }
-        assert_eq!(rt; out.len(), 0);
-        assert_eq!(rt; out.bytes().len(), 0);
-        if heap.used() == used {
-            refused.0 = true;
-        } else {
-            refused.1 = true;
-        }
-        drop(filler);
-        assert!(rt; is_done(call, &mut link, &mut out));
-    }
-    Ok(refused)
-}
-
-#[test]
-fn makes_refused_calls_good(rt: HostRuntime) -> Result<(), Fail> {
-    for call in [
-        Call::CloseFound,
-        Call::LastTimeout,
-        Call::Text,
-        Call::Reserve,
-    ] {
-        assert_eq!(rt; refused_growths(&rt, rt.alloc(), call)?, (true, true));
-    }
-    Ok(())
 }
