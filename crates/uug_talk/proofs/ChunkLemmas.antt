@@ -1,11 +1,12 @@
 -- The messages of a command and of a file, one by one.
-use Rattle.std.proofs.Common.{◌≡◌, ℕ, zero, suc, ◌+◌, ◌-◌, ◌*◌, ◌/◌, ◌%◌, ◌<◌, ◌≤◌, List, [], ◌∷◌, ◌++◌, length, take, drop, replicate, refl, sym, ap, subst, ◌∙◌, arith}
-use Rattle.std.proofs.lemmas.List.{length-append, length-drop, length-replicate, take_all, drop_all, take-append-le, drop-append-le}
+use Rattle.std.proofs.Common.{◌≡◌, ◌≢◌, ℕ, zero, suc, ◌+◌, ◌-◌, ◌*◌, ◌/◌, ◌%◌, ◌<◌, ◌≤◌, List, [], ◌∷◌, ◌++◌, length, take, drop, replicate, All, refl, sym, ap, subst, ◌∙◌, arith}
+use Rattle.std.proofs.lemmas.List.{length-append, length-drop, length-replicate, take_all, drop_all, drop-drop, take-append-le, drop-append-le}
+use Rattle.std.proofs.lemmas.List.Elements.{All-nil, All-cons, All-append, All-drop}
 use Rattle.std.proofs.lemmas.Nat.{mod-mul-add, div-add-mod', mod_below}
 use Rattle.uug_talk.specs.declared.chunks.Chunks.{Chunks}
 use Rattle.uug_talk.specs.declared.chunks.Ending.TheVariants.{Zeros, Empty}
 use Rattle.uug_talk.specs.MessagesLeft.{left_by, messages_left}
-use Rattle.uug_talk.specs.Chunks.{cut_up_to, cut, up_to_multiple, command_messages, file_messages}
+use Rattle.uug_talk.specs.Chunks.{IsCommandText, cut_up_to, cut, up_to_multiple, command_messages, file_messages}
 
 -- Cutting.
 
@@ -92,6 +93,56 @@ command_more size text s h =
 -- a message of a file but the last
 pub file_more : (size : ℕ) (bytes : List ℕ) → 0 < size → 0 < length bytes → file_messages size bytes ≡ take size bytes ∷ file_messages size (drop size bytes)
 file_more size bytes s h = ap (λ c. c ++ [] ∷ []) (cut_more size bytes s h)
+
+-- From an offset on.
+
+pub command_more_at : (size offset : ℕ) (text : List ℕ) → 0 < size → offset + size ≤ length text → command_messages size (drop offset text) ≡ take size (drop offset text) ∷ command_messages size (drop (offset + size) text)
+command_more_at size offset text s h =
+    command_more size (drop offset text) s (omega (arith, length-drop offset text))
+    ∙ ap (λ r. take size (drop offset text) ∷ command_messages size r) (drop-drop size offset text)
+
+pub command_last_at : (size offset : ℕ) (text : List ℕ) → offset ≤ length text → length text < offset + size → command_messages size (drop offset text) ≡ (drop offset text ++ replicate (offset + size - length text) 0) ∷ []
+command_last_at size offset text h l =
+    let left : size - length (drop offset text) ≡ offset + size - length text = omega (arith, length-drop offset text) in
+    command_last size (drop offset text) (omega (arith, length-drop offset text))
+    ∙ ap (λ n. (drop offset text ++ replicate n 0) ∷ []) left
+
+pub command_text_at : (offset : ℕ) (text : List ℕ) → IsCommandText text → IsCommandText (drop offset text)
+command_text_at offset text h = record {
+  short = omega (arith, length-drop offset text, h.short);
+  no_zero = All-drop (λ b. b ≢ 0) offset text h.no_zero;
+}
+
+pub file_more_at : (size offset : ℕ) (bytes : List ℕ) → 0 < size → offset < length bytes → file_messages size (drop offset bytes) ≡ take size (drop offset bytes) ∷ file_messages size (drop (offset + size) bytes)
+file_more_at size offset bytes s h =
+    file_more size (drop offset bytes) s (omega (arith, length-drop offset bytes))
+    ∙ ap (λ r. take size (drop offset bytes) ∷ file_messages size r) (drop-drop size offset bytes)
+
+pub file_last_at : (size offset : ℕ) (bytes : List ℕ) → length bytes ≤ offset → file_messages size (drop offset bytes) ≡ [] ∷ []
+file_last_at size offset bytes h = ap (file_messages size) (drop_all offset bytes h)
+
+-- The sizes of messages.
+
+taken_fits : (size : ℕ) (xs : List ℕ) → length (take size xs) ≤ size
+taken_fits zero xs = omega arith
+taken_fits (suc n) [] = omega arith
+taken_fits (suc n) (x ∷ xs) = omega (arith, taken_fits n xs)
+
+abbrev Fits : ℕ → List ℕ → Type 0
+Fits size message = length message ≤ size
+
+cut_fits : (n size : ℕ) (xs : List ℕ) → All (Fits size) (cut_up_to n size xs)
+cut_fits zero size xs = All-nil (Fits size)
+cut_fits (suc n) size [] = All-nil (Fits size)
+cut_fits (suc n) size (x ∷ xs) = All-cons (Fits size) (take size (x ∷ xs)) (cut_up_to n size (drop size (x ∷ xs))) (taken_fits size (x ∷ xs)) (cut_fits n size (drop size (x ∷ xs)))
+
+pub command_fits : (size : ℕ) (text : List ℕ) → All (Fits size) (command_messages size text)
+command_fits size text =
+    let xs : List ℕ = text ++ 0 ∷ replicate (up_to_multiple size (length text + 1)) 0 in
+    cut_fits (length xs) size xs
+
+pub file_fits : (size : ℕ) (bytes : List ℕ) → All (Fits size) (file_messages size bytes)
+file_fits size bytes = All-append (Fits size) (cut size bytes) ([] ∷ []) (cut_fits (length bytes) size bytes) (All-cons (Fits size) [] [] (omega arith) (All-nil (Fits size)))
 
 -- What an iterator gives.
 

@@ -10,6 +10,7 @@ pub mod NameLemmas
 pub mod OrderLemmas
 pub mod RefusedLemmas
 pub mod ResultLemmas
+pub mod StreamTextLemmas
 pub mod StandardFacts
 pub mod TextLemmas
 pub mod WordLemmas

@@ -1,14 +1,17 @@
 -- Texts and messages whose reading is known, so that a wrong definition does not check.
-use Rattle.std.proofs.Common.{◌≡◌, ◌+◌, [], ◌∷◌, ◌++◌, length, map, replicate, codes, Some, None, Ok, Err, refl}
+use Rattle.std.proofs.Common.{◌≡◌, ◌+◌, [], ◌∷◌, ◌++◌, length, map, replicate, codes, Some, None, Ok, Err, true, false, refl}
 use Rattle.uug_talk.specs.declared.answer.Answer.TheVariants.{SendYes, SendNever, SendLater, GiveYes, GiveNever, GiveLater, DoneYes, DoneYesMaster, DoneNever, DoneLater, HangYes, HangNo}
 use Rattle.uug_talk.specs.declared.error.BadText.TheVariants as fault
 use Rattle.uug_talk.specs.declared.hail.TheConstants.{HAIL_MAX}
+use Rattle.uug_talk.specs.declared.name.TheConstants.{NAME_MAX}
 use Rattle.uug_talk.specs.declared.order.Order.TheVariants.{Send, Request, HangUp}
 use Rattle.uug_talk.specs.declared.words.TheConstants.{COMMAND_MAX}
 use Rattle.uug_talk.specs.Answer.{answer_of, answer_text}
 use Rattle.uug_talk.specs.Chunks.{command_messages, file_messages}
+use Rattle.uug_talk.specs.Gathering.{OfCommand, OfFile, gathered}
 use Rattle.uug_talk.specs.Name.{name_read}
 use Rattle.uug_talk.specs.Order.{order_of, order_text}
+use Rattle.uug_talk.specs.StreamTexts.{Rest, TooLong, texts_of}
 use Rattle.uug_talk.specs.Texts.{Passing, Open, Whole, hear}
 
 -- commands
@@ -132,10 +135,29 @@ pub record AreTexts : Type 0 where
 pub texts : AreTexts
 texts = record { chatter = refl; anew = refl; second_piece = refl; longest = refl; too_long = refl }
 
+-- all the texts of a stream
+pub record AreAllTexts : Type 0 where
+  pub two : texts_of (codes "login:" ++ 16 ∷ codes "Shere=b" ++ 10 ∷ codes "z" ++ 16 ∷ codes "ROK" ++ 0 ∷ codes "zz") ≡ record { texts = codes "Shere=b" ∷ codes "ROK" ∷ []; end = Rest (codes "zz") }
+  pub begun : texts_of (16 ∷ 83 ∷ 0 ∷ 16 ∷ 82 ∷ []) ≡ record { texts = codes "S" ∷ []; end = Rest (16 ∷ 82 ∷ []) }
+  pub too_long : texts_of (16 ∷ 83 ∷ 0 ∷ 16 ∷ replicate (HAIL_MAX + 1) 120) ≡ record { texts = codes "S" ∷ []; end = TooLong }
+  pub none : texts_of [] ≡ record { texts = []; end = Rest [] }
+
+pub all_texts : AreAllTexts
+all_texts = record { two = refl; begun = refl; too_long = refl; none = refl }
+
+-- what is gathered
+pub record AreGathered : Type 0 where
+  pub short_message : (gathered OfFile ((1 ∷ 2 ∷ []) ∷ (3 ∷ []) ∷ [])).whole ≡ false
+  pub empty_message : gathered OfFile ((1 ∷ 2 ∷ []) ∷ [] ∷ []) ≡ record { kind = OfFile; bytes = 1 ∷ 2 ∷ []; whole = true }
+  pub behind_a_zero : gathered OfCommand ((72 ∷ []) ∷ (89 ∷ 0 ∷ 7 ∷ []) ∷ []) ≡ record { kind = OfCommand; bytes = codes "HY"; whole = true }
+
+pub gathered_messages : AreGathered
+gathered_messages = record { short_message = refl; empty_message = refl; behind_a_zero = refl }
+
 -- names
 pub record AreNameWords : Type 0 where
-  pub longest : name_read (replicate 200 120) ≡ Ok (replicate 200 120)
-  pub too_long : name_read (replicate 201 120) ≡ Err fault.Name
+  pub longest : name_read (replicate NAME_MAX 120) ≡ Ok (replicate NAME_MAX 120)
+  pub too_long : name_read (replicate (NAME_MAX + 1) 120) ≡ Err fault.Name
   pub none : name_read [] ≡ Err fault.Name
   pub space : name_read (codes "a b") ≡ Err fault.Name
 

@@ -5,8 +5,8 @@ use Rattle.std.proofs.lemmas.List.{append-nil, same_from_push, length_push, drop
 use Rattle.std.proofs.lemmas.List.Elements.{All-nil, All-push, All-head, All-tail, All-drop}
 use Rattle.std.specs.Prelude.{option_and_then}
 use Rattle.uug_talk.specs.declared.hail.TheConstants.{HAIL_MAX, TEXT_START}
-use Rattle.uug_talk.specs.Texts.{IsEnd, IsPlain, Closes, Overflows, IsUnsettled, IsFirstText, IsTooLong, Heard, Passing, Open, Whole, HearsOpen, Holds, is_whole, heard_byte, one_used, hear}
-use Rattle.uug_talk.proofs.HearLemmas.{hear_whole}
+use Rattle.uug_talk.specs.Texts.{IsEnd, IsPlain, Closes, Overflows, IsUnsettled, IsFirstText, IsTooLong, Heard, Passing, Open, Whole, HearsOpen, Holds, is_whole, heard_byte, one_used, used_before, hear}
+use Rattle.uug_talk.proofs.HearLemmas.{plus_none, hear_whole, hear_next, hear_none}
 use Rattle.uug_talk.proofs.ResultLemmas.{by_test}
 
 -- Lists that end with one element.
@@ -59,7 +59,7 @@ over_ends stream b k = elim (ends_with k.text) [
 ]
 
 -- where no text has begun, none has come
-unsettled_passing : (stream : List ℕ) → All (λ b. b ≢ TEXT_START) stream → IsUnsettled stream
+pub unsettled_passing : (stream : List ℕ) → All (λ b. b ≢ TEXT_START) stream → IsUnsettled stream
 unsettled_passing stream h = record {
   no_text = λ front rest text e k.
       middle_has (λ b. b ≢ TEXT_START) k.before TEXT_START (text ++ (k.last ∷ [] ++ rest))
@@ -254,8 +254,67 @@ took_of (b ∷ bs) heard next n e =
     let t = took_of bs one.0 more.0.1 more.0.0 more.1 in
     (omega (arith, t.0), λ f. omega (arith, t.1 (ap is_whole k ∙ f))))
 
+-- where a text becomes whole, something is used
+pub used_some : (piece : List ℕ) (heard next : Heard) (n : ℕ) → hear heard piece ≡ Some (n, next) → is_whole heard ≡ false → is_whole next ≡ true → 0 < n
+used_some [] heard next n e w f = let k : heard ≡ next = ap (λ o. heard_in o heard) e in absurd (let c = sym w ∙ ap is_whole k ∙ f in cc)
+used_some (b ∷ bs) heard next n e w f =
+    by_test {b = is_whole heard} {x = Some (0, heard)} {y = option_and_then (λ m. option_and_then one_used (hear m bs)) (heard_byte heard b)} {z = Some (n, next)} e
+    (λ t _. absurd (let c = sym w ∙ t in cc))
+    (λ _ e.
+    let one = bind_some (heard_byte heard b) (λ m. option_and_then one_used (hear m bs)) (n, next) e in
+    let more = bind_some (hear one.0 bs) one_used (n, next) one.2 in
+    let z : 1 + more.0.0 ≡ n = ap (λ o. used_in o) more.2 in
+    omega arith)
+
 pub whole_is_heard : (piece : List ℕ) (heard : Heard) → is_whole heard ≡ true → hear heard piece ≡ None → ⊥
 whole_is_heard piece heard w e = absurd (let k = sym (hear_whole heard piece w) ∙ e in cc)
+
+-- Piece by piece.
+
+used_then : (n : ℕ) (found : Option (ℕ × Heard)) → option_and_then one_used (used_before n found) ≡ used_before (1 + n) found
+used_then n None = refl
+used_then n (Some found) = let e : 1 + (n + found.0) ≡ 1 + n + found.0 = omega arith in ap (λ m. Some (m, found.1)) e
+
+pub goes_on : (piece more : List ℕ) (heard next : Heard) (n : ℕ) → hear heard piece ≡ Some (n, next) → is_whole next ≡ false → hear heard (piece ++ more) ≡ used_before n (hear next more)
+goes_on [] more heard next n e f =
+    let k : heard ≡ next = ap (λ o. heard_in o heard) e in let z : 0 ≡ n = ap (λ o. used_in o) e in
+    plus_none (hear heard more) ∙ ap (λ h. used_before 0 (hear h more)) k ∙ ap (λ m. used_before m (hear next more)) z
+goes_on (b ∷ bs) more heard next n e f =
+    by_test {b = is_whole heard} {x = Some (0, heard)} {y = option_and_then (λ m. option_and_then one_used (hear m bs)) (heard_byte heard b)} {z = Some (n, next)} e
+    (λ w e. let k : heard ≡ next = ap (λ o. heard_in o heard) e in absurd (let c = sym w ∙ ap is_whole k ∙ f in cc))
+    (λ w e.
+    let one = bind_some (heard_byte heard b) (λ m. option_and_then one_used (hear m bs)) (n, next) e in
+    let then = bind_some (hear one.0 bs) one_used (n, next) one.2 in
+    let k : then.0.1 ≡ next = ap (λ o. heard_in o next) then.2 in let z : 1 + then.0.0 ≡ n = ap (λ o. used_in o) then.2 in
+    hear_next heard one.0 b (bs ++ more) w one.1
+    ∙ ap (option_and_then one_used) (goes_on bs more one.0 then.0.1 then.0.0 then.1 (ap is_whole k ∙ f))
+    ∙ used_then then.0.0 (hear then.0.1 more)
+    ∙ ap (λ h. used_before (1 + then.0.0) (hear h more)) k ∙ ap (λ m. used_before m (hear next more)) z)
+
+pub stays_whole : (piece more : List ℕ) (heard next : Heard) (n : ℕ) → hear heard piece ≡ Some (n, next) → is_whole next ≡ true → hear heard (piece ++ more) ≡ Some (n, next)
+stays_whole [] more heard next n e f =
+    let k : heard ≡ next = ap (λ o. heard_in o heard) e in
+    hear_whole heard more (ap is_whole k ∙ f) ∙ e
+stays_whole (b ∷ bs) more heard next n e f =
+    by_test {b = is_whole heard} {x = Some (0, heard)} {y = option_and_then (λ m. option_and_then one_used (hear m bs)) (heard_byte heard b)} {z = Some (n, next)} e
+    (λ w e. hear_whole heard (b ∷ (bs ++ more)) w ∙ e)
+    (λ w e.
+    let one = bind_some (heard_byte heard b) (λ m. option_and_then one_used (hear m bs)) (n, next) e in
+    let then = bind_some (hear one.0 bs) one_used (n, next) one.2 in
+    let k : then.0.1 ≡ next = ap (λ o. heard_in o next) then.2 in
+    hear_next heard one.0 b (bs ++ more) w one.1
+    ∙ ap (option_and_then one_used) (stays_whole bs more one.0 then.0.1 then.0.0 then.1 (ap is_whole k ∙ f))
+    ∙ then.2)
+
+pub stays_too_long : (piece more : List ℕ) (heard : Heard) → hear heard piece ≡ None → hear heard (piece ++ more) ≡ None
+stays_too_long [] more heard e = absurd cc
+stays_too_long (b ∷ bs) more heard e =
+    by_test {b = is_whole heard} {x = Some (0, heard)} {y = option_and_then (λ m. option_and_then one_used (hear m bs)) (heard_byte heard b)} {z = None} e
+    (λ _ e. absurd cc)
+    (λ w e. elim (bind_none (heard_byte heard b) (λ m. option_and_then one_used (hear m bs)) e) [
+      | inl k ↦ hear_none heard b (bs ++ more) w k
+      | inr f ↦ hear_next heard f.0 b (bs ++ more) w f.1 ∙ ap (option_and_then one_used) (stays_too_long bs more f.0 (one_used_none (hear f.0 bs) f.2))
+    ])
 
 -- What is written.
 

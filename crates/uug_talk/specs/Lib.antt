@@ -2,11 +2,13 @@ pub mod Answer
 pub mod Chunks
 pub mod Gathering
 pub mod Hail
+pub mod HailCalls
 pub mod Held
 pub mod MessagesLeft
 pub mod Mode
 pub mod Name
 pub mod Order
 pub mod Refusal
+pub mod StreamTexts
 pub mod Texts
 pub mod Words

@@ -79,6 +79,21 @@ is_whole (Whole text) = true
 abbrev pub IsWhole : Heard → Type 0
 IsWhole heard = IsTrue (is_whole heard)
 
+-- how many bytes wait: those of a text that is not whole, from its start byte on
+abbrev pub waiting_of : Heard → ℕ
+waiting_of Passing = 0
+waiting_of (Open text) = 1 + length text
+waiting_of (Whole text) = 0
+
+-- what is left to hear: the bytes, and one more where a text is whole
+abbrev pub left_to_hear : Heard → List ℕ → ℕ
+left_to_hear heard bytes = length bytes + (if is_whole heard then 1 else 0)
+
+-- what `write_hail` writes as a text
+pub record IsHailText (text : List ℕ) : Type 0 where
+  pub short : length text ≤ HAIL_MAX
+  pub plain : All IsPlain text
+
 -- Hearing, as a function.
 
 -- what is heard with one byte more, and nothing where the text is then too long
@@ -93,6 +108,11 @@ heard_byte (Whole text) b = Some (Whole text)
 -- one byte more was used
 abbrev pub one_used : ℕ × Heard → Option (ℕ × Heard)
 one_used found = Some (1 + found.0, found.1)
+
+-- so many bytes were used before
+abbrev pub used_before : ℕ → Option (ℕ × Heard) → Option (ℕ × Heard)
+used_before n None = None
+used_before n (Some found) = Some (n + found.0, found.1)
 
 -- how many bytes are used, and what is then heard: a whole text uses no more
 abbrev pub hear : Heard → List ℕ → Option (ℕ × Heard)

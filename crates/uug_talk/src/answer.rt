@@ -1,11 +1,11 @@
-ghost use Rattle.std.specs.Prelude.{◌≡◌, ◌≤◌, ℕ, Ok, IfOk, IfErr, length};
+ghost use Rattle.std.specs.Prelude.{◌≡◌, ◌≤◌, ℕ, Ok, IfOk, IfErr, IsTrue, ◌↔◌, length};
 ghost use Rattle.uug_talk.specs.Answer.{ReadsAnswer, IsRefusedAnswer, IsWritten, answer_of, answer_text, given_mode};
 ghost use Rattle.uug_talk.specs.Chunks.{IsCommandText};
 ghost use Rattle.uug_talk.specs.Words.{words};
 ghost use Rattle.uug_talk.specs.declared.answer.Answer.{Answer};
 
 use crate::error::BadText;
-use crate::mode::{mode_digits, read_mode};
+use crate::mode::{MODE_MAX, mode_digits, read_mode};
 use crate::words::{COMMAND_MAX, Text, WRITTEN_MAX, push_word, split_word};
 use arrayvec::ArrayVec;
 
@@ -39,6 +39,20 @@ pub enum Answer {
     HangYes,
     /// `HN`: the roles are exchanged.
     HangNo,
+}
+
+impl Answer {
+    /// Whether it can be written: it is none of the three answers that are only read, and a mode is at
+    /// most `MODE_MAX`.
+    pub fn is_writable(&self) -> bool
+        ensures { IsTrue result ↔ IsWritten self.now }
+    {
+        match self {
+            Answer::GiveYes(mode) => *mode <= MODE_MAX,
+            Answer::GiveLater | Answer::DoneYesMaster | Answer::DoneLater => false,
+            _ => true,
+        }
+    }
 }
 
 /// Reads an answer, without its zero byte. Its first word decides by its first letters; what follows
@@ -93,7 +107,7 @@ fn given_mode(rest: &[u8]) -> Result<u16, BadText>
     }
 }
 
-/// The text of an answer, without its zero byte. Three answers are only read.
+/// The text of an answer, without its zero byte. Three answers are only read; `is_writable` tells.
 pub fn write_answer(answer: &Answer) -> ArrayVec<u8, WRITTEN_MAX>
     requires { IsWritten answer.now }
     ensures text { result.items ≡ answer_text answer.now }

@@ -1,4 +1,4 @@
-ghost use Rattle.std.specs.Prelude.{◌≡◌, ◌≢◌, ◌-◌, ◌<◌, ◌≤◌, [], ◌∷◌, ◌++◌, length, take, drop, replicate, All, MatchOption};
+ghost use Rattle.std.specs.Prelude.{◌≡◌, ◌≢◌, ◌-◌, ◌<◌, ◌≤◌, [], ◌∷◌, ◌++◌, length, take, drop, replicate, All, IsTrue, MatchOption, ◌↔◌};
 ghost use Rattle.std.specs.Iterator.{YieldsFirstBy, item_count};
 ghost use Rattle.uug_talk.specs.declared.chunks.TheConstants.{MESSAGE_MAX};
 ghost use Rattle.uug_talk.specs.Chunks.{IsCommandText, command_messages, file_messages};
@@ -34,10 +34,18 @@ pub struct Chunks<'a> {
     ghost fits: { size ≤ MESSAGE_MAX },
 }
 
+/// Whether a text may be sent as a command: at most `COMMAND_MAX` bytes, and no zero byte among them.
+pub fn is_command_text(text: &[u8]) -> bool
+    ensures { IsTrue result ↔ IsCommandText text.now }
+{
+    text.len() <= COMMAND_MAX && text.iter().all(|b| *b != 0)
+}
+
 impl<'a> Chunks<'a> {
     ghost use Rattle.uug_talk.specs.MessagesLeft.{messages_left};
 
-    /// The messages of a command.
+    /// The messages of a command, with at most `size` bytes each, which is 1 to `MESSAGE_MAX`.
+    /// `is_command_text` tells whether the text may be sent so.
     pub fn command(text: &'a [u8], size: usize) -> Self
         requires text { IsCommandText text.now }
         requires some { 0 < size }
@@ -51,7 +59,7 @@ impl<'a> Chunks<'a> {
         }
     }
 
-    /// The messages of a file.
+    /// The messages of a file, with at most `size` bytes each, which is 1 to `MESSAGE_MAX`.
     pub fn file(bytes: &'a [u8], size: usize) -> Self
         requires some { 0 < size }
         requires fits { size ≤ MESSAGE_MAX }

@@ -44,6 +44,18 @@ impl<A: Allocator> Model for Gather<A> {
     ghost view = { λ g. gathering_of g.held g.whole };
 }
 
+impl<A: Allocator + Copy> Gather<A> {
+    /// Nothing of a file yet. Its bytes will be kept in memory of `alloc`.
+    pub fn file(alloc: A) -> Self
+        ensures { result ≡ gathered OfFile [] }
+    {
+        Gather {
+            held: Held::File(Vec::new(alloc)),
+            whole: false,
+        }
+    }
+}
+
 impl<A: Allocator> Gather<A> {
     /// Nothing of a command yet.
     pub fn command() -> Self
@@ -55,14 +67,11 @@ impl<A: Allocator> Gather<A> {
         }
     }
 
-    /// Nothing of a file yet. Its bytes will be kept in memory of `alloc`.
-    pub fn file(alloc: A) -> Self
-        ensures { result ≡ gathered OfFile [] }
+    /// Whether the command or file is whole, so that no further message may be pushed.
+    pub fn is_whole(&self) -> bool
+        ensures { result ≡ self.now.whole }
     {
-        Gather {
-            held: Held::File(Vec::new(alloc)),
-            whole: false,
-        }
+        self.whole
     }
 
     /// The text or file so far.

@@ -1,5 +1,6 @@
-ghost use Rattle.std.specs.Prelude.{◌≡◌, ℕ, ◌≤◌, List, [], ◌∷◌, ◌++◌, length, take, All, Some, None, true, false, Ok, Err, MatchResult, IfOk, IfErr, OnOk, OnErr, IsTrue, ◌↔◌};
-ghost use Rattle.uug_talk.specs.Texts.{Heard, Passing, Open, Whole, IsWhole, is_whole, IsPlain, Holds, IsFirstText, IsTooLong, heard_byte, hear};
+ghost use Rattle.std.specs.Prelude.{◌≡◌, ◌≤◌, ◌↔◌, [], ◌∷◌, ◌++◌, length, Some, None, true, false, Ok, MatchResult, IfOk, OnErr, IsTrue};
+ghost use Rattle.uug_talk.specs.HailCalls.{Hears, FindsTooLong};
+ghost use Rattle.uug_talk.specs.Texts.{Heard, Passing, Whole, IsWhole, is_whole, IsHailText, IsFirstText, waiting_of, heard_byte, hear};
 
 use arrayvec::ArrayVec;
 use std::marker::Model;
@@ -62,7 +63,25 @@ impl Hail {
         self.stage = Stage::Passing;
     }
 
-    /// The whole text, without its 0x10 and its end byte.
+    /// Whether a text is whole, which `text` then shows.
+    pub fn is_whole(&self) -> bool
+        ensures { result ≡ is_whole self.now }
+    {
+        self.stage == Stage::Whole
+    }
+
+    /// How many bytes of a text that is not whole are held, its 0x10 among them; 0 where there is none.
+    pub fn waiting(&self) -> usize
+        ensures { result ≡ waiting_of self.now }
+    {
+        if self.stage == Stage::Open {
+            1 + self.text.len()
+        } else {
+            0
+        }
+    }
+
+    /// The whole text, without its 0x10 and its end byte. `is_whole` tells whether there is one.
     pub fn text(&self) -> &[u8]
         requires { IsWhole self.now }
         ensures { self.now ≡ Whole result.now }
@@ -74,10 +93,8 @@ impl Hail {
     /// While a text is whole nothing is used. After `TextTooLong` nothing is heard, as after `clear`.
     pub fn push(&mut self, piece: &[u8]) -> Result<(usize, bool), TextTooLong>
         // What is heard is what the stream says, however it was cut into pieces.
-        ensures ok { IfOk result (λ found. (stream : List ℕ) → Holds self.old stream
-            → Holds self.new (stream ++ take found.0 piece.now)) }
-        ensures too_long { OnErr result ((stream : List ℕ) → Holds self.old stream
-            → (n : ℕ) × (n ≤ length piece.now) × IsTooLong (stream ++ take n piece.now)) }
+        ensures ok { IfOk result (λ found. Hears self.old piece.now found.0 self.new) }
+        ensures too_long { OnErr result (FindsTooLong self.old piece.now) }
 
         // Nothing behind an end byte is used, and all of a piece without one.
         ensures whole { IfOk result (λ found. found.1 ≡ is_whole self.new) }
@@ -92,12 +109,6 @@ impl Hail {
     {
         let used = self.listen(piece)?;
         Ok((used, self.is_whole()))
-    }
-
-    fn is_whole(&self) -> bool
-        ensures { result ≡ is_whole self.now }
-    {
-        self.stage == Stage::Whole
     }
 
     fn listen(&mut self, piece: &[u8]) -> Result<usize, TextTooLong>
@@ -133,10 +144,20 @@ impl Hail {
     }
 }
 
-/// A handshake text as it goes out: 0x10, the text, a zero byte.
+/// Whether a text may be written as a handshake text: at most `HAIL_MAX` bytes, none of them 0x10, zero or
+/// a line feed.
+pub fn is_hail_text(text: &[u8]) -> bool
+    ensures { IsTrue result ↔ IsHailText text.now }
+{
+    text.len() <= HAIL_MAX
+        && text
+            .iter()
+            .all(|b| *b != TEXT_START && *b != 0 && *b != b'\n')
+}
+
+/// A handshake text as it goes out: 0x10, the text, a zero byte. `is_hail_text` tells whether it may.
 pub fn write_hail(text: &[u8]) -> ArrayVec<u8, HAIL_WRITTEN_MAX>
-    requires short { length text.now ≤ HAIL_MAX }
-    requires plain { All IsPlain text.now }
+    requires { IsHailText text.now }
     ensures spelled { result.items ≡ TEXT_START ∷ text.now ++ 0 ∷ [] }
     // It is heard as the text again.
     ensures read_back { IsFirstText result.items text.now }

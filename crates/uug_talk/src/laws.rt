@@ -1,12 +1,34 @@
 //! Laws over the definitions that the other contracts cite. The functions do nothing.
-ghost use Rattle.std.specs.Prelude.{◌≡◌, ◌<◌, ◌≤◌, ℕ, List, ◌++◌, Ok, length};
+ghost use Rattle.std.specs.Prelude.{◌≡◌, ◌+◌, ◌-◌, ◌<◌, ◌≤◌, ℕ, List, [], ◌∷◌, ◌++◌, Ok, Some, None, true, false, length, take, drop, replicate, All};
 ghost use Rattle.uug_talk.specs.declared.answer.Answer.{Answer};
+ghost use Rattle.uug_talk.specs.declared.answer.TheConstants.{DEFAULT_MODE};
+ghost use Rattle.uug_talk.specs.declared.chunks.TheConstants.{MESSAGE_MAX};
+ghost use Rattle.uug_talk.specs.declared.gather.TheConstants.{FILE_MAX};
+ghost use Rattle.uug_talk.specs.declared.hail.TheConstants.{HAIL_MAX};
+ghost use Rattle.uug_talk.specs.declared.mode.TheConstants.{MODE_MAX, MODE_DIGITS_MAX};
+ghost use Rattle.uug_talk.specs.declared.name.TheConstants.{NAME_MAX};
+ghost use Rattle.uug_talk.specs.declared.words.TheConstants.{COMMAND_MAX};
 ghost use Rattle.uug_talk.specs.declared.order.Order.{Order};
 ghost use Rattle.uug_talk.specs.Answer.{IsWritten, answer_of, answer_text};
 ghost use Rattle.uug_talk.specs.Chunks.{IsCommandText, command_messages, file_messages};
-ghost use Rattle.uug_talk.specs.Gathering.{OfCommand, OfFile, GathersBack};
+ghost use Rattle.uug_talk.specs.Gathering.{Kind, OfCommand, OfFile, GathersBack, gathered, with_message};
 ghost use Rattle.uug_talk.specs.Order.{HasMode, HasNames, order_of, order_text};
-ghost use Rattle.uug_talk.specs.Texts.{IsFirstText, IsTooLong};
+ghost use Rattle.uug_talk.specs.HailCalls.{HailCall, Lead, FindsTooLong, all_used, all_shown};
+ghost use Rattle.uug_talk.specs.StreamTexts.{StreamTexts, HasTexts, Rest, TooLong, texts_of, continued, with_text, no_text};
+ghost use Rattle.uug_talk.specs.Texts.{IsFirstText, IsTooLong, Heard, Passing, Whole, Holds, is_whole, left_to_hear, used_before, hear};
+
+/// Each limit is this number: of the bytes of a name, a command, a handshake text, a message and a file; of
+/// a mode, of the octal digits in which one is read, and the mode of a file that is given without one.
+pub fn limits()
+    ensures name { NAME_MAX ≡ 200 }
+    ensures command { COMMAND_MAX ≡ 1024 }
+    ensures hail { HAIL_MAX ≡ 256 }
+    ensures message { MESSAGE_MAX ≡ 4096 }
+    ensures file { FILE_MAX ≡ 1048576 }
+    ensures mode { MODE_MAX ≡ 4095 }
+    ensures mode_digits { MODE_DIGITS_MAX ≡ 7 }
+    ensures default_mode { DEFAULT_MODE ≡ 438 }
+{}
 
 /// What is written of a command is read as the command.
 pub fn written_orders_are_read()
@@ -16,6 +38,48 @@ pub fn written_orders_are_read()
 /// What is written of an answer is read as the answer.
 pub fn written_answers_are_read()
     ensures { (answer : Answer) → IsWritten answer → answer_of (answer_text answer) ≡ Ok answer }
+{}
+
+/// What is written of a command and of an answer may be cut into messages.
+pub fn written_texts_are_commands()
+    ensures order { (order : Order) → HasNames order → HasMode order → IsCommandText (order_text order) }
+    ensures answer { (answer : Answer) → IsWritten answer → IsCommandText (answer_text answer) }
+{}
+
+/// The messages of a command from an offset on are the message there, then those from behind it, up to
+/// the one with the zero byte. What is left of the text may be cut into messages, too.
+pub fn command_goes_on()
+    ensures more { (size offset : ℕ) (text : List ℕ) → 0 < size → offset + size ≤ length text
+        → command_messages size (drop offset text)
+        ≡ take size (drop offset text) ∷ command_messages size (drop (offset + size) text) }
+    ensures last { (size offset : ℕ) (text : List ℕ) → offset ≤ length text → length text < offset + size
+        → command_messages size (drop offset text)
+        ≡ (drop offset text ++ replicate (offset + size - length text) 0) ∷ [] }
+    ensures left { (offset : ℕ) (text : List ℕ) → IsCommandText text → IsCommandText (drop offset text) }
+{}
+
+/// The messages of a file from an offset on are the message there, then those from behind it, up to the
+/// empty one.
+pub fn file_goes_on()
+    ensures more { (size offset : ℕ) (bytes : List ℕ) → 0 < size → offset < length bytes
+        → file_messages size (drop offset bytes)
+        ≡ take size (drop offset bytes) ∷ file_messages size (drop (offset + size) bytes) }
+    ensures last { (size offset : ℕ) (bytes : List ℕ) → length bytes ≤ offset
+        → file_messages size (drop offset bytes) ≡ [] ∷ [] }
+{}
+
+/// No message is longer than the size.
+pub fn messages_fit()
+    ensures command { (size : ℕ) (text : List ℕ)
+        → All (λ message. length message ≤ size) (command_messages size text) }
+    ensures file { (size : ℕ) (bytes : List ℕ)
+        → All (λ message. length message ≤ size) (file_messages size bytes) }
+{}
+
+/// What messages say together, with one message more, where they are not whole before it.
+pub fn gathering_goes_on()
+    ensures { (kind : Kind) (messages : List (List ℕ)) (message : List ℕ) → (gathered kind messages).whole ≡ false
+        → gathered kind (messages ++ message ∷ []) ≡ with_message (gathered kind messages) message }
 {}
 
 /// A command's messages are whole with the last one, hold the command then, and pass no limit before.
@@ -41,4 +105,68 @@ pub fn one_first_text()
     ensures apart { (front text rest other_front other_rest : List ℕ)
         → IsFirstText front text → IsTooLong other_front
         → front ++ rest ≡ other_front ++ other_rest → ⊥ }
+{}
+
+/// Each stream has its texts in exactly one way: those that a function gives.
+pub fn one_reading_of_texts()
+    ensures some { (stream : List ℕ) → HasTexts stream (texts_of stream) }
+    ensures only { (stream : List ℕ) (found : StreamTexts) → HasTexts stream found → found ≡ texts_of stream }
+{}
+
+/// The texts of a stream do not depend on the pieces in which it comes: what more brings are the texts of
+/// the rest with it behind. Where one is too long, more brings none.
+pub fn texts_in_pieces()
+    ensures rest { (stream more : List ℕ) (texts : List (List ℕ)) (rest : List ℕ) (found : StreamTexts)
+        → HasTexts stream (record { texts = texts; end = Rest rest }) → HasTexts (rest ++ more) found
+        → HasTexts (stream ++ more) (record { texts = texts ++ found.texts; end = found.end }) }
+    ensures too_long { (stream more : List ℕ) (texts : List (List ℕ))
+        → HasTexts stream (record { texts = texts; end = TooLong })
+        → HasTexts (stream ++ more) (record { texts = texts; end = TooLong }) }
+
+    // The same as a function.
+    ensures continued { (stream more : List ℕ) → texts_of (stream ++ more) ≡ continued (texts_of stream) more }
+{}
+
+/// What is heard of a piece with more behind it: what is heard of the piece, and then of what is behind.
+pub fn hearing_in_pieces()
+    ensures goes_on { (heard next : Heard) (piece more : List ℕ) (used : ℕ)
+        → hear heard piece ≡ Some (used, next) → is_whole next ≡ false
+        → hear heard (piece ++ more) ≡ used_before used (hear next more) }
+    ensures whole { (heard next : Heard) (piece more : List ℕ) (used : ℕ)
+        → hear heard piece ≡ Some (used, next) → is_whole next ≡ true
+        → hear heard (piece ++ more) ≡ Some (used, next) }
+    ensures too_long { (heard : Heard) (piece more : List ℕ) → hear heard piece ≡ None
+        → hear heard (piece ++ more) ≡ None }
+{}
+
+/// What is heard of a piece says how the texts of the stream go on.
+pub fn hearing_finds_the_texts()
+    ensures whole { (heard : Heard) (before piece text : List ℕ) (used : ℕ) → Holds heard before
+        → hear heard piece ≡ Some (used, Whole text)
+        → texts_of (before ++ piece) ≡ with_text text (texts_of (drop used piece)) }
+    ensures rest { (heard next : Heard) (before piece : List ℕ) (used : ℕ) → Holds heard before
+        → hear heard piece ≡ Some (used, next) → is_whole next ≡ false
+        → texts_of (before ++ piece) ≡ no_text (Rest (before ++ piece)) }
+    ensures too_long { (heard : Heard) (before piece : List ℕ) → Holds heard before
+        → hear heard piece ≡ None → texts_of (before ++ piece) ≡ no_text TooLong }
+{}
+
+/// Whatever calls a `Hail` had since it was made, with a `clear` behind each whole text alone: the texts that
+/// it showed are those of all bytes that it used.
+pub fn shown_are_the_texts()
+    ensures rest { (calls : List HailCall) (heard : Heard) → Lead Passing calls heard → is_whole heard ≡ false
+        → (rest : List ℕ) × HasTexts (all_used calls) (record { texts = all_shown calls; end = Rest rest })
+        × Holds heard rest }
+    ensures whole { (calls : List HailCall) (text : List ℕ) → Lead Passing calls (Whole text)
+        → HasTexts (all_used calls) (record { texts = all_shown calls ++ text ∷ []; end = Rest [] }) }
+    ensures too_long { (calls : List HailCall) (heard : Heard) (piece : List ℕ) → Lead Passing calls heard
+        → FindsTooLong heard piece
+        → HasTexts (all_used calls ++ piece) (record { texts = all_shown calls; end = TooLong }) }
+{}
+
+/// Hearing with a `clear` behind each whole text comes to an end: the bytes left, and one more where a text is
+/// whole, fall.
+pub fn hearing_comes_to_an_end()
+    ensures { (heard next : Heard) (bytes : List ℕ) (used : ℕ) → hear heard bytes ≡ Some (used, next)
+        → is_whole next ≡ true → left_to_hear Passing (drop used bytes) < left_to_hear heard bytes }
 {}

@@ -14,13 +14,15 @@ mod order;
 mod words;
 
 pub use answer::{Answer, DEFAULT_MODE, read_answer, write_answer};
-pub use chunks::{Chunks, MESSAGE_MAX, Message};
+pub use chunks::{Chunks, MESSAGE_MAX, Message, is_command_text};
 pub use error::BadText;
 pub use gather::{FILE_MAX, Gather, Progress};
-pub use hail::{HAIL_MAX, HAIL_WRITTEN_MAX, Hail, TextTooLong, write_hail};
+pub use hail::{HAIL_MAX, HAIL_WRITTEN_MAX, Hail, TextTooLong, is_hail_text, write_hail};
 pub use laws::{
-    command_is_gathered, file_is_gathered, one_first_text, written_answers_are_read,
-    written_orders_are_read,
+    command_goes_on, command_is_gathered, file_goes_on, file_is_gathered, gathering_goes_on,
+    hearing_comes_to_an_end, hearing_finds_the_texts, hearing_in_pieces, limits, messages_fit,
+    one_first_text, one_reading_of_texts, shown_are_the_texts, texts_in_pieces,
+    written_answers_are_read, written_orders_are_read, written_texts_are_commands,
 };
 pub use mode::MODE_MAX;
 pub use name::{NAME_MAX, Name};

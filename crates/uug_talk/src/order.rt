@@ -1,4 +1,4 @@
-ghost use Rattle.std.specs.Prelude.{◌≡◌, ℕ, ◌+◌, ◌*◌, ◌≤◌, List, [], ◌∷◌, ◌++◌, length, Ok, IfOk, IfErr};
+ghost use Rattle.std.specs.Prelude.{◌≡◌, ℕ, ◌+◌, ◌*◌, ◌≤◌, List, [], ◌∷◌, ◌++◌, length, Ok, IfOk, IfErr, IsTrue, ◌↔◌};
 ghost use Rattle.uug_talk.specs.Order.{ReadsOrder, IsRefusedOrder, order_of, send_of, request_of, send_read, request_read, temp_read, HasMode, HasNames, AreNames, IsCopy, order_text, copy_text};
 ghost use Rattle.uug_talk.specs.Chunks.{IsCommandText};
 ghost use Rattle.uug_talk.specs.Name.{IsName};
@@ -39,6 +39,18 @@ pub enum Order {
     },
     /// `H`: the master has no more jobs.
     HangUp,
+}
+
+impl Order {
+    /// Whether it can be written: its mode is at most `MODE_MAX`.
+    pub fn is_writable(&self) -> bool
+        ensures { IsTrue result ↔ HasMode self.now }
+    {
+        match self {
+            Order::Send { mode, .. } => *mode <= MODE_MAX,
+            Order::Request { .. } | Order::HangUp => true,
+        }
+    }
 }
 
 /// Reads a command, without its zero byte. Words that follow the last one needed are read past.
@@ -142,7 +154,7 @@ fn request_from(source: &[u8], target: &[u8], user: &[u8], options: &[u8]) -> Re
     })
 }
 
-/// The text of a command, without its zero byte.
+/// The text of a command, without its zero byte. `is_writable` tells whether there is one.
 pub fn write_order(order: &Order) -> ArrayVec<u8, WRITTEN_MAX>
     requires { HasMode order.now }
     ensures text { result.items ≡ order_text order.now }
