@@ -1,4 +1,1 @@
-pub mod StreamLemmas
-pub mod ScanLemmas
-pub mod OneListing
-pub mod StandardFacts
+pub mod WriterLemmas

@@ -15,7 +15,7 @@ fn command<'a>(alloc: Global) -> Result<Command<'a>, AllocError> {
         "Reads bytes from standard input and lists the packets in them",
     );
     Command::new(alloc, "uucpair")
-        .about("UUCP file transfer over the 'g' packet protocol")
+        .about("Tools for the 'g' packet protocol of UUCP")
         .subcommand_required(true)
         .subcommand(scan)
 }

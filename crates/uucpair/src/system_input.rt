@@ -3,8 +3,8 @@
 //! run of the program shows that bytes come in.
 ghost use Rattle.std.specs.Prelude.{◌≡◌};
 
-use crate::input::{Input, ReadFailed};
 use std::io::Read;
+use uug_tool::{Input, ReadFailed};
 
 /// A reader of the system as an input.
 #[derive(Drop)]

@@ -3,8 +3,8 @@
 //! run of the program shows that bytes go out.
 ghost use Rattle.std.specs.Prelude.{◌≡◌};
 
-use crate::output::{Output, WriteFailed};
 use std::io::Write;
+use uug_tool::{Output, WriteFailed};
 
 /// A writer of the system as an output.
 #[derive(Drop)]

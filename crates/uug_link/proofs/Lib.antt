@@ -1,4 +1,5 @@
 pub mod StandardFacts
+pub mod SizeLemmas
 pub mod EntriesLemmas
 pub mod SendingLemmas
 pub mod SoundLemmas
@@ -6,3 +7,10 @@ pub mod WindowMachineLemmas
 pub mod WindowMachineRuns
 pub mod WindowMachineFacts
 pub mod WindowFacts
+pub mod OnTheLineLemmas
+pub mod SimulationLemmas
+pub mod SimulatedSteps
+pub mod TwoLinksRuns
+pub mod TwoLinksFacts
+pub mod ArrivalLemmas
+pub mod OutcomeLemmas

@@ -1,10 +1,10 @@
 -- Messages that go out again, one after the other.
-use Rattle.std.proofs.Common.{◌≡◌, ℕ, ◌+◌, ◌%◌, ◌^◌, ◌<◌, ◌≤◌, List, [], ◌∷◌, ◌++◌, length, drop, map, get_or, slice_get, All, suc, false, Some, None, refl, ap, sym, subst, ◌∙◌, arith}
+use Rattle.std.proofs.Common.{◌≡◌, ℕ, ◌+◌, ◌%◌, ◌<◌, ◌≤◌, List, [], ◌∷◌, ◌++◌, length, length-drop, drop, map, get_or, slice_get, All, suc, false, Option, Some, None, option_to_list, refl, ap, sym, subst, ◌∙◌, arith}
 use Rattle.std.proofs.Math.Nat.{le_trans, pow-le-pow_right}
-use Rattle.std.proofs.lemmas.List.{drop_more, drop_all, append_assoc, append-nil, get_or-map, length-map, drop-map, map-append}
+use Rattle.std.proofs.lemmas.List.{drop_more, append_assoc, get_or-map, length-map, drop-map, map-append}
 use Rattle.std.proofs.lemmas.Option.{slice_get-map, slice_get-get_or, slice_get_past}
 use Rattle.arrayvec.specs.ArrayVec.{ArrayVec}
-use Rattle.uug_link.specs.declared.limits.TheConstants.{MESSAGE_MAX}
+use Rattle.uug_link.specs.declared.limits.TheConstants.{MESSAGE_MAX, WINDOW_MAX}
 use Rattle.uug_link.specs.Entries.{EntryValue}
 use Rattle.uug_link.specs.Follows.{written}
 use Rattle.uug_link.specs.Reactions.{messages_of, state_of, emitted_of}
@@ -12,7 +12,9 @@ use Rattle.uug_link.specs.State.{State, Fits}
 use Rattle.uug_link.specs.Step.{distance, data_packet, selected, sent_again}
 use Rattle.uug_link.specs.declared.reaction.Emits.{Emits}
 use Rattle.uug_link.specs.declared.reaction.Emits.TheVariants.{Outstanding}
+use Rattle.uug_link.specs.declared.reaction.Emits.TheVariants as emits
 use Rattle.uug_link.specs.declared.status.Status.{Status}
+use Rattle.uug_packet.specs.Number.{number_of}
 use Rattle.uug_packet.specs.Packet.{PacketValue, carry}
 use Rattle.uug_packet.specs.Spelling.{IsWritable}
 
@@ -29,13 +31,11 @@ messages_of-push ms more m is = ap messages_of is ∙ map-append (λ (x : ArrayV
 
 -- the greatest size
 pub fits-most : (code : ℕ) (m : List ℕ) → code < 8 → Fits code m → length m ≤ MESSAGE_MAX
-fits-most code m below h = le_trans h (pow-le-pow_right {n = 2} (omega arith) {i = code + 5} {j = 12} (omega (arith, below)))
+fits-most code m below h = le_trans h (pow-le-pow_right {n = 2} (omega arith) {i = code + 1 + 4} {j = 12} (omega (arith, below)))
 
 -- a message that fits can be written
 pub writable : (seq ack code : ℕ) (m : List ℕ) → code < 8 → Fits code m → IsWritable (carry seq ack (code + 1) m)
-writable seq ack code m below h =
-    let size : code + 1 + 4 ≡ code + 5 = omega arith in
-    ((omega arith, omega (arith, below)), subst (λ (n : ℕ). length m ≤ 2 ^ n) (sym size) h)
+writable seq ack code m below h = ((omega arith, omega (arith, below)), h)
 
 pub fit_at : (code : ℕ) (ms : List (ArrayVec ℕ)) (i : ℕ) (m : ArrayVec ℕ) → i < length ms → m ≡ get_or ms i m →
     All (Fits code) (messages_of ms) → Fits code m.items
@@ -86,3 +86,27 @@ selected-none s y i ms all at high =
     let here : slice_get s.unacked (distance s.oldest y) ≡ None =
     rw (all, ← at, slice_get-map (λ (x : ArrayVec ℕ). x.items) ms i, slice_get_past ms i high) refl in
     rw (here) refl
+
+length-selected : (s : State) (y : ℕ) → length (selected y s) ≤ 1
+length-selected s y =
+    le_trans (omega (arith, length-sent_again (data_packet s) y (option_to_list (slice_get s.unacked (distance s.oldest y)))))
+    (at_most_one (slice_get s.unacked (distance s.oldest y)))
+  where
+    at_most_one : (o : Option (List ℕ)) → length (option_to_list o) ≤ 1
+    at_most_one None = omega arith
+    at_most_one (Some x) = omega arith
+
+-- a reaction emits no more packets than messages were outstanding, or one
+pub few_emitted : (emits : Emits) (s : State) → length s.unacked ≤ WINDOW_MAX → length (emitted_of emits s) ≤ WINDOW_MAX
+few_emitted emits.Nothing s few = omega arith
+few_emitted (emits.Control c) s few = omega arith
+few_emitted Outstanding s few = omega (arith, few, length-sent_again (data_packet s) s.oldest s.unacked)
+few_emitted (emits.Selected y) s few = omega (arith, length-selected s (number_of y))
+
+-- the same of a link that keeps these messages
+pub few_left : (emits : Emits) (s : Status) (count : ℕ) (ms : List (ArrayVec ℕ)) (kept : List (List ℕ)) →
+    messages_of ms ≡ kept → length ms ≤ WINDOW_MAX →
+    length (emitted_of emits (state_of s (drop count kept))) ≤ WINDOW_MAX
+few_left emits s count ms kept same few =
+    few_emitted emits (state_of s (drop count kept))
+    (omega (arith, few, length-drop count kept, ap length same, length-map ms (λ (x : ArrayVec ℕ). x.items)))

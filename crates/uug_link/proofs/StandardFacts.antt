@@ -1,7 +1,7 @@
 -- Starts and ends of links that were worked out by hand, computed by the definitions: a wrong rule in them does not
 -- check.
 use Rattle.std.proofs.Common.{◌≡◌, ℕ, zero, suc, List, [], ◌∷◌, ◌++◌, refl}
-use Rattle.uug_link.specs.Announced.{size_of_code}
+use Rattle.uug_link.specs.Terms.{size_of_code}
 use Rattle.uug_link.specs.Entries.{bytes_of}
 use Rattle.uug_link.specs.Follows.{written}
 use Rattle.uug_link.specs.State.{State, caller_state, called_state, IsUp}

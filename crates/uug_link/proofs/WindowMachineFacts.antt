@@ -1,6 +1,6 @@
 -- Runs of the window machine that were worked out by hand: a wrong rule in it does not check.
 use Rattle.std.proofs.Common.{◌≡◌, ℕ, List, [], ◌∷◌, refl, arith}
-use Rattle.uug_link.specs.WindowMachine.{Machine, data_packet, acknowledgement, empty, start, sends, repeats, acknowledges, loses, arrives, Move, on_out, on_back, AllAllowed, after}
+use Rattle.uug_link.specs.WindowMachine.{Machine, data_at, acknowledgement, empty, start, sends, repeats, acknowledges, loses, arrives, Move, on_out, on_back, AllAllowed, after}
 
 -- ---- two messages, of which the first is lost: the second is not taken until the first was sent again
 
@@ -55,12 +55,12 @@ pub record AreFarthest : Type 0 where
   pub filled_allowed : AllAllowed (start 7 7) seven
   pub ahead_allowed : AllAllowed filled six_lost
   pub ahead : after filled six_lost ≡ record {
-    out = record { window = 7; sent = seven_sent; acked = 0; taken = 0; flight = data_packet 6 0 ∷ [] };
+    out = record { window = 7; sent = seven_sent; acked = 0; taken = 0; flight = data_at 6 0 ∷ [] };
     back = empty 7;
   }
   pub behind_allowed : AllAllowed filled all_taken
   pub behind : after filled all_taken ≡ record {
-    out = record { window = 7; sent = seven_sent; acked = 0; taken = 7; flight = data_packet 0 0 ∷ [] };
+    out = record { window = 7; sent = seven_sent; acked = 0; taken = 7; flight = data_at 0 0 ∷ [] };
     back = record { window = 7; sent = []; acked = 0; taken = 0; flight = acknowledgement 7 ∷ [] };
   }
 

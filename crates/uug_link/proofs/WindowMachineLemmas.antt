@@ -2,36 +2,36 @@
 use Rattle.std.proofs.Common.{◌≡◌, ℕ, ◌+◌, ◌<◌, ◌≤◌, List, [], ◌∷◌, ◌++◌, length, length-append, refl, arith}
 use Rattle.std.specs.Prelude.{⊤}
 use Rattle.std.proofs.lemmas.Bool.Decides.{nat_tests}
-use Rattle.uug_link.specs.Announced.{IsWindow}
-use Rattle.uug_link.specs.WindowMachine.{Flying, data_packet, acknowledgement, ack_of, Direction, Machine, empty, turned, Step, sends, repeats, acknowledges, loses, arrives, Permits, put, added, without_front, taken_with, after_arrival, after_step, Move, on_out, on_back, Allows, after_move, EachNumber, EachAck, Rise}
+use Rattle.uug_link.specs.Terms.{IsWindow}
+use Rattle.uug_link.specs.WindowMachine.{Flying, data_at, acknowledgement, ack_of, Direction, Machine, empty, turned, Act, sends, repeats, acknowledges, loses, arrives, Permits, put, added, without_front, taken_with, after_arrival, after_act, Move, on_out, on_back, Allows, after_move, EachNumber, EachAck, Rise}
 
 -- ---- each packet of a flight
 
 pub EachNumber-map : (P Q : ℕ → Type 0) → ((n : ℕ) → P n → Q n) → (ps : List Flying) → EachNumber P ps → EachNumber Q ps
 EachNumber-map P Q f [] h = tt
-EachNumber-map P Q f (data_packet n a ∷ ps) h = (f n h.0, EachNumber-map P Q f ps h.1)
+EachNumber-map P Q f (data_at n a ∷ ps) h = (f n h.0, EachNumber-map P Q f ps h.1)
 EachNumber-map P Q f (acknowledgement a ∷ ps) h = EachNumber-map P Q f ps h
 
 pub EachNumber-both : (P Q : ℕ → Type 0) → (ps : List Flying) → EachNumber P ps → EachNumber Q ps →
     EachNumber (λ n. P n × Q n) ps
 EachNumber-both P Q [] h k = tt
-EachNumber-both P Q (data_packet n a ∷ ps) h k = ((h.0, k.0), EachNumber-both P Q ps h.1 k.1)
+EachNumber-both P Q (data_at n a ∷ ps) h k = ((h.0, k.0), EachNumber-both P Q ps h.1 k.1)
 EachNumber-both P Q (acknowledgement a ∷ ps) h k = EachNumber-both P Q ps h k
 
 EachNumber-rest : (P : ℕ → Type 0) (p : Flying) (ps : List Flying) → EachNumber P (p ∷ ps) → EachNumber P ps
-EachNumber-rest P (data_packet n a) ps h = h.1
+EachNumber-rest P (data_at n a) ps h = h.1
 EachNumber-rest P (acknowledgement a) ps h = h
 
 EachNumber-put_data : (P : ℕ → Type 0) (ps : List Flying) (n a : ℕ) → EachNumber P ps → P n →
-    EachNumber P (ps ++ data_packet n a ∷ [])
+    EachNumber P (ps ++ data_at n a ∷ [])
 EachNumber-put_data P [] n a h k = (k, tt)
-EachNumber-put_data P (data_packet m b ∷ ps) n a h k = (h.0, EachNumber-put_data P ps n a h.1 k)
+EachNumber-put_data P (data_at m b ∷ ps) n a h k = (h.0, EachNumber-put_data P ps n a h.1 k)
 EachNumber-put_data P (acknowledgement b ∷ ps) n a h k = EachNumber-put_data P ps n a h k
 
 EachNumber-put_ack : (P : ℕ → Type 0) (ps : List Flying) (a : ℕ) → EachNumber P ps →
     EachNumber P (ps ++ acknowledgement a ∷ [])
 EachNumber-put_ack P [] a h = tt
-EachNumber-put_ack P (data_packet m b ∷ ps) a h = (h.0, EachNumber-put_ack P ps a h.1)
+EachNumber-put_ack P (data_at m b ∷ ps) a h = (h.0, EachNumber-put_ack P ps a h.1)
 EachNumber-put_ack P (acknowledgement b ∷ ps) a h = EachNumber-put_ack P ps a h
 
 pub EachAck-map : (P Q : ℕ → Type 0) → ((a : ℕ) → P a → Q a) → (ps : List Flying) → EachAck P ps → EachAck Q ps
@@ -71,24 +71,24 @@ EachAck-between low (p ∷ ps) high h = (
 -- each number is within the window from those of the packets behind it
 abbrev InOrder : ℕ → List Flying → Type 0
 InOrder window [] = ⊤
-InOrder window (data_packet n a ∷ ps) = EachNumber (λ k. n < k + window) ps × InOrder window ps
+InOrder window (data_at n a ∷ ps) = EachNumber (λ k. n < k + window) ps × InOrder window ps
 InOrder window (acknowledgement a ∷ ps) = InOrder window ps
 
 InOrder-rest : (window : ℕ) (p : Flying) (ps : List Flying) → InOrder window (p ∷ ps) → InOrder window ps
-InOrder-rest window (data_packet n a) ps h = h.1
+InOrder-rest window (data_at n a) ps h = h.1
 InOrder-rest window (acknowledgement a) ps h = h
 
 InOrder-put_data : (window : ℕ) (ps : List Flying) (n a : ℕ) → InOrder window ps →
-    EachNumber (λ k. k < n + window) ps → InOrder window (ps ++ data_packet n a ∷ [])
+    EachNumber (λ k. k < n + window) ps → InOrder window (ps ++ data_at n a ∷ [])
 InOrder-put_data w [] n a h k = (tt, tt)
-InOrder-put_data w (data_packet m b ∷ ps) n a h k =
+InOrder-put_data w (data_at m b ∷ ps) n a h k =
     (EachNumber-put_data (λ x. m < x + w) ps n a h.0 k.0, InOrder-put_data w ps n a h.1 k.1)
 InOrder-put_data w (acknowledgement b ∷ ps) n a h k = InOrder-put_data w ps n a h k
 
 InOrder-put_ack : (window : ℕ) (ps : List Flying) (a : ℕ) → InOrder window ps →
     InOrder window (ps ++ acknowledgement a ∷ [])
 InOrder-put_ack w [] a h = tt
-InOrder-put_ack w (data_packet m b ∷ ps) a h =
+InOrder-put_ack w (data_at m b ∷ ps) a h =
     (EachNumber-put_ack (λ x. m < x + w) ps a h.0, InOrder-put_ack w ps a h.1)
 InOrder-put_ack w (acknowledgement b ∷ ps) a h = InOrder-put_ack w ps a h
 
@@ -98,7 +98,7 @@ pub record AreNear (window sent taken : ℕ) (ps : List Flying) : Type 0 where
   pub ordered : InOrder window ps
 
 AreNear-put_data : (window sent taken n a : ℕ) (ps : List Flying) → AreNear window sent taken ps → n < sent →
-    sent ≤ n + window → taken ≤ sent → AreNear window sent taken (ps ++ data_packet n a ∷ [])
+    sent ≤ n + window → taken ≤ sent → AreNear window sent taken (ps ++ data_at n a ∷ [])
 AreNear-put_data w sent taken n a ps h low high up = record {
   below = EachNumber-put_data (λ x. x < sent) ps n a h.below low;
   near = EachNumber-put_data (λ x. taken ≤ x + w) ps n a h.near (omega (arith, high, up));
@@ -131,22 +131,22 @@ AreNear-rest w sent taken p ps h = record {
 }
 
 taken_with-up : (p : Flying) (taken : ℕ) → taken ≤ taken_with p taken
-taken_with-up (data_packet n a) taken = grind (arith, nat_tests)
+taken_with-up (data_at n a) taken = grind (arith, nat_tests)
 taken_with-up (acknowledgement a) taken = omega arith
 
-taken_with-le : (n a taken bound : ℕ) → n < bound → taken ≤ bound → taken_with (data_packet n a) taken ≤ bound
+taken_with-le : (n a taken bound : ℕ) → n < bound → taken ≤ bound → taken_with (data_at n a) taken ≤ bound
 taken_with-le n a taken bound h k = grind (arith, nat_tests)
 
 taken_with-sent : (window sent taken : ℕ) (p : Flying) (ps : List Flying) → AreNear window sent taken (p ∷ ps) →
     taken ≤ sent → taken_with p taken ≤ sent
-taken_with-sent w sent taken (data_packet n a) ps h k = taken_with-le n a taken sent h.below.0 k
+taken_with-sent w sent taken (data_at n a) ps h k = taken_with-le n a taken sent h.below.0 k
 taken_with-sent w sent taken (acknowledgement a) ps h k = k
 
 AreNear-arrives : (window sent taken : ℕ) (p : Flying) (ps : List Flying) → AreNear window sent taken (p ∷ ps) →
     AreNear window sent (taken_with p taken) ps
-AreNear-arrives w sent taken (data_packet n a) ps h = record {
+AreNear-arrives w sent taken (data_at n a) ps h = record {
   below = h.below.1;
-  near = EachNumber-map (λ x. (taken ≤ x + w) × (n < x + w)) (λ x. taken_with (data_packet n a) taken ≤ x + w)
+  near = EachNumber-map (λ x. (taken ≤ x + w) × (n < x + w)) (λ x. taken_with (data_at n a) taken ≤ x + w)
       (λ x k. taken_with-le n a taken (x + w) k.1 k.0) ps
       (EachNumber-both (λ x. taken ≤ x + w) (λ x. n < x + w) ps h.near.1 h.ordered.0);
   ordered = h.ordered.1;
@@ -180,12 +180,12 @@ IsSafe-empty w h = record {
 }
 
 IsSafe-repeats : (d : Direction) (acked taken n : ℕ) → IsSafe d acked taken → d.acked ≤ n → n < length d.sent →
-    IsSafe (put (data_packet n taken) d) acked taken
+    IsSafe (put (data_at n taken) d) acked taken
 IsSafe-repeats d acked taken n h low high = record {
   counts = h.counts;
   packets = AreNear-put_data d.window (length d.sent) d.taken n taken d.flight h.packets high
       (omega (arith, h.counts.sent_acked, low)) h.counts.taken_sent;
-  acks = Rise-put acked d.flight (data_packet n taken) taken refl h.acks;
+  acks = Rise-put acked d.flight (data_at n taken) taken refl h.acks;
 }
 
 IsSafe-acknowledges : (d : Direction) (acked taken : ℕ) → IsSafe d acked taken →
@@ -214,7 +214,7 @@ IsSafe-added d acked taken message h room =
 
 IsSafe-sends : (d : Direction) (acked taken : ℕ) (message : List ℕ) → IsSafe d acked taken →
     length d.sent < d.acked + d.window →
-    IsSafe (added message (put (data_packet (length d.sent) taken) d)) acked taken
+    IsSafe (added message (put (data_at (length d.sent) taken) d)) acked taken
 IsSafe-sends d acked taken message h room =
     IsSafe-repeats (added message d) acked taken (length d.sent) (IsSafe-added d acked taken message h room)
     (omega (arith, h.counts.acked_taken, h.counts.taken_sent))
@@ -271,17 +271,17 @@ BothSafe-after_arrival m (p ∷ ps) some h = (
       h.0.acks.0 (Rise-le (ack_of p) ps m.back.taken h.0.acks.1) (taken_with-up p m.out.taken),
 )
 
-BothSafe-after_step : (m : Machine) (step : Step) → BothSafe m → Permits m.out step → BothSafe (after_step m step)
-BothSafe-after_step m (sends message) h k = (IsSafe-sends m.out m.back.acked m.back.taken message h.0 k, h.1)
-BothSafe-after_step m (repeats n) h k = (IsSafe-repeats m.out m.back.acked m.back.taken n h.0 k.0 k.1, h.1)
-BothSafe-after_step m acknowledges h k = (IsSafe-acknowledges m.out m.back.acked m.back.taken h.0, h.1)
-BothSafe-after_step m loses h k = (IsSafe-loses m.out m.back.acked m.back.taken m.out.flight h.0, h.1)
-BothSafe-after_step m arrives h k = BothSafe-after_arrival m m.out.flight k h
+BothSafe-after_act : (m : Machine) (act : Act) → BothSafe m → Permits m.out act → BothSafe (after_act m act)
+BothSafe-after_act m (sends message) h k = (IsSafe-sends m.out m.back.acked m.back.taken message h.0 k, h.1)
+BothSafe-after_act m (repeats n) h k = (IsSafe-repeats m.out m.back.acked m.back.taken n h.0 k.0 k.1, h.1)
+BothSafe-after_act m acknowledges h k = (IsSafe-acknowledges m.out m.back.acked m.back.taken h.0, h.1)
+BothSafe-after_act m loses h k = (IsSafe-loses m.out m.back.acked m.back.taken m.out.flight h.0, h.1)
+BothSafe-after_act m arrives h k = BothSafe-after_arrival m m.out.flight k h
 
 BothSafe-turned : (m : Machine) → BothSafe m → BothSafe (turned m)
 BothSafe-turned m h = (h.1, h.0)
 
 pub BothSafe-after_move : (m : Machine) (move : Move) → BothSafe m → Allows m move → BothSafe (after_move m move)
-BothSafe-after_move m (on_out step) h k = BothSafe-after_step m step h k
-BothSafe-after_move m (on_back step) h k =
-    BothSafe-turned (after_step (turned m) step) (BothSafe-after_step (turned m) step (BothSafe-turned m h) k)
+BothSafe-after_move m (on_out act) h k = BothSafe-after_act m act h k
+BothSafe-after_move m (on_back act) h k =
+    BothSafe-turned (after_act (turned m) act) (BothSafe-after_act (turned m) act (BothSafe-turned m h) k)

@@ -1,6 +1,6 @@
 -- The runs of the window machine, and what holds after each.
 use Rattle.std.proofs.Common.{◌≡◌, ℕ, ◌+◌, ◌-◌, ◌%◌, ◌<◌, ◌≤◌, List, [], ◌∷◌, ◌++◌, length, map, refl, ap, sym, ◌∙◌, subst, arith}
-use Rattle.uug_link.specs.Announced.{IsWindow}
+use Rattle.uug_link.specs.Terms.{IsWindow}
 use Rattle.uug_link.specs.WindowMachine.{Direction, Machine, start, turned, Move, on_out, on_back, Allows, after_move, AllAllowed, after, IsReached, Always, EachNumber, EachAck, Rise}
 use Rattle.uug_link.specs.declared.limits.TheConstants.{WINDOW_MAX}
 use Rattle.uug_link.proofs.WindowMachineLemmas.{EachNumber-map, EachNumber-both, EachAck-map, EachAck-between, IsSafe, IsSafe-empty, BothSafe, BothSafe-after_move}
@@ -33,16 +33,16 @@ IsReached-after_move window other m move h k = IsReached-after window other m (m
 -- ---- a run seen from the other end
 
 abbrev pub mirrored : Move → Move
-mirrored (on_out step) = on_back step
-mirrored (on_back step) = on_out step
+mirrored (on_out act) = on_back act
+mirrored (on_back act) = on_out act
 
 after_move-mirrored : (m : Machine) (move : Move) → after_move (turned m) (mirrored move) ≡ turned (after_move m move)
-after_move-mirrored m (on_out step) = refl
-after_move-mirrored m (on_back step) = refl
+after_move-mirrored m (on_out act) = refl
+after_move-mirrored m (on_back act) = refl
 
 Allows-mirrored : (m : Machine) (move : Move) → Allows m move → Allows (turned m) (mirrored move)
-Allows-mirrored m (on_out step) h = h
-Allows-mirrored m (on_back step) h = h
+Allows-mirrored m (on_out act) h = h
+Allows-mirrored m (on_back act) h = h
 
 after-mirrored : (m : Machine) (moves : List Move) → after (turned m) (map mirrored moves) ≡ turned (after m moves)
 after-mirrored m [] = refl

@@ -1,8 +1,7 @@
 -- What the ends of a link announce to each other. Taylor UUCP manual, UUCP 'g' Protocol.
-use Rattle.std.specs.Prelude.{ℕ, ◌+◌, ◌^◌, ◌≤◌}
+use Rattle.std.specs.Prelude.{ℕ}
 use Rattle.uug_packet.specs.Number.{number_of}
 use Rattle.uug_link.specs.declared.announce.Announce.{Announce}
-use Rattle.uug_link.specs.declared.limits.TheConstants.{WINDOW_MAX}
 
 -- the window that the other end shall use, and the code of the packet size
 pub record Announced : Type 0 where
@@ -12,10 +11,3 @@ pub record Announced : Type 0 where
 -- what an announcement of the program says
 abbrev pub announced : Announce → Announced
 announced a = record { window = number_of a.window; size_code = number_of a.size_code }
-
-abbrev pub IsWindow : ℕ → Type 0
-IsWindow w = (1 ≤ w) × (w ≤ WINDOW_MAX)
-
--- the packet size in bytes, by its code: the bytes of a field
-abbrev pub size_of_code : ℕ → ℕ
-size_of_code y = 2 ^ (y + 5)

@@ -4,6 +4,7 @@ use Rattle.uug_link.specs.declared.outcome.LinkFault.{LinkFault}
 use Rattle.uug_link.specs.declared.outcome.LinkFault.TheVariants.{Memory, GaveUp, Halted}
 use Rattle.uug_link.specs.declared.outcome.Outcome.{Outcome}
 use Rattle.uug_link.specs.declared.outcome.Outcome.TheVariants.{Nothing, Up, Taken, Closed}
+use Rattle.uug_link.specs.declared.limits.TheConstants.{WINDOW_MAX}
 use Rattle.uug_link.specs.Entries.{EntryValue, packet, Held}
 use Rattle.uug_link.specs.State.{State}
 use Rattle.uug_link.specs.Step.{Effect, Emission, OutcomeValue, nothing, up, taken, closed, gave_up, halted}
@@ -30,7 +31,7 @@ written e = packet (canonical e.packet) e.first
 
 -- The call did what the step says: the link's next state, exactly its packets behind those that the outbox held, and
 -- its answer. Or memory was refused and nothing has changed; that does not happen within what the outbox has to spare.
--- Each packet lowers what it has to spare by at most one.
+-- Each packet lowers what it has to spare by at most one, and there are no more than a window of them.
 pub record Follows (e : Effect) (before after : State) (held held_after : Held) (answer : Option OutcomeValue) : Type 0 where
   pub state : IfSome answer (λ _. after ≡ e.state)
   pub emitted : IfSome answer (λ _. held_after.entries ≡ held.entries ++ map written e.emitted)
@@ -40,3 +41,4 @@ pub record Follows (e : Effect) (before after : State) (held held_after : Held) 
   pub memory : length e.emitted ≤ held.spare → IsSome answer
   pub spare : held.spare ≤ held_after.spare + length e.emitted
   pub spare_kept : IfNone answer (held.spare ≤ held_after.spare)
+  pub few : length e.emitted ≤ WINDOW_MAX

@@ -1,7 +1,12 @@
+pub mod Terms
 pub mod Announced
 pub mod Entries
 pub mod State
 pub mod Step
 pub mod Reactions
+pub mod Outcomes
 pub mod Follows
 pub mod WindowMachine
+pub mod TwoLinks
+pub mod Arrivals
+pub mod OnTheLine

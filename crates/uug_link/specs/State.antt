@@ -2,10 +2,11 @@
 -- and the count of timeouts are this project's profile.
 use Rattle.std.specs.Prelude.{◌≡◌, ℕ, ◌<◌, ◌≤◌, Bool, true, false, List, [], length, All, ⊤}
 use Rattle.uug_link.specs.declared.phase.Phase.{Phase}
-use Rattle.uug_link.specs.declared.phase.Phase.TheVariants.{Fresh, AwaitsInitA, Up, Closing, Halted}
+use Rattle.uug_link.specs.declared.phase.Phase.TheVariants.{Fresh, AwaitsInitA, AwaitsInitB, AwaitsInitC, Up, Closing, Halted}
 use Rattle.uug_link.specs.declared.phase.Role.{Role}
 use Rattle.uug_link.specs.declared.phase.Role.TheVariants.{Caller, Called}
-use Rattle.uug_link.specs.Announced.{Announced, size_of_code}
+use Rattle.uug_link.specs.Announced.{Announced}
+use Rattle.uug_link.specs.Terms.{size_of_code}
 
 pub record State : Type 0 where
   pub role : Role
@@ -62,16 +63,31 @@ IsStarting Closing = ⊥
 IsStarting Halted = ⊥
 IsStarting _ = ⊤
 
+-- whether the other end's INITA has told a window, and its INITB a size (of a link that has ended, nobody asks)
+abbrev pub KnowsWindow : Phase → Type 0
+KnowsWindow AwaitsInitB = ⊤
+KnowsWindow AwaitsInitC = ⊤
+KnowsWindow Up = ⊤
+KnowsWindow Closing = ⊤
+KnowsWindow _ = ⊥
+
+abbrev pub KnowsSize : Phase → Type 0
+KnowsSize AwaitsInitC = ⊤
+KnowsSize Up = ⊤
+KnowsSize Closing = ⊤
+KnowsSize _ = ⊥
+
 -- the message fits a field of the size of that code
 abbrev pub Fits : ℕ → List ℕ → Type 0
 Fits size_code message = length message ≤ size_of_code size_code
 
 -- What every link keeps to: no more messages are outstanding than the other end's window lets, each fits the other
--- end's size, and before the link is up there is none.
+-- end's size, and before the link is up there is none; a window that was told lets at least one be so.
 pub record IsSound (s : State) : Type 0 where
   pub within : length s.unacked ≤ s.window
   pub fit : All (Fits s.size_code) s.unacked
   pub none_before : IsStarting s.phase → s.unacked ≡ []
+  pub some : KnowsWindow s.phase → 1 ≤ s.window
 
 -- one more message may go out
 abbrev pub HasRoom : State → Type 0

@@ -174,11 +174,15 @@ on_srj _ y s = ignored s
 abbrev pub rejecting : State → Effect
 rejecting s = answers (record s { told = true }) (rj (last_received s)) nothing
 
+-- one number alone is the expected one
+abbrev pub is_expected : ℕ → State → Bool
+is_expected x s = x == s.expected
+
 -- the expected packet is taken; each other is rejected or, where a reject has gone out, answered with the last number
 -- received
 abbrev pub on_number : ℕ → State → Effect
 on_number x s =
-    if x == s.expected
+    if is_expected x s
     then answers (record s { expected = (s.expected + 1) % 8; told = false; timeouts = 0 }) (rr x) taken
     else if s.told then answers s (rr (last_received s)) nothing else rejecting s
 

@@ -2,16 +2,16 @@
 -- numbers modulo eight, spellings, slots, timeouts or rejects. The machine repeats and acknowledges when it likes, and any
 -- packet may be lost. Taylor UUCP manual, UUCP 'g' Protocol.
 use Rattle.std.specs.Prelude.{◌≡◌, ℕ, ◌+◌, ◌<◌, ◌≤◌, ◌==◌, if◌then◌else◌, List, [], ◌∷◌, ◌++◌, length, ⊤}
-use Rattle.uug_link.specs.Announced.{IsWindow}
+use Rattle.uug_link.specs.Terms.{IsWindow}
 
 -- a packet in flight: a data packet has the place of its message among all that were sent, and each packet says how
 -- many messages its sender had taken
 pub data Flying : Type 0 where
-  data_packet : (number : ℕ) → (ack : ℕ) → Flying
+  data_at : (number : ℕ) → (ack : ℕ) → Flying
   acknowledgement : (ack : ℕ) → Flying
 
 abbrev pub ack_of : Flying → ℕ
-ack_of (data_packet number ack) = ack
+ack_of (data_at number ack) = ack
 ack_of (acknowledgement ack) = ack
 
 pub record Direction : Type 0 where
@@ -42,19 +42,19 @@ turned m = record { out = m.back; back = m.out }
 
 -- ---- the steps in one direction
 
-pub data Step : Type 0 where
+pub data Act : Type 0 where
   -- a new message is sent
-  sends : (message : List ℕ) → Step
+  sends : (message : List ℕ) → Act
   -- a message that is not acknowledged is sent again
-  repeats : (number : ℕ) → Step
+  repeats : (number : ℕ) → Act
   -- a bare acknowledgement is sent
-  acknowledges : Step
+  acknowledges : Act
   -- the front of the flight is lost
-  loses : Step
+  loses : Act
   -- the front of the flight arrives
-  arrives : Step
+  arrives : Act
 
-abbrev pub Permits : Direction → Step → Type 0
+abbrev pub Permits : Direction → Act → Type 0
 Permits d (sends message) = length d.sent < d.acked + d.window
 Permits d (repeats number) = (d.acked ≤ number) × (number < length d.sent)
 Permits d acknowledges = ⊤
@@ -73,7 +73,7 @@ without_front (packet ∷ packets) = packets
 
 -- the receiver takes the message that it expects, and no other
 abbrev pub taken_with : Flying → ℕ → ℕ
-taken_with (data_packet number ack) taken = if number == taken then taken + 1 else taken
+taken_with (data_at number ack) taken = if number == taken then taken + 1 else taken
 taken_with (acknowledgement ack) taken = taken
 
 -- the front of the flight out arrives: it says what is acknowledged of the way back
@@ -85,27 +85,27 @@ after_arrival m (packet ∷ packets) = record {
 }
 
 -- a step in the direction out
-abbrev pub after_step : Machine → Step → Machine
-after_step m (sends message) =
-    record m { out = added message (put (data_packet (length m.out.sent) m.back.taken) m.out) }
-after_step m (repeats number) = record m { out = put (data_packet number m.back.taken) m.out }
-after_step m acknowledges = record m { out = put (acknowledgement m.back.taken) m.out }
-after_step m loses = record m { out = record m.out { flight = without_front m.out.flight } }
-after_step m arrives = after_arrival m m.out.flight
+abbrev pub after_act : Machine → Act → Machine
+after_act m (sends message) =
+    record m { out = added message (put (data_at (length m.out.sent) m.back.taken) m.out) }
+after_act m (repeats number) = record m { out = put (data_at number m.back.taken) m.out }
+after_act m acknowledges = record m { out = put (acknowledgement m.back.taken) m.out }
+after_act m loses = record m { out = record m.out { flight = without_front m.out.flight } }
+after_act m arrives = after_arrival m m.out.flight
 
 -- ---- the runs: any steps that are allowed, in either direction
 
 pub data Move : Type 0 where
-  on_out : Step → Move
-  on_back : Step → Move
+  on_out : Act → Move
+  on_back : Act → Move
 
 abbrev pub Allows : Machine → Move → Type 0
-Allows m (on_out step) = Permits m.out step
-Allows m (on_back step) = Permits m.back step
+Allows m (on_out act) = Permits m.out act
+Allows m (on_back act) = Permits m.back act
 
 abbrev pub after_move : Machine → Move → Machine
-after_move m (on_out step) = after_step m step
-after_move m (on_back step) = turned (after_step (turned m) step)
+after_move m (on_out act) = after_act m act
+after_move m (on_back act) = turned (after_act (turned m) act)
 
 abbrev pub AllAllowed : Machine → List Move → Type 0
 AllAllowed m [] = ⊤
@@ -130,7 +130,7 @@ Always P = (window other : ℕ) (m : Machine) → IsWindow window → IsWindow o
 -- the fact holds of the number of each data packet
 abbrev pub EachNumber : (ℕ → Type 0) → List Flying → Type 0
 EachNumber P [] = ⊤
-EachNumber P (data_packet number ack ∷ packets) = P number × EachNumber P packets
+EachNumber P (data_at number ack ∷ packets) = P number × EachNumber P packets
 EachNumber P (acknowledgement ack ∷ packets) = EachNumber P packets
 
 -- the fact holds of the acknowledgement of each packet

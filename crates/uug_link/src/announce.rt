@@ -1,27 +1,33 @@
 ghost use Rattle.std.specs.Prelude.{◌≡◌, ◌≢◌, ℕ, ◌<◌, ◌≤◌, ◌⊎◌, ◌↔◌, IfOk, IsErrOf, MatchOption};
-ghost use Rattle.uug_link.specs.Announced.{announced, IsWindow, size_of_code};
+ghost use Rattle.uug_link.specs.Terms.{IsSize, IsWindow, size_of_code};
 ghost use Rattle.uug_packet.specs.Number.{number_of};
 
-use crate::limits::{SIZE_CODES, WINDOW_MAX};
-use uug_packet::Seq;
+use crate::limits::{MESSAGE_MAX, SIZE_MIN, WINDOW_MAX};
+use thiserror::Error;
+use uug_packet::{Seq, field_size};
 
 /// What one end of a link announces: the window and the packet size that the other end shall use.
 #[derive(Clone, Copy, Debug, PartialEq, Eq)]
 pub struct Announce {
     pub(crate) window: Seq,
     pub(crate) size_code: Seq,
+    ghost in_range: { IsWindow (number_of window) },
 }
 
 /// Why there is no such announcement.
-#[derive(Clone, Copy, Debug, PartialEq, Eq)]
+#[derive(Clone, Copy, Debug, PartialEq, Eq, Error)]
 pub enum BadAnnounce {
     /// The window is not 1 to 7.
+    #[error("the window is not 1 to 7")]
     BadWindow,
     /// The size is not 32, 64, 128, 256, 512, 1024, 2048 or 4096.
+    #[error("the size is not a power of two from 32 to 4096")]
     BadSize,
 }
 
 impl Announce {
+    ghost use Rattle.uug_link.specs.Announced.{announced};
+
     /// The announcement of a window, 1 to 7, and a size in bytes, a power of two from 32 to 4096. The window is
     /// looked at first.
     pub fn new(window: u8, size: usize) -> Result<Self, BadAnnounce>
@@ -29,11 +35,28 @@ impl Announce {
         ensures size { IfOk result (λ a. size_of_code (announced a).size_code ≡ size) }
         ensures bad_window { IsErrOf result BadAnnounce.BadWindow ↔ ((window < 1) ⊎ (WINDOW_MAX < window)) }
         ensures bad_size { IsErrOf result BadAnnounce.BadSize ↔
-            (IsWindow window × ((y : ℕ) → y < SIZE_CODES → size ≢ size_of_code y)) }
+            (IsWindow window × (IsSize size → ⊥)) }
     {
         let window = window_of(window).ok_or(BadAnnounce::BadWindow)?;
         let size_code = code_of_size(size).ok_or(BadAnnounce::BadSize)?;
         Ok(Announce { window, size_code })
+    }
+
+    /// The window that the other end shall use, 1 to 7.
+    pub fn window(self) -> u8
+        ensures value { result ≡ (announced self).window }
+        ensures within { IsWindow result }
+    {
+        self.window.value()
+    }
+
+    /// The packet size in bytes that the other end shall use, a power of two from 32 to 4096.
+    pub fn size(self) -> usize
+        ensures value { result ≡ size_of_code (announced self).size_code }
+        ensures one_of_eight { IsSize result }
+        ensures within { (SIZE_MIN ≤ result) × (result ≤ MESSAGE_MAX) }
+    {
+        field_size(self.size_code.value() + 1)
     }
 }
 
@@ -48,7 +71,7 @@ fn window_of(window: u8) -> Option<Seq>
 }
 
 fn code_of_size(size: usize) -> Option<Seq>
-    ensures { MatchOption result ((y : ℕ) → y < SIZE_CODES → size ≢ size_of_code y)
+    ensures { MatchOption result (IsSize size → ⊥)
         (λ code. size_of_code (number_of code) ≡ size) }
 {
     let code = match size {

@@ -1,7 +1,44 @@
-//! The law of the window machine: the contract of a function that does nothing.
-ghost use Rattle.std.specs.Prelude.{◌≡◌, ℕ, ◌+◌, ◌-◌, ◌%◌, ◌<◌, ◌≤◌, length};
-ghost use Rattle.uug_link.specs.WindowMachine.{Always, EachAck, EachNumber, Rise};
-ghost use Rattle.uug_link.specs.declared.limits.TheConstants.{WINDOW_MAX};
+//! The laws of links and of the window machine: each is the contract of a function that does nothing.
+ghost use Rattle.std.specs.Prelude.{◌≡◌, ◌≢◌, ◌↔◌, ℕ, ◌+◌, ◌-◌, ◌%◌, ◌<◌, ◌≤◌, List, length, slice_get, Some, MatchOption, IsTrue};
+ghost use Rattle.uug_link.specs.Announced.{Announced};
+ghost use Rattle.uug_link.specs.Arrivals.{IsPlace, arrived, as_happenings, place_of, same_packet};
+ghost use Rattle.uug_link.specs.OnTheLine.{Reads};
+ghost use Rattle.uug_link.specs.Outcomes.{FirstBySend, IsComing, MayAnswer, MovesPhase};
+ghost use Rattle.uug_link.specs.State.{IsFresh, IsUp, KnowsSize, KnowsWindow, State};
+ghost use Rattle.uug_link.specs.Step.{Event, answers_halted, step, to_begin, to_close, to_send};
+ghost use Rattle.uug_link.specs.Terms.{IsWindow};
+ghost use Rattle.uug_link.specs.TwoLinks.{AllMayHappen, AlwaysOfTwo, End, Ends, Happening, IsFirst, IsFrontOf, IsRun, MayOccur, Occurrence, after_happenings, after_occurrence, first_ends, seen_from_far};
+ghost use Rattle.uug_link.specs.WindowMachine.{Always, EachAck, EachNumber, IsReached, Machine, Rise};
+ghost use Rattle.uug_link.specs.declared.limits.TheConstants.{ENTRIES_MAX, MESSAGE_MAX, SIZE_CODES, SIZE_MIN, TIMEOUTS_MAX, UNACKED_MAX, WINDOW_MAX};
+ghost use Rattle.uug_link.specs.declared.phase.Phase.TheVariants.{AwaitsInitA, Closing, Halted, Up};
+ghost use Rattle.uug_packet.specs.Packet.{PacketValue};
+
+/// The limits of a link: each number stands here, and no other clause repeats it.
+pub fn limits()
+    ensures window { WINDOW_MAX ≡ 7 }
+    ensures unacked { UNACKED_MAX ≡ WINDOW_MAX }
+    ensures timeouts { TIMEOUTS_MAX ≡ 8 }
+    ensures sizes { (SIZE_MIN ≡ 32) × (MESSAGE_MAX ≡ 4096) }
+    ensures size_codes { SIZE_CODES ≡ 8 }
+    ensures entries { ENTRIES_MAX ≡ 64 }
+{}
+
+/// What a link answers to which event, and where it then is.
+pub fn what_a_link_answers()
+    // Up comes from INITC alone, Taken from a data packet, Closed from CLOSE, GaveUp from a timeout.
+    ensures answers { (s : State) (e : Event) → MayAnswer (step s e).outcome e }
+    // The answer to a packet, a broken one or a timeout tells how the phase moves: Up, GaveUp and Closed say that the
+    // link has come up or has ended, and no other answer does.
+    ensures phases { (s : State) (e : Event) → IsComing e → MovesPhase (step s e).outcome s.phase (step s e).state.phase }
+    // How the calls move it.
+    ensures begins { (s : State) → IsFresh s → (step s to_begin).state.phase ≡ AwaitsInitA }
+    ensures sends { (s : State) (message : List ℕ) → IsUp s → (step s (to_send message)).state.phase ≡ Up }
+    ensures closes { (s : State) → IsUp s → (step s to_close).state.phase ≡ Closing }
+    // A link that has ended answers Halted from then on, and emits and changes nothing.
+    ensures ended { (s : State) (e : Event) → s.phase ≡ Halted → step s e ≡ answers_halted s }
+    // Only a sending emits a packet that is marked first.
+    ensures firsts { (s : State) (e : Event) → FirstBySend e (step s e).emitted }
+{}
 
 /// What holds after every run of the window machine, of each direction `d` and the opposite one `o`: whatever was sent,
 /// repeated and lost, numbers modulo eight tell as much as whole numbers do.
@@ -23,4 +60,57 @@ pub fn the_window_is_safe()
     // number: as far ahead of what counts as acknowledged as the digits are apart.
     ensures number_digits { Always (λ d o. EachNumber (λ n. n % 8 ≡ d.taken % 8 → n ≡ d.taken) d.flight) }
     ensures ack_digits { Always (λ d o. EachAck (λ a. a ≡ o.acked + (a % 8 + 8 - o.acked % 8) % 8) d.flight) }
+{}
+
+/// Two links, whatever is lost between them, run as the window machine: with its numbers and acknowledgements on the
+/// line as their digits modulo eight. So each takes what the other sent, in order and once, and neither has more
+/// unacknowledged than the other announced.
+pub fn two_links_run_as_the_machine()
+    // Each run is one of the machine, whose windows are those that the ends announced.
+    ensures machine { (near far : Announced) (ends : Ends) →
+        IsWindow near.window → IsWindow far.window → IsRun near far ends →
+        (m : Machine) × IsReached far.window near.window m
+        × Reads ends.near ends.far m.out × Reads ends.far ends.near m.back }
+    // Each end has taken the front of what the other sent.
+    ensures front { AlwaysOfTwo (λ e other announced. IsFrontOf e.taken other.sent) }
+    // What is unacknowledged at an end is at most what the other announced, before and after it is up too.
+    ensures unacked { AlwaysOfTwo (λ e other announced. length e.link.unacked ≤ announced.window) }
+    // From INITA on an end knows the window, and from INITB on the size, that the other announced.
+    ensures window { AlwaysOfTwo (λ e other announced.
+        KnowsWindow e.link.phase → e.link.window ≡ announced.window) }
+    ensures size { AlwaysOfTwo (λ e other announced.
+        KnowsSize e.link.phase → e.link.size_code ≡ announced.size_code) }
+{
+    the_window_is_safe();
+}
+
+/// How runs of two links are made: from two first links, by one more occurrence or several at one end; and seen from
+/// the other end.
+pub fn runs_of_two_links()
+    ensures first { (near far : Announced) (a b : State) →
+        IsFirst near a → IsFirst far b → IsRun near far (first_ends a b) }
+    ensures longer { (near far : Announced) (ends : Ends) (o : Occurrence) →
+        IsRun near far ends → MayOccur ends o → IsRun near far (after_occurrence ends o) }
+    ensures several { (near far : Announced) (ends : Ends) (hs : List Happening) →
+        IsRun near far ends → AllMayHappen ends.near ends.far hs →
+        IsRun near far (record ends { near = after_happenings ends.near hs }) }
+    ensures from_far { (near far : Announced) (ends : Ends) →
+        IsRun near far ends → IsRun far near (seen_from_far ends) }
+{}
+
+/// Where a packet that is found stands among those that the other end emitted.
+pub fn arrivals()
+    ensures same { (p q : PacketValue) → IsTrue (same_packet p q) ↔ (p ≡ q) }
+    // The place that is computed is the least one, and none only where there is none.
+    ensures place { (p : PacketValue) (emitted : List PacketValue) (passed : ℕ) →
+        MatchOption (place_of p emitted passed)
+        ((i : ℕ) → passed ≤ i → slice_get emitted i ≢ Some p)
+        (λ i. IsPlace p emitted passed i) }
+    // An arrival is so many misses and then a hearing, and makes a run longer.
+    ensures happens { (e other : End) (p : PacketValue) (i : ℕ) → IsPlace p other.emitted e.passed i →
+        AllMayHappen e other (as_happenings p e.passed i)
+        × (after_happenings e (as_happenings p e.passed i) ≡ arrived p i e) }
+    ensures longer { (near far : Announced) (ends : Ends) (p : PacketValue) (i : ℕ) →
+        IsRun near far ends → IsPlace p ends.far.emitted ends.near.passed i →
+        IsRun near far (record ends { near = arrived p i ends.near }) }
 {}

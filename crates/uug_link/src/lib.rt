@@ -21,7 +21,7 @@ mod window;
 
 pub use announce::{Announce, BadAnnounce};
 pub use entry::Entry;
-pub use limits::{ENTRIES_MAX, SIZE_CODES, TIMEOUTS_MAX, WINDOW_MAX};
+pub use limits::{ENTRIES_MAX, MESSAGE_MAX, SIZE_CODES, SIZE_MIN, TIMEOUTS_MAX, WINDOW_MAX};
 pub use link::Link;
 pub use outbox::Outbox;
 pub use outcome::{LinkFault, Outcome};

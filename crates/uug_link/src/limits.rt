@@ -8,10 +8,13 @@ pub const WINDOW_MAX: u8 = 7;
 /// For so many unacknowledged messages a link has room.
 pub(crate) const UNACKED_MAX: usize = WINDOW_MAX as usize;
 
-/// The greatest size of a message in bytes.
-pub(crate) const MESSAGE_MAX: usize = PACKET_MAX - HEADER_SIZE;
+/// The least size that an end may announce, in bytes.
+pub const SIZE_MIN: usize = 32;
 
-/// The codes of sizes are 0 to 7.
+/// The greatest size that an end may announce, in bytes, and so of a message.
+pub const MESSAGE_MAX: usize = PACKET_MAX - HEADER_SIZE;
+
+/// How many codes of sizes there are, from 0 on.
 pub const SIZE_CODES: u8 = 8;
 
 /// The number of timeouts in a row without progress at which a link gives up.

@@ -1,14 +1,15 @@
 ghost use Rattle.std.specs.Prelude.{◌≡◌, ℕ, ◌+◌, ◌≤◌, ◌++◌, length, drop, map, OnOk, OnErr, IsOk, IsTrue, ◌↔◌};
 ghost use Rattle.arrayvec.specs.ArrayVec.{array_vec_len};
-ghost use Rattle.uug_link.specs.Announced.{announced, size_of_code};
+ghost use Rattle.uug_link.specs.Announced.{announced};
 ghost use Rattle.uug_link.specs.Follows.{Follows, answered, done, written};
 ghost use Rattle.uug_link.specs.Reactions.{effect_of};
 ghost use Rattle.uug_link.specs.State.{caller_state, called_state, HasRoom, IsFresh, IsSound, IsUp};
+ghost use Rattle.uug_link.specs.Terms.{IsSize, IsWindow, size_of_code};
 ghost use Rattle.uug_link.specs.Step.{step, taken, to_begin, packet_found, bad_found, timed_out, to_send, to_close};
 ghost use Rattle.uug_packet.specs.Packet.{shown};
 
 use crate::announce::Announce;
-use crate::limits::{MESSAGE_MAX, UNACKED_MAX, WINDOW_MAX};
+use crate::limits::{MESSAGE_MAX, SIZE_MIN, UNACKED_MAX, WINDOW_MAX};
 use crate::message::Message;
 use crate::number::plus;
 use crate::outbox::Outbox;
@@ -19,7 +20,7 @@ use crate::status::Status;
 use arrayvec::ArrayVec;
 use std::alloc::{AllocError, Allocator};
 use std::marker::Model;
-use uug_packet::Packet;
+use uug_packet::{Packet, field_size};
 
 /// One end's link. It knows no time and reads no bytes: its caller hands it the packets and the broken ones that were
 /// found, and says when nothing has come for some time. What it emits goes into an outbox.
@@ -131,7 +132,8 @@ impl Link {
 
     /// Whether messages may go both ways.
     pub fn is_up(&self) -> bool
-        ensures { IsTrue result ↔ IsUp self.now }
+        ensures up { IsTrue result ↔ IsUp self.now }
+        ensures window { IsTrue result → IsWindow self.now.window }
     {
         matches!(self.status.phase, Phase::Up)
     }
@@ -162,21 +164,24 @@ impl Link {
         self.unacked.len()
     }
 
-    /// The greatest number of packets that may be unacknowledged, of a link that is up: the smaller of the two windows
-    /// that the other end has announced.
+    /// The greatest number of packets that may be unacknowledged, 1 to 7, of a link that is up: the smaller of the two
+    /// windows that the other end has announced.
     pub fn window(&self) -> usize
         requires { IsUp self.now }
-        ensures { result ≡ self.now.window }
+        ensures value { result ≡ self.now.window }
+        ensures within { IsWindow result }
     {
         usize::from(self.status.window.value())
     }
 
-    /// The packet size in bytes that the other end has announced, of a link that is up.
+    /// The packet size in bytes that the other end has announced, 32 to 4096, of a link that is up.
     pub fn size(&self) -> usize
         requires { IsUp self.now }
-        ensures { result ≡ size_of_code self.now.size_code }
+        ensures value { result ≡ size_of_code self.now.size_code }
+        ensures one_of_eight { IsSize result }
+        ensures within { (SIZE_MIN ≤ result) × (result ≤ MESSAGE_MAX) }
     {
-        1 << (self.status.size_code.value() + 5)
+        field_size(self.status.size_code.value() + 1)
     }
 
     fn react<A: Allocator>(
@@ -211,6 +216,7 @@ impl Link {
         ensures spare_kept { OnErr result (out.old.spare ≤ out.new.spare) }
         ensures memory { length (effect_of reaction self.old.unacked).emitted ≤ out.old.spare → IsOk result }
         ensures spare { out.old.spare ≤ out.new.spare + length (effect_of reaction self.old.unacked).emitted }
+        ensures few { length (effect_of reaction self.old.unacked).emitted ≤ WINDOW_MAX }
     {
         reaction.emit(self.unacked.as_slice(), out)?;
         strike(&mut self.unacked, reaction.strikes);

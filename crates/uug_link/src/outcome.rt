@@ -2,6 +2,8 @@ ghost use Rattle.std.specs.Prelude.{◌≡◌, Some};
 ghost use Rattle.uug_link.specs.Reactions.{reply_of};
 ghost use Rattle.uug_link.specs.Follows.{answered};
 
+use thiserror::Error;
+
 /// What a packet, a bad mark or a timeout did to a link.
 #[derive(Clone, Copy, Debug, PartialEq, Eq)]
 pub enum Outcome {
@@ -16,13 +18,16 @@ pub enum Outcome {
 }
 
 /// Why a link did not take something up.
-#[derive(Clone, Copy, Debug, PartialEq, Eq)]
+#[derive(Clone, Copy, Debug, PartialEq, Eq, Error)]
 pub enum LinkFault {
     /// Memory was refused: link and outbox are as before.
+    #[error("out of memory")]
     Memory,
     /// The last timeout in a row without progress: CLOSE was emitted and the link has ended.
+    #[error("the other end has not answered")]
     GaveUp,
     /// The link had ended before: nothing was emitted or changed.
+    #[error("the link has ended")]
     Halted,
 }
 

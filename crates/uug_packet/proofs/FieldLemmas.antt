@@ -8,7 +8,9 @@ use Rattle.std.proofs.lemmas.Bool.Decides.{nat_tests}
 use Rattle.uug_packet.specs.declared.field.FieldKind.{FieldKind}
 use Rattle.uug_packet.specs.declared.field.FieldKind.TheVariants.{Long, Short}
 use Rattle.uug_packet.specs.declared.field.TheConstants.{FIELD_CODE_MAX, FIELD_MIN, FIELD_MAX, ONE_BYTE_MAX}
+use Rattle.uug_packet.specs.declared.packet.TheConstants.{PACKET_MAX}
 use Rattle.uug_packet.specs.Bytes.{AreBytes}
+use Rattle.uug_packet.specs.Waits.{Waits}
 use Rattle.uug_packet.specs.Field.{field_size, SpellsMissing, HoldsShort, Holds, canonical_kind, canonical_front, canonical_field}
 use Rattle.uug_packet.specs.Decoded.{valid_bytes, message_at}
 
@@ -22,6 +24,12 @@ field_size-least k h = grows 5 (k + 4) (omega arith)
 
 pub field_size-most : (k : ℕ) → k ≤ FIELD_CODE_MAX → field_size k ≤ FIELD_MAX
 field_size-most k h = grows (k + 4) 12 (omega arith)
+
+-- bytes that wait are fewer than those of the longest packet
+pub Waits-fits : (s : List ℕ) → Waits s → length s < PACKET_MAX
+Waits-fits [] (inl cut) = omega arith
+Waits-fits (b ∷ s) (inl cut) = omega (arith, cut.1)
+Waits-fits s (inr w) = omega (arith, ap length w.2.joined, w.3, field_size-most w.0 w.2.code.1)
 
 -- ---- what is held is found
 

@@ -3,7 +3,8 @@
 use Rattle.std.proofs.Common.{◌≡◌, ◌-◌, [], ◌∷◌, ◌++◌, Err, refl, lit<, lit≤, inl, inr, replicate}
 use Rattle.uug_packet.specs.declared.field.FieldKind.TheVariants as kinds
 use Rattle.uug_packet.specs.Checksum.{check}
-use Rattle.uug_packet.specs.Field.{canonical_field, canonical_front}
+use Rattle.uug_packet.specs.Field.{field_size, canonical_field, canonical_front}
+use Rattle.uug_packet.specs.Message.{message_start}
 use Rattle.uug_packet.specs.declared.decoding.NoPacket.TheVariants.{Short, BadStart, BadK, BadXor, BadKind, BadSum, BadLength}
 use Rattle.uug_packet.specs.Packet.{close, rj, srj, rr, init_c, init_b, init_a, control, carry}
 use Rattle.uug_packet.specs.Spelling.{IsSpelling, canonical}
@@ -48,6 +49,34 @@ pub refused : AreRefused
 unfolding decoded header_at
 refused = record { short = refl; start = refl; k = refl; xor = refl; kind = refl; sum = refl }
 
+-- where two refusals apply, the first in the order of the tests is the answer
+pub record AreInOrder : Type 0 where
+  pub short_before_k : decoded (0x10 ∷ 0x0a ∷ 0x00 ∷ 0x00 ∷ 0x00 ∷ []) ≡ Err Short
+  pub k_before_xor : decoded (0x10 ∷ 0x0a ∷ 0x00 ∷ 0x00 ∷ 0x00 ∷ 0x00 ∷ []) ≡ Err BadK
+  pub k_before_kind : decoded (0x10 ∷ 0x00 ∷ 0x00 ∷ 0x00 ∷ 0x40 ∷ 0x40 ∷ []) ≡ Err BadK
+  pub k_before_cut : decoded (0x10 ∷ 0x00 ∷ 0x00 ∷ 0x00 ∷ 0x88 ∷ 0x88 ∷ []) ≡ Err BadK
+  pub xor_before_kind : decoded (0x10 ∷ 0x09 ∷ 0xaa ∷ 0xaa ∷ 0x00 ∷ 0x08 ∷ []) ≡ Err BadXor
+  pub xor_before_cut : decoded (0x10 ∷ 0x01 ∷ 0x0d ∷ 0x3a ∷ 0x88 ∷ 0xbf ∷ []) ≡ Err BadXor
+  pub kind_before_sum : decoded (0x10 ∷ 0x09 ∷ 0x00 ∷ 0x00 ∷ 0x00 ∷ 0x09 ∷ []) ≡ Err BadKind
+  pub kind_before_cut : decoded (0x10 ∷ 0x01 ∷ 0x00 ∷ 0x00 ∷ 0x48 ∷ 0x49 ∷ []) ≡ Err BadKind
+  pub cut_before_sum : decoded ((0x10 ∷ 0x01 ∷ 0x0e ∷ 0x3a ∷ 0x88 ∷ 0xbd ∷ []) ++ replicate 31 0) ≡ Err Short
+  pub sum_before_length : decoded ((0x10 ∷ 0x01 ∷ 0xce ∷ 0x39 ∷ 0xc8 ∷ 0x3e ∷ []) ++ replicate 32 0) ≡ Err BadSum
+
+pub in_order : AreInOrder
+unfolding decoded header_at check
+in_order = record {
+  short_before_k = refl;
+  k_before_xor = refl;
+  k_before_kind = refl;
+  k_before_cut = refl;
+  xor_before_kind = refl;
+  xor_before_cut = refl;
+  kind_before_sum = refl;
+  kind_before_cut = refl;
+  cut_before_sum = refl;
+  sum_before_length = refl;
+}
+
 -- ---- the check of a field
 
 pub record AreChecks : Type 0 where
@@ -81,6 +110,22 @@ pub record AreFronts : Type 0 where
 
 pub fronts : AreFronts
 fronts = record { all_of_128 = refl; all_of_4096 = refl; valid_3968 = refl; valid_3969 = refl }
+
+-- where the message begins: behind the header in a whole field, and behind one or two bytes more in a short one
+pub record AreStarts : Type 0 where
+  pub whole : message_start (0x10 ∷ 0x01 ∷ 0x0d ∷ 0x3a ∷ 0x88 ∷ 0xbe ∷ 0x00 ∷ []) ≡ 6
+  pub one_byte : message_start (0x10 ∷ 0x01 ∷ 0xc4 ∷ 0x25 ∷ 0xea ∷ 0x0a ∷ 0x07 ∷ []) ≡ 7
+  pub two_bytes : message_start (0x10 ∷ 0x01 ∷ 0xcf ∷ 0x2f ∷ 0xea ∷ 0x0b ∷ 0x87 ∷ []) ≡ 8
+
+pub starts : AreStarts
+starts = record { whole = refl; one_byte = refl; two_bytes = refl }
+
+pub record AreSizes : Type 0 where
+  pub least : field_size 1 ≡ 32
+  pub most : field_size 8 ≡ 4096
+
+pub sizes : AreSizes
+sizes = record { least = refl; most = refl }
 
 pub record AreDamaged : Type 0 where
   pub no_missing_byte : decoded ((0x10 ∷ 0x01 ∷ 0xcd ∷ 0x39 ∷ 0xc8 ∷ 0x3d ∷ []) ++ replicate 32 0) ≡ Err BadLength

@@ -11,7 +11,7 @@ use Rattle.uug_packet.specs.declared.field.TheConstants.{ONE_BYTE_MAX}
 use Rattle.uug_packet.specs.declared.header.Header.{Header}
 use Rattle.uug_packet.specs.declared.header.TheConstants.{START, CONTROL_K, HEADER_SIZE}
 use Rattle.uug_packet.specs.Checksum.{check}
-use Rattle.uug_packet.specs.Field.{field_size}
+use Rattle.uug_packet.specs.Field.{field_size, front_size}
 use Rattle.uug_packet.specs.Packet.{ControlValue, close, rj, srj, rr, init_c, init_b, init_a, PacketValue, control, carry}
 use Rattle.uug_packet.specs.Spelling.{checksum_of, xor_byte}
 
@@ -69,12 +69,15 @@ valid_bytes field front missing =
     then Ok (take (length field - missing) (drop front field))
     else Err BadLength
 
+-- how many bytes of a short field are missing
+abbrev pub missing_in : List ℕ → ℕ
+missing_in field =
+    let first = slice_index field 0 in
+    if nat_le first ONE_BYTE_MAX then first else first % 128 + 128 * slice_index field 1
+
 abbrev pub message_at : FieldKind → List ℕ → Result (List ℕ) NoPacket
 message_at Long field = Ok field
-message_at kinds.Short field =
-    let first = slice_index field 0 in
-    if nat_le first ONE_BYTE_MAX then valid_bytes field 1 first
-    else valid_bytes field 2 (first % 128 + 128 * slice_index field 1)
+message_at kinds.Short field = valid_bytes field (front_size (slice_index field 0)) (missing_in field)
 
 abbrev pub checked : Bool → Result (List ℕ) NoPacket → Result (List ℕ) NoPacket
 checked right message = if right then message else Err BadSum

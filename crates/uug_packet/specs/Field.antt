@@ -19,6 +19,10 @@ SpellsMissing d front =
     ((1 ≤ d) × (d ≤ ONE_BYTE_MAX) × (front ≡ d ∷ []))
     ⊎ ((2 ≤ d) × (front ≡ (128 + d % 128) ∷ (d / 128) ∷ []))
 
+-- how many bytes this front has, by the first of them
+abbrev pub front_size : ℕ → ℕ
+front_size first = if nat_le first ONE_BYTE_MAX then 1 else 2
+
 -- a field that the message doesn't fill: its front, the message, and any bytes as padding
 pub record HoldsShort (size : ℕ) (message field : List ℕ) : Type 0 where
   pub missing : ℕ

@@ -5,4 +5,5 @@ pub mod Number
 pub mod Packet
 pub mod Spelling
 pub mod Decoded
+pub mod Message
 pub mod Waits

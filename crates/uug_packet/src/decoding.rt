@@ -10,23 +10,31 @@ use crate::field::{FIELD_CODE_MAX, field_size, kind_of, message_of};
 use crate::header::{CONTROL_K, HEADER_SIZE, Header};
 use crate::number::Seq;
 use crate::packet::Packet;
+use thiserror::Error;
 
 /// Why no packet stands at the front of some bytes.
-#[derive(Clone, Copy, Debug, PartialEq, Eq)]
+#[derive(Clone, Copy, Debug, PartialEq, Eq, Error)]
 pub enum NoPacket {
     /// More bytes are needed to tell.
+    #[error("more bytes are needed")]
     Short,
     /// The first byte is not 0x10.
+    #[error("no packet begins here")]
     BadStart,
     /// K is none of a packet.
+    #[error("bad size code")]
     BadK,
     /// The last byte of the header is not the exclusive or of the four before it.
+    #[error("bad header check")]
     BadXor,
     /// The control byte fits no packet of this K.
+    #[error("bad control byte")]
     BadKind,
     /// The checksum is another one.
+    #[error("bad checksum")]
     BadSum,
     /// A short field says that it has more missing bytes than there are, or none.
+    #[error("bad length")]
     BadLength,
 }
 

@@ -1,13 +1,14 @@
-ghost use Rattle.std.specs.Prelude.{◌≡◌, ◌++◌, ◌+◌, ◌≤◌, ◌<◌, length, MatchResult, MatchOption};
-ghost use Rattle.uug_packet.specs.Decoded.{kind_of, message_at, valid_bytes};
-ghost use Rattle.uug_packet.specs.declared.field.FieldKind.TheVariants as kinds;
-ghost use Rattle.uug_packet.specs.Field.{field_size, canonical_field};
+ghost use Rattle.std.specs.Prelude.{◌≡◌, ℕ, List, ◌+◌, ◌≤◌, ◌<◌, length, MatchResult};
+ghost use Rattle.uug_packet.specs.Decoded.{kind_of, message_at, missing_in, valid_bytes};
+ghost use Rattle.uug_packet.specs.Field.{field_size, front_size};
+ghost use Rattle.uug_packet.specs.Message.{LiesAt, message_start};
+ghost use Rattle.uug_packet.specs.Packet.{carry};
+ghost use Rattle.uug_packet.specs.Spelling.{IsSpelling};
 
 use crate::decoding::NoPacket;
-use crate::packet::PACKET_MAX;
-use arrayvec::ArrayVec;
+use crate::header::{CONTROL_PLACE, HEADER_SIZE};
 
-/// The greatest code of a field's size.
+/// The greatest code of a field's size; the least is 1.
 pub const FIELD_CODE_MAX: u8 = 8;
 
 /// The bytes of the smallest field.
@@ -28,7 +29,9 @@ pub enum FieldKind {
     Short,
 }
 
-/// The bytes of a field, by its code.
+/// The bytes of a field, by its code: `2^(k+4)`. A code is 1 to 8.
+///
+/// Taylor UUCP manual, "UUCP 'g' Protocol".
 pub fn field_size(k: u8) -> usize
     requires low { 1 ≤ k }
     requires high { k ≤ FIELD_CODE_MAX }
@@ -50,6 +53,40 @@ pub fn kind_of(control: u8) -> Option<FieldKind>
     }
 }
 
+/// Where the message begins in the bytes of a data packet: behind the header, and in a short field behind what says how
+/// many of its bytes are missing.
+///
+/// Taylor UUCP manual, "UUCP 'g' Protocol".
+pub fn message_start(packet: &[u8]) -> usize
+    requires { HEADER_SIZE < length packet.now }
+    ensures start { result ≡ message_start packet.now }
+    ensures lies { (seq ack k : ℕ) (message : List ℕ) → IsSpelling (carry seq ack k message) packet.now →
+        LiesAt message result packet.now }
+{
+    match kind_of(packet[CONTROL_PLACE]) {
+        Some(FieldKind::Short) => HEADER_SIZE + front_size(packet[HEADER_SIZE]),
+        _ => HEADER_SIZE,
+    }
+}
+
+/// How many bytes at the front of a short field say how many of its bytes are missing, by the first of them.
+fn front_size(first: u8) -> usize
+    ensures { result ≡ front_size first }
+{
+    if first <= ONE_BYTE_MAX { 1 } else { 2 }
+}
+
+/// How many bytes of a short field are missing.
+fn missing_in(field: &[u8]) -> usize
+    requires { FIELD_MIN ≤ length field.now }
+    ensures { result ≡ missing_in field.now }
+{
+    match field[0] {
+        few @ ..=ONE_BYTE_MAX => usize::from(few),
+        low => usize::from(low % 128) + 128 * usize::from(field[1]),
+    }
+}
+
 /// The valid bytes of a field.
 pub fn message_of(kind: FieldKind, field: &[u8]) -> Result<&[u8], NoPacket>
     requires { FIELD_MIN ≤ length field.now }
@@ -59,13 +96,7 @@ pub fn message_of(kind: FieldKind, field: &[u8]) -> Result<&[u8], NoPacket>
 {
     match kind {
         FieldKind::Long => Ok(field),
-        FieldKind::Short if field[0] <= ONE_BYTE_MAX => {
-            valid_bytes(field, 1, usize::from(field[0]))
-        }
-        FieldKind::Short => {
-            let missing = usize::from(field[0] % 128) + 128 * usize::from(field[1]);
-            valid_bytes(field, 2, missing)
-        }
+        FieldKind::Short => valid_bytes(field, front_size(field[0]), missing_in(field)),
     }
 }
 

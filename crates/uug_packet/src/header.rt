@@ -11,6 +11,9 @@ pub const START: u8 = 0x10;
 /// The bytes of a header, and so of a control packet.
 pub const HEADER_SIZE: usize = 6;
 
+/// Where the control byte stands in a header.
+pub const CONTROL_PLACE: usize = 4;
+
 /// K of a control packet.
 pub const CONTROL_K: u8 = 9;
 
@@ -64,7 +67,7 @@ impl Header {
         bytes[0] = START;
         bytes[1] = self.k;
         LittleEndian::write_u16(&mut bytes[2..4], self.checksum);
-        bytes[4] = self.control;
-        bytes[5] = bytes[1] ^ bytes[2] ^ bytes[3] ^ bytes[4];
+        bytes[CONTROL_PLACE] = self.control;
+        bytes[5] = bytes[1] ^ bytes[2] ^ bytes[3] ^ bytes[CONTROL_PLACE];
     }
 }

@@ -1,10 +1,20 @@
 //! Laws of the packets: each is the contract of a function that does nothing.
 
-ghost use Rattle.std.specs.Prelude.{◌≡◌, ℕ, ◌<◌, List, ◌++◌, length, Ok};
+ghost use Rattle.std.specs.Prelude.{◌≡◌, ℕ, ◌<◌, ◌≤◌, List, ◌++◌, length, take, Ok, Err, ◌⊎◌};
+ghost use Rattle.uug_packet.specs.declared.packet.TheConstants.{PACKET_MAX};
+ghost use Rattle.uug_packet.specs.Bytes.{AreBytes};
 ghost use Rattle.uug_packet.specs.Decoded.{decoded};
 ghost use Rattle.uug_packet.specs.Packet.{PacketValue};
 ghost use Rattle.uug_packet.specs.Spelling.{IsSpelling, canonical};
-ghost use Rattle.uug_packet.specs.Waits.{IsBroken, Waits};
+ghost use Rattle.uug_packet.specs.Waits.{IsBroken, IsDamage, Waits};
+
+use crate::decoding::NoPacket;
+
+/// The limit of a packet, in numbers. Bytes that wait are fewer.
+pub fn limits()
+    ensures packet { PACKET_MAX ≡ 4102 }
+    ensures waits { (s : List ℕ) → Waits s → length s < PACKET_MAX }
+{}
 
 /// No spelling is a prefix of a different spelling, and no list of bytes spells two packets.
 pub fn one_spelling()
@@ -19,6 +29,17 @@ pub fn written_is_read()
         decoded (canonical p ++ rest) ≡ Ok (p, length (canonical p)) }
 {}
 
+/// The function of the tests in their order agrees with the spellings, with bytes that wait and with broken ones.
+pub fn decoded_is_spelled()
+    ensures read { (p : PacketValue) (w rest : List ℕ) → IsSpelling p w → decoded (w ++ rest) ≡ Ok (p, length w) }
+    ensures spelled { (s : List ℕ) (p : PacketValue) (n : ℕ) → AreBytes s → decoded s ≡ Ok (p, n) →
+        IsSpelling p (take n s) × (n ≤ length s) }
+    ensures waits { (s : List ℕ) → Waits s → decoded s ≡ Err NoPacket.Short }
+    ensures short { (s : List ℕ) → AreBytes s → decoded s ≡ Err NoPacket.Short → Waits s }
+    ensures broken { (s : List ℕ) → AreBytes s → IsBroken s → (e : NoPacket) × (decoded s ≡ Err e) × IsDamage e s }
+    ensures damage { (s : List ℕ) (e : NoPacket) → AreBytes s → decoded s ≡ Err e → IsDamage e s → IsBroken s }
+{}
+
 /// What is settled by some bytes stays so when more follow: only bytes that wait can still become a packet.
 pub fn waiting_is_undecided()
     // The front of bytes that wait waits, and so does each spelling that is cut.
@@ -28,4 +49,8 @@ pub fn waiting_is_undecided()
     ensures packet { (p : PacketValue) (w t : List ℕ) → IsSpelling p w → Waits (w ++ t) → ⊥ }
     ensures broken { (s : List ℕ) → IsBroken s → Waits s → ⊥ }
     ensures longer { (s t : List ℕ) → IsBroken s → IsBroken (s ++ t) }
+    // Where bytes begin with a packet, their front waits or begins with it. A front that doesn't wait is broken where they are.
+    ensures front { (p : PacketValue) (w more s t : List ℕ) → IsSpelling p w → s ++ t ≡ w ++ more →
+        Waits s ⊎ ((others : List ℕ) × (s ≡ w ++ others)) }
+    ensures settled { (s t : List ℕ) → (Waits s → ⊥) → IsBroken (s ++ t) → IsBroken s }
 {}

@@ -10,13 +10,12 @@ mod header;
 pub mod laws;
 mod number;
 mod packet;
-#[cfg(test)]
-mod tests;
 
 pub use checksum::check;
 pub use control::Control;
 pub use decoding::{NoPacket, decode};
 pub use encoding::encode;
+pub use field::{FIELD_CODE_MAX, field_size, message_start};
 pub use header::{CONTROL_K, HEADER_SIZE};
 pub use number::Seq;
 pub use packet::{PACKET_MAX, Packet};

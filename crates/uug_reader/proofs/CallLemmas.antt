@@ -1,66 +1,68 @@
 -- That a reader drops what the scan of all bytes finds.
-use Rattle.std.proofs.Common.{◌≡◌, ℕ, List, [], ◌∷◌, ◌++◌, length, take, drop, refl, sym, ap, ◌∙◌, subst, append_assoc, inl}
-use Rattle.std.proofs.lemmas.List.{take-append-drop, append-nil}
-use Rattle.std.proofs.Math.Seq.{drop-append_seam}
+use Rattle.std.proofs.Common.{◌≡◌, ℕ, ◌<◌, List, [], ◌∷◌, ◌++◌, refl, sym, ap, ◌∙◌, subst, append_assoc, ◌⊎◌, inl, inr}
+use Rattle.std.proofs.lemmas.List.{append-nil}
 use Rattle.uug_packet.specs.Bytes.{AreBytes}
-use Rattle.uug_packet.proofs.PrefixLemmas.{waits_not-broken}
-use Rattle.uug_reader.specs.Calls.{Call, pushed, searched, dropped, Make, all_accepted, all_dropped}
-use Rattle.uug_reader.specs.Cut.{Part, packet, broken, noise, CutsOff, IsCut, Item, found, bad, items_of}
-use Rattle.uug_reader.specs.Finding.{StandsFirst}
-use Rattle.uug_reader.proofs.CutLemmas.{CutsOff-append, CutsOff-join, items_of-append}
-use Rattle.uug_reader.proofs.OneCut.{AreBytes-drop, IsCut-some, IsCut-unique}
+use Rattle.uug_packet.specs.Waits.{Waits}
+use Rattle.uug_reader.specs.Calls.{Call, pushed, searched, showed, dropped, Make, all_accepted, all_dropped}
+use Rattle.uug_reader.specs.Cut.{Item}
+use Rattle.uug_reader.specs.Finding.{StandsFirst, PassesNoise}
+use Rattle.uug_reader.specs.Reading.{Reading, fresh, Shows, IsWaiting}
+use Rattle.uug_reader.specs.Scan.{Finds, IsScan}
+use Rattle.uug_reader.proofs.FindingLemmas.{StandsFirst-not-Waits, StandsFirst-append, StandsFirst-unique, stands_unpassed}
+use Rattle.uug_reader.proofs.ScanLemmas.{Finds-item, Finds-join, Finds-append, IsScan-some, IsScan-unique, IsScan-behind, AreBytes-found}
+use Rattle.uug_reader.specs.PacketLaws.{PacketLaws}
 
--- the parts of some bytes in which these items are found, and what they leave
-abbrev pub Dropped : List ℕ → List Item → List ℕ → Type 0
-Dropped s items others = (parts : List Part) × CutsOff s parts others × (items_of parts ≡ items)
+module _ (laws : PacketLaws) where
+  -- what some calls drop is found from the front of what was held and what they accept
+  all_dropped-found : (calls : List Call) (old new : Reading) → Make calls old new → Finds (old.bytes ++ all_accepted calls) (all_dropped calls) new.bytes
+  all_dropped-found [] old new h = ([], append-nil old.bytes ∙ ap (λ (r : Reading). r.bytes) h, refl)
+  all_dropped-found (pushed bytes ∷ calls) old new h =
+      let same : h.0.bytes ++ all_accepted calls ≡ old.bytes ++ (bytes ++ all_accepted calls) = ap (λ x. x ++ all_accepted calls) h.1.0 ∙ append_assoc old.bytes bytes (all_accepted calls) in
+      subst (λ x. Finds x (all_dropped calls) new.bytes) same (all_dropped-found calls h.0 new h.2)
+  all_dropped-found (searched ∷ calls) old new h =
+      Finds-join laws (old.bytes ++ all_accepted calls) (h.0.bytes ++ all_accepted calls) new.bytes [] (all_dropped calls)
+      (Finds-append laws old.bytes h.0.bytes (all_accepted calls) [] h.1.0) (all_dropped-found calls h.0 new h.2)
+  all_dropped-found (showed item ∷ calls) old new h =
+      subst (λ (r : Reading). Finds (r.bytes ++ all_accepted calls) (all_dropped calls) new.bytes) h.1.0 (all_dropped-found calls h.0 new h.2)
+  all_dropped-found (dropped item ∷ calls) old new h =
+      let one : Finds old.bytes (item ∷ []) h.0.bytes = subst (Finds old.bytes (item ∷ [])) (sym h.1.2) (Finds-item laws old.bytes item old.shown_size h.1.1) in
+      Finds-join laws (old.bytes ++ all_accepted calls) (h.0.bytes ++ all_accepted calls) new.bytes (item ∷ []) (all_dropped calls)
+      (Finds-append laws old.bytes h.0.bytes (all_accepted calls) (item ∷ []) one) (all_dropped-found calls h.0 new h.2)
 
-Dropped-one : (item : Item) (n : ℕ) (s : List ℕ) → StandsFirst item n s → Dropped s (item ∷ []) (drop n s)
-Dropped-one (found p) n s h = (packet p (take n s) ∷ [], (h.0, drop n s, sym (take-append-drop n s), refl), refl)
-Dropped-one bad n [] h = absurd (waits_not-broken [] h.0 (inl tt))
-Dropped-one bad n (b ∷ s) h = (broken b ∷ [], (h.0, s, refl, sym (ap (λ m. drop m (b ∷ s)) h.1)), refl)
+  pub dropped_are_found : (calls : List Call) (now : Reading) → Make calls fresh now → Finds (all_accepted calls) (all_dropped calls) now.bytes
+  dropped_are_found calls now made = all_dropped-found calls fresh now made
 
-Dropped-join : (s middle others : List ℕ) (items more : List Item) → Dropped s items middle → Dropped middle more others → Dropped s (items ++ more) others
-Dropped-join s middle others items more h k =
-    let both : items_of h.0 ++ items_of k.0 ≡ items ++ more = ap (λ x. x ++ items_of k.0) h.2 ∙ ap (λ x. items ++ x) k.2 in
-    (h.0 ++ k.0, CutsOff-join s h.0 middle k.0 others h.1 k.1, items_of-append h.0 k.0 ∙ both)
+  -- the items dropped are the first, and those of what is held are the others
+  pub dropped_are_first : (calls : List Call) (now : Reading) (items : List Item) (rest : List ℕ) → AreBytes (all_accepted calls) → Make calls fresh now → IsScan (all_accepted calls) items rest → (later : List Item) × IsScan now.bytes later rest × (items ≡ all_dropped calls ++ later)
+  dropped_are_first calls now items rest bytes made scan =
+      let taken : Finds (all_accepted calls) (all_dropped calls) now.bytes = dropped_are_found calls now made in
+      let more = IsScan-some laws now.bytes (AreBytes-found laws (all_accepted calls) now.bytes (all_dropped calls) taken bytes) in
+      let whole : IsScan (all_accepted calls) (all_dropped calls ++ more.0) more.1 = IsScan-behind laws (all_accepted calls) now.bytes more.1 (all_dropped calls) more.0 taken more.2 in
+      let same = IsScan-unique laws (all_accepted calls) rest more.1 items (all_dropped calls ++ more.0) scan whole in
+      (more.0, subst (IsScan now.bytes more.0) (sym same.1) more.2, same.0)
 
-Dropped-append : (s t others : List ℕ) (items : List Item) → Dropped s items others → Dropped (s ++ t) items (others ++ t)
-Dropped-append s t others items h = (h.0, CutsOff-append s h.0 others t h.1, h.2)
+  -- ---- from a showing to a drop
 
--- what a call drops, and what it accepts behind the bytes that are held
-all_dropped-are : (calls : List Call) (old new : List ℕ) → Make calls old new → Dropped (old ++ all_accepted calls) (all_dropped calls) new
-all_dropped-are [] old new h = ([], append-nil old ∙ h, refl)
-all_dropped-are (pushed bytes ∷ calls) old new h =
-    let same : h.0 ++ all_accepted calls ≡ old ++ (bytes ++ all_accepted calls) = ap (λ x. x ++ all_accepted calls) h.1 ∙ append_assoc old bytes (all_accepted calls) in
-    subst (λ x. Dropped x (all_dropped calls) new) same (all_dropped-are calls h.0 new h.2)
-all_dropped-are (searched ∷ calls) old new h =
-    Dropped-join (old ++ all_accepted calls) (h.0 ++ all_accepted calls) new [] (all_dropped calls) (Dropped-append old (all_accepted calls) h.0 [] h.1) (all_dropped-are calls h.0 new h.2)
-all_dropped-are (dropped item ∷ calls) old new h =
-    let one : Dropped old (item ∷ []) h.0 = subst (Dropped old (item ∷ [])) (sym h.1.2) (Dropped-one item h.1.0 old h.1.1) in
-    Dropped-join (old ++ all_accepted calls) (h.0 ++ all_accepted calls) new (item ∷ []) (all_dropped calls) (Dropped-append old (all_accepted calls) h.0 (item ∷ []) one) (all_dropped-are calls h.0 new h.2)
+  Shows-searched : (item : Item) (old new : Reading) → Shows item old → PassesNoise old.bytes new.bytes → ((other : Item) × Shows other new) ⊎ IsWaiting new → Shows item new
+  Shows-searched item old new h passes (inl found) =
+      let same : new.bytes ≡ old.bytes = stands_unpassed laws item old.shown_size old.bytes new.bytes h.0 passes in
+      let one = StandsFirst-unique laws found.0 item new.shown_size old.shown_size old.bytes (subst (StandsFirst found.0 new.shown_size) same found.1.0) h.0 in
+      (subst (λ i. StandsFirst i new.shown_size new.bytes) one.0 found.1.0, found.1.1)
+  Shows-searched item old new h passes (inr waits) =
+      let same : new.bytes ≡ old.bytes = stands_unpassed laws item old.shown_size old.bytes new.bytes h.0 passes in
+      absurd (StandsFirst-not-Waits laws item old.shown_size old.bytes h.0 (subst Waits same waits.0))
 
--- what is left of bytes
-AreBytes-behind : (w s more : List ℕ) → s ≡ w ++ more → AreBytes s → AreBytes more
-AreBytes-behind w s more joined bytes =
-    subst AreBytes (ap (drop (length w)) joined ∙ drop-append_seam w more) (AreBytes-drop s (length w) bytes)
+  pub shown_stays : (item : Item) (calls : List Call) (old new : Reading) → Shows item old → Make calls old new → all_dropped calls ≡ [] → Shows item new
+  shown_stays item [] old new h made none = subst (Shows item) made h
+  shown_stays item (pushed bytes ∷ calls) old new h made none =
+      let longer : StandsFirst item old.shown_size (old.bytes ++ bytes) = StandsFirst-append laws old.bytes bytes item old.shown_size h.0 in
+      let here : StandsFirst item made.0.shown_size made.0.bytes = subst (λ n. StandsFirst item n made.0.bytes) (sym made.1.1) (subst (StandsFirst item old.shown_size) (sym made.1.0) longer) in
+      shown_stays item calls made.0 new (here, subst (λ n. 0 < n) (sym made.1.1) h.1) made.2 none
+  shown_stays item (searched ∷ calls) old new h made none =
+      shown_stays item calls made.0 new (Shows-searched item old made.0 h made.1.0 made.1.1) made.2 none
+  shown_stays item (showed other ∷ calls) old new h made none =
+      shown_stays item calls made.0 new (subst (Shows item) (sym made.1.0) h) made.2 none
+  shown_stays item (dropped other ∷ calls) old new h made none = absurd (cc)
 
-AreBytes-left : (s : List ℕ) (parts : List Part) (others : List ℕ) → CutsOff s parts others → AreBytes s → AreBytes others
-AreBytes-left s [] others h bytes = subst AreBytes h bytes
-AreBytes-left s (packet p w ∷ parts) others h bytes = AreBytes-left h.1 parts others h.3 (AreBytes-behind w s h.1 h.2 bytes)
-AreBytes-left s (broken b ∷ parts) others h bytes = AreBytes-left h.1 parts others h.3 (AreBytes-behind (b ∷ []) s h.1 h.2 bytes)
-AreBytes-left s (noise b ∷ parts) others h bytes = AreBytes-left h.1 parts others h.3 (AreBytes-behind (b ∷ []) s h.1 h.2 bytes)
-
--- the items dropped are the first, and those of what is held are the others
-pub all_dropped-first : (calls : List Call) (held rest : List ℕ) (parts : List Part) → AreBytes (all_accepted calls) → Make calls [] held → IsCut (all_accepted calls) parts rest → (later : List Part) × IsCut held later rest × (items_of parts ≡ all_dropped calls ++ items_of later)
-all_dropped-first calls held rest parts bytes made cut =
-    let taken : Dropped (all_accepted calls) (all_dropped calls) held = all_dropped-are calls [] held made in
-    let more = IsCut-some held (AreBytes-left (all_accepted calls) taken.0 held taken.1 bytes) in
-    let whole : IsCut (all_accepted calls) (taken.0 ++ more.0) more.1 = record {
-      parts_are = CutsOff-join (all_accepted calls) taken.0 held more.0 more.1 taken.1 more.2.parts_are;
-      rest_waits = more.2.rest_waits;
-    } in
-    let same = IsCut-unique (all_accepted calls) rest more.1 parts (taken.0 ++ more.0) cut whole in (
-      more.0,
-      subst (IsCut held more.0) (sym same.1) more.2,
-      ap items_of same.0 ∙ items_of-append taken.0 more.0 ∙ ap (λ x. x ++ items_of more.0) taken.2,
-    )
+  pub shown_is_dropped : (item other : Item) (now : Reading) → Shows item now → StandsFirst other now.shown_size now.bytes → other ≡ item
+  shown_is_dropped item other now h k = (StandsFirst-unique laws other item now.shown_size now.shown_size now.bytes k h.0).0

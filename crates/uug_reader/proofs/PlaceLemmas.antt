@@ -1,113 +1,145 @@
--- Where the message of a data packet lies in its bytes.
-use Rattle.std.proofs.Common.{◌≡◌, ◌≢◌, ℕ, ◌+◌, ◌-◌, ◌/◌, ◌%◌, ◌<◌, ◌≤◌, List, [], ◌∷◌, ◌++◌, length, take, drop, sym, ap, ◌∙◌, arith, subst, length-append, length-drop, length-take, inl, inr}
-use Rattle.std.proofs.lemmas.Bool.Decides.{nat_tests}
-use Rattle.std.proofs.lemmas.List.{append-nil, drop-take, take-take, drop-drop}
-use Rattle.std.proofs.Math.Seq.{take-append_seam, drop-append_seam}
-use Rattle.uug_packet.specs.declared.field.FieldKind.{FieldKind}
-use Rattle.uug_packet.specs.declared.field.FieldKind.TheVariants.{Long, Short}
-use Rattle.uug_packet.specs.declared.header.TheConstants.{HEADER_SIZE}
-use Rattle.uug_packet.specs.Field.{field_size, Holds, HoldsShort}
-use Rattle.uug_packet.specs.Spelling.{SpellsCarry}
-use Rattle.uug_reader.specs.Place.{front_length}
+-- Items and their places among bytes.
+use Rattle.std.proofs.Common.{◌≡◌, ℕ, ◌+◌, ◌-◌, ◌<◌, ◌≤◌, ◌↔◌, Bool, true, false, IsTrue, IsFalse, List, ◌++◌, length, take, drop, Option, Some, None, IfSome, IsNone, MatchOption, refl, sym, ap, ◌∙◌, arith, subst, length-append, length-drop, length-take}
+use Rattle.std.proofs.lemmas.List.{take-append-le, drop-append-le, take-take, drop-take, take_rest, drop-drop}
+use Rattle.std.specs.Option.{is_some}
+use Rattle.uug_packet.specs.Bytes.{AreBytes}
+use Rattle.uug_packet.specs.Message.{LiesAt}
+use Rattle.uug_packet.specs.Number.{number_of}
+use Rattle.uug_packet.specs.Packet.{carry}
+use Rattle.uug_reader.specs.declared.found.Found.{Found}
+use Rattle.uug_reader.specs.declared.place.Place.{Place}
+use Rattle.uug_reader.specs.declared.place.Place.TheVariants as places
+use Rattle.uug_reader.specs.declared.place.Standing.{Standing}
+use Rattle.uug_reader.specs.declared.reader.TheConstants.{READER_SIZE}
+use Rattle.uug_reader.specs.Cut.{Item, found}
+use Rattle.uug_reader.specs.Finding.{StandsFirst, PassesNoise, FindsFirst, FindsNothing}
+use Rattle.uug_reader.specs.Place.{item_at, LiesIn, IsFirst, StandsThere, size_of, left, Holds}
+use Rattle.uug_reader.specs.Reading.{Reading, Shows, IsWaiting}
+use Rattle.uug_reader.specs.Shown.{item_of}
+use Rattle.uug_reader.specs.Search.{left_by, after_search}
+use Rattle.uug_reader.proofs.FindingLemmas.{StandsFirst-append, stands_not_nothing, waiting_fits}
+use Rattle.uug_reader.proofs.ScanLemmas.{Finds-none, IsScan-rest}
+use Rattle.uug_reader.proofs.SearchLemmas.{search_finds_item, search_finds_rest}
+use Rattle.uug_reader.specs.PacketLaws.{PacketLaws}
 
--- behind n bytes of the field stands the message
-record Stands (message field : List ℕ) (n : ℕ) : Type 0 where
-  pub fits : n + length message ≤ length field
-  pub is : take (length message) (drop n field) ≡ message
+pub record HasFound (s : List ℕ) (result : Bool) (new : Reading) : Type 0 where
+  pub found : IsTrue result → (item : Item) × Shows item new
+  pub none : IsFalse result → IsWaiting new
+  pub nothing : IsFalse result ↔ FindsNothing s
 
-stands_behind : (message front padding field : List ℕ) (n : ℕ) → field ≡ front ++ (message ++ padding) → n ≡ length front → Stands message field n
-stands_behind message front padding field n joined same =
-    let behind : drop (length front) (front ++ (message ++ padding)) ≡ message ++ padding = drop-append_seam front (message ++ padding) in
-    record {
-      fits = omega (arith, ap length joined, length-append front (message ++ padding), length-append message padding, same);
-      is = ap (λ f. take (length message) (drop n f)) joined
-          ∙ ap (λ m. take (length message) (drop m (front ++ (message ++ padding)))) same
-          ∙ ap (take (length message)) behind
-          ∙ take-append_seam message padding;
-    }
+pub record ShowsSearched (s : List ℕ) (result : Option Found) (new : Reading) : Type 0 where
+  pub shows : MatchOption result (IsWaiting new) (λ found. Shows (item_of found) new)
+  pub none : IsNone result ↔ FindsNothing s
+  pub first : IfSome result (λ found. FindsFirst s (item_of found))
 
-whole_front : (n : ℕ) (field : List ℕ) → n ≡ length field → front_length n field ≡ 0
-whole_front n field h = grind (arith, nat_tests)
+-- the item shown
+pub shown_item : (shown : Option Standing) (s : List ℕ) → 0 < size_of shown → IfSome shown (λ standing. IsFirst standing s) → (item : Item) × StandsFirst item (size_of shown) s
+shown_item None s some h = absurd (omega (arith, some))
+shown_item (Some standing) s some h = (item_at standing.place s, h.stands)
 
-one_front : (n b : ℕ) (rest : List ℕ) → n ≢ length (b ∷ rest) → b < 128 → front_length n (b ∷ rest) ≡ 1
-one_front n b rest other low = grind (arith, nat_tests)
+-- what lies in the front of some bytes lies there in all of them
+pub lies_in_front : (message bytes : List ℕ) (start size : ℕ) → LiesAt message start (take size bytes) → take (start + length message - start) (drop start bytes) ≡ message
+lies_in_front message bytes start size h =
+    let n = length message in
+    let whole : size ≡ start + (size - start) = omega (arith, h.fits, length-take size bytes) in
+    let count : start + n - start ≡ n = omega arith in
+    ap (λ m. take m (drop start bytes)) count
+    ∙ sym (take-take n (size - start) (drop start bytes) (omega (arith, h.fits, length-take size bytes)))
+    ∙ ap (take n) (sym (drop-take start (size - start) bytes))
+    ∙ ap (λ m. take n (drop start (take m bytes))) (sym whole)
+    ∙ h.is
 
-two_front : (n b : ℕ) (rest : List ℕ) → n ≢ length (b ∷ rest) → 128 ≤ b → front_length n (b ∷ rest) ≡ 2
-two_front n b rest other high = grind (arith, nat_tests)
+module _ (laws : PacketLaws) where
+  slice-append : (s t : List ℕ) (start end : ℕ) → start ≤ end → end ≤ length s → take (end - start) (drop start (s ++ t)) ≡ take (end - start) (drop start s)
+  slice-append s t start end low high =
+      ap (take (end - start)) (drop-append-le start s t (omega (arith, low, high)))
+      ∙ take-append-le (end - start) (drop start s) t (omega (arith, length-drop start s, low, high))
 
-short_stands : (size : ℕ) (message field : List ℕ) → HoldsShort size message field → Stands message field (front_length (length message) field)
-short_stands size message field h =
-    elim h.says [
-      | inl one ↦
-          let joined : field ≡ h.missing ∷ (message ++ h.padding) = h.joined ∙ ap (λ f. f ++ (message ++ h.padding)) one.2 in
-          let front : front_length (length message) field ≡ 1 = ap (front_length (length message)) joined ∙ one_front (length message) h.missing (message ++ h.padding) (omega (arith, h.fewer, h.whole, one.0, ap length joined)) (omega (arith, one.1)) in
-          stands_behind message (h.missing ∷ []) h.padding field _ joined front
-      | inr two ↦
-          let b = 128 + h.missing % 128 in
-          let joined : field ≡ b ∷ (h.missing / 128) ∷ (message ++ h.padding) = h.joined ∙ ap (λ f. f ++ (message ++ h.padding)) two.1 in
-          let front : front_length (length message) field ≡ 2 = ap (front_length (length message)) joined ∙ two_front (length message) b ((h.missing / 128) ∷ (message ++ h.padding)) (omega (arith, h.fewer, h.whole, two.0, ap length joined)) (omega arith) in
-          stands_behind message (b ∷ (h.missing / 128) ∷ []) h.padding field _ joined front
-    ]
+  -- more bytes behind it change no item
+  item_at-append : (place : Place) (s t : List ℕ) → LiesIn place s → item_at place (s ++ t) ≡ item_at place s
+  item_at-append (places.Control c) s t h = refl
+  item_at-append (places.Data seq ack k start end) s t h =
+      ap (λ m. found (carry (number_of seq) (number_of ack) k m)) (slice-append s t start end h.0 h.1)
+  item_at-append places.Bad s t h = refl
 
-holds_stands : (kind : FieldKind) (size : ℕ) (message field : List ℕ) → Holds kind size message field → Stands message field (front_length (length message) field)
-holds_stands Long size message field h =
-    stands_behind message [] [] field _ (h.1 ∙ sym (append-nil message)) (whole_front (length message) field (sym (ap length h.1)))
-holds_stands Short size message field h = short_stands size message field h
+  LiesIn-append : (place : Place) (s t : List ℕ) → LiesIn place s → LiesIn place (s ++ t)
+  LiesIn-append (places.Control c) s t h = tt
+  LiesIn-append (places.Data seq ack k start end) s t h = (h.0, omega (arith, h.1, length-append s t))
+  LiesIn-append places.Bad s t h = tt
 
--- in the bytes of a packet
-pub record StandsIn (message w : List ℕ) (n : ℕ) : Type 0 where
-  pub fits : HEADER_SIZE + n + length message ≤ length w
-  pub is : take (length message) (drop (HEADER_SIZE + n) w) ≡ message
+  IsFirst-append : (standing : Standing) (s t : List ℕ) → IsFirst standing s → IsFirst standing (s ++ t)
+  IsFirst-append standing s t h = record {
+    stands = subst (λ i. StandsFirst i standing.size (s ++ t)) (sym (item_at-append standing.place s t h.lies)) (StandsFirst-append laws s t (item_at standing.place s) standing.size h.stands);
+    some = h.some;
+    within = omega (arith, h.within, length-append s t);
+    lies = LiesIn-append standing.place s t h.lies;
+  }
 
-pub message_stands : (seq ack k : ℕ) (message w : List ℕ) → SpellsCarry seq ack k message w → StandsIn message w (front_length (length message) (drop HEADER_SIZE w))
-message_stands seq ack k message w h =
-    let field : drop HEADER_SIZE w ≡ h.field = ap (drop HEADER_SIZE) h.joined in
-    let stands : Stands message (drop HEADER_SIZE w) (front_length (length message) (drop HEADER_SIZE w)) = subst (λ f. Stands message f (front_length (length message) f)) (sym field) (holds_stands h.kind (field_size k) message h.field h.holds) in
-    let n = front_length (length message) (drop HEADER_SIZE w) in
-    record {
-      fits = omega (arith, stands.fits, length-drop HEADER_SIZE w, ap length h.joined);
-      is = ap (take (length message)) (sym (drop-drop n HEADER_SIZE w)) ∙ stands.is;
-    }
+  shown-append : (shown : Option Standing) (s t : List ℕ) → IfSome shown (λ standing. IsFirst standing s) → IfSome shown (λ standing. IsFirst standing (s ++ t))
+  shown-append None s t h = tt
+  shown-append (Some standing) s t h = IsFirst-append standing s t h
 
--- ---- in a buffer, where the packet takes some bytes from a place on
+  -- ---- what a reader does
 
-field_is : (buffer : List ℕ) (at size : ℕ) → HEADER_SIZE ≤ size → take ((at + size) - (at + HEADER_SIZE)) (drop (at + HEADER_SIZE) buffer) ≡ drop HEADER_SIZE (take size (drop at buffer))
-field_is buffer at size long =
-    let rest = size - HEADER_SIZE in
-    let count : (at + size) - (at + HEADER_SIZE) ≡ rest = omega arith in
-    let whole : HEADER_SIZE + rest ≡ size = omega arith in
-    ap (λ m. take m (drop (at + HEADER_SIZE) buffer)) count
-    ∙ ap (take rest) (sym (drop-drop HEADER_SIZE at buffer))
-    ∙ sym (drop-take HEADER_SIZE rest (drop at buffer))
-    ∙ ap (λ m. drop HEADER_SIZE (take m (drop at buffer))) whole
+  -- the bytes held are moved, and others appended
+  pub Holds-pushed : (old moved new t : List ℕ) (capacity after dropped front : ℕ) (shown : Option Standing) → Holds old capacity dropped shown → front ≤ length moved → drop front moved ≡ drop dropped old → length new ≤ READER_SIZE → new ≡ moved ++ t → READER_SIZE ≤ after → Holds new after front shown
+  Holds-pushed old moved new t capacity after dropped front shown h within held fits new_is room =
+      let first : IfSome shown (λ standing. IsFirst standing (drop front moved)) = subst (λ s. IfSome shown (λ standing. IsFirst standing s)) (sym held) h.first in
+      let grown : drop front new ≡ drop front moved ++ t = ap (drop front) new_is ∙ drop-append-le front moved t within in
+      record {
+        within = omega (arith, within, ap length new_is, length-append moved t);
+        fits = fits;
+        room = room;
+        first = subst (λ s. IfSome shown (λ standing. IsFirst standing s)) (sym grown) (shown-append shown (drop front moved) t first);
+      }
 
-inner : (buffer : List ℕ) (at size n len : ℕ) → n + len ≤ size → take len (drop n (take size (drop at buffer))) ≡ take len (drop (at + n) buffer)
-inner buffer at size n len fits =
-    let rest = size - n in
-    let whole : size ≡ n + rest = omega (arith, fits) in
-    ap (λ m. take len (drop n (take m (drop at buffer)))) whole
-    ∙ ap (take len) (drop-take n rest (drop at buffer))
-    ∙ take-take len rest (drop n (drop at buffer)) (omega (arith, fits))
-    ∙ ap (take len) (drop-drop n at buffer)
+  -- what a search finds is what the function finds
+  pub found_exactly : (s : List ℕ) (passed : ℕ) (first : Option Standing) → AreBytes s → PassesNoise s (drop passed s) → StandsThere first (drop passed s) → after_search s ≡ left passed first s
+  found_exactly s passed None bytes passes waits =
+      ap left_by ((search_finds_rest laws s (drop passed s) bytes).1 (passes, waits))
+  found_exactly s passed (Some first) bytes passes h =
+      ap left_by ((search_finds_item laws s (drop passed s) (item_at first.place (drop passed s)) first.size bytes).1 (passes, h.stands))
 
-pub record LiesAt (message buffer : List ℕ) (start : ℕ) : Type 0 where
-  pub fits : start + length message ≤ length buffer
-  pub is : take (start + length message - start) (drop start buffer) ≡ message
+  pub shown_exactly : (s : List ℕ) (shown : Option Standing) → AreBytes s → is_some shown ≡ true → IfSome shown (λ standing. IsFirst standing s) → after_search s ≡ left 0 shown s
+  shown_exactly s None bytes some h = absurd (cc)
+  shown_exactly s (Some standing) bytes some h = found_exactly s 0 (Some standing) bytes (Finds-none laws s) h
 
-pub message_lies : (seq ack k : ℕ) (message buffer : List ℕ) (at size n : ℕ) → at + size ≤ length buffer → SpellsCarry seq ack k message (take size (drop at buffer)) → n ≡ front_length (length message) (take ((at + size) - (at + HEADER_SIZE)) (drop (at + HEADER_SIZE) buffer)) → LiesAt message buffer (at + HEADER_SIZE + n)
-message_lies seq ack k message buffer at size n within h same =
-    let w = take size (drop at buffer) in
-    let stands = message_stands seq ack k message w h in
-    let len : length w ≡ size = omega (arith, length-take size (drop at buffer), length-drop at buffer, within) in
-    let front : n ≡ front_length (length message) (drop HEADER_SIZE w) = same ∙ ap (front_length (length message)) (field_is buffer at size (omega (arith, stands.fits, len))) in
-    let fits : HEADER_SIZE + n + length message ≤ size = omega (arith, stands.fits, len, front) in
-    let start : at + HEADER_SIZE + n ≡ at + (HEADER_SIZE + n) = omega arith in
-    let count : at + HEADER_SIZE + n + length message - (at + HEADER_SIZE + n) ≡ length message = omega arith in
-    record {
-      fits = omega (arith, fits, within);
-      is = ap (λ m. take m (drop (at + HEADER_SIZE + n) buffer)) count
-          ∙ ap (λ m. take (length message) (drop m buffer)) start
-          ∙ sym (inner buffer at size (HEADER_SIZE + n) (length message) fits)
-          ∙ ap (λ m. take (length message) (drop (HEADER_SIZE + m) w)) front
-          ∙ stands.is;
-    }
+  pub has_found : (s others : List ℕ) (first : Option Standing) → PassesNoise s others → StandsThere first others → HasFound s (is_some first) (record { bytes = others; shown_size = size_of first })
+  has_found s others None passes waits = record {
+    found = λ h. absurd (cc);
+    none = λ h. (waits, waiting_fits laws others waits, refl);
+    nothing = (λ h. (others, IsScan-rest laws s others passes waits), λ h. refl);
+  }
+  has_found s others (Some first) passes h = record {
+    found = λ _. (item_at first.place others, (h.stands, h.some));
+    none = λ h'. absurd (cc);
+    nothing = (λ h'. absurd (cc), λ nothing. absurd (stands_not_nothing laws s others (item_at first.place others) first.size passes h.stands nothing));
+  }
+
+  -- the same, in the bytes behind those that a buffer has dropped
+  pub has_found_behind : (items buffer : List ℕ) (dropped passed : ℕ) (first : Option Standing) (result : Bool) → items ≡ buffer → result ≡ is_some first → (let held = take (length items - dropped) (drop dropped items) in PassesNoise held (drop passed held) × StandsThere first (drop passed held)) → HasFound (drop dropped buffer) result (record { bytes = drop (dropped + passed) buffer; shown_size = size_of first })
+  has_found_behind items buffer dropped passed first result same is h =
+      let held : take (length items - dropped) (drop dropped items) ≡ drop dropped buffer = take_rest items dropped ∙ ap (drop dropped) same in
+      let P : List ℕ → Type 0 = λ s. PassesNoise s (drop passed s) × StandsThere first (drop passed s) in
+      let here = subst P held h in
+      let behind : drop passed (drop dropped buffer) ≡ drop (dropped + passed) buffer = drop-drop passed dropped buffer in
+      let found = has_found (drop dropped buffer) (drop passed (drop dropped buffer)) first here.0 here.1 in
+      subst (λ r. HasFound (drop dropped buffer) r (record { bytes = drop (dropped + passed) buffer; shown_size = size_of first })) (sym is)
+      (subst (λ s. HasFound (drop dropped buffer) (is_some first) (record { bytes = s; shown_size = size_of first })) behind found)
+
+  -- ---- what a reader shows then
+
+  pub shows_searched : (s : List ℕ) (new : Reading) (answer : Bool) (result : Option Found) → PassesNoise s new.bytes → (IsTrue answer → (item : Item) × Shows item new) → (IsFalse answer → IsWaiting new) → (IsFalse answer ↔ FindsNothing s) → MatchOption result (new.shown_size ≡ 0) (λ found. Shows (item_of found) new) → ShowsSearched s result new
+  shows_searched s new true None passes here ends nothing shows =
+      absurd (omega (arith, (here refl).1.1, shows))
+  shows_searched s new false None passes here ends nothing shows = record {
+    shows = ends refl;
+    none = (λ _. nothing.0 refl, λ _. refl);
+    first = tt;
+  }
+  shows_searched s new false (Some item) passes here ends nothing shows = absurd (omega (arith, shows.1, (ends refl).2))
+  shows_searched s new true (Some item) passes here ends nothing shows = record {
+    shows = shows;
+    none = (λ h. absurd (cc), λ h. absurd (cc (nothing.1 h)));
+    first = (new.bytes, new.shown_size, passes, shows.0);
+  }

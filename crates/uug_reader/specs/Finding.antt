@@ -2,7 +2,8 @@
 use Rattle.std.specs.Prelude.{◌≡◌, ℕ, ◌≤◌, List, [], length, take}
 use Rattle.uug_packet.specs.Spelling.{IsSpelling}
 use Rattle.uug_packet.specs.Waits.{IsBroken}
-use Rattle.uug_reader.specs.Cut.{Part, CutsOff, IsCut, Item, found, bad, items_of}
+use Rattle.uug_reader.specs.Cut.{Item, found, bad}
+use Rattle.uug_reader.specs.Scan.{Finds, IsScan}
 
 -- the item stands at the front, and takes so many bytes: those of the packet, or one of a broken one
 abbrev pub StandsFirst : Item → ℕ → List ℕ → Type 0
@@ -11,7 +12,7 @@ StandsFirst bad n s = IsBroken s × (n ≡ 1)
 
 -- only noise stands in front of the others
 abbrev pub PassesNoise : List ℕ → List ℕ → Type 0
-PassesNoise s others = (parts : List Part) × CutsOff s parts others × (items_of parts ≡ [])
+PassesNoise s others = Finds s [] others
 
 -- behind noise the item stands first
 abbrev pub FindsFirst : List ℕ → Item → Type 0
@@ -19,4 +20,4 @@ FindsFirst s item = (others : List ℕ) × (n : ℕ) × PassesNoise s others × 
 
 -- the whole stream is noise and a rest that waits
 abbrev pub FindsNothing : List ℕ → Type 0
-FindsNothing s = (parts : List Part) × (rest : List ℕ) × IsCut s parts rest × (items_of parts ≡ [])
+FindsNothing s = (rest : List ℕ) × IsScan s [] rest

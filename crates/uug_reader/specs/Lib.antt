@@ -1,5 +1,10 @@
 pub mod Cut
+pub mod Scan
 pub mod Finding
-pub mod Calls
-pub mod Place
+pub mod Search
+pub mod Shown
 pub mod Reading
+pub mod Calls
+pub mod Loan
+pub mod Place
+pub mod PacketLaws

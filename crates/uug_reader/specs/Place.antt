@@ -1,51 +1,59 @@
--- What items of the program show, and where they lie in a buffer.
-use Rattle.std.specs.Prelude.{◌≡◌, ℕ, ◌-◌, ◌<◌, ◌≤◌, ◌==◌, ◌&&◌, not, nat_le, if◌then◌else◌, List, length, take, drop, slice_index, MatchOption, Option, ⊤}
+-- Where an item lies among bytes: this crate's own, which no crate above needs.
+use Rattle.std.specs.Prelude.{ℕ, ◌-◌, ◌<◌, ◌≤◌, List, length, take, drop, MatchOption, IfSome, Option, Some, None, ⊤}
 use Rattle.uug_packet.specs.Number.{number_of}
 use Rattle.uug_packet.specs.Packet.{control, carry, shown, shown_control}
 use Rattle.uug_packet.specs.Spelling.{IsSpelling}
 use Rattle.uug_packet.specs.Waits.{IsBroken, Waits}
-use Rattle.uug_reader.specs.declared.found.Found.{Found}
-use Rattle.uug_reader.specs.declared.found.Found.TheVariants as founds
-use Rattle.uug_reader.specs.declared.found.Place.{Place}
-use Rattle.uug_reader.specs.declared.found.Place.TheVariants as places
+use Rattle.uug_reader.specs.declared.place.Place.{Place}
+use Rattle.uug_reader.specs.declared.place.Place.TheVariants as places
+use Rattle.uug_reader.specs.declared.place.Standing.{Standing}
 use Rattle.uug_reader.specs.declared.search.FirstPart.{FirstPart}
 use Rattle.uug_reader.specs.declared.search.FirstPart.TheVariants as parts
-use Rattle.uug_reader.specs.declared.search.TheConstants.{TWO_BYTES}
+use Rattle.uug_reader.specs.declared.reader.TheConstants.{READER_SIZE}
 use Rattle.uug_reader.specs.Cut.{IsNoise, Item, found, bad}
 use Rattle.uug_reader.specs.Finding.{StandsFirst}
+use Rattle.uug_reader.specs.Reading.{Reading}
 
--- the item that is shown
-abbrev pub item_of : Found → Item
-item_of (founds.Packet p) = found (shown p)
-item_of founds.Bad = bad
-
--- the item that lies there in the buffer
+-- the item that lies there
 abbrev pub item_at : Place → List ℕ → Item
-item_at (places.Control c) buffer = found (control (shown_control c))
-item_at (places.Data seq ack k start end) buffer =
-    found (carry (number_of seq) (number_of ack) k (take (end - start) (drop start buffer)))
-item_at places.Bad buffer = bad
+item_at (places.Control c) bytes = found (control (shown_control c))
+item_at (places.Data seq ack k start end) bytes =
+    found (carry (number_of seq) (number_of ack) k (take (end - start) (drop start bytes)))
+item_at places.Bad bytes = bad
 
 abbrev pub LiesIn : Place → List ℕ → Type 0
-LiesIn (places.Control c) buffer = ⊤
-LiesIn (places.Data seq ack k start end) buffer = (start ≤ end) × (end ≤ length buffer)
-LiesIn places.Bad buffer = ⊤
+LiesIn (places.Control c) bytes = ⊤
+LiesIn (places.Data seq ack k start end) bytes = (start ≤ end) × (end ≤ length bytes)
+LiesIn places.Bad bytes = ⊤
 
--- in the buffer, from a place on, the bytes wait, or the item there is the first and takes so many bytes
-abbrev pub StandsAt : Option Place → ℕ → ℕ → List ℕ → Type 0
-StandsAt place size at buffer =
-    MatchOption place
-    (Waits (drop at buffer) × (size ≡ 0))
-    (λ p. StandsFirst (item_at p buffer) size (drop at buffer) × (0 < size) × LiesIn p buffer)
+-- the item there stands first
+pub record IsFirst (standing : Standing) (bytes : List ℕ) : Type 0 where
+  pub stands : StandsFirst (item_at standing.place bytes) standing.size bytes
+  pub some : 0 < standing.size
+  pub within : standing.size ≤ length bytes
+  pub lies : LiesIn standing.place bytes
+
+-- the bytes wait, or that item stands first
+abbrev pub StandsThere : Option Standing → List ℕ → Type 0
+StandsThere first bytes = MatchOption first (Waits bytes) (λ standing. IsFirst standing bytes)
+
+abbrev pub size_of : Option Standing → ℕ
+size_of None = 0
+size_of (Some standing) = standing.size
+
+-- what a reader holds and shows that passed so many bytes
+abbrev pub left : ℕ → Option Standing → List ℕ → Reading
+left passed first bytes = record { bytes = drop passed bytes; shown_size = size_of first }
+
+-- a reader's buffer, of which so many bytes were dropped, and the item shown
+pub record Holds (buffer : List ℕ) (capacity dropped : ℕ) (shown : Option Standing) : Type 0 where
+  pub within : dropped ≤ length buffer
+  pub fits : length buffer ≤ READER_SIZE
+  pub room : READER_SIZE ≤ capacity
+  pub first : IfSome shown (λ standing. IsFirst standing (drop dropped buffer))
 
 -- the first part of the bytes
 abbrev pub BeginsWith : FirstPart → List ℕ → Type 0
 BeginsWith (parts.Packet p n) s = (0 < n) × (n ≤ length s) × IsSpelling (shown p) (take n s)
 BeginsWith parts.Bad s = (0 < length s) × IsBroken s
 BeginsWith parts.Noise s = (0 < length s) × IsNoise s
-
--- how many bytes stand in front of the message of this length in a field
-abbrev pub front_length : ℕ → List ℕ → ℕ
-front_length n field =
-    if n == length field then 0
-    else (if not (length field == 0) && nat_le TWO_BYTES (slice_index field 0) then 2 else 1)

@@ -3,6 +3,8 @@
 
 mod found;
 pub mod laws;
+mod packet_laws;
+mod place;
 mod reader;
 mod search;
 #[cfg(test)]

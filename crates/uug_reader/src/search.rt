@@ -1,18 +1,17 @@
-//! The first item in some bytes.
-ghost use Rattle.std.specs.Prelude.{◌≡◌, ◌≢◌, ◌+◌, ◌-◌, ◌<◌, ◌≤◌, ◌↔◌, IsTrue, slice_index, MatchOption, length, take, drop};
+//! The search for the first item in some bytes.
+ghost use Rattle.std.specs.Prelude.{◌≡◌, ◌≢◌, ◌-◌, ◌<◌, ◌≤◌, ◌↔◌, IfSome, IsTrue, slice_index, MatchOption, length, take, drop};
 ghost use Rattle.uug_packet.specs.declared.header.TheConstants.{CONTROL_K};
 ghost use Rattle.uug_packet.specs.Packet.{shown};
 ghost use Rattle.uug_packet.specs.Spelling.{IsSpelling};
 ghost use Rattle.uug_packet.specs.Waits.{Waits};
 ghost use Rattle.uug_reader.specs.Cut.{found};
 ghost use Rattle.uug_reader.specs.Finding.{PassesNoise};
-ghost use Rattle.uug_reader.specs.Place.{BeginsWith, front_length, item_at, LiesIn, StandsAt};
+ghost use Rattle.uug_reader.specs.Search.{after_search};
+ghost use Rattle.uug_reader.specs.Place.{BeginsWith, IsFirst, item_at, left, LiesIn, StandsThere};
 
-use crate::found::Place;
-use uug_packet::{CONTROL_K, HEADER_SIZE, NoPacket, Packet, decode};
-
-/// The first byte of a field from which two bytes say how many are missing.
-const TWO_BYTES: u8 = 128;
+use crate::packet_laws::packet_laws;
+use crate::place::{Place, Standing};
+use uug_packet::{CONTROL_K, NoPacket, Packet, decode, message_start};
 
 /// The part at the front of some bytes.
 pub enum FirstPart<'a> {
@@ -27,12 +26,10 @@ pub enum FirstPart<'a> {
 /// What a search finds.
 #[derive(Clone, Copy)]
 pub struct Search {
-    /// Where the noise ends.
-    pub at: usize,
-    /// How many bytes the item there takes, 0 where none is.
-    pub size: usize,
-    /// The item there, or `None` where the bytes wait.
-    pub place: Option<Place>,
+    /// How many bytes of noise stand in front.
+    pub passed: usize,
+    /// The item behind them, or `None` where the bytes wait.
+    pub first: Option<Standing>,
 }
 
 /// Whether the header at the front is of a data packet.
@@ -55,25 +52,12 @@ fn first_part(bytes: &[u8]) -> Option<FirstPart<'_>>
     }
 }
 
-/// How many bytes of a field stand in front of its message, by the length of the message.
-fn front_size(len: usize, field: &[u8]) -> usize
-    ensures { result ≡ front_length len field.now }
-{
-    if len == field.len() {
-        0
-    } else if !field.is_empty() && field[0] >= TWO_BYTES {
-        2
-    } else {
-        1
-    }
-}
-
-/// Where the packet of this size lies, whose first byte is at `at`.
-fn place_of(packet: &Packet<'_>, buffer: &[u8], at: usize, size: usize) -> Place
-    requires within { at + size ≤ length buffer.now }
-    requires spelled { IsSpelling (shown packet.now) (take size (drop at buffer.now)) }
-    ensures item { item_at result buffer.now ≡ found (shown packet.now) }
-    ensures lies { LiesIn result buffer.now }
+/// Where the packet lies that takes the first bytes, so many.
+fn place_of(packet: &Packet<'_>, bytes: &[u8], size: usize) -> Place
+    requires within { size ≤ length bytes.now }
+    requires spelled { IsSpelling (shown packet.now) (take size bytes.now) }
+    ensures item { item_at result bytes.now ≡ found (shown packet.now) }
+    ensures lies { LiesIn result bytes.now }
 {
     match *packet {
         Packet::Control(control) => Place::Control(control),
@@ -83,44 +67,66 @@ fn place_of(packet: &Packet<'_>, buffer: &[u8], at: usize, size: usize) -> Place
             k,
             message,
         } => {
-            let field = at + HEADER_SIZE;
-            let start = field + front_size(message.len(), &buffer[field..at + size]);
-            let end = start + message.len();
+            let start = message_start(&bytes[..size]);
             Place::Data {
                 seq,
                 ack,
                 k,
                 start,
-                end,
+                end: start + message.len(),
             }
         }
     }
 }
 
-/// Passes over the noise from a place on, and says where the first item lies.
-pub fn search_from(buffer: &[u8], from: usize) -> Search
-    requires { from ≤ length buffer.now }
-    ensures within { result.at + result.size ≤ length buffer.now }
-    ensures passes { PassesNoise (drop from buffer.now) (drop result.at buffer.now) }
-    ensures stands { StandsAt result.place result.size result.at buffer.now }
+/// Passes over the noise in front, and says what stands first behind it.
+fn search_in(bytes: &[u8]) -> Search
+    ensures within { result.passed ≤ length bytes.now }
+    ensures passes { PassesNoise bytes.now (drop result.passed bytes.now) }
+    ensures stands { StandsThere result.first (drop result.passed bytes.now) }
 {
-    let mut at = from;
-    while let Some(part) = first_part(&buffer[at..]) {
-        match part {
-            FirstPart::Packet(packet, size) => {
-                let place = Some(place_of(&packet, buffer, at, size));
-                return Search { at, size, place };
+    packet_laws();
+    let mut passed = 0;
+    while let Some(part) = first_part(&bytes[passed..]) {
+        let first = match part {
+            FirstPart::Packet(packet, size) => Standing {
+                place: place_of(&packet, &bytes[passed..], size),
+                size,
+            },
+            FirstPart::Bad => Standing {
+                place: Place::Bad,
+                size: 1,
+            },
+            FirstPart::Noise => {
+                passed += 1;
+                continue;
             }
-            FirstPart::Bad => {
-                let place = Some(Place::Bad);
-                return Search { at, size: 1, place };
-            }
-            FirstPart::Noise => at += 1,
-        }
+        };
+        return Search {
+            passed,
+            first: Some(first),
+        };
     }
     Search {
-        at,
-        size: 0,
-        place: None,
+        passed,
+        first: None,
+    }
+}
+
+/// What stands first: the item that is shown, or else what a search finds.
+pub fn search_again(bytes: &[u8], shown: Option<Standing>) -> Search
+    requires { IfSome shown (λ standing. IsFirst standing bytes.now) }
+    ensures within { result.passed ≤ length bytes.now }
+    ensures passes { PassesNoise bytes.now (drop result.passed bytes.now) }
+    ensures stands { StandsThere result.first (drop result.passed bytes.now) }
+    ensures exact { after_search bytes.now ≡ left result.passed result.first bytes.now }
+{
+    packet_laws();
+    if shown.is_none() {
+        return search_in(bytes);
+    }
+    Search {
+        passed: 0,
+        first: shown,
     }
 }

@@ -1,21 +1,11 @@
-use Rattle.std.proofs.Common.{◌≡◌, ℕ, ◌<◌, zero, suc, arith}
-use Rattle.uug_link.specs.Announced.{size_of_code}
+use Rattle.std.proofs.Common.{◌≡◌, arith}
+use Rattle.uug_link.specs.Terms.{size_of_code}
+use Rattle.uug_link.proofs.SizeLemmas.{each_code}
 use Rattle.uug_link.proofs.announce.code_of_size.Goals as goal
-
--- what holds of each of the eight codes
-each_code : (P : ℕ → Type 0) → P 0 → P 1 → P 2 → P 3 → P 4 → P 5 → P 6 → P 7 → (y : ℕ) → y < 8 → P y
-each_code P a b c d e f g h zero k = a
-each_code P a b c d e f g h (suc zero) k = b
-each_code P a b c d e f g h (suc (suc zero)) k = c
-each_code P a b c d e f g h (suc (suc (suc zero))) k = d
-each_code P a b c d e f g h (suc (suc (suc (suc zero)))) k = e
-each_code P a b c d e f g h (suc (suc (suc (suc (suc zero))))) k = f
-each_code P a b c d e f g h (suc (suc (suc (suc (suc (suc zero)))))) k = g
-each_code P a b c d e f g h (suc (suc (suc (suc (suc (suc (suc zero))))))) k = h
-each_code P a b c d e f g h (suc (suc (suc (suc (suc (suc (suc (suc y)))))))) k = absurd (omega (arith, k))
 
 pub returns-in_default : goal.returns-in_default
 returns-in_default c =
-    each_code (λ y. c.args.size ≡ size_of_code y → ⊥)
+    λ size. each_code (λ y. c.args.size ≡ size_of_code y → ⊥)
     (λ is. omega (arith, is)) (λ is. omega (arith, is)) (λ is. omega (arith, is)) (λ is. omega (arith, is))
     (λ is. omega (arith, is)) (λ is. omega (arith, is)) (λ is. omega (arith, is)) (λ is. omega (arith, is))
+    size.0 size.1 size.2

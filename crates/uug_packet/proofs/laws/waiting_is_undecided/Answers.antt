@@ -1,4 +1,4 @@
-use Rattle.uug_packet.proofs.PrefixLemmas.{Waits-shorter, waits_cut-spelling, waits_not-spelling, waits_not-broken, IsBroken-longer}
+use Rattle.uug_packet.proofs.PrefixLemmas.{Waits-shorter, waits_cut-spelling, waits_not-spelling, waits_not-broken, IsBroken-longer, IsBroken-shorter, settled}
 use Rattle.uug_packet.proofs.laws.waiting_is_undecided.Goals as goal
 
 pub returns-clause-shorter : goal.returns-clause-shorter
@@ -15,3 +15,9 @@ returns-clause-broken c = waits_not-broken
 
 pub returns-clause-longer : goal.returns-clause-longer
 returns-clause-longer c = IsBroken-longer
+
+pub returns-clause-front : goal.returns-clause-front
+returns-clause-front c = settled
+
+pub returns-clause-settled : goal.returns-clause-settled
+returns-clause-settled c = IsBroken-shorter

@@ -1,5 +1,5 @@
-use Rattle.uug_reader.proofs.CallLemmas.{all_dropped-first}
+use Rattle.uug_reader.proofs.CallLemmas.{dropped_are_found, dropped_are_first}
 use Rattle.uug_reader.proofs.laws.dropped_are_first.Goals as goal
 
 pub returns : goal.returns
-returns c = all_dropped-first
+returns c = record { finds = dropped_are_found c.packet_laws.ensures; scan = dropped_are_first c.packet_laws.ensures }

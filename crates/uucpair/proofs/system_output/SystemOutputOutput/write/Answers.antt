@@ -1,5 +1,5 @@
 use Rattle.std.proofs.Common.{arith}
-use Rattle.uucpair.proofs.StreamLemmas.{Keeps-none}
+use Rattle.uucpair.proofs.WriterLemmas.{Keeps-none}
 use Rattle.uucpair.proofs.system_output.SystemOutputOutput.write.Goals as goal
 use Rattle.uucpair.proofs.system_output.SystemOutputOutput.write.Goals.{in_default-via-in-Ok+else-count-gt0, in_default-via-in_default}
 

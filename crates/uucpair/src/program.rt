@@ -1,0 +1,53 @@
+//! What the program does, from its command line to its status.
+ghost use Rattle.std.specs.Prelude.{◌≡◌, MatchResult};
+ghost use Rattle.uucpair.specs.Stop.{status_of_stop};
+
+use crate::command_line::{Task, task_of};
+use crate::stop::Stop;
+use crate::system_input::SystemInput;
+use crate::system_output::SystemOutput;
+use std::alloc::Global;
+use std::convert::AsStr;
+use std::rt::Env;
+use std::{env, io};
+use uug_tool::{Output, ToolFault, scan_stream};
+
+/// Does what the words of a command line ask for, the name of the program first.
+pub fn perform<S: AsStr, I: uug_tool::Input, O: Output>(
+    alloc: Global,
+    words: &[S],
+    input: &mut I,
+    output: &mut O,
+) -> Result<(), Stop> {
+    match task_of(alloc, words)? {
+        Task::Scan => scan_stream(alloc, input, output)?,
+    }
+    Ok(())
+}
+
+/// Does what the program's own command line asks for, on standard input and output.
+pub fn run<R: Env + Input + Print + AllocGlobal>(rt: &R) -> Result<(), Stop> {
+    let words: Vec<String> = env::args(rt)
+        .map_err(|error| match error.kind() {
+            io::ErrorKind::OutOfMemory => ToolFault::Memory,
+            _ => ToolFault::Usage,
+        })?
+        .collect(rt.alloc())?;
+    let mut input = SystemInput::new(rt.reader());
+    let mut output = SystemOutput::new(io::writer(rt));
+    perform(rt.alloc(), &words, &mut input, &mut output)
+}
+
+/// Says on standard error why the program ends before its task is done, where that can be said, and gives the
+/// program's status.
+pub fn end(rt: &impl Eprint, ended: Result<(), Stop>) -> u8
+    ensures { MatchResult ended (λ _. result ≡ 0) (λ stop. result ≡ status_of_stop stop) }
+{
+    match ended {
+        Ok(()) => 0,
+        Err(stop) => {
+            let _ = eprint!(rt; "{stop}");
+            stop.status()
+        }
+    }
+}

@@ -1,0 +1,50 @@
+ghost use Rattle.std.specs.Prelude.{◌≡◌};
+ghost use Rattle.uucpair.specs.Stop.{status_of_stop};
+
+use clap::error::ErrorKind;
+use std::alloc::AllocError;
+use thiserror::Error;
+use uug_tool::ToolFault;
+
+/// Why the program ends before its task is done. Its text is what the program says on standard error.
+#[derive(Debug, Drop, Error)]
+pub enum Stop {
+    #[error("uucpair: {0}\n")]
+    Fault(ToolFault),
+    /// The command line asks for no task: the usage, or the help where it was asked for.
+    #[error("{0}")]
+    CommandLine(clap::error::Error),
+}
+
+impl Stop {
+    /// The status that the program ends with.
+    pub fn status(&self) -> u8
+        ensures { result ≡ status_of_stop self.now }
+    {
+        match self {
+            Stop::Fault(fault) => fault.status(),
+            Stop::CommandLine(_) => ToolFault::Usage.status(),
+        }
+    }
+}
+
+impl From<ToolFault> for Stop {
+    fn from(fault: ToolFault) -> Stop {
+        Stop::Fault(fault)
+    }
+}
+
+impl From<AllocError> for Stop {
+    fn from(refused: AllocError) -> Stop {
+        Stop::Fault(ToolFault::from(refused))
+    }
+}
+
+impl From<clap::error::Error> for Stop {
+    fn from(error: clap::error::Error) -> Stop {
+        match error.kind() {
+            ErrorKind::OutOfMemory => Stop::Fault(ToolFault::Memory),
+            _ => Stop::CommandLine(error),
+        }
+    }
+}

@@ -1,0 +1,4 @@
+pub mod StreamLemmas
+pub mod ScanLemmas
+pub mod OneListing
+pub mod StandardFacts

@@ -1,0 +1,230 @@
+//! What no clause says: streams from outside with their listings, that lines go out before the next read, faults and
+//! the limit in mid-stream, and want of memory.
+ghost use Rattle.std.specs.Prelude.{None};
+
+use crate::fault::ToolFault;
+use crate::input::{Input, ReadFailed};
+use crate::memory_input::MemoryInput;
+use crate::memory_output::MemoryOutput;
+use crate::output::{Output, WriteFailed};
+use crate::scan::{scan_stream, scan_within};
+use std::alloc::Global;
+use std::process::Abort;
+use std::test::Fail;
+use uug_refusal::Refusing;
+
+/// The packets of a start-up with windows of three and size 64, and of the link behind it.
+const LINK: [u8; 42] = [
+    0x10, 0x09, 0x6f, 0xaa, 0x3b, 0xf7, 0x10, 0x09, 0x79, 0xaa, 0x31, 0xeb, 0x10, 0x09, 0x7f, 0xaa,
+    0x2b, 0xf7, 0x10, 0x09, 0x89, 0xaa, 0x21, 0x0b, 0x10, 0x09, 0x98, 0xaa, 0x12, 0x29, 0x10, 0x09,
+    0x90, 0xaa, 0x1a, 0x29, 0x10, 0x09, 0xa2, 0xaa, 0x08, 0x09,
+];
+
+/// The first bytes of a stream, how many bytes it has with the zeros behind them, and its listing.
+const STREAMS: [(&[u8], usize, &str); 14] = [
+    (
+        &LINK,
+        42,
+        "INITA 3\nINITB 64\nINITC 3\nRR 1\nRJ 2\nSRJ 2\nCLOSE\nREST 0\n",
+    ),
+    (&[], 0, "REST 0\n"),
+    // CLOSE with another number beside it
+    (&[0x10, 0x09, 0x9d, 0xaa, 0x0d, 0x33], 6, "CLOSE\nREST 0\n"),
+    (
+        &[0x10, 0x09, 0x72, 0xaa, 0x38, 0xe9],
+        6,
+        "INITA 0\nREST 0\n",
+    ),
+    (
+        &[0x10, 0x10, 0x09, 0x6f, 0xaa, 0x3b, 0xf7],
+        7,
+        "INITA 3\nREST 0\n",
+    ),
+    (&[0x10, 0x09], 2, "REST 2\n"),
+    (
+        &[0x10, 0x01, 0x0d, 0x3a, 0x88, 0xbe],
+        38,
+        "DATA 1 ACK 0 SIZE 32 VALID 32\nREST 0\n",
+    ),
+    (
+        &[0x10, 0x01, 0x9a, 0x0e, 0xd1, 0x44, 0x20],
+        38,
+        "DATA 2 ACK 1 SIZE 32 VALID 0\nREST 0\n",
+    ),
+    (&[0x10, 0x01, 0xcd, 0x39, 0xc8, 0x3d], 38, "BAD\nREST 0\n"),
+    (&[0x10, 0x01, 0x0d, 0x3a, 0x88, 0xbf], 38, "REST 0\n"),
+    (&[0x10, 0x01, 0x0e, 0x3a, 0x88, 0xbd], 38, "BAD\nREST 0\n"),
+    (&[0x10, 0x01, 0x0d, 0x3a, 0x88, 0xbe], 37, "REST 37\n"),
+    // a data packet whose checksum is one too high, and in its field what reads as a packet
+    (
+        &[
+            0x10, 0x01, 0x96, 0x6a, 0x88, 0x75, 0x10, 0x09, 0x89, 0xaa, 0x21, 0x0b,
+        ],
+        38,
+        "BAD\nRR 1\nREST 0\n",
+    ),
+    (
+        &[
+            0x10, 0x08, 0x00, 0x00, 0x88, 0x80, 0x10, 0x09, 0x6f, 0xaa, 0x3b, 0xf7,
+        ],
+        12,
+        "REST 12\n",
+    ),
+];
+
+/// Gives the packet INITA 3 in each read, without end, until it has no reads left and fails.
+#[derive(Drop)]
+struct EndlessInput {
+    reads: u32,
+    faults: u64,
+}
+
+impl Input for EndlessInput {
+    ghost to_come = { λ _. None };
+
+    ghost fault_count = { λ input. input.faults };
+
+    fn read(&mut self, buffer: &mut [u8]) -> Result<usize, ReadFailed> {
+        if self.reads == 0 {
+            self.faults = self.faults.saturating_add(1);
+            return Err(ReadFailed);
+        }
+        self.reads -= 1;
+        let count = buffer.len().min(6);
+        buffer[..count].copy_from_slice(&LINK[..count]);
+        Ok(count)
+    }
+
+    fn faults(&self) -> u64 {
+        self.faults
+    }
+}
+
+/// Refuses after some writes.
+#[derive(Drop)]
+struct FailingOutput {
+    writes: u32,
+    refusal: WriteFailed,
+    faults: u64,
+}
+
+impl Output for FailingOutput {
+    ghost written = { λ _. None };
+
+    ghost fault_count = { λ output. output.faults };
+
+    fn write(&mut self, piece: &[u8]) -> Result<usize, WriteFailed> {
+        if self.writes == 0 {
+            self.faults = self.faults.saturating_add(1);
+            return Err(self.refusal);
+        }
+        self.writes -= 1;
+        Ok(piece.len())
+    }
+
+    fn faults(&self) -> u64 {
+        self.faults
+    }
+}
+
+#[test]
+fn lists_streams(rt: HostRuntime) -> Result<(), Fail> {
+    for (front, length, listing) in STREAMS {
+        let mut bytes = Vec::from_slice(rt.alloc(), front)?;
+        bytes.resize(length, 0)?;
+        let mut input = MemoryInput::new(&bytes);
+        let mut output = MemoryOutput::new(rt.alloc());
+        scan_stream(rt.alloc(), &mut input, &mut output)?;
+        assert_eq!(rt; output.bytes(), listing.as_bytes());
+        assert_eq!(rt; input.bytes().len(), 0);
+        assert_eq!(rt; (input.faults(), output.faults()), (0, 0));
+    }
+    Ok(())
+}
+
+// An input without end grants so many reads. With a limit: the answer, how many reads are left, and what has gone out.
+#[test]
+fn lists_each_read_before_the_next(rt: HostRuntime) {
+    for (reads, limit, fault, left, listing) in [
+        (2, 100, ToolFault::Read, 0, "INITA 3\nINITA 3\n"),
+        (100, 3, ToolFault::Device, 97, "INITA 3\nINITA 3\nINITA 3\n"),
+        (0, 100, ToolFault::Read, 0, ""),
+    ] {
+        let mut input = EndlessInput { reads, faults: 0 };
+        let mut output = MemoryOutput::new(rt.alloc());
+        let result = scan_within(rt.alloc(), &mut input, &mut output, limit);
+        assert_eq!(rt; result, Err(fault));
+        assert_eq!(rt; input.reads, left, "reads within {limit}");
+        assert_eq!(rt; output.bytes(), listing.as_bytes());
+    }
+}
+
+#[test]
+fn stops_at_a_refused_write(rt: HostRuntime) {
+    for (writes, refusal, fault) in [
+        (0, WriteFailed::Device, ToolFault::Write),
+        (2, WriteFailed::Device, ToolFault::Write),
+        (1, WriteFailed::Memory, ToolFault::Memory),
+    ] {
+        let mut input = EndlessInput {
+            reads: 100,
+            faults: 0,
+        };
+        let mut output = FailingOutput {
+            writes,
+            refusal,
+            faults: 0,
+        };
+        let result = scan_stream(rt.alloc(), &mut input, &mut output);
+        assert_eq!(rt; result, Err(fault), "after {writes} writes");
+        assert_eq!(rt; input.reads, 99 - writes, "went on");
+    }
+}
+
+#[test]
+fn makes_a_refused_write_good(rt: HostRuntime) {
+    let heap = Refusing::new(rt.alloc(), 0);
+    let mut output = MemoryOutput::new(&heap);
+    assert_eq!(rt; output.write(b"REST"), Ok(4));
+    heap.refuse(1);
+    assert_eq!(rt; output.write(&[0x20; 300]), Err(WriteFailed::Memory));
+    assert_eq!(rt; output.bytes(), b"REST".as_slice());
+    assert_eq!(rt; output.write(&[0x20; 300]), Ok(300));
+    assert_eq!(rt; output.bytes().len(), 304);
+}
+
+/// Refuses each request of a scan in turn: the reader's, the lines' and the output's. How many requests it makes.
+fn requests_of_a_scan(rt: &impl Abort, alloc: Global) -> Result<u64, Fail> {
+    for nth in 1..100 {
+        let heap = Refusing::new(alloc, nth);
+        let mut output = MemoryOutput::new(&heap);
+        let result = scan_stream(&heap, &mut MemoryInput::new(&LINK), &mut output);
+        if !heap.was_refused() {
+            assert_eq!(rt; result, Ok(()));
+            return Ok(nth - 1);
+        }
+        assert_eq!(rt; result, Err(ToolFault::Memory));
+        assert_eq!(rt; heap.requests(), nth, "went on after {nth}");
+    }
+    Err("a scan that is never done".into())
+}
+
+#[test]
+fn passes_on_want_of_memory(rt: HostRuntime) -> Result<(), Fail> {
+    let requests = requests_of_a_scan(&rt, rt.alloc())?;
+    assert!(rt; requests >= 3, "a reader, lines and an output");
+    Ok(())
+}
+
+#[test]
+fn says_what_failed(rt: HostRuntime) -> Result<(), Fail> {
+    let texts = [
+        (ReadFailed.to_string(rt.alloc())?, "device fault"),
+        (WriteFailed::Device.to_string(rt.alloc())?, "device fault"),
+        (WriteFailed::Memory.to_string(rt.alloc())?, "out of memory"),
+    ];
+    for (text, expected) in &texts {
+        assert_eq!(rt; text.as_str(), *expected);
+    }
+    Ok(())
+}
