@@ -1,0 +1,149 @@
+-- What an end says in the greeting is heard as those texts.
+use Rattle.std.proofs.Common.{◌≡◌, ◌≢◌, ℕ, ◌+◌, ◌<◌, ◌≤◌, Bool, true, false, List, [], ◌∷◌, ◌++◌, length, drop, All, Some, codes, refl, sym, ap, ◌∙◌, append_assoc, length-append, get_or, lit≤, rules, arith}
+use Rattle.std.specs.Prelude.{option_and_then, if◌then◌else◌}
+use Rattle.std.proofs.lemmas.Bool.Decides.{nat_tests}
+use Rattle.std.proofs.Math.Seq.{drop-append_seam}
+use Rattle.std.proofs.lemmas.List.{append-nil}
+use Rattle.std.proofs.lemmas.List.Elements.{All-append, All-head, All-tail, All-nil, All-cons}
+use Rattle.uug_talk.specs.declared.hail.TheConstants.{HAIL_MAX}
+use Rattle.uug_talk.specs.Name.{IsName}
+use Rattle.uug_talk.specs.StreamTexts.{TextsEnd, Rest, TooLong, texts_of, with_text}
+use Rattle.uug_talk.specs.Texts.{IsPlain, IsHailText, Heard, Passing, Open, Whole, Holds, heard_byte, one_used, hear}
+use Rattle.std.specs.Str.{bytes_eq}
+use Rattle.uug_session.specs.declared.greeting.AwaitedText.{AwaitedText}
+use Rattle.uug_session.specs.declared.greeting.AwaitedText.TheVariants.{CalledName, CallerName, Admission, Protocols, Choice}
+use Rattle.uug_session.specs.declared.greeting.Greeted.{Greeted}
+use Rattle.uug_session.specs.declared.greeting.Greeted.TheVariants.{GoesOn, LinkBegins, Ended}
+use Rattle.uug_session.specs.declared.greeting.Greeting.{Greeting}
+use Rattle.uug_session.specs.Greeting.{GreetingStep, called_text, caller_text, begins_with, name_in_caller_text, offers_g, came_for, text_came}
+use Rattle.uug_session.specs.Says.{written_text}
+use Rattle.uug_session.specs.WholeGreeting.{GreetingRun, written_texts, with_no_text, step_behind, texts_came}
+
+hear_whole : (text bytes : List ℕ) → hear (Whole text) bytes ≡ Some (0, Whole text)
+hear_whole text [] = refl
+hear_whole text (b ∷ bs) = refl
+
+-- one byte more of a text
+heard_plain : (text : List ℕ) (b : ℕ) → IsPlain b → length text < HAIL_MAX → heard_byte (Open text) b ≡ Some (Open (text ++ b ∷ []))
+heard_plain text b p l =
+    let s : b ≢ 16 = p.no_start in
+    let z : b ≢ 0 = p.no_zero in
+    let f : b ≢ 10 = p.no_line_feed in
+    grind (arith, nat_tests)
+
+-- a text up to its zero byte
+pub hear_text : (text more : List ℕ) (rest : List ℕ) → All IsPlain more → length text + length more ≤ HAIL_MAX → hear (Open text) (more ++ 0 ∷ rest) ≡ Some (length more + 1, Whole (text ++ more))
+hear_text text [] rest p l = ap (option_and_then one_used) (hear_whole text rest) ∙ ap (λ t. Some (1, Whole t)) (sym (append-nil text))
+hear_text text (b ∷ more) rest p l =
+    let byte = heard_plain text b (All-head IsPlain b more p) (omega arith) in
+    let later = hear_text (text ++ b ∷ []) more rest (All-tail IsPlain b more p) (omega (arith, length-append text (b ∷ []))) in
+    let n : 1 + (length more + 1) ≡ length (b ∷ more) + 1 = omega arith in
+    ap (option_and_then (λ next. option_and_then one_used (hear next (more ++ 0 ∷ rest)))) byte
+    ∙ ap (option_and_then one_used) later
+    ∙ ap (λ k. Some (k, Whole ((text ++ b ∷ []) ++ more))) n
+    ∙ ap (λ t. Some (length (b ∷ more) + 1, Whole t)) (append_assoc text (b ∷ []) more)
+
+pub hear_written : (text rest : List ℕ) → IsHailText text → hear Passing (written_text text ++ rest) ≡ Some (length text + 2, Whole text)
+hear_written text rest h =
+    let n : 1 + (length text + 1) ≡ length text + 2 = omega arith in
+    ap (λ bytes. option_and_then one_used (hear (Open []) bytes)) (append_assoc text (0 ∷ []) rest)
+    ∙ ap (option_and_then one_used) (hear_text [] text rest h.plain (omega (arith, h.short)))
+    ∙ ap (λ k. Some (k, Whole text)) n
+
+abbrev pub HearsWhole : Type 0
+HearsWhole = (heard : Heard) (before piece text : List ℕ) (used : ℕ) → Holds heard before → hear heard piece ≡ Some (used, Whole text)
+    → texts_of (before ++ piece) ≡ with_text text (texts_of (drop used piece))
+
+behind_written : (text rest : List ℕ) → drop (length text + 2) (written_text text ++ rest) ≡ rest
+behind_written text rest =
+    let n : length text + 2 ≡ length (written_text text) = omega (arith, length-append text (0 ∷ [])) in
+    ap (λ k. drop k (written_text text ++ rest)) n ∙ drop-append_seam (written_text text) rest
+
+-- the texts of written texts are those texts
+pub texts_of-written : HearsWhole → (texts : List (List ℕ)) → All IsHailText texts → texts_of (written_texts texts) ≡ record { texts = texts; end = Rest [] }
+texts_of-written law [] h = refl
+texts_of-written law (text ∷ texts) h =
+    law Passing [] (written_text text ++ written_texts texts) text (length text + 2) (All-nil (λ b. b ≢ 16)) (hear_written text (written_texts texts) (All-head IsHailText text texts h))
+    ∙ ap (λ bytes. with_text text (texts_of bytes)) (behind_written text (written_texts texts))
+    ∙ ap (with_text text) (texts_of-written law texts (All-tail IsHailText text texts h))
+
+-- ---- what is said may be written as texts
+
+either : {A : Type 0} (P : A → Type 0) (b : Bool) (x y : A) → P x → P y → P (if b then x else y)
+either P true x y h k = h
+either P false x y h k = k
+
+plain_byte : (b : ℕ) → 33 ≤ b → IsPlain b
+plain_byte b h = record { no_start = λ e. omega (arith, e); no_zero = λ e. omega (arith, e); no_line_feed = λ e. omega (arith, e) }
+
+plain_name : (name : List ℕ) → IsName name → All IsPlain name
+plain_name name h = λ k d l. plain_byte (get_or name k d) (h.printing k d l).0
+
+pub said_called : (name : List ℕ) → IsName name → IsHailText (called_text name)
+said_called name h = record {
+  short = let s = h.short in omega (arith, length-append (codes "Shere=") name);
+  plain = All-append IsPlain (codes "Shere=") name (search rules) (plain_name name h);
+}
+
+pub said_caller : (name : List ℕ) → IsName name → IsHailText (caller_text name)
+said_caller name h = record {
+  short = let s = h.short in omega (arith, length-append (codes "S") name);
+  plain = All-append IsPlain (codes "S") name (search rules) (plain_name name h);
+}
+
+said_known : IsHailText (codes "ROK")
+said_known = record { short = lit≤ tt; plain = search rules }
+
+said_protocols : IsHailText (codes "Pg")
+said_protocols = record { short = lit≤ tt; plain = search rules }
+
+said_unknown : IsHailText (codes "RYou are unknown to me")
+said_unknown = record { short = lit≤ tt; plain = search rules }
+
+said_choice : IsHailText (codes "Ug")
+said_choice = record { short = lit≤ tt; plain = search rules }
+
+said_no_choice : IsHailText (codes "UN")
+said_no_choice = record { short = lit≤ tt; plain = search rules }
+
+abbrev SaysTexts : GreetingStep → Type 0
+SaysTexts step = All IsHailText step.says
+
+nothing : All IsHailText []
+nothing = All-nil IsHailText
+
+one : (text : List ℕ) → IsHailText text → All IsHailText (text ∷ [])
+one text h = All-cons IsHailText text [] h nothing
+
+came_says : (awaited : AwaitedText) (me peer : List ℕ) (g : Greeting) (text : List ℕ) → IsName me → SaysTexts (came_for awaited me peer g text)
+came_says CalledName me peer g text h =
+    either SaysTexts (bytes_eq text (codes "Shere")) _ _ (one (caller_text me) (said_caller me h))
+    (either SaysTexts (begins_with text (codes "Shere=")) _ _
+    (either SaysTexts (bytes_eq (drop 6 text) peer) _ _ (one (caller_text me) (said_caller me h)) nothing) nothing)
+came_says CallerName me peer g text h =
+    either SaysTexts (begins_with text (codes "S")) _ _
+    (either SaysTexts (bytes_eq (name_in_caller_text text) peer) _ _
+    (All-cons IsHailText (codes "ROK") (codes "Pg" ∷ []) said_known (one (codes "Pg") said_protocols))
+    (one (codes "RYou are unknown to me") said_unknown)) nothing
+came_says Admission me peer g text h =
+    either SaysTexts (begins_with text (codes "ROK")) _ _ nothing (either SaysTexts (begins_with text (codes "R")) _ _ nothing nothing)
+came_says Protocols me peer g text h =
+    either SaysTexts (begins_with text (codes "P")) _ _
+    (either SaysTexts (offers_g text) _ _ (one (codes "Ug") said_choice) (one (codes "UN") said_no_choice)) nothing
+came_says Choice me peer g text h =
+    either SaysTexts (bytes_eq text (codes "Ug")) _ _ nothing (either SaysTexts (begins_with text (codes "U")) _ _ nothing nothing)
+
+behind_says : (more : Greeting → GreetingRun) (says : List (List ℕ)) (greeted : Greeted) → All IsHailText says → ((g : Greeting) → All IsHailText (more g).says) → All IsHailText (step_behind more says greeted).says
+behind_says more says (GoesOn g) h k = All-append IsHailText says (more g).says h (k g)
+behind_says more says LinkBegins h k = h
+behind_says more says (Ended how) h k = h
+
+no_text_says : (end : TextsEnd) (g : Greeting) → All IsHailText (with_no_text end g).says
+no_text_says (Rest bytes) g = nothing
+no_text_says TooLong g = nothing
+
+pub run_says : (me peer : List ℕ) (texts : List (List ℕ)) (end : TextsEnd) (g : Greeting) → IsName me → All IsHailText (texts_came me peer texts end g).says
+run_says me peer [] end g h = no_text_says end g
+run_says me peer (text ∷ texts) end g h =
+    behind_says (texts_came me peer texts end) (text_came me peer g text).says (text_came me peer g text).greeted
+    (came_says g.awaited me peer g text h) (λ next. run_says me peer texts end next h)

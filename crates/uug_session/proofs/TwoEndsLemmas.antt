@@ -1,0 +1,187 @@
+-- Whatever two ends do that hear each other, each stands where the conversation says.
+use Rattle.std.proofs.Common.{◌≡◌, ℕ, zero, suc, ◌≤◌, List, [], ◌∷◌, ◌++◌, length, take, drop, refl, sym, ap, subst, ◌∙◌, arith}
+use Rattle.std.proofs.lemmas.List.{append_assoc, length-append, take-append-drop}
+use Rattle.std.proofs.Math.Seq.{take-append_seam, drop-append_seam}
+use Rattle.uug_session.specs.Holdings.{Kept}
+use Rattle.uug_session.specs.Jobs.{Move}
+use Rattle.uug_session.specs.Machine.{step}
+use Rattle.uug_session.specs.Messages.{Message, conversation_messages}
+use Rattle.uug_session.specs.Party.{Party}
+use Rattle.uug_session.specs.Runs.{Progress, taking, taking_all, progress_after, progress_at, IsAt}
+use Rattle.uug_session.specs.Turns.{Side, caller, called, other, all_messages}
+use Rattle.uug_session.specs.TwoEnds.{Talker, progress_of, Two, sends, takes, IsFrontOf, after_act, Reached, at_first, after, IsTold}
+use Rattle.uug_session.specs.View.{Seen, seen, view, conversation_view, own_messages, others_messages, floor, party}
+
+-- ---- what one end says the other hears
+
+others_are_own_of : (me speaker : Side) (bytes : List ℕ) (moves : List Move) (keeps : List Kept) (v w : List Seen) →
+    others_messages v ≡ own_messages w →
+    others_messages (seen me speaker bytes moves keeps ∷ v) ≡ own_messages (seen (other me) speaker bytes moves keeps ∷ w)
+others_are_own_of caller caller bytes moves keeps v w e = e
+others_are_own_of called called bytes moves keeps v w e = e
+others_are_own_of caller called bytes moves keeps v w e = ap (λ z. bytes ∷ z) e
+others_are_own_of called caller bytes moves keeps v w e = ap (λ z. bytes ∷ z) e
+
+pub others_are_own : (me : Side) (ms : List Message) → others_messages (view me ms) ≡ own_messages (view (other me) ms)
+others_are_own me [] = refl
+others_are_own me (m ∷ ms) =
+    others_are_own_of me m.speaker m.bytes m.moves m.keeps (view me ms) (view (other me) ms) (others_are_own me ms)
+
+-- ---- fronts
+
+front_take : (front whole : List (List ℕ)) → IsFrontOf front whole → front ≡ take (length front) whole
+front_take front whole f = sym (ap (take (length front)) f.1 ∙ take-append_seam front f.0)
+
+front_of_front : (a b c : List (List ℕ)) → IsFrontOf a b → IsFrontOf b c → IsFrontOf a c
+front_of_front a b c f g = (f.0 ++ g.0, g.1 ∙ ap (λ z. z ++ g.0) f.1 ∙ append_assoc a f.0 g.0)
+
+front_take_of : (n : ℕ) (whole : List (List ℕ)) → IsFrontOf (take n whole) whole
+front_take_of n whole = (drop n whole, sym (take-append-drop n whole))
+
+front_length : (front whole : List (List ℕ)) → IsFrontOf front whole → length front ≤ length whole
+front_length front whole f = omega (arith, ap length f.1, length-append front f.0)
+
+take_at_most : (n : ℕ) (xs : List (List ℕ)) → length (take n xs) ≤ n
+take_at_most zero xs = omega arith
+take_at_most (suc n) [] = omega arith
+take_at_most (suc n) (x ∷ xs) = omega (arith, take_at_most n xs)
+
+taking_more : (p : Party) (start : Progress) (ms : List (List ℕ)) (m : List ℕ) →
+    taking_all p start (ms ++ m ∷ []) ≡ taking p (taking_all p start ms) m
+taking_more p start [] m = refl
+taking_more p start (x ∷ ms) m = taking_more p (taking p start x) ms m
+
+-- ---- what stays true of each end
+
+-- what every end does when it takes the other's messages
+abbrev pub AllFollow : (a b : Party) → Type 0
+AllFollow a b = (me : Side) (k : ℕ) → IsAt me a b k (progress_at me a b k)
+
+pub record Keeps (me : Side) (a b : Party) (own others : Talker) : Type 0 where
+  pub machine : progress_of own ≡ progress_after me (party me a b) own.taken
+  pub heard : IsFrontOf own.taken others.sent
+  pub first : IsFrontOf own.taken (others_messages (conversation_view me a b))
+
+-- where an end stands
+machine_at : (me : Side) (a b : Party) (own others : Talker) → Keeps me a b own others →
+    progress_of own ≡ progress_at me a b (length own.taken)
+machine_at me a b own others k =
+    k.machine ∙ ap (progress_after me (party me a b)) (front_take own.taken (others_messages (conversation_view me a b)) k.first)
+
+is_at : (me : Side) (a b : Party) (own others : Talker) → AllFollow a b → Keeps me a b own others →
+    IsAt me a b (length own.taken) (progress_of own)
+is_at me a b own others follow k =
+    subst (IsAt me a b (length own.taken)) (sym (machine_at me a b own others k)) (follow me (length own.taken))
+
+sent_front : (me : Side) (a b : Party) (own others : Talker) → AllFollow a b → Keeps me a b own others →
+    IsFrontOf own.sent (own_messages (conversation_view me a b))
+sent_front me a b own others follow k =
+    front_of_front own.sent (own.sent ++ own.waiting) (own_messages (conversation_view me a b)) (own.waiting, refl)
+    (subst (λ z. IsFrontOf z (own_messages (conversation_view me a b))) (sym (is_at me a b own others follow k).said)
+    (front_take_of (floor (length own.taken) (conversation_view me a b)) (own_messages (conversation_view me a b))))
+
+-- ---- each act keeps it
+
+keeps_when_sends : (me : Side) (a b : Party) (own others : Talker) → Keeps me a b own others →
+    Keeps me a b (after_act sends (party me a b) own) others
+keeps_when_sends me a b own others k = record {
+  machine =
+      ap (λ z. record { state = own.state; said = z; kept = own.kept })
+      (append_assoc own.sent (take 1 own.waiting) (drop 1 own.waiting) ∙ ap (λ z. own.sent ++ z) (take-append-drop 1 own.waiting))
+      ∙ k.machine;
+  heard = k.heard;
+  first = k.first;
+}
+
+other_keeps_when_sends : (me : Side) (a b : Party) (own others : Talker) (p : Party) → Keeps me a b own others →
+    Keeps me a b own (after_act sends p others)
+other_keeps_when_sends me a b own others p k = record {
+  machine = k.machine;
+  heard = front_of_front own.taken others.sent (others.sent ++ take 1 others.waiting) k.heard (take 1 others.waiting, refl);
+  first = k.first;
+}
+
+keeps_when_takes : (me : Side) (a b : Party) (own others : Talker) (m : List ℕ) → Keeps me a b own others →
+    IsFrontOf (own.taken ++ m ∷ []) others.sent → IsFrontOf others.sent (others_messages (conversation_view me a b)) →
+    Keeps me a b (after_act (takes m) (party me a b) own) others
+keeps_when_takes me a b own others m k f g = record {
+  machine =
+      ap (λ z. record {
+        state = (step (party me a b).holdings own.state m).state;
+        said = z;
+        kept = own.kept ++ (step (party me a b).holdings own.state m).keeps;
+      })
+      (sym (append_assoc own.sent own.waiting (all_messages (party me a b).size (step (party me a b).holdings own.state m).says)))
+      ∙ ap (λ z. taking (party me a b) z m) k.machine
+      ∙ sym (taking_more (party me a b) (progress_after me (party me a b) []) own.taken m);
+  heard = f;
+  first = front_of_front (own.taken ++ m ∷ []) others.sent (others_messages (conversation_view me a b)) f g;
+}
+
+-- what the other end has sent are the first messages that this one is to hear
+sent_to : (me : Side) (a b : Party) (own others : Talker) → AllFollow a b → Keeps (other me) a b others own →
+    IsFrontOf others.sent (others_messages (conversation_view me a b))
+sent_to me a b own others follow k =
+    subst (IsFrontOf others.sent) (sym (others_are_own me (conversation_messages a b)))
+    (sent_front (other me) a b others own follow k)
+
+pub record BothKeep (a b : Party) (two : Two) : Type 0 where
+  pub caller_keeps : Keeps caller a b two.caller_end two.called_end
+  pub called_keeps : Keeps called a b two.called_end two.caller_end
+
+both_keep : (a b : Party) → AllFollow a b → (two : Two) → Reached a b two → BothKeep a b two
+both_keep a b follow two at_first = record {
+  caller_keeps = record { machine = refl; heard = ([], refl); first = (others_messages (conversation_view caller a b), refl) };
+  called_keeps = record { machine = refl; heard = ([], refl); first = (others_messages (conversation_view called a b), refl) };
+}
+both_keep a b follow two (after before caller sends r p) =
+    let k = both_keep a b follow before r in
+    record {
+      caller_keeps = keeps_when_sends caller a b before.caller_end before.called_end k.caller_keeps;
+      called_keeps = other_keeps_when_sends called a b before.called_end before.caller_end a k.called_keeps;
+    }
+both_keep a b follow two (after before called sends r p) =
+    let k = both_keep a b follow before r in
+    record {
+      caller_keeps = other_keeps_when_sends caller a b before.caller_end before.called_end b k.caller_keeps;
+      called_keeps = keeps_when_sends called a b before.called_end before.caller_end k.called_keeps;
+    }
+both_keep a b follow two (after before caller (takes m) r p) =
+    let k = both_keep a b follow before r in
+    record {
+      caller_keeps = keeps_when_takes caller a b before.caller_end before.called_end m k.caller_keeps p
+          (sent_to caller a b before.caller_end before.called_end follow k.called_keeps);
+      called_keeps = record { machine = k.called_keeps.machine; heard = k.called_keeps.heard; first = k.called_keeps.first };
+    }
+both_keep a b follow two (after before called (takes m) r p) =
+    let k = both_keep a b follow before r in
+    record {
+      caller_keeps = record { machine = k.caller_keeps.machine; heard = k.caller_keeps.heard; first = k.caller_keeps.first };
+      called_keeps = keeps_when_takes called a b before.called_end before.caller_end m k.called_keeps p
+          (sent_to called a b before.called_end before.caller_end follow k.caller_keeps);
+    }
+
+-- ---- the law
+
+told : (me : Side) (a b : Party) (own others : Talker) → AllFollow a b → Keeps me a b own others → IsTold me a b own others
+told me a b own others follow k =
+    let at = is_at me a b own others follow k in
+    let all = own_messages (conversation_view me a b) in
+    let n = floor (length own.taken) (conversation_view me a b) in
+    record {
+      taken_first = front_take own.taken (others_messages (conversation_view me a b)) k.first;
+      sent_first = front_take own.sent all (sent_front me a b own others follow k);
+      waiting_next = sym (drop-append_seam own.sent own.waiting) ∙ ap (drop (length own.sent)) at.said;
+      taken_of_sent = front_length own.taken others.sent k.heard;
+      sent_to_floor = omega (arith, length-append own.sent own.waiting, ap length at.said, take_at_most n all);
+      machine = machine_at me a b own others k;
+      stands = at;
+    }
+
+pub two_ends : (a b : Party) → AllFollow a b → (two : Two) → Reached a b two →
+    IsTold caller a b two.caller_end two.called_end × IsTold called a b two.called_end two.caller_end
+two_ends a b follow two r =
+    let k = both_keep a b follow two r in (
+      told caller a b two.caller_end two.called_end follow k.caller_keeps,
+      told called a b two.called_end two.caller_end follow k.called_keeps,
+    )

@@ -1,0 +1,49 @@
+-- What the delivered bytes make of a greeting is one thing.
+use Rattle.std.proofs.Common.{◌≡◌, ℕ, zero, suc, List, [], ◌∷◌, ◌++◌, take, refl, sym, ap, subst, ◌∙◌}
+use Rattle.std.proofs.lemmas.List.{append_cancel_left}
+use Rattle.uug_talk.specs.StreamTexts.{StreamTexts, HasTexts, StandBefore, texts_of}
+use Rattle.uug_talk.specs.Texts.{IsFirstText}
+use Rattle.uug_session.specs.declared.greeting.Greeting.{Greeting}
+use Rattle.uug_session.specs.WholeGreeting.{GreetingRun, GreetsBy, texts_came, greeting_run}
+
+-- what is needed of the texts of a stream, as the laws of the crate below give it
+pub record StreamLaws : Type 0 where
+  pub some : (stream : List ℕ) → HasTexts stream (texts_of stream)
+  pub only : (stream : List ℕ) (found : StreamTexts) → HasTexts stream found → found ≡ texts_of stream
+
+abbrev pub OneFirstText : Type 0
+OneFirstText = (front text rest other_front other_text other_rest : List ℕ) → IsFirstText front text → IsFirstText other_front other_text
+    → front ++ rest ≡ other_front ++ other_rest → (front ≡ other_front) × (text ≡ other_text)
+
+-- the first texts of several stand in front of some bytes
+pub first_stand : (texts : List (List ℕ)) (n : ℕ) (rest stream : List ℕ) → StandBefore texts rest stream → (behind : List ℕ) × StandBefore (take n texts) behind stream
+first_stand texts zero rest stream h = (stream, refl)
+first_stand [] (suc n) rest stream h = (stream, refl)
+first_stand (text ∷ texts) (suc n) rest stream (front, behind, e, first, more) =
+    let found = first_stand texts n rest behind more in
+    (found.0, (front, behind, e, first, found.1))
+
+-- what stands behind texts is one list
+pub one_rest : OneFirstText → (texts : List (List ℕ)) (rest other stream : List ℕ) → StandBefore texts rest stream → StandBefore texts other stream → rest ≡ other
+one_rest law [] rest other stream h k = sym h ∙ k
+one_rest law (text ∷ texts) rest other stream (front, behind, e, first, more) (front', behind', e', first', more') =
+    let same = law front text behind front' text behind' first first' (sym e ∙ e') in
+    let left = append_cancel_left front behind behind' (sym e ∙ e' ∙ ap (λ f. f ++ behind') (sym same.0)) in
+    one_rest law texts rest other behind more (subst (λ b. StandBefore texts other b) (sym left) more')
+
+pub some_run : StreamLaws → (me peer : List ℕ) (g : Greeting) (delivered : List ℕ) → (behind : List ℕ) × GreetsBy me peer g delivered (greeting_run me peer g delivered) behind
+some_run laws me peer g delivered =
+    let has = laws.some delivered in
+    let found = texts_of delivered in
+    let stand = first_stand found.texts (greeting_run me peer g delivered).used has.rest delivered has.before in
+    (stand.0, record { found = found; texts = has; came = refl; left = stand.1 })
+
+pub one_run : StreamLaws → (me peer : List ℕ) (g : Greeting) (delivered : List ℕ) (run : GreetingRun) (behind : List ℕ) → GreetsBy me peer g delivered run behind → run ≡ greeting_run me peer g delivered
+one_run laws me peer g delivered run behind h =
+    h.came ∙ ap (λ (f : StreamTexts). texts_came me peer f.texts f.end g) (laws.only delivered h.found h.texts)
+
+pub one_left : StreamLaws → OneFirstText → (me peer : List ℕ) (g : Greeting) (delivered : List ℕ) (run : GreetingRun) (behind other : List ℕ) → GreetsBy me peer g delivered run behind → GreetsBy me peer g delivered run other → behind ≡ other
+one_left laws law me peer g delivered run behind other h k =
+    let same : h.found ≡ k.found = laws.only delivered h.found h.texts ∙ sym (laws.only delivered k.found k.texts) in
+    one_rest law (take run.used k.found.texts) behind other delivered
+    (subst (λ (f : StreamTexts). StandBefore (take run.used f.texts) behind delivered) same h.left) k.left

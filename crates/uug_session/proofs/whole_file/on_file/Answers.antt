@@ -1,0 +1,16 @@
+use Rattle.uug_session.proofs.WholeFileLemmas.{when_told}
+use Rattle.uug_session.proofs.whole_file.on_file.Goals as goal
+
+pub returns-in-Some-clause-reply : goal.returns-in-Some-clause-reply
+returns-in-Some-clause-reply g c =
+    (when_told (g.S.Spool.holdings c.args.spool.now) (g.S.Spool.holdings c.keep_awaited.new.spool) c.args.awaits c.args.bytes.now
+    c.args.queue.now c.on_kept.new.queue c.in_ok-immovable.field-0 c.in-Some.immovable c.on_kept.result
+    (g.S.Spool.kept c.args.spool.now) (g.S.Spool.kept c.keep_awaited.new.spool)
+    c.in_ok-immovable.ensures.kept c.in-Some.is c.keep_awaited.ensures.holdings c.on_kept.ensures).reply
+
+pub returns-in-Some-clause-kept : goal.returns-in-Some-clause-kept
+returns-in-Some-clause-kept g c =
+    (when_told (g.S.Spool.holdings c.args.spool.now) (g.S.Spool.holdings c.keep_awaited.new.spool) c.args.awaits c.args.bytes.now
+    c.args.queue.now c.on_kept.new.queue c.in_ok-immovable.field-0 c.in-Some.immovable c.on_kept.result
+    (g.S.Spool.kept c.args.spool.now) (g.S.Spool.kept c.keep_awaited.new.spool)
+    c.in_ok-immovable.ensures.kept c.in-Some.is c.keep_awaited.ensures.holdings c.on_kept.ensures).kept

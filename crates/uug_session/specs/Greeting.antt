@@ -1,0 +1,116 @@
+-- The greeting: the texts that two ends exchange before the link begins. Taylor UUCP manual, "UUCP Protocol"; that a text
+-- which is not awaited is passed over, and the count of timeouts, is this project's profile.
+use Rattle.std.specs.Prelude.{ℕ, ◌+◌, Bool, ◌==◌, nat_eq, nat_lt, if◌then◌else◌, List, [], ◌∷◌, ◌++◌, take, drop, codes}
+use Rattle.std.specs.List.{starts_with, list_any, position_or_len}
+use Rattle.std.specs.Str.{bytes_eq}
+use Rattle.uug_link.specs.declared.limits.TheConstants.{TIMEOUTS_MAX}
+use Rattle.uug_talk.specs.Words.{is_space}
+use Rattle.uug_session.specs.declared.end.End.{End}
+use Rattle.uug_session.specs.declared.end.End.TheVariants as ends
+use Rattle.uug_session.specs.declared.greeting.AwaitedText.{AwaitedText}
+use Rattle.uug_session.specs.declared.greeting.AwaitedText.TheVariants.{CalledName, CallerName, Admission, Protocols, Choice}
+use Rattle.uug_session.specs.declared.greeting.Greeted.{Greeted}
+use Rattle.uug_session.specs.declared.greeting.Greeted.TheVariants.{GoesOn, LinkBegins, Ended}
+use Rattle.uug_session.specs.declared.greeting.Greeting.{Greeting}
+
+-- what an end says at once, and what becomes of its greeting
+pub record GreetingStep : Type 0 where
+  pub says : List (List ℕ)
+  pub greeted : Greeted
+
+-- an end that waits for a text, with no timeout yet
+abbrev pub first_greeting : AwaitedText → Greeting
+first_greeting awaited = record { awaited = awaited; timeouts = 0 }
+
+-- the text is not the awaited one: nothing changes, the count of timeouts neither
+abbrev pub passes_over : Greeting → GreetingStep
+passes_over g = record { says = []; greeted = GoesOn g }
+
+abbrev pub goes_on : (says : List (List ℕ)) → AwaitedText → GreetingStep
+goes_on says awaited = record { says = says; greeted = GoesOn (first_greeting awaited) }
+
+abbrev pub begins : (says : List (List ℕ)) → GreetingStep
+begins says = record { says = says; greeted = LinkBegins }
+
+abbrev pub fails : (says : List (List ℕ)) → End → GreetingStep
+fails says how = record { says = says; greeted = Ended how }
+
+-- ---- the texts
+
+abbrev pub called_text : (name : List ℕ) → List ℕ
+called_text name = codes "Shere=" ++ name
+
+abbrev pub caller_text : (name : List ℕ) → List ℕ
+caller_text name = codes "S" ++ name
+
+-- the text begins so
+abbrev pub begins_with : List ℕ → List ℕ → Bool
+begins_with text front = starts_with nat_eq text front
+
+-- the name in a caller's text: up to the first space, what follows is read past
+abbrev pub name_in_caller_text : List ℕ → List ℕ
+name_in_caller_text text = let behind = drop 1 text in take (position_or_len is_space behind) behind
+
+-- one of the protocols that are offered is g, the one that both ends know here
+abbrev pub offers_g : List ℕ → Bool
+offers_g text = list_any (λ letter. letter == 103) (drop 1 text)
+
+-- ---- the table
+
+-- The caller waits for the called end's name. It need not be told; where it is, it is the one that was called.
+abbrev pub called_name_came : (me peer : List ℕ) → Greeting → List ℕ → GreetingStep
+called_name_came me peer g text =
+    if bytes_eq text (codes "Shere") then goes_on (caller_text me ∷ []) Admission else
+    (if begins_with text (codes "Shere=")
+    then (if bytes_eq (drop 6 text) peer then goes_on (caller_text me ∷ []) Admission else fails [] ends.WrongName)
+    else passes_over g)
+
+-- The called end waits for the caller's name, and lets in the caller that it expects.
+abbrev pub caller_name_came : (peer : List ℕ) → Greeting → List ℕ → GreetingStep
+caller_name_came peer g text =
+    if begins_with text (codes "S")
+    then (if bytes_eq (name_in_caller_text text) peer
+    then goes_on (codes "ROK" ∷ codes "Pg" ∷ []) Choice
+    else fails (codes "RYou are unknown to me" ∷ []) ends.Refused)
+    else passes_over g
+
+-- The caller waits to be let in.
+abbrev pub admission_came : Greeting → List ℕ → GreetingStep
+admission_came g text =
+    if begins_with text (codes "ROK") then goes_on [] Protocols else
+    (if begins_with text (codes "R") then fails [] ends.Refused else passes_over g)
+
+-- The caller waits for the protocols that the called end offers, and chooses g.
+abbrev pub protocols_came : Greeting → List ℕ → GreetingStep
+protocols_came g text =
+    if begins_with text (codes "P")
+    then (if offers_g text then begins (codes "Ug" ∷ []) else fails (codes "UN" ∷ []) ends.NoProtocol)
+    else passes_over g
+
+-- The called end waits for the caller's choice, which is g or none.
+abbrev pub choice_came : Greeting → List ℕ → GreetingStep
+choice_came g text =
+    if bytes_eq text (codes "Ug") then begins [] else
+    (if begins_with text (codes "U") then fails [] ends.NoProtocol else passes_over g)
+
+abbrev pub came_for : AwaitedText → (me peer : List ℕ) → Greeting → List ℕ → GreetingStep
+came_for CalledName me peer g text = called_name_came me peer g text
+came_for CallerName me peer g text = caller_name_came peer g text
+came_for Admission me peer g text = admission_came g text
+came_for Protocols me peer g text = protocols_came g text
+came_for Choice me peer g text = choice_came g text
+
+-- a text came, to the end that is called me and speaks to peer
+abbrev pub text_came : (me peer : List ℕ) → Greeting → List ℕ → GreetingStep
+text_came me peer g text = came_for g.awaited me peer g text
+
+-- a text came that was too long
+abbrev pub long_text_came : GreetingStep
+long_text_came = fails [] ends.BadTalk
+
+-- nothing came for some time
+abbrev pub timed_out : Greeting → GreetingStep
+timed_out g =
+    if nat_lt (g.timeouts + 1) TIMEOUTS_MAX
+    then record { says = []; greeted = GoesOn (record { awaited = g.awaited; timeouts = g.timeouts + 1 }) }
+    else fails [] ends.GaveUp

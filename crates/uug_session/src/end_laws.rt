@@ -1,0 +1,30 @@
+//! Laws of one end, whatever the other is. The functions do nothing.
+ghost use Rattle.std.specs.Prelude.{◌≡◌, ◌≤◌, ℕ, List, [], All, length};
+ghost use Rattle.uug_session.specs.declared.job.Job.{Job};
+ghost use Rattle.uug_session.specs.EarlierJobs.{behind, state_behind, reply_behind};
+ghost use Rattle.uug_session.specs.Holdings.{Holdings};
+ghost use Rattle.uug_session.specs.Jobs.{Lists, at_start};
+ghost use Rattle.uug_session.specs.Machine.{State, step, opening};
+ghost use Rattle.uug_session.specs.Party.{Party};
+ghost use Rattle.uug_session.specs.Turns.{Side};
+ghost use Rattle.uug_session.specs.View.{conversation_view, own_messages, party};
+
+use uug_talk::messages_fit;
+
+/// Jobs that were struck and failed in earlier sessions change nothing of what an end does: they stay in front.
+pub fn earlier_jobs_change_nothing()
+    ensures start { (jobs struck failed : List Job)
+        → behind struck failed (at_start jobs [] []) ≡ at_start jobs struck failed }
+    ensures opening { (side : Side) (h : Holdings) (l : Lists) (struck failed : List Job)
+        → opening side h (behind struck failed l) ≡ reply_behind struck failed (opening side h l) }
+    ensures step { (h : Holdings) (s : State) (message : List ℕ) (struck failed : List Job)
+        → step h (state_behind struck failed s) message ≡ reply_behind struck failed (step h s message) }
+{}
+
+/// No message that an end says is longer than the size that the other end announced.
+pub fn own_messages_fit()
+    ensures { (me : Side) (a b : Party)
+        → All (λ message. length message ≤ (party me a b).size) (own_messages (conversation_view me a b)) }
+{
+    messages_fit();
+}

@@ -1,0 +1,58 @@
+//! Laws over the conversation of two ends and the one-sided machine. The functions do nothing.
+ghost use Rattle.std.specs.Prelude.{◌≡◌, ℕ, ◌<◌, List, length};
+ghost use Rattle.uug_session.specs.Conversation.{conversation};
+ghost use Rattle.uug_session.specs.Holdings.{Holdings};
+ghost use Rattle.uug_session.specs.Machine.{State, gathered_with, out_of_turn, step};
+ghost use Rattle.uug_session.specs.Party.{Party, IsSound};
+ghost use Rattle.uug_session.specs.ReadBack.{EachTurn, IsReadBack};
+ghost use Rattle.uug_session.specs.Runs.{IsAt, progress_at};
+ghost use Rattle.uug_session.specs.Turns.{Side, caller, called};
+ghost use Rattle.uug_talk.specs.Gathering.{limit_of};
+ghost use Rattle.uug_session.specs.TwoEnds.{Two, Reached, IsTold};
+
+use crate::queue::JOBS_MAX;
+use uug_talk::{
+    command_is_gathered, file_is_gathered, gathering_goes_on, written_answers_are_read,
+    written_orders_are_read, written_texts_are_commands,
+};
+
+/// The number behind the limit of jobs.
+pub fn limits()
+    ensures jobs { JOBS_MAX ≡ 64 }
+{}
+
+/// A text or a file that a message takes past its limit fits no turn, whatever the end awaits.
+pub fn what_is_too_long_fits_no_turn()
+    ensures { (h : Holdings) (s : State) (message : List ℕ) → let g = gathered_with s message in
+        limit_of g.kind < length g.bytes → step h s message ≡ out_of_turn s.lists }
+{}
+
+/// Every text of a conversation may be cut into messages, and is read as what was said; no file is too large.
+pub fn said_is_read_back()
+    ensures { (a b : Party) → IsSound a → IsSound b → EachTurn (λ t. IsReadBack t.said) (conversation a b) }
+{
+    written_orders_are_read();
+    written_answers_are_read();
+    written_texts_are_commands();
+}
+
+/// One end, which doesn't know the other's jobs or holdings, given the first messages that the other says in their
+/// conversation, stands where the conversation says: for both ends, every two parties, and every number of messages.
+pub fn an_end_follows_the_conversation()
+    ensures { (a b : Party) → IsSound a → IsSound b → (me : Side) (k : ℕ) → IsAt me a b k (progress_at me a b k) }
+{
+    said_is_read_back();
+    gathering_goes_on();
+    command_is_gathered();
+    file_is_gathered();
+}
+
+/// Two ends that hear each other, whatever they do and when: each has sent first messages of its own in their
+/// conversation, no more than it may, and has taken first messages of what the other has sent; so it stands where the
+/// conversation says, and two numbers tell it.
+pub fn two_ends_are_told_by_four_numbers()
+    ensures { (a b : Party) → IsSound a → IsSound b → (two : Two) → Reached a b two
+        → IsTold caller a b two.caller_end two.called_end × IsTold called a b two.called_end two.caller_end }
+{
+    an_end_follows_the_conversation();
+}

@@ -1,0 +1,17 @@
+ghost use Rattle.std.specs.Prelude.{◌≤◌};
+ghost use Rattle.uug_talk.specs.declared.mode.TheConstants.{MODE_MAX};
+
+use std::alloc::Allocator;
+use uug_talk::Name;
+
+/// A file that a spool in memory has.
+#[derive(Drop)]
+pub struct Stored<A: Allocator> {
+    /// The file's name.
+    pub name: Name,
+    /// The file's mode, at most octal 7777.
+    pub mode: u16,
+    /// What is in it.
+    pub bytes: Vec<u8, A>,
+    ghost in_range: { mode ≤ MODE_MAX },
+}
