@@ -14,3 +14,4 @@ pub mod TwoLinksRuns
 pub mod TwoLinksFacts
 pub mod ArrivalLemmas
 pub mod OutcomeLemmas
+pub mod TermsLemmas

@@ -56,6 +56,10 @@ IsFresh s = s.phase ≡ Fresh
 abbrev pub IsUp : State → Type 0
 IsUp s = s.phase ≡ Up
 
+-- this end has closed the link and waits for the other's CLOSE
+abbrev pub IsClosing : State → Type 0
+IsClosing s = s.phase ≡ Closing
+
 -- whether the link has not come up
 abbrev pub IsStarting : Phase → Type 0
 IsStarting Up = ⊥

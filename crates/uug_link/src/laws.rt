@@ -38,6 +38,10 @@ pub fn what_a_link_answers()
     ensures ended { (s : State) (e : Event) → s.phase ≡ Halted → step s e ≡ answers_halted s }
     // Only a sending emits a packet that is marked first.
     ensures firsts { (s : State) (e : Event) → FirstBySend e (step s e).emitted }
+    // What this end has announced stays, and on a link that is up so do the size and the window.
+    ensures own_stays { (s : State) (e : Event) → (step s e).state.own ≡ s.own }
+    ensures size_stays { (s : State) (e : Event) → IsUp s → (step s e).state.size_code ≡ s.size_code }
+    ensures window_stays { (s : State) (e : Event) → IsUp s → (step s e).state.window ≡ s.window }
 {}
 
 /// What holds after every run of the window machine, of each direction `d` and the opposite one `o`: whatever was sent,

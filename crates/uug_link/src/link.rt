@@ -3,7 +3,7 @@ ghost use Rattle.arrayvec.specs.ArrayVec.{array_vec_len};
 ghost use Rattle.uug_link.specs.Announced.{announced};
 ghost use Rattle.uug_link.specs.Follows.{Follows, answered, done, written};
 ghost use Rattle.uug_link.specs.Reactions.{effect_of};
-ghost use Rattle.uug_link.specs.State.{caller_state, called_state, HasRoom, IsFresh, IsSound, IsUp};
+ghost use Rattle.uug_link.specs.State.{caller_state, called_state, HasRoom, IsClosing, IsFresh, IsSound, IsUp};
 ghost use Rattle.uug_link.specs.Terms.{IsSize, IsWindow, size_of_code};
 ghost use Rattle.uug_link.specs.Step.{step, taken, to_begin, packet_found, bad_found, timed_out, to_send, to_close};
 ghost use Rattle.uug_packet.specs.Packet.{shown};
@@ -136,6 +136,13 @@ impl Link {
         ensures window { IsTrue result → IsWindow self.now.window }
     {
         matches!(self.status.phase, Phase::Up)
+    }
+
+    /// Whether this end has closed the link and waits for the other's CLOSE.
+    pub fn is_closing(&self) -> bool
+        ensures { IsTrue result ↔ IsClosing self.now }
+    {
+        matches!(self.status.phase, Phase::Closing)
     }
 
     /// Whether `on_packet` would answer `Taken` to this packet, if it is not refused memory.

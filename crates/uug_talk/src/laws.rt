@@ -139,6 +139,15 @@ pub fn hearing_in_pieces()
         → hear heard (piece ++ more) ≡ None }
 {}
 
+/// What is heard of a piece is what the stream says with the bytes behind it that are used: no more than the piece has,
+/// and all of them while no text is whole.
+pub fn hearing_says_what_came()
+    ensures holds { (heard next : Heard) (before piece : List ℕ) (used : ℕ) → Holds heard before
+        → hear heard piece ≡ Some (used, next) → Holds next (before ++ take used piece) }
+    ensures used { (heard next : Heard) (piece : List ℕ) (used : ℕ) → hear heard piece ≡ Some (used, next)
+        → (used ≤ length piece) × (is_whole next ≡ false → used ≡ length piece) }
+{}
+
 /// What is heard of a piece says how the texts of the stream go on.
 pub fn hearing_finds_the_texts()
     ensures whole { (heard : Heard) (before piece text : List ℕ) (used : ℕ) → Holds heard before

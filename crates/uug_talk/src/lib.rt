@@ -20,14 +20,14 @@ pub use gather::{FILE_MAX, Gather, Progress};
 pub use hail::{HAIL_MAX, HAIL_WRITTEN_MAX, Hail, TextTooLong, is_hail_text, write_hail};
 pub use laws::{
     command_goes_on, command_is_gathered, file_goes_on, file_is_gathered, gathering_goes_on,
-    hearing_comes_to_an_end, hearing_finds_the_texts, hearing_in_pieces, limits, messages_fit,
-    one_first_text, one_reading_of_texts, shown_are_the_texts, texts_in_pieces,
-    written_answers_are_read, written_orders_are_read, written_texts_are_commands,
+    hearing_comes_to_an_end, hearing_finds_the_texts, hearing_in_pieces, hearing_says_what_came,
+    limits, messages_fit, one_first_text, one_reading_of_texts, shown_are_the_texts,
+    texts_in_pieces, written_answers_are_read, written_orders_are_read, written_texts_are_commands,
 };
-pub use mode::MODE_MAX;
+pub use mode::{MODE_MAX, mode_digits, read_mode};
 pub use name::{NAME_MAX, Name};
 pub use order::{Order, read_order, write_order};
-pub use words::{COMMAND_MAX, WRITTEN_MAX};
+pub use words::{COMMAND_MAX, WRITTEN_MAX, split_word};
 
 #[cfg(test)]
 mod tests;

@@ -1,4 +1,4 @@
-ghost use Rattle.std.specs.Prelude.{◌≡◌, ◌≤◌, ◌↔◌, IsTrue};
+ghost use Rattle.std.specs.Prelude.{◌≡◌, ◌≤◌, ◌↔◌, IsTrue, IfOk};
 ghost use Rattle.uug_talk.specs.Mode.{IsModeWord, mode_of, mode_digits, mode_read};
 
 use crate::error::BadText;
@@ -29,9 +29,10 @@ fn octal(word: &[u8]) -> u16
     mode
 }
 
-/// The mode that a word spells.
-pub(crate) fn read_mode(word: &[u8]) -> Result<u16, BadText>
-    ensures { result ≡ mode_read word.now }
+/// The mode that a word spells, one to seven octal digits. Another word is refused as `Mode`.
+pub fn read_mode(word: &[u8]) -> Result<u16, BadText>
+    ensures exact { result ≡ mode_read word.now }
+    ensures within { IfOk result (λ mode. mode ≤ MODE_MAX) }
 {
     if is_mode_word(word) {
         Ok(octal(word))
@@ -40,8 +41,8 @@ pub(crate) fn read_mode(word: &[u8]) -> Result<u16, BadText>
     }
 }
 
-/// A mode as it is written.
-pub(crate) fn mode_digits(mode: u16) -> [u8; 4]
+/// A mode as it is written: four octal digits.
+pub fn mode_digits(mode: u16) -> [u8; 4]
     requires { mode ≤ MODE_MAX }
     ensures { result ≡ mode_digits mode }
 {

@@ -14,7 +14,7 @@ pub const WRITTEN_MAX: usize = 1024;
 pub(crate) type Text = ArrayVec<u8, WRITTEN_MAX>;
 
 /// The first word of a text and what stands behind it, or `None` where the text has no word.
-pub(crate) fn split_word(text: &[u8]) -> Option<(&[u8], &[u8])>
+pub fn split_word(text: &[u8]) -> Option<(&[u8], &[u8])>
     ensures { MatchOption result (words text.now ≡ [])
         (λ found. words text.now ≡ found.0.now ∷ words found.1.now) }
 {

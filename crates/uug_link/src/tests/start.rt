@@ -63,16 +63,20 @@ fn uses_the_smaller_window(rt: HostRuntime) -> Result<(), Fail> {
 #[test]
 fn closes_a_link(rt: HostRuntime) -> Result<(), Fail> {
     let mut link = up(&rt, rt.alloc(), 3)?;
-    let rows: [Row<'_>; 7] = [
+    let rows: [Row<'_>; 5] = [
         (Call::Send(b"a"), &[Wire::Data(1, 0, b"a")], NOTHING, 1),
         (Call::Shut, &[Wire::Close], NOTHING, 1),
         (Call::Hear(Wire::Data(1, 1, b"b")), SILENCE, NOTHING, 1),
         (Call::Bad, SILENCE, NOTHING, 1),
         (Call::Timeout, &[Wire::Close], NOTHING, 1),
+    ];
+    follow(&rt, rt.alloc(), &mut link, &rows)?;
+    assert!(rt; link.is_closing());
+    let last: [Row<'_>; 2] = [
         (Call::Hear(Wire::Close), SILENCE, CLOSED, 1),
         (Call::Hear(Wire::Close), SILENCE, HALTED, 1),
     ];
-    follow(&rt, rt.alloc(), &mut link, &rows)
+    follow(&rt, rt.alloc(), &mut link, &last)
 }
 
 // a link that ends without a word where the other end closes it, before or after it is up
