@@ -19,7 +19,7 @@ use Rattle.uug_session.specs.declared.greeting.Greeted.{Greeted}
 use Rattle.uug_session.specs.declared.greeting.Greeted.TheVariants.{GoesOn, LinkBegins, Ended}
 use Rattle.uug_session.specs.declared.greeting.Greeting.{Greeting}
 use Rattle.uug_session.specs.Greeting.{GreetingStep, first_greeting, goes_on, fails, called_text, caller_text, name_in_caller_text}
-use Rattle.uug_session.specs.WholeGreeting.{GreetingRun, GreetsBy, GreetEachOther, BecomeOf, behind_text, step_behind, texts_came, written_texts}
+use Rattle.uug_session.specs.WholeGreeting.{GreetingRun, GreetsBy, GreetEachOther, BecomeOf, behind_text, step_behind, texts_came, saying_first, written_texts}
 use Rattle.uug_session.proofs.SaidTextLemmas.{HearsWhole, texts_of-written, run_says, said_called}
 use Rattle.uug_session.proofs.WholeGreetingLemmas.{StreamLaws, first_stand, one_run}
 
@@ -61,7 +61,7 @@ caller_name_said caller called expected texts h = ap (λ name. after_caller_name
 
 -- ---- what each hears is what the other says
 
--- each end's run, by the texts that the other says
+-- what each end makes of what it hears, by the texts that the other says
 pub record Answer (caller meant called expected : List ℕ) (at_caller at_called : GreetingRun) : Type 0 where
   pub at_caller_is : at_caller ≡ run_of caller meant (called_text called ∷ at_called.says) (first_greeting CalledName)
   pub at_called_is : at_called ≡ run_of called expected at_caller.says (first_greeting CallerName)
@@ -76,17 +76,40 @@ module _ (hears : HearsWhole) (laws : StreamLaws) where
   said_by me peer g delivered run behind h k =
       subst (λ (r : GreetingRun). All IsHailText r.says) (sym k.came) (run_says me peer k.found.texts k.found.end g h)
 
+  heard_by_caller : (caller meant called expected : List ℕ) (at_caller at_called : GreetingRun) (m : GreetEachOther caller meant called expected at_caller at_called)
+      → GreetsBy caller meant (first_greeting CalledName) (written_texts (called_text called ∷ m.called_hears.heard.says)) m.caller_hears.heard m.caller_left
+  heard_by_caller caller meant called expected at_caller at_called m =
+      subst (λ (r : GreetingRun). GreetsBy caller meant (first_greeting CalledName) (written_texts r.says) m.caller_hears.heard m.caller_left) m.called_hears.whole m.caller_hears.greets
+
+  heard_by_called : (caller meant called expected : List ℕ) (at_caller at_called : GreetingRun) (m : GreetEachOther caller meant called expected at_caller at_called)
+      → GreetsBy called expected (first_greeting CallerName) (written_texts m.caller_hears.heard.says) m.called_hears.heard m.called_left
+  heard_by_called caller meant called expected at_caller at_called m =
+      subst (λ (r : GreetingRun). GreetsBy called expected (first_greeting CallerName) (written_texts r.says) m.called_hears.heard m.called_left) m.caller_hears.whole m.called_hears.greets
+
   pub answer : (caller meant called expected : List ℕ) (at_caller at_called : GreetingRun) → IsName caller → IsName called
-      → GreetEachOther caller meant called expected at_caller at_called → Answer caller meant called expected at_caller at_called
-  answer caller meant called expected at_caller at_called h k m = record {
-    at_caller_is = hears_said caller meant (first_greeting CalledName) (called_text called ∷ at_called.says) at_caller m.caller_left
-        (All-cons IsHailText (called_text called) at_called.says (said_called called k)
-        (said_by called expected (first_greeting CallerName) (written_texts at_caller.says) at_called m.called_left k m.called_hears))
-        m.caller_hears;
-    at_called_is = hears_said called expected (first_greeting CallerName) at_caller.says at_called m.called_left
-        (said_by caller meant (first_greeting CalledName) (written_texts (called_text called ∷ at_called.says)) at_caller m.caller_left h m.caller_hears)
-        m.called_hears;
-  }
+      → (m : GreetEachOther caller meant called expected at_caller at_called) → Answer caller meant called expected m.caller_hears.heard m.called_hears.heard
+  answer caller meant called expected at_caller at_called h k m =
+      let at_one = heard_by_caller caller meant called expected at_caller at_called m in
+      let at_other = heard_by_called caller meant called expected at_caller at_called m in
+      let caller_said = m.caller_hears.heard.says in
+      let called_said = m.called_hears.heard.says in
+      record {
+        at_caller_is = hears_said caller meant (first_greeting CalledName) (called_text called ∷ called_said) m.caller_hears.heard m.caller_left
+            (All-cons IsHailText (called_text called) called_said (said_called called k)
+            (said_by called expected (first_greeting CallerName) (written_texts caller_said) m.called_hears.heard m.called_left k at_other))
+            at_one;
+        at_called_is = hears_said called expected (first_greeting CallerName) caller_said m.called_hears.heard m.called_left
+            (said_by caller meant (first_greeting CalledName) (written_texts (called_text called ∷ called_said)) m.caller_hears.heard m.caller_left h at_one)
+            at_other;
+      }
+
+-- what becomes of what each hears becomes of its whole greeting
+pub become_whole : (caller meant called expected : List ℕ) (at_caller at_called : GreetingRun) (one other : Greeted) (m : GreetEachOther caller meant called expected at_caller at_called)
+    → BecomeOf m.caller_hears.heard m.called_hears.heard one other → BecomeOf at_caller at_called one other
+become_whole caller meant called expected at_caller at_called one other m b = record {
+  caller_is = ap (λ (r : GreetingRun). r.greeted) m.caller_hears.whole ∙ b.caller_is;
+  called_is = ap (λ (r : GreetingRun). r.greeted) m.called_hears.whole ∙ b.called_is;
+}
 
 -- ---- how they become
 
@@ -142,11 +165,11 @@ pub wrong_end : (caller meant called expected : List ℕ) (at_caller at_called :
     → Answer caller meant called expected at_caller at_called → BecomeOf at_caller at_called (Ended WrongName) (GoesOn (first_greeting CallerName))
 unfolding after_called_name
 wrong_end caller meant called expected at_caller at_called e a =
-    let x : at_caller ≡ record { says = []; greeted = Ended WrongName; used = 1 } =
+    let x : at_caller ≡ after_called_name caller meant at_called.says false =
     a.at_caller_is ∙ called_name_said caller meant called at_called.says ∙ ap (after_called_name caller meant at_called.says) e in
     record {
       caller_is = ap greeted_of x;
-      called_is = ap greeted_of a.at_called_is ∙ ap (λ (r : GreetingRun). greeted_of (run_of called expected r.says (first_greeting CallerName))) x;
+      called_is = ap greeted_of a.at_called_is ∙ ap (λ texts. greeted_of (run_of called expected texts (first_greeting CallerName))) (ap says_of x);
     }
 
 pub unknown_caller : (caller meant called expected : List ℕ) (at_caller at_called : GreetingRun) → IsName caller → bytes_eq called meant ≡ true → bytes_eq caller expected ≡ false
@@ -154,10 +177,10 @@ pub unknown_caller : (caller meant called expected : List ℕ) (at_caller at_cal
 unfolding after_caller_name
 unknown_caller caller meant called expected at_caller at_called h e f a =
     let x = reached caller meant called expected at_caller at_called e a in
-    let y : at_called ≡ record { says = codes "RYou are unknown to me" ∷ []; greeted = Ended Refused; used = 1 } =
+    let y : at_called ≡ after_caller_name called expected (caller_later caller meant at_called.says).says false =
     heard_name caller meant called expected at_caller at_called h e a ∙ ap (after_caller_name called expected (caller_later caller meant at_called.says).says) f in
     record {
-      caller_is = ap greeted_of x ∙ ap (λ (r : GreetingRun). greeted_of (caller_later caller meant r.says)) y;
+      caller_is = ap greeted_of x ∙ ap (λ texts. greeted_of (caller_later caller meant texts)) (ap says_of y);
       called_is = ap greeted_of y;
     }
 
@@ -174,13 +197,18 @@ module _ (hears : HearsWhole) (laws : StreamLaws) where
       (stand.0, record { found = record { texts = texts; end = Rest [] }; texts = has; came = e; left = stand.1 })
 
   pub greet : (caller meant called expected : List ℕ) (at_caller at_called : GreetingRun) → IsName caller → IsName called
-      → Answer caller meant called expected at_caller at_called → GreetEachOther caller meant called expected at_caller at_called
+      → Answer caller meant called expected at_caller at_called → GreetEachOther caller meant called expected at_caller (saying_first (called_text called ∷ []) at_called)
   greet caller meant called expected at_caller at_called h k a =
       let says_called : All IsHailText at_called.says = subst (λ (r : GreetingRun). All IsHailText r.says) (sym a.at_called_is) (run_says called expected at_caller.says (Rest []) (first_greeting CallerName) k) in
       let says_caller : All IsHailText at_caller.says = subst (λ (r : GreetingRun). All IsHailText r.says) (sym a.at_caller_is) (run_says caller meant (called_text called ∷ at_called.says) (Rest []) (first_greeting CalledName) h) in
       let at_one = greets_said caller meant (first_greeting CalledName) (called_text called ∷ at_called.says) at_caller (All-cons IsHailText (called_text called) at_called.says (said_called called k) says_called) a.at_caller_is in
       let at_other = greets_said called expected (first_greeting CallerName) at_caller.says at_called says_caller a.at_called_is in
-      record { caller_left = at_one.0; called_left = at_other.0; caller_hears = at_one.1; called_hears = at_other.1 }
+      record {
+        caller_left = at_one.0;
+        called_left = at_other.0;
+        caller_hears = record { heard = at_caller; greets = at_one.1; whole = refl };
+        called_hears = record { heard = at_called; greets = at_other.1; whole = refl };
+      }
 
 -- by whether the caller reached the end that it meant, and whether the called end expects it
 caller_run : (caller : List ℕ) → (reached expected : Bool) → GreetingRun

@@ -1,8 +1,7 @@
 mod Accord
 mod AlternationLemmas
-pub mod ChoiceLemmas
-pub mod CleanLineLemmas
 mod ConversationFacts
+mod DialogueLemmas
 mod EarlierJobLemmas
 mod EndFacts
 mod EndStepFacts
@@ -18,15 +17,27 @@ mod MachineFacts
 mod MachineLemmas
 mod MachineMoveLemmas
 mod OfferLemmas
+mod OutgoingLemmas
 mod OwnEntryLemmas
-pub mod PiecesLemmas
-pub mod QueueLemmas
 mod ReadBackLemmas
-pub mod SaidTextLemmas
+mod SayableLemmas
 mod SharingLemmas
 mod StoredLemmas
 mod TalkLaws
+mod TextCallLemmas
+mod TextSearchFacts
+mod TextSearchLemmas
 mod TurnLemmas
 mod TwoEndsLemmas
 mod WholeFileLemmas
+pub mod BeginningLemmas
+pub mod ChoiceLemmas
+pub mod CleanLineLemmas
+pub mod EngineLemmas
+pub mod NodeLemmas
+pub mod PiecesLemmas
+pub mod QueueLemmas
+pub mod SaidTextLemmas
+pub mod SpeakLemmas
+pub mod TextsHeldLemmas
 pub mod WholeGreetingLemmas

@@ -6,8 +6,9 @@ use Rattle.uug_talk.specs.StreamTexts.{StreamTexts, TextsEnd, Rest, TooLong, Has
 use Rattle.uug_session.specs.declared.greeting.Greeted.{Greeted}
 use Rattle.uug_session.specs.declared.greeting.Greeted.TheVariants.{GoesOn, LinkBegins, Ended}
 use Rattle.uug_session.specs.declared.greeting.Greeting.{Greeting}
-use Rattle.uug_session.specs.Greeting.{text_came}
-use Rattle.uug_session.specs.WholeGreeting.{GreetingRun, GreetsBy, IsOver, run_behind, behind_text, step_behind, texts_came}
+use Rattle.uug_session.specs.Greeting.{greeting_at_first, first_texts, text_came}
+use Rattle.uug_session.specs.Turns.{Side}
+use Rattle.uug_session.specs.WholeGreeting.{GreetingRun, GreetsBy, Greets, IsOver, run_behind, behind_text, step_behind, texts_came}
 use Rattle.uug_session.proofs.WholeGreetingLemmas.{StreamLaws, OneFirstText, one_rest}
 
 -- ---- the texts of two streams, one behind the other
@@ -178,3 +179,23 @@ module _ (laws : StreamLaws) (pieces : PiecesLaws) (first_text : OneFirstText) w
       → GreetsBy me peer g delivered run rest → IsOver run.greeted → GreetsBy me peer g (delivered ++ more) run (rest ++ more)
   stays_over me peer g delivered more rest run h o =
       over_end me peer g delivered more rest run h.found.texts h.found.end (record { has = h.texts; came = h.came; left = h.left }) o
+
+  -- ---- from the start
+
+  pub whole_goes_on_with_more : (side : Side) (me peer : List ℕ) (next : Greeting) (delivered more rest left : List ℕ) (run later : GreetingRun)
+      → Greets side me peer delivered run rest → run.greeted ≡ GoesOn next
+      → GreetsBy me peer next (rest ++ more) later left → Greets side me peer (delivered ++ more) (run_behind run later) left
+  whole_goes_on_with_more side me peer next delivered more rest left run later h e k = record {
+    heard = run_behind h.heard later;
+    greets = goes_on_with_more me peer (greeting_at_first side) next delivered more rest left h.heard later h.greets (ap (λ (r : GreetingRun). r.greeted) (sym h.whole) ∙ e) k;
+    whole = ap (λ (r : GreetingRun). run_behind r later) h.whole
+        ∙ ap (λ (s : List (List ℕ)). record { says = s; greeted = later.greeted; used = h.heard.used + later.used }) (append_assoc (first_texts side me) h.heard.says later.says);
+  }
+
+  pub whole_stays_over : (side : Side) (me peer delivered more rest : List ℕ) (run : GreetingRun)
+      → Greets side me peer delivered run rest → IsOver run.greeted → Greets side me peer (delivered ++ more) run (rest ++ more)
+  whole_stays_over side me peer delivered more rest run h o = record {
+    heard = h.heard;
+    greets = stays_over me peer (greeting_at_first side) delivered more rest h.heard h.greets (subst (λ (r : GreetingRun). IsOver r.greeted) h.whole o);
+    whole = h.whole;
+  }

@@ -1,6 +1,5 @@
 -- Every text of a conversation of sound parties is a command text, and is read back as itself.
-use Rattle.std.proofs.Common.{◌≡◌, ℕ, ◌≤◌, Bool, true, false, List, [], ◌∷◌, length, Option, Some, None, nat_le, cond, refl, ap, subst, arith}
-use Rattle.std.proofs.lemmas.Bool.Decides.{nat_tests}
+use Rattle.std.proofs.Common.{◌≡◌, ℕ, ◌≤◌, Bool, true, false, List, [], ◌∷◌, length, Option, Some, None, refl}
 use Rattle.std.proofs.lemmas.List.Elements.{All-head, All-tail}
 use Rattle.std.specs.List.{All}
 use Rattle.uug_talk.specs.declared.answer.Answer.{Answer}
@@ -19,35 +18,21 @@ use Rattle.uug_session.specs.declared.verdict.Verdict.TheVariants.{Yes, Never, L
 use Rattle.uug_session.specs.Choice.{choice, fetched_by}
 use Rattle.uug_session.specs.Conversation.{exchanges, last_turns, after_hang_up, hang_up, conversation}
 use Rattle.uug_session.specs.Exchange.{send_exchange, request_exchange, exchange}
-use Rattle.uug_session.specs.Holdings.{File, Holdings, AreModes, within_limit, to_give}
+use Rattle.uug_session.specs.Holdings.{File, Holdings, AreModes, to_give}
 use Rattle.uug_session.specs.Jobs.{Move}
 use Rattle.uug_session.specs.Party.{Party, HasNames, IsSound}
 use Rattle.uug_session.specs.ReadBack.{IsReadBack, EachTurn}
 use Rattle.uug_session.specs.Turns.{Side, caller, called, the_order, the_answer, Turn}
+use Rattle.uug_session.proofs.LimitLemmas.{given_file}
 use Rattle.uug_session.proofs.TalkLaws.{TextLaws}
 
 -- ---- a file that is given is there, and not too large
 
-pub record IsGiven (found : Option File) (file : File) : Type 0 where
-  pub there : found ≡ Some file
-  pub within : length file.bytes ≤ FILE_MAX
-
-some_by : (small : Bool) (f file : File) → nat_le (length f.bytes) FILE_MAX ≡ small → cond small (Some f) None ≡ Some file →
-    IsGiven (Some f) file
-some_by true f file t e =
-    let same : f ≡ file = cc in
-    record { there = ap (λ z. Some z) same; within = subst (λ z. length z.bytes ≤ FILE_MAX) same (grind (arith, nat_tests)) }
-some_by false f file t e = absurd cc
-
-within_limit_some : (found : Option File) (file : File) → within_limit found ≡ Some file → IsGiven found file
-within_limit_some None file e = absurd cc
-within_limit_some (Some f) file e = some_by (nat_le (length f.bytes) FILE_MAX) f file refl e
-
 pub given_fits : (h : Holdings) (name : List ℕ) (file : File) → to_give h name ≡ Some file → length file.bytes ≤ FILE_MAX
-given_fits h name file e = (within_limit_some (h.file name) file e).within
+given_fits h name file e = ((given_file (h.file name) file).0 e).1
 
-given_mode : (h : Holdings) (name : List ℕ) (file : File) → AreModes h → to_give h name ≡ Some file → file.mode ≤ MODE_MAX
-given_mode h name file m e = m name file (within_limit_some (h.file name) file e).there
+pub given_mode : (h : Holdings) (name : List ℕ) (file : File) → AreModes h → to_give h name ≡ Some file → file.mode ≤ MODE_MAX
+given_mode h name file m e = m name file ((given_file (h.file name) file).0 e).0
 
 -- ---- texts
 

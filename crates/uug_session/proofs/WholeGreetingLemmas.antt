@@ -4,7 +4,9 @@ use Rattle.std.proofs.lemmas.List.{append_cancel_left}
 use Rattle.uug_talk.specs.StreamTexts.{StreamTexts, HasTexts, StandBefore, texts_of}
 use Rattle.uug_talk.specs.Texts.{IsFirstText}
 use Rattle.uug_session.specs.declared.greeting.Greeting.{Greeting}
-use Rattle.uug_session.specs.WholeGreeting.{GreetingRun, GreetsBy, texts_came, greeting_run}
+use Rattle.uug_session.specs.Greeting.{greeting_at_first, first_texts}
+use Rattle.uug_session.specs.Turns.{Side}
+use Rattle.uug_session.specs.WholeGreeting.{GreetingRun, GreetsBy, Greets, texts_came, greeting_run, saying_first, whole_greeting}
 
 -- what is needed of the texts of a stream, as the laws of the crate below give it
 pub record StreamLaws : Type 0 where
@@ -47,3 +49,20 @@ one_left laws law me peer g delivered run behind other h k =
     let same : h.found ≡ k.found = laws.only delivered h.found h.texts ∙ sym (laws.only delivered k.found k.texts) in
     one_rest law (take run.used k.found.texts) behind other delivered
     (subst (λ (f : StreamTexts). StandBefore (take run.used f.texts) behind delivered) same h.left) k.left
+
+-- ---- from the start
+
+pub some_whole : StreamLaws → (side : Side) (me peer delivered : List ℕ) → (behind : List ℕ) × Greets side me peer delivered (whole_greeting side me peer delivered) behind
+some_whole laws side me peer delivered =
+    let heard = some_run laws me peer (greeting_at_first side) delivered in
+    (heard.0, record { heard = greeting_run me peer (greeting_at_first side) delivered; greets = heard.1; whole = refl })
+
+pub one_whole : StreamLaws → (side : Side) (me peer delivered : List ℕ) (run : GreetingRun) (behind : List ℕ) → Greets side me peer delivered run behind → run ≡ whole_greeting side me peer delivered
+one_whole laws side me peer delivered run behind h =
+    h.whole ∙ ap (saying_first (first_texts side me)) (one_run laws me peer (greeting_at_first side) delivered h.heard behind h.greets)
+
+pub one_left_of_whole : StreamLaws → OneFirstText → (side : Side) (me peer delivered : List ℕ) (run : GreetingRun) (behind other : List ℕ) → Greets side me peer delivered run behind → Greets side me peer delivered run other → behind ≡ other
+one_left_of_whole laws law side me peer delivered run behind other h k =
+    let g = greeting_at_first side in
+    let same : h.heard ≡ k.heard = one_run laws me peer g delivered h.heard behind h.greets ∙ sym (one_run laws me peer g delivered k.heard other k.greets) in
+    one_left laws law me peer g delivered k.heard behind other (subst (λ (r : GreetingRun). GreetsBy me peer g delivered r behind) same h.greets) k.greets

@@ -11,11 +11,10 @@ use Rattle.uug_link.specs.Terms.{size_of_code}
 use Rattle.uug_packet.specs.Packet.{PacketValue, control, carry}
 use Rattle.uug_session.specs.declared.end.End.{End}
 use Rattle.uug_session.specs.declared.end.End.TheVariants as ends
-use Rattle.uug_session.specs.declared.greeting.AwaitedText.TheVariants.{CalledName, CallerName}
 use Rattle.uug_session.specs.declared.greeting.Greeted.{Greeted}
 use Rattle.uug_session.specs.declared.greeting.Greeted.TheVariants.{GoesOn, LinkBegins, Ended}
 use Rattle.uug_session.specs.declared.greeting.Greeting.{Greeting}
-use Rattle.uug_session.specs.Greeting.{GreetingStep, first_greeting, called_text, text_came, long_text_came, timed_out as greeting_timed_out}
+use Rattle.uug_session.specs.Greeting.{GreetingStep, greeting_at_first, first_texts, text_came, long_text_came, timed_out as greeting_timed_out}
 use Rattle.uug_session.specs.Keeper.{Keeper}
 use Rattle.uug_session.specs.Turns.{Side, caller, called}
 
@@ -189,9 +188,12 @@ abbrev pub bad_came : {C : Type 0} → Keeper C → Identity → State → C →
 bad_came k id s c = behind_link k id false (step s bad_found).outcome (step s bad_found) [] c
 
 -- nothing has come for some time: the conversation does not move
-abbrev pub late_link : {C : Type 0} → Keeper C → Identity → OutcomeValue → Effect → C → EndEffect C
-late_link k id gave_up e c = ends_so id (k.has_parted c) ends.GaveUp e c false
-late_link k id _ e c = goes_on_with false e.emitted (sending_nothing e.state c)
+abbrev pub late_link : {C : Type 0} → Identity → (has_parted : Bool) → OutcomeValue → Effect → C → EndEffect C
+late_link id has_parted gave_up e c = ends_so id has_parted ends.GaveUp e c false
+late_link id has_parted _ e c = goes_on_with false e.emitted (sending_nothing e.state c)
+
+abbrev pub late : {C : Type 0} → Identity → (has_parted : Bool) → State → C → EndEffect C
+late id has_parted s c = late_link id has_parted (step s timed_out).outcome (step s timed_out) c
 
 -- the greeting has led to this: the caller begins the link
 abbrev pub begins_link : {C : Type 0} → Side → State → C → List Emitted → EndEffect C
@@ -238,7 +240,7 @@ hailing_step id g _ e = unmoved e
 abbrev pub linked_step : {C : Type 0} → Keeper C → Identity → EndEvent → EndState C → EndEffect C
 linked_step k id (packet_found_whole device_failed p) e = packet_came k id device_failed p e.link e.keeper
 linked_step k id broken_found e = bad_came k id e.link e.keeper
-linked_step k id time_ran_out e = late_link k id (step e.link timed_out).outcome (step e.link timed_out) e.keeper
+linked_step k id time_ran_out e = late id (k.has_parted e.keeper) e.link e.keeper
 linked_step k id line_lost e =
     greeted_so id (Ended (how_it_ends (k.has_parted e.keeper) ends.HungUp)) [] e.link e.keeper
 linked_step k id _ e = unmoved e
@@ -255,8 +257,7 @@ end_step k id event e = stage_step k id e.stage event e
 -- ---- a session begins
 
 abbrev pub first_stage : Side → Stage
-first_stage caller = hailing (first_greeting CalledName)
-first_stage called = hailing (first_greeting CallerName)
+first_stage side = hailing (greeting_at_first side)
 
 abbrev pub first_link : Side → Announced → State
 first_link caller own = caller_state own
@@ -264,8 +265,7 @@ first_link called own = called_state own
 
 -- the called end says its name
 abbrev pub first_words : Side → (me : List ℕ) → List Emitted
-first_words caller me = []
-first_words called me = says_text (called_text me) ∷ []
+first_words side me = map says_text (first_texts side me)
 
 abbrev pub begins_session : {C : Type 0} → Identity → Announced → C → EndEffect C
 begins_session id own c = record {

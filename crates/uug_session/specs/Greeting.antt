@@ -12,6 +12,7 @@ use Rattle.uug_session.specs.declared.greeting.AwaitedText.TheVariants.{CalledNa
 use Rattle.uug_session.specs.declared.greeting.Greeted.{Greeted}
 use Rattle.uug_session.specs.declared.greeting.Greeted.TheVariants.{GoesOn, LinkBegins, Ended}
 use Rattle.uug_session.specs.declared.greeting.Greeting.{Greeting}
+use Rattle.uug_session.specs.Turns.{Side, caller, called}
 
 -- what an end says at once, and what becomes of its greeting
 pub record GreetingStep : Type 0 where
@@ -54,6 +55,18 @@ name_in_caller_text text = let behind = drop 1 text in take (position_or_len is_
 -- one of the protocols that are offered is g, the one that both ends know here
 abbrev pub offers_g : List ℕ → Bool
 offers_g text = list_any (λ letter. letter == 103) (drop 1 text)
+
+-- ---- a session begins
+
+-- each end waits for the other's name
+abbrev pub greeting_at_first : Side → Greeting
+greeting_at_first caller = first_greeting CalledName
+greeting_at_first called = first_greeting CallerName
+
+-- what an end says before anything is delivered to it: the called end says its name
+abbrev pub first_texts : Side → (me : List ℕ) → List (List ℕ)
+first_texts caller me = []
+first_texts called me = called_text me ∷ []
 
 -- ---- the table
 

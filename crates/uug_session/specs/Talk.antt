@@ -62,15 +62,34 @@ is_kept_now h g (Some file) = (g.whole && nat_le (length g.bytes) (limit_of g.ki
 abbrev pub asks_spool : Holdings → State → (message : List ℕ) → Bool
 asks_spool h s message = is_kept_now h (gathered_with s message) (file_awaited s.awaits s.lists.ahead)
 
+-- the link has come up, with messages of this size
+abbrev pub opened_with : Side → Holdings → (size : ℕ) → Talk → Talk
+opened_with side h size talk = replied size [] talk.kept (opening side h talk.machine.lists)
+
+-- a message of the other end is taken
+abbrev pub taking : Holdings → (message : List ℕ) → Talk → Talk
+taking h message talk = replied talk.size talk.waiting talk.kept (step h talk.machine message)
+
+-- the first message that waits is sent
+abbrev pub with_first_sent : Talk → Talk
+with_first_sent talk = record talk { waiting = behind_first talk.waiting }
+
+-- all is said and nothing more is to come
+abbrev pub is_through : Talk → Bool
+is_through talk = is_over talk.machine.awaits && is_empty talk.waiting
+
+abbrev pub talk_has_parted : Talk → Bool
+talk_has_parted talk = has_parted_by talk.machine.awaits (is_empty talk.waiting)
+
 -- the keeper of an end on this side with these holdings
 abbrev pub end_keeper : Side → Holdings → Keeper Talk
 end_keeper side h = record {
-  opened = λ size talk. replied size [] talk.kept (opening side h talk.machine.lists);
-  taking = λ message talk. replied talk.size talk.waiting talk.kept (step h talk.machine message);
+  opened = opened_with side h;
+  taking = taking h;
   asks_spool = λ message talk. asks_spool h talk.machine message;
   next = λ talk. first_of talk.waiting;
-  sent = λ talk. record talk { waiting = behind_first talk.waiting };
+  sent = with_first_sent;
   is_bad = λ talk. is_bad talk.machine.awaits;
-  is_over = λ talk. is_over talk.machine.awaits && is_empty talk.waiting;
-  has_parted = λ talk. has_parted_by talk.machine.awaits (is_empty talk.waiting);
+  is_over = is_through;
+  has_parted = talk_has_parted;
 }

@@ -1,13 +1,13 @@
--- The whole greeting of an end: one step for each text of the bytes that are delivered to it. What the called end says
--- first, before anything is delivered, stands in front of it. Taylor UUCP manual, "UUCP Protocol".
+-- The whole greeting of an end: what it says first, and then one step for each text of the bytes that are delivered to
+-- it. Taylor UUCP manual, "UUCP Protocol".
 use Rattle.std.specs.Prelude.{◌≡◌, ℕ, ◌+◌, List, [], ◌∷◌, ◌++◌, take}
 use Rattle.uug_talk.specs.StreamTexts.{StreamTexts, TextsEnd, Rest, TooLong, HasTexts, StandBefore, texts_of}
-use Rattle.uug_session.specs.declared.greeting.AwaitedText.TheVariants.{CalledName, CallerName}
 use Rattle.uug_session.specs.declared.greeting.Greeted.{Greeted}
 use Rattle.uug_session.specs.declared.greeting.Greeted.TheVariants.{GoesOn, LinkBegins, Ended}
 use Rattle.uug_session.specs.declared.greeting.Greeting.{Greeting}
-use Rattle.uug_session.specs.Greeting.{first_greeting, called_text, long_text_came, text_came}
+use Rattle.uug_session.specs.Greeting.{greeting_at_first, first_texts, long_text_came, text_came}
 use Rattle.uug_session.specs.Says.{written_text}
+use Rattle.uug_session.specs.Turns.{Side, caller, called}
 
 -- what an end says, one text after another, what becomes of its greeting, and how many texts it used for that
 pub record GreetingRun : Type 0 where
@@ -35,7 +35,8 @@ texts_came me peer [] end g = with_no_text end g
 texts_came me peer (text ∷ texts) end g =
     step_behind (texts_came me peer texts end) (text_came me peer g text).says (text_came me peer g text).greeted
 
--- What the bytes that were delivered make of a greeting, and the bytes behind the last text that was used.
+-- What the bytes that are delivered from a stage of the greeting on make of it, and the bytes behind the last text that
+-- was used.
 pub record GreetsBy (me peer : List ℕ) (g : Greeting) (delivered : List ℕ) (run : GreetingRun) (behind : List ℕ) : Type 0 where
   pub found : StreamTexts
   pub texts : HasTexts delivered found
@@ -45,6 +46,26 @@ pub record GreetsBy (me peer : List ℕ) (g : Greeting) (delivered : List ℕ) (
 -- the same as a function
 abbrev pub greeting_run : (me peer : List ℕ) → Greeting → (delivered : List ℕ) → GreetingRun
 greeting_run me peer g delivered = texts_came me peer (texts_of delivered).texts (texts_of delivered).end g
+
+-- ---- from the start
+
+-- an end said this before anything was delivered
+abbrev pub saying_first : (says : List (List ℕ)) → GreetingRun → GreetingRun
+saying_first says run = record { says = says ++ run.says; greeted = run.greeted; used = run.used }
+
+-- The whole greeting of an end, by its side, its name, the other's, and all bytes delivered: everything that it says, what
+-- it says first in front; what becomes of the greeting; and the bytes behind the last text that was used.
+pub record Greets (side : Side) (me peer : List ℕ) (delivered : List ℕ) (run : GreetingRun) (behind : List ℕ) : Type 0 where
+  pub heard : GreetingRun
+  pub greets : GreetsBy me peer (greeting_at_first side) delivered heard behind
+  pub whole : run ≡ saying_first (first_texts side me) heard
+
+-- the same as a function
+abbrev pub whole_greeting : Side → (me peer : List ℕ) → (delivered : List ℕ) → GreetingRun
+whole_greeting side me peer delivered =
+    saying_first (first_texts side me) (greeting_run me peer (greeting_at_first side) delivered)
+
+-- ---- in pieces
 
 -- a run, and one behind it
 abbrev pub run_behind : GreetingRun → GreetingRun → GreetingRun
@@ -64,17 +85,15 @@ abbrev pub written_texts : List (List ℕ) → List ℕ
 written_texts [] = []
 written_texts (text ∷ texts) = written_text text ++ written_texts texts
 
--- The caller and the called end greet each other over a clean line: to each is delivered what the other says, all of it
--- and nothing else.
-pub record GreetEachOther (caller caller_peer called called_peer : List ℕ) (at_caller at_called : GreetingRun) : Type 0 where
+-- A caller that means one end, and a called end that expects one, greet each other over a clean line: to each is delivered
+-- what the other says, all of it and nothing else.
+pub record GreetEachOther (caller_name meant called_name expected : List ℕ) (at_caller at_called : GreetingRun) : Type 0 where
   pub caller_left : List ℕ
   pub called_left : List ℕ
-  pub caller_hears : GreetsBy caller caller_peer (first_greeting CalledName)
-      (written_texts (called_text called ∷ at_called.says)) at_caller caller_left
-  pub called_hears : GreetsBy called called_peer (first_greeting CallerName)
-      (written_texts at_caller.says) at_called called_left
+  pub caller_hears : Greets caller caller_name meant (written_texts at_called.says) at_caller caller_left
+  pub called_hears : Greets called called_name expected (written_texts at_caller.says) at_called called_left
 
 -- how two greetings ended
-pub record BecomeOf (at_caller at_called : GreetingRun) (caller called : Greeted) : Type 0 where
-  pub caller_is : at_caller.greeted ≡ caller
-  pub called_is : at_called.greeted ≡ called
+pub record BecomeOf (at_caller at_called : GreetingRun) (caller_greeted called_greeted : Greeted) : Type 0 where
+  pub caller_is : at_caller.greeted ≡ caller_greeted
+  pub called_is : at_called.greeted ≡ called_greeted

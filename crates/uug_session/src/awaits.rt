@@ -1,3 +1,7 @@
+ghost use Rattle.std.specs.Prelude.{IsTrue, ◌≡◌, ◌↔◌};
+ghost use Rattle.uug_talk.specs.Gathering.{OfFile};
+ghost use Rattle.uug_session.specs.Machine.{kind_awaited};
+
 use uug_talk::Name;
 
 /// What an end awaits of the other in a conversation.
@@ -33,4 +37,13 @@ pub enum Awaits {
     NothingMore,
     /// Nothing: what came fitted no turn.
     Bad,
+}
+
+impl Awaits {
+    /// Whether a file is awaited, and no text.
+    pub(crate) fn is_file(&self) -> bool
+        ensures { IsTrue result ↔ (kind_awaited self.now ≡ OfFile) }
+    {
+        matches!(self, Awaits::SentFile { .. } | Awaits::AskedFile { .. })
+    }
 }

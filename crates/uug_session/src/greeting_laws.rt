@@ -6,12 +6,19 @@ ghost use Rattle.uug_session.specs.declared.greeting.Greeted.TheVariants.{GoesOn
 ghost use Rattle.uug_session.specs.declared.greeting.AwaitedText.TheVariants.{CallerName};
 ghost use Rattle.uug_session.specs.declared.end.End.TheVariants.{WrongName, Refused};
 ghost use Rattle.uug_session.specs.Greeting.{first_greeting};
-ghost use Rattle.uug_session.specs.WholeGreeting.{GreetingRun, GreetsBy, GreetEachOther, BecomeOf, IsOver, greeting_run, run_behind};
+ghost use Rattle.uug_session.specs.Turns.{Side};
+ghost use Rattle.uug_session.specs.WholeGreeting.{GreetingRun, GreetsBy, Greets, GreetEachOther, BecomeOf, IsOver, greeting_run, whole_greeting, run_behind};
 
 use uug_talk::{hearing_finds_the_texts, one_first_text, one_reading_of_texts, texts_in_pieces};
 
-/// Whatever bytes are delivered make one thing of a greeting.
+/// Whatever bytes are delivered make one thing of the whole greeting of an end, and of a greeting from any stage on.
 pub fn one_greeting()
+    ensures whole { (side : Side) (me peer delivered : List ℕ)
+        → (behind : List ℕ) × Greets side me peer delivered (whole_greeting side me peer delivered) behind }
+    ensures only_whole { (side : Side) (me peer delivered : List ℕ) (run : GreetingRun) (behind : List ℕ)
+        → Greets side me peer delivered run behind → run ≡ whole_greeting side me peer delivered }
+    ensures one_rest_of_whole { (side : Side) (me peer delivered : List ℕ) (run : GreetingRun) (behind other : List ℕ)
+        → Greets side me peer delivered run behind → Greets side me peer delivered run other → behind ≡ other }
     ensures some { (me peer : List ℕ) (g : Greeting) (delivered : List ℕ)
         → (behind : List ℕ) × GreetsBy me peer g delivered (greeting_run me peer g delivered) behind }
     ensures only { (me peer : List ℕ) (g : Greeting) (delivered : List ℕ) (run : GreetingRun) (behind : List ℕ)
@@ -24,8 +31,16 @@ pub fn one_greeting()
 }
 
 /// A greeting does not depend on the pieces in which the bytes come. Where it goes on, more bytes make of it what they
-/// make of what it is then, behind the bytes that are left. Where it is over, more bytes are only left with them.
+/// make of what it is then, behind the bytes that are left. Where it is over, more bytes are only left with them. Both hold of
+/// the whole greeting of an end, and of a greeting from any stage on.
 pub fn greeting_in_pieces()
+    ensures whole_goes_on { (side : Side) (me peer : List ℕ) (next : Greeting) (delivered more rest left : List ℕ)
+        (run later : GreetingRun) → Greets side me peer delivered run rest → run.greeted ≡ GoesOn next
+        → GreetsBy me peer next (rest ++ more) later left
+        → Greets side me peer (delivered ++ more) (run_behind run later) left }
+    ensures whole_over { (side : Side) (me peer delivered more rest : List ℕ) (run : GreetingRun)
+        → Greets side me peer delivered run rest → IsOver run.greeted
+        → Greets side me peer (delivered ++ more) run (rest ++ more) }
     ensures goes_on { (me peer : List ℕ) (g next : Greeting) (delivered more rest left : List ℕ) (run later : GreetingRun)
         → GreetsBy me peer g delivered run rest → run.greeted ≡ GoesOn next
         → GreetsBy me peer next (rest ++ more) later left

@@ -1,7 +1,7 @@
 //! Laws over the conversation of two ends and the one-sided machine. The functions do nothing.
-ghost use Rattle.std.specs.Prelude.{◌≡◌, ℕ, ◌<◌, List, length};
+ghost use Rattle.std.specs.Prelude.{◌≡◌, ◌↔◌, ℕ, ◌<◌, ◌≤◌, List, length, Some, None};
 ghost use Rattle.uug_session.specs.Conversation.{conversation};
-ghost use Rattle.uug_session.specs.Holdings.{Holdings};
+ghost use Rattle.uug_session.specs.Holdings.{File, Holdings, to_give};
 ghost use Rattle.uug_session.specs.Machine.{State, gathered_with, out_of_turn, step};
 ghost use Rattle.uug_session.specs.Party.{Party, IsSound};
 ghost use Rattle.uug_session.specs.ReadBack.{EachTurn, IsReadBack};
@@ -12,13 +12,22 @@ ghost use Rattle.uug_session.specs.TwoEnds.{Two, Reached, IsTold};
 
 use crate::queue::JOBS_MAX;
 use uug_talk::{
-    command_is_gathered, file_is_gathered, gathering_goes_on, written_answers_are_read,
+    FILE_MAX, command_is_gathered, file_is_gathered, gathering_goes_on, written_answers_are_read,
     written_orders_are_read, written_texts_are_commands,
 };
 
 /// The number behind the limit of jobs.
 pub fn limits()
     ensures jobs { JOBS_MAX ≡ 64 }
+{}
+
+/// A spool's file may be given exactly where it has at most `FILE_MAX` bytes, and then it is given as it is; with one byte
+/// more it is as if the spool had no such file.
+pub fn what_may_be_given()
+    ensures given { (h : Holdings) (name : List ℕ) (file : File)
+        → (to_give h name ≡ Some file) ↔ ((h.file name ≡ Some file) × (length file.bytes ≤ FILE_MAX)) }
+    ensures too_large { (h : Holdings) (name : List ℕ) (file : File) → h.file name ≡ Some file
+        → FILE_MAX < length file.bytes → to_give h name ≡ None }
 {}
 
 /// A text or a file that a message takes past its limit fits no turn, whatever the end awaits.

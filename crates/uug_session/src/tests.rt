@@ -2,6 +2,7 @@
 
 mod greetings;
 mod memory;
+mod nodes;
 mod stores;
 
 use crate::Job;

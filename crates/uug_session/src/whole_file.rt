@@ -1,6 +1,7 @@
-ghost use Rattle.std.specs.Prelude.{◌≡◌, ◌≤◌, ◌<◌, ◌⊎◌, ◌++◌, ℕ, List, [], ◌∷◌, Bool, false, IfOk, OnOk, OnErr};
+ghost use Rattle.std.specs.Prelude.{◌≡◌, ◌≤◌, ◌<◌, ◌⊎◌, ◌++◌, ℕ, List, [], ◌∷◌, Bool, false, All, IfOk, OnOk, OnErr};
 ghost use Rattle.uug_session.specs.Holdings.{Kept, kept_file};
 ghost use Rattle.uug_session.specs.Machine.{on_file};
+ghost use Rattle.uug_session.specs.Outgoing.{IsSayable, sayings_of};
 ghost use Rattle.uug_session.specs.Reactions.{reply_of, file_awaited, on_kept, kept_unless, HasModeInRange, IsKept, IsMovable};
 
 use crate::awaits::Awaits;
@@ -76,8 +77,9 @@ fn on_kept<A: Allocator, S: Spool>(
     awaits: Awaits,
     immovable: bool,
 ) -> Reaction
-    ensures { on_kept (S.holdings spool.now) awaits immovable queue.old
+    ensures reply { on_kept (S.holdings spool.now) awaits immovable queue.old
         ≡ reply_of (S.holdings spool.now) queue.new result [] }
+    ensures mode { HasModeInRange result.awaits }
 {
     let answer = if immovable {
         Answer::DoneNever
@@ -110,6 +112,8 @@ pub(crate) fn on_file<A: Allocator, S: Spool>(
     ensures holdings { S.holdings spool.new ≡ S.holdings spool.old }
     ensures reply { IfOk result (λ r. on_file (S.holdings spool.old) awaits bytes.now queue.old
         ≡ reply_of (S.holdings spool.old) queue.new r (on_file (S.holdings spool.old) awaits bytes.now queue.old).keeps) }
+    ensures mode { IfOk result (λ r. HasModeInRange r.awaits) }
+    ensures sayable { IfOk result (λ r. All IsSayable (sayings_of r.says)) }
     ensures kept { OnOk result (S.kept spool.new
         ≡ S.kept spool.old ++ (on_file (S.holdings spool.old) awaits bytes.now queue.old).keeps) }
     ensures jobs_stay { OnErr result (queue.new ≡ queue.old) }

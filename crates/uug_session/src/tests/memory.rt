@@ -2,7 +2,7 @@
 //! of memory where none was refused, or that cannot be made again.
 
 use super::{name, send_job};
-use crate::{AwaitedText, Greeting, KeepFault, MemorySpool, Queue, QueueFault, Spool};
+use crate::{AwaitedText, Greeting, KeepFault, MemorySpool, Queue, QueueFault, Spool, Stored};
 use std::alloc::{Allocator, Global};
 use std::process::Abort;
 use std::test::Fail;
@@ -31,20 +31,43 @@ struct Stores<A: Allocator> {
 }
 
 impl<A: Allocator + Copy> Stores<A> {
-    /// With four jobs, one file and one kept file.
+    /// With jobs, one file, one kept file, and names.
     fn some(alloc: A) -> Result<Self, Fail> {
         let mut stores = Stores {
             queue: Queue::new(alloc),
             spool: MemorySpool::new(alloc),
             out: Outbox::new(alloc),
         };
-        for _ in 0..4 {
-            stores.queue.add(send_job()?)?;
-        }
+        add_jobs(&mut stores.queue)?;
         stores.spool.add_file(name(b"x")?, 0o644, b"abc")?;
         stores.spool.keep(&name(b"y")?, 0o600, b"def")?;
+        add_names(&mut stores.spool)?;
         Ok(stores)
     }
+}
+
+/// One that is struck, one that failed, and four that are pending: the next one takes memory.
+fn add_jobs<A: Allocator>(queue: &mut Queue<A>) -> Result<(), Fail> {
+    for place in 0..6u8 {
+        queue.add(send_job()?)?;
+        match place {
+            0 => queue.strike_first(),
+            1 => queue.fail_first(),
+            _ => (),
+        }
+    }
+    Ok(())
+}
+
+/// Four of each kind: the next one takes memory.
+fn add_names<A: Allocator + Copy>(spool: &mut MemorySpool<A>) -> Result<(), Fail> {
+    let (x, y) = (name(b"x")?, name(b"y")?);
+    for _ in 0..4 {
+        spool.deny(x)?;
+        spool.later(y)?;
+        spool.immovable(x)?;
+    }
+    Ok(())
 }
 
 /// Makes the call. Whether it was done.
@@ -73,41 +96,83 @@ fn make<A: Allocator + Copy>(
 }
 
 /// Nothing that can be asked tells the two apart.
-fn assert_same<A: Allocator + Copy, B: Allocator + Copy>(
+fn assert_same<A: Allocator + Copy>(
     rt: &impl Abort,
-    x: &Name,
-    stores: &Stores<A>,
-    other: &Stores<B>,
+    heap: &Refusing<Global>,
+    names: &[Name],
+    one: &mut Stores<A>,
+    other: &mut Stores<A>,
 ) {
-    assert_eq!(rt; stores.queue.pending(), other.queue.pending());
-    assert_eq!(rt; stores.spool.stored().len(), other.spool.stored().len());
-    assert_eq!(rt; stores.spool.may_keep(x), other.spool.may_keep(x));
-    assert_eq!(rt;
-        stores.spool.fetch(x).is_some(),
-        other.spool.fetch(x).is_some()
-    );
-    assert_eq!(rt; stores.out.bytes(), other.out.bytes());
+    assert_same_lists(rt, &one.queue, &other.queue);
+    assert_same_stored(rt, one.spool.stored(), other.spool.stored());
+    for name in names {
+        assert_eq!(rt; one.spool.may_keep(name), other.spool.may_keep(name));
+        assert_eq!(rt; given(&one.spool, name), given(&other.spool, name));
+        assert_eq!(rt;
+            is_immovable(heap, &mut one.spool, name),
+            is_immovable(heap, &mut other.spool, name)
+        );
+    }
+    assert_eq!(rt; one.spool.faults(), other.spool.faults());
+    assert_eq!(rt; one.out.bytes(), other.out.bytes());
+}
+
+fn assert_same_lists<A: Allocator>(rt: &impl Abort, one: &Queue<A>, other: &Queue<A>) {
+    assert_eq!(rt; one.pending(), other.pending());
+    assert_eq!(rt; one.struck(), other.struck());
+    assert_eq!(rt; one.failed(), other.failed());
+}
+
+fn assert_same_stored<A: Allocator>(rt: &impl Abort, one: &[Stored<A>], other: &[Stored<A>]) {
+    assert_eq!(rt; one.len(), other.len());
+    for (file, same) in one.iter().zip(other) {
+        assert_eq!(rt; (file.name, file.mode), (same.name, same.mode));
+        assert_eq!(rt; file.bytes.as_slice(), same.bytes.as_slice());
+    }
+}
+
+/// The mode and bytes of the file of this name.
+fn given<'a, A: Allocator + Copy>(
+    spool: &'a MemorySpool<A>,
+    name: &Name,
+) -> Option<(u16, &'a [u8])> {
+    let file = spool.fetch(name)?;
+    Some((file.mode, file.bytes))
+}
+
+/// A spool shows its immovable names by refusing to keep a file there. Elsewhere this one is not kept for want of memory,
+/// so that nothing changes.
+fn is_immovable<A: Allocator + Copy>(
+    heap: &Refusing<Global>,
+    spool: &mut MemorySpool<A>,
+    name: &Name,
+) -> bool {
+    heap.refuse(1);
+    let answer = spool.keep(name, 0, b"g");
+    heap.refuse(0);
+    answer == Err(KeepFault::Refused)
 }
 
 /// Refuses the nth request of the call, if there is one. The refused call changes nothing, and made again it does what
 /// the call does that was never refused. Whether a request was refused.
 fn is_refused(rt: &impl Abort, alloc: Global, call: Call<'_>, nth: u64) -> Result<bool, Fail> {
-    let x = name(b"z")?;
-    let before = Stores::some(alloc)?;
-    let mut after = Stores::some(alloc)?;
-    assert!(rt; make(call, &x, &mut after)?);
+    let z = name(b"z")?;
+    let names = [name(b"x")?, name(b"y")?, z];
     let heap = Refusing::new(alloc, 0);
+    let mut before = Stores::some(&heap)?;
+    let mut after = Stores::some(&heap)?;
+    assert!(rt; make(call, &z, &mut after)?);
     let mut stores = Stores::some(&heap)?;
     heap.refuse(nth);
-    let done = make(call, &x, &mut stores)?;
+    let done = make(call, &z, &mut stores)?;
     let refused = heap.was_refused();
     heap.refuse(0);
     assert_eq!(rt; done, !refused);
     if refused {
-        assert_same(rt, &x, &stores, &before);
-        assert!(rt; make(call, &x, &mut stores)?);
+        assert_same(rt, &heap, &names, &mut stores, &mut before);
+        assert!(rt; make(call, &z, &mut stores)?);
     }
-    assert_same(rt, &x, &stores, &after);
+    assert_same(rt, &heap, &names, &mut stores, &mut after);
     Ok(refused)
 }
 

@@ -1,4 +1,4 @@
-use Rattle.uug_session.proofs.PiecesLemmas.{goes_on_with_more, stays_over}
+use Rattle.uug_session.proofs.PiecesLemmas.{goes_on_with_more, stays_over, whole_goes_on_with_more, whole_stays_over}
 use Rattle.uug_session.proofs.greeting_laws.greeting_in_pieces.Goals as goal
 
 pub returns-clause-goes_on : goal.returns-clause-goes_on
@@ -10,5 +10,17 @@ returns-clause-goes_on c =
 pub returns-clause-over : goal.returns-clause-over
 returns-clause-over c =
     stays_over (record { some = c.one_reading_of_texts.ensures.some; only = c.one_reading_of_texts.ensures.only })
+    (record { rest = c.texts_in_pieces.ensures.rest; too_long = c.texts_in_pieces.ensures.too_long })
+    c.one_first_text.ensures.texts
+
+pub returns-clause-whole_goes_on : goal.returns-clause-whole_goes_on
+returns-clause-whole_goes_on c =
+    whole_goes_on_with_more (record { some = c.one_reading_of_texts.ensures.some; only = c.one_reading_of_texts.ensures.only })
+    (record { rest = c.texts_in_pieces.ensures.rest; too_long = c.texts_in_pieces.ensures.too_long })
+    c.one_first_text.ensures.texts
+
+pub returns-clause-whole_over : goal.returns-clause-whole_over
+returns-clause-whole_over c =
+    whole_stays_over (record { some = c.one_reading_of_texts.ensures.some; only = c.one_reading_of_texts.ensures.only })
     (record { rest = c.texts_in_pieces.ensures.rest; too_long = c.texts_in_pieces.ensures.too_long })
     c.one_first_text.ensures.texts

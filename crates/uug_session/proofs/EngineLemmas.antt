@@ -1,0 +1,235 @@
+-- What the parts of a call come to is what the step says.
+use Rattle.std.proofs.Common.{◌≡◌, ℕ, Bool, true, false, List, [], ◌∷◌, ◌++◌, map, ap, sym, subst, ◌∙◌, refl, IfSome, Ok}
+use Rattle.std.proofs.lemmas.List.{append-nil, append_assoc, map-append}
+use Rattle.uug_link.specs.declared.phase.Phase.{Phase}
+use Rattle.uug_link.specs.declared.phase.Phase.TheVariants as phases
+use Rattle.uug_link.specs.Entries.{EntryValue}
+use Rattle.uug_link.specs.declared.outcome.Outcome.{Outcome}
+use Rattle.uug_link.specs.declared.outcome.Outcome.TheVariants.{Nothing, Up, Taken, Closed}
+use Rattle.uug_link.specs.Follows.{answered, written}
+use Rattle.uug_link.specs.Outcomes.{MovesPhase}
+use Rattle.uug_link.specs.State.{State}
+use Rattle.uug_link.specs.Step.{Effect, Emission, OutcomeValue, up, taken, step, to_begin, to_close}
+use Rattle.uug_packet.specs.Packet.{PacketValue}
+use Rattle.uug_session.specs.declared.end.End.{End}
+use Rattle.uug_session.specs.declared.end.End.TheVariants as ends
+use Rattle.uug_session.specs.declared.greeting.Greeted.{Greeted}
+use Rattle.uug_session.specs.declared.greeting.Greeted.TheVariants.{GoesOn, LinkBegins, Ended}
+use Rattle.uug_session.specs.EndStep.{Stage, linked, ended, EndEffect, EndState, Emitted, says_text, Identity, begins_link, behind_link, ends_so, goes_on, goes_on_with, greeted_so, how_it_ends, is_up, late_link, leave, packets, sending_nothing, speaks_by, takes_by, talks_by, then_closes}
+use Rattle.uug_session.specs.Engine.{Does, EngineState, Spoken, StandsStill, TakesUp, after_speaking, end_of, entry_of, packet_effect, spoken_of, spoken_with}
+use Rattle.uug_session.specs.Holdings.{Kept, Holdings}
+use Rattle.uug_session.specs.Keeper.{Keeper}
+use Rattle.uug_session.specs.Says.{entry_of_text}
+use Rattle.uug_session.specs.Talk.{Talk, end_keeper}
+use Rattle.uug_session.specs.Talking.{talk_of}
+use Rattle.uug_session.specs.Turns.{Side, caller, called}
+
+-- packets stand in an outbox as they are written
+pub packets_written : (es : List Emission) → map entry_of (packets es) ≡ map written es
+packets_written [] = refl
+packets_written (e ∷ es) = ap (λ (rest : List EntryValue). written e ∷ rest) (packets_written es)
+
+-- a link that answered Taken is up, before and after it
+pub taken_is_up : (o : OutcomeValue) (before after : Phase) → o ≡ taken → MovesPhase o before after
+    → (before ≡ phases.Up) × (after ≡ phases.Up)
+taken_is_up o before after e moves = subst (λ (x : OutcomeValue). MovesPhase x before after) e moves
+
+pub come_up : (o : OutcomeValue) (before after : Phase) → o ≡ up → MovesPhase o before after → after ≡ phases.Up
+come_up o before after e moves = (subst (λ (x : OutcomeValue). MovesPhase x before after) e moves).1
+
+-- ---- the session goes on
+
+-- behind these packets
+entries_behind : (entries : List EntryValue) (es more : List Emission)
+    → (entries ++ map written es) ++ map written more ≡ entries ++ map entry_of (packets (es ++ more))
+entries_behind entries es more =
+    append_assoc entries (map written es) (map written more)
+    ∙ ap (λ (x : List EntryValue). entries ++ x) (sym (map-append written es more) ∙ sym (packets_written (es ++ more)))
+
+-- the end that speaks is told by its parts
+speaks_from : (h : Holdings) (kept : List Kept) (id : Identity) (e : Effect) (entries : List EntryValue) (middle : EngineState)
+    → middle.link ≡ e.state → middle.outbox.entries ≡ entries ++ map written e.emitted → middle.identity ≡ id
+    → after_speaking h kept middle
+    ≡ spoken_with (entries ++ map written e.emitted) (speaks_by (is_up e.state.phase) (end_keeper id.side h) e.state (talk_of h kept middle.talking))
+speaks_from h kept id e entries middle link emitted identity =
+    let talk = talk_of h kept middle.talking in
+    ap (λ (x : State). spoken_with middle.outbox.entries (speaks_by (is_up x.phase) (end_keeper middle.identity.side h) x talk)) link
+    ∙ ap (λ (x : List EntryValue). spoken_with x (speaks_by (is_up e.state.phase) (end_keeper middle.identity.side h) e.state talk)) emitted
+    ∙ ap (λ (x : Identity). spoken_with (entries ++ map written e.emitted) (speaks_by (is_up e.state.phase) (end_keeper x.side h) e.state talk)) identity
+
+pub goes_on_does : (h : Holdings) (kept : List Kept) (took : Bool) (e : Effect) (before middle after : EngineState)
+    → middle.link ≡ e.state → middle.outbox.entries ≡ before.outbox.entries ++ map written e.emitted
+    → middle.stage ≡ linked → middle.identity ≡ before.identity → middle.own ≡ before.own
+    → spoken_of h kept after ≡ after_speaking h kept middle → StandsStill middle after
+    → Does (goes_on (end_keeper before.identity.side h) took e (talk_of h kept middle.talking)) (end_of h kept after) before after
+goes_on_does h kept took e before middle after link emitted stage identity own spoken still =
+    let x = speaks_by (is_up e.state.phase) (end_keeper before.identity.side h) e.state (talk_of h kept middle.talking) in
+    let all : spoken_of h kept after ≡ spoken_with (before.outbox.entries ++ map written e.emitted) x =
+    spoken ∙ speaks_from h kept before.identity e before.outbox.entries middle link emitted identity in
+    let linked_end : Spoken → EndState Talk = λ s. record { stage = linked; link = s.link; keeper = s.talk } in
+    let at_stage : Stage → EndState Talk = λ s. record { stage = s; link = after.link; keeper = talk_of h kept after.talking } in
+    record {
+      end = ap at_stage (still.stage ∙ stage) ∙ ap linked_end all;
+      emitted = ap (λ (s : Spoken). s.entries) all ∙ entries_behind before.outbox.entries e.emitted x.emissions;
+      identity = still.identity ∙ identity;
+      own = still.own ∙ own;
+    }
+
+-- ---- the session is over
+
+pub ends_does : {C : Type 0} (id : Identity) (has_parted : Bool) (how : End) (e : Effect) (c c_after : C) (took : Bool) (before after : EngineState)
+    → after.stage ≡ ended (how_it_ends has_parted how) → after.link ≡ e.state → c_after ≡ c
+    → after.outbox.entries ≡ (before.outbox.entries ++ map written e.emitted) ++ map entry_of (leave has_parted id.side)
+    → after.identity ≡ before.identity → after.own ≡ before.own
+    → Does (ends_so id has_parted how e c took) (record { stage = after.stage; link = after.link; keeper = c_after }) before after
+ends_does {C} id has_parted how e c c_after took before after stage link keeper emitted identity own =
+    let by_stage : Stage → EndState C = λ x. record { stage = x; link = after.link; keeper = c_after } in
+    let by_link : State → EndState C = λ x. record { stage = ended (how_it_ends has_parted how); link = x; keeper = c_after } in
+    let by_keeper : C → EndState C = λ x. record { stage = ended (how_it_ends has_parted how); link = e.state; keeper = x } in
+    record {
+      end = ap by_stage stage ∙ ap by_link link ∙ ap by_keeper keeper;
+      emitted = emitted ∙ append_assoc before.outbox.entries (map written e.emitted) (map entry_of (leave has_parted id.side))
+          ∙ ap (λ (x : List EntryValue). before.outbox.entries ++ x)
+          (ap (λ (x : List EntryValue). x ++ map entry_of (leave has_parted id.side)) (sym (packets_written e.emitted))
+          ∙ sym (map-append entry_of (packets e.emitted) (leave has_parted id.side)));
+      identity = identity;
+      own = own;
+    }
+
+-- by an outcome that is known
+pub by_outcome : (k : Keeper Talk) (id : Identity) (device_failed : Bool) (o : OutcomeValue) (e : Effect) (message : List ℕ) (talk : Talk)
+    (end_after : EndState Talk) (before after : EngineState) → o ≡ e.outcome
+    → Does (behind_link k id device_failed o e message talk) end_after before after
+    → Does (behind_link k id device_failed e.outcome e message talk) end_after before after
+by_outcome k id device_failed o e message talk end_after before after is does =
+    subst (λ (x : OutcomeValue). Does (behind_link k id device_failed x e message talk) end_after before after) is does
+
+-- CLOSE stands behind what the link emitted
+pub closed_behind : (e : Effect) (link : State) (entries entries_then entries_after : List EntryValue)
+    → link ≡ e.state → entries_then ≡ entries ++ map written e.emitted
+    → entries_after ≡ entries_then ++ map written (step link to_close).emitted
+    → entries_after ≡ entries ++ map written (then_closes e).emitted
+closed_behind e link entries entries_then entries_after same before after =
+    after ∙ ap (λ (x : List EntryValue). x ++ map written (step link to_close).emitted) before
+    ∙ ap (λ (s : State). (entries ++ map written e.emitted) ++ map written (step s to_close).emitted) same
+    ∙ append_assoc entries (map written e.emitted) (map written (step e.state to_close).emitted)
+    ∙ ap (λ (x : List EntryValue). entries ++ x) (sym (map-append written e.emitted (step e.state to_close).emitted))
+
+-- ---- a message was taken
+
+pub taken_bad : (k : Keeper Talk) (id : Identity) (e : Effect) (message : List ℕ) (talk : Talk)
+    → e.outcome ≡ taken → k.is_bad (k.taking message talk) ≡ true
+    → behind_link k id false e.outcome e message talk
+    ≡ ends_so id (k.has_parted talk) ends.BadTalk (then_closes e) (k.taking message talk) true
+taken_bad k id e message talk outcome bad =
+    ap (λ (o : OutcomeValue). behind_link k id false o e message talk) outcome
+    ∙ ap (λ (b : Bool). talks_by b k id e talk (k.taking message talk)) bad
+
+pub taken_well : (k : Keeper Talk) (id : Identity) (e : Effect) (message : List ℕ) (talk : Talk)
+    → e.outcome ≡ taken → k.is_bad (k.taking message talk) ≡ false
+    → behind_link k id false e.outcome e message talk ≡ goes_on k true e (k.taking message talk)
+taken_well k id e message talk outcome well =
+    ap (λ (o : OutcomeValue). behind_link k id false o e message talk) outcome
+    ∙ ap (λ (b : Bool). talks_by b k id e talk (k.taking message talk)) well
+
+pub taken_failed : (k : Keeper Talk) (id : Identity) (e : Effect) (message : List ℕ) (talk : Talk)
+    → e.outcome ≡ taken → k.asks_spool message talk ≡ true
+    → behind_link k id true e.outcome e message talk
+    ≡ ends_so id (k.has_parted talk) ends.SpoolFault (then_closes e) talk true
+taken_failed k id e message talk outcome asked =
+    ap (λ (o : OutcomeValue). behind_link k id true o e message talk) outcome
+    ∙ ap (λ (b : Bool). takes_by b k id e message talk) asked
+
+-- an effect that is known
+pub takes_up : (h : Holdings) (kept kept_after : List Kept) (failure : Type 0) (device_failed : Bool) (p : PacketValue) (before after : EngineState)
+    (e : EndEffect Talk) → packet_effect h kept device_failed p before ≡ e → Does e (end_of h kept_after after) before after
+    → e.took ≡ true → (device_failed ≡ true → failure)
+    → TakesUp h kept kept_after failure p before after true
+takes_up h kept kept_after failure device_failed p before after e is does took device = record {
+  device_failed = device_failed;
+  does = subst (λ (x : EndEffect Talk). Does x (end_of h kept_after after) before after) (sym is) does;
+  answer = sym (ap (λ (x : EndEffect Talk). x.took) is ∙ took);
+  device = device;
+}
+
+-- ---- a greeting
+
+texts_written : (texts : List (List ℕ)) → map entry_of (map says_text texts) ≡ map entry_of_text texts
+texts_written [] = refl
+texts_written (text ∷ texts) = ap (λ (rest : List EntryValue). entry_of_text text ∷ rest) (texts_written texts)
+
+begun_behind : {C : Type 0} (side : Side) (said : List Emitted) (s : State) (c : C)
+    → map entry_of (begins_link side s c said).emitted ≡ map entry_of said ++ map entry_of (begins_link side s c []).emitted
+begun_behind caller said s c = map-append entry_of said (packets (step s to_begin).emitted)
+begun_behind called said s c = sym (append-nil (map entry_of said))
+
+begun_state : {C : Type 0} (side : Side) (said : List Emitted) (s : State) (c : C)
+    → (begins_link side s c said).state ≡ (begins_link side s c []).state
+begun_state caller said s c = refl
+begun_state called said s c = refl
+
+led_behind : {C : Type 0} (id : Identity) (greeted : Greeted) (said : List Emitted) (s : State) (c : C)
+    → map entry_of (greeted_so id greeted said s c).emitted
+    ≡ map entry_of said ++ map entry_of (greeted_so id greeted [] s c).emitted
+led_behind id (GoesOn g) said s c = sym (append-nil (map entry_of said))
+led_behind id LinkBegins said s c = begun_behind id.side said s c
+led_behind id (Ended how) said s c = sym (append-nil (map entry_of said))
+
+led_state : {C : Type 0} (id : Identity) (greeted : Greeted) (said : List Emitted) (s : State) (c : C)
+    → (greeted_so id greeted said s c).state ≡ (greeted_so id greeted [] s c).state
+led_state id (GoesOn g) said s c = refl
+led_state id LinkBegins said s c = begun_state id.side said s c
+led_state id (Ended how) said s c = refl
+
+-- what was said for it stands in front of what the greeting has led to
+pub greeted_does : {C : Type 0} (id : Identity) (greeted : Greeted) (texts : List (List ℕ)) (s : State) (c : C)
+    (end_after : EndState C) (before middle after : EngineState)
+    → middle.outbox.entries ≡ before.outbox.entries ++ map entry_of_text texts
+    → middle.identity ≡ before.identity → middle.own ≡ before.own
+    → Does (greeted_so id greeted [] s c) end_after middle after
+    → Does (greeted_so id greeted (map says_text texts) s c) end_after before after
+greeted_does id greeted texts s c end_after before middle after said identity own does = record {
+  end = does.end ∙ sym (led_state id greeted (map says_text texts) s c);
+  emitted = does.emitted
+      ∙ ap (λ (x : List EntryValue). x ++ map entry_of (greeted_so id greeted [] s c).emitted) said
+      ∙ append_assoc before.outbox.entries (map entry_of_text texts) (map entry_of (greeted_so id greeted [] s c).emitted)
+      ∙ ap (λ (x : List EntryValue). before.outbox.entries ++ x)
+      (ap (λ (x : List EntryValue). x ++ map entry_of (greeted_so id greeted [] s c).emitted) (sym (texts_written texts))
+      ∙ sym (led_behind id greeted (map says_text texts) s c));
+  identity = does.identity ∙ identity;
+  own = does.own ∙ own;
+}
+
+-- ---- nothing has come for some time
+
+pub late_by : {C : Type 0} (id : Identity) (has_parted : Bool) (o : OutcomeValue) (e : Effect) (c : C) (end_after : EndState C) (before after : EngineState)
+    → o ≡ e.outcome → Does (late_link id has_parted o e c) end_after before after
+    → Does (late_link id has_parted e.outcome e c) end_after before after
+late_by id has_parted o e c end_after before after is does =
+    subst (λ (x : OutcomeValue). Does (late_link id has_parted x e c) end_after before after) is does
+
+pub quiet_does : {C : Type 0} (e : Effect) (c : C) (before after : EngineState)
+    → after.stage ≡ linked → after.link ≡ e.state → after.outbox.entries ≡ before.outbox.entries ++ map written e.emitted
+    → after.identity ≡ before.identity → after.own ≡ before.own
+    → Does (goes_on_with false e.emitted (sending_nothing e.state c)) (record { stage = after.stage; link = after.link; keeper = c }) before after
+quiet_does {C} e c before after stage link emitted identity own =
+    let by_stage : Stage → EndState C = λ x. record { stage = x; link = after.link; keeper = c } in
+    let by_link : State → EndState C = λ x. record { stage = linked; link = x; keeper = c } in
+    record {
+      end = ap by_stage stage ∙ ap by_link link;
+      emitted = emitted ∙ ap (λ (x : List EntryValue). before.outbox.entries ++ x)
+          (sym (packets_written e.emitted) ∙ ap (λ (x : List Emission). map entry_of (packets x)) (sym (append-nil e.emitted)));
+      identity = identity;
+      own = own;
+    }
+
+-- ---- what the link left, by what it answered
+
+pub link_after : (P : Type 0) (o : Outcome) → IfSome (answered (Ok o)) (λ _. P) → P
+link_after P Nothing told = told
+link_after P Up told = told
+link_after P Taken told = told
+link_after P Closed told = told
+
+pub not_so : (P : Type 0) → false ≡ true → P
+not_so P e = absurd cc

@@ -1,0 +1,196 @@
+-- An end sends what it has to say while there is room, and closes its link where all is over.
+use Rattle.std.proofs.Common.{◌≡◌, ◌<◌, ◌&&◌, ℕ, zero, suc, Bool, true, false, nat_lt, if◌then◌else◌, List, [], ◌∷◌, ◌++◌, length, map, Option, Some, None, ap, sym, ◌∙◌, IsTrue, ◌↔◌, refl, arith}
+use Rattle.std.proofs.lemmas.Bool.Decides.{nat_tests}
+use Rattle.std.proofs.lemmas.List.{append-nil, append_assoc, map-append}
+use Rattle.uug_link.specs.declared.limits.TheConstants.{WINDOW_MAX}
+use Rattle.uug_link.specs.declared.phase.Phase.{Phase}
+use Rattle.uug_link.specs.declared.phase.Phase.TheVariants as phases
+use Rattle.uug_link.specs.Entries.{EntryValue}
+use Rattle.uug_link.specs.Follows.{written}
+use Rattle.uug_link.specs.State.{State, HasRoom, IsUp, is_halted}
+use Rattle.uug_link.specs.Step.{Emission, answers_halted, on_event, step, to_close, to_send}
+use Rattle.uug_session.specs.EndStep.{Sending, closes_by, has_room, in_front, is_up, sending_nothing, sends_by, sends_next, sends_up_to, speaks_by}
+use Rattle.uug_session.specs.Engine.{EngineState, Spoken, after_sends, after_speaking, spoken_of, spoken_with}
+use Rattle.uug_session.specs.Holdings.{Kept, Holdings}
+use Rattle.uug_session.specs.Keeper.{Keeper}
+use Rattle.uug_session.specs.Runs.{is_over}
+use Rattle.uug_session.specs.Talk.{Talk, behind_first, end_keeper, first_of, has_parted_by, is_through, talk_has_parted, with_first_sent}
+use Rattle.uug_session.specs.Talking.{Talking, talk_of, talking_has_parted, talking_is_through}
+use Rattle.uug_session.proofs.OutgoingLemmas.{silent_is_empty}
+
+-- ---- whether there is room
+
+up_and_below : (phase : Phase) (unacked window : ℕ) (b : Bool)
+    → (IsTrue b ↔ ((phase ≡ phases.Up) × (unacked < window)))
+    → (if is_up phase then nat_lt unacked window else false) ≡ b
+up_and_below phases.Up unacked window b told = grind (arith, nat_tests)
+up_and_below phases.Fresh unacked window b told = grind (arith, nat_tests)
+up_and_below phases.AwaitsInitA unacked window b told = grind (arith, nat_tests)
+up_and_below phases.AwaitsInitB unacked window b told = grind (arith, nat_tests)
+up_and_below phases.AwaitsInitC unacked window b told = grind (arith, nat_tests)
+up_and_below phases.Closing unacked window b told = grind (arith, nat_tests)
+up_and_below phases.Halted unacked window b told = grind (arith, nat_tests)
+
+-- what the link tells is what the definitions ask
+pub room_told : (s : State) (b : Bool) → (IsTrue b ↔ HasRoom s) → has_room s ≡ b
+room_told s b told = up_and_below s.phase (length s.unacked) s.window b told
+
+-- ---- no more goes out
+
+pub no_room : {C : Type 0} (k : Keeper C) (n : ℕ) (s : State) (c : C) → has_room s ≡ false
+    → sends_up_to n k s c ≡ sending_nothing s c
+no_room k zero s c e = refl
+no_room k (suc n) s c e = ap (λ (b : Bool). sends_by b (sends_up_to n k) k s c) e
+
+with_nothing : {C : Type 0} (k : Keeper C) (more : State → C → Sending C) (room : Bool) (s : State) (c : C) → k.next c ≡ None
+    → sends_by room more k s c ≡ sending_nothing s c
+with_nothing k more false s c e = refl
+with_nothing k more true s c e = ap (λ (o : Option (List ℕ)). sends_next more k o s c) e
+
+pub nothing_next : {C : Type 0} (k : Keeper C) (n : ℕ) (s : State) (c : C) → k.next c ≡ None
+    → sends_up_to n k s c ≡ sending_nothing s c
+nothing_next k zero s c e = refl
+nothing_next k (suc n) s c e = with_nothing k (sends_up_to n k) (has_room s) s c e
+
+-- so the end is as it was
+pub stays_so : (entries : List EntryValue) (x : Sending Talk) (s : State) (talk : Talk) → x ≡ sending_nothing s talk
+    → spoken_with entries x ≡ record { link = s; talk = talk; entries = entries }
+stays_so entries x s talk e =
+    let so : List EntryValue → Spoken = λ es. record { link = s; talk = talk; entries = es } in
+    ap (spoken_with entries) e ∙ ap so (append-nil entries)
+
+-- ---- nothing is left to say
+
+no_first : (messages : List (List ℕ)) → first_of messages ≡ None → behind_first messages ≡ messages
+no_first [] e = refl
+no_first (message ∷ messages) e = grind arith
+
+unsent : (talk : Talk) → first_of talk.waiting ≡ None → with_first_sent talk ≡ talk
+unsent talk e =
+    let so : List (List ℕ) → Talk = λ waiting. record talk { waiting = waiting } in
+    ap so (no_first talk.waiting e)
+
+pub says_nothing_more : (n : ℕ) (h : Holdings) (kept : List Kept) (e : EngineState) (after : Talking)
+    → first_of (talk_of h kept e.talking).waiting ≡ None
+    → talk_of h kept after ≡ with_first_sent (talk_of h kept e.talking)
+    → after_sends n h kept e ≡ record { link = e.link; talk = talk_of h kept after; entries = e.outbox.entries }
+says_nothing_more n h kept e after none sent =
+    let talk = talk_of h kept e.talking in
+    let so : Talk → Spoken = λ t. record { link = e.link; talk = t; entries = e.outbox.entries } in
+    stays_so e.outbox.entries _ e.link talk (nothing_next (end_keeper e.identity.side h) n e.link talk none)
+    ∙ ap so (sym (sent ∙ unsent talk none))
+
+-- ---- one message goes out
+
+spoken_in_front : (entries : List EntryValue) (es : List Emission) (x : Sending Talk)
+    → spoken_with entries (in_front es x) ≡ spoken_with (entries ++ map written es) x
+spoken_in_front entries es x =
+    let so : List EntryValue → Spoken = λ all. record { link = x.link; talk = x.keeper; entries = all } in
+    ap so (ap (λ (more : List EntryValue). entries ++ more) (map-append written es x.emissions)
+    ∙ sym (append_assoc entries (map written es) (map written x.emissions)))
+
+sends_first : {C : Type 0} (k : Keeper C) (n : ℕ) (s : State) (c : C) (message : List ℕ)
+    → has_room s ≡ true → k.next c ≡ Some message
+    → sends_up_to (suc n) k s c ≡ in_front (step s (to_send message)).emitted (sends_up_to n k (step s (to_send message)).state (k.sent c))
+sends_first k n s c message room next =
+    ap (λ (b : Bool). sends_by b (sends_up_to n k) k s c) room
+    ∙ ap (λ (o : Option (List ℕ)). sends_next (sends_up_to n k) k o s c) next
+
+pub one_goes_out : (n : ℕ) (h : Holdings) (kept : List Kept) (e : EngineState) (link : State) (after : Talking) (entries : List EntryValue) (message : List ℕ)
+    → has_room e.link ≡ true → first_of (talk_of h kept e.talking).waiting ≡ Some message
+    → talk_of h kept after ≡ with_first_sent (talk_of h kept e.talking)
+    → link ≡ (step e.link (to_send message)).state
+    → entries ≡ e.outbox.entries ++ map written (step e.link (to_send message)).emitted
+    → after_sends (suc n) h kept e
+    ≡ spoken_with entries (sends_up_to n (end_keeper e.identity.side h) link (talk_of h kept after))
+one_goes_out n h kept e link after entries message room next sent moved emitted =
+    let k = end_keeper e.identity.side h in
+    let talk = talk_of h kept e.talking in
+    ap (spoken_with e.outbox.entries) (sends_first k n e.link talk message room next)
+    ∙ spoken_in_front e.outbox.entries _ _
+    ∙ ap (λ (all : List EntryValue). spoken_with all (sends_up_to n k (step e.link (to_send message)).state (with_first_sent talk))) (sym emitted)
+    ∙ ap (λ (s : State). spoken_with entries (sends_up_to n k s (with_first_sent talk))) (sym moved)
+    ∙ ap (λ (t : Talk). spoken_with entries (sends_up_to n k link t)) (sym sent)
+
+-- the link emits one packet for it, and stays up
+sends_one_from : (phase : Phase) (s : State) (message : List ℕ) → s.phase ≡ phase → phase ≡ phases.Up
+    → length (step s (to_send message)).emitted ≡ 1
+sends_one_from phase s message e up = ap (λ (b : Bool). length (if b then answers_halted s else on_event (to_send message) s).emitted) (ap is_halted (e ∙ up))
+
+pub sends_one : (s : State) (message : List ℕ) → IsUp s → length (step s (to_send message)).emitted ≡ 1
+sends_one s message up = sends_one_from s.phase s message refl up
+
+-- ---- what the code asks of its conversation is what the definitions ask
+
+pub is_through_told : (h : Holdings) (kept : List Kept) (t : Talking) → talking_is_through t ≡ is_through (talk_of h kept t)
+is_through_told h kept t = ap (λ (b : Bool). is_over t.machine.awaits && b) (silent_is_empty h t.size t.outgoing)
+
+pub has_parted_told : (h : Holdings) (kept : List Kept) (t : Talking) → talking_has_parted t ≡ talk_has_parted (talk_of h kept t)
+has_parted_told h kept t = ap (has_parted_by t.machine.awaits) (silent_is_empty h t.size t.outgoing)
+
+-- ---- behind the sends
+
+abbrev all_sent : Holdings → List Kept → EngineState → Sending Talk
+all_sent h kept e = sends_up_to WINDOW_MAX (end_keeper e.identity.side h) e.link (talk_of h kept e.talking)
+
+speaks_up : (h : Holdings) (kept : List Kept) (e : EngineState) → IsUp e.link
+    → after_speaking h kept e ≡ spoken_with e.outbox.entries (closes_by (is_through (all_sent h kept e).keeper) (all_sent h kept e))
+speaks_up h kept e up =
+    let k = end_keeper e.identity.side h in
+    ap (λ (b : Bool). spoken_with e.outbox.entries (speaks_by b k e.link (talk_of h kept e.talking))) (ap is_up up)
+
+-- the keeper's answer is that of the end which has sent
+through_then : (h : Holdings) (kept : List Kept) (e sent : EngineState)
+    → spoken_of h kept sent ≡ after_sends WINDOW_MAX h kept e
+    → is_through (all_sent h kept e).keeper ≡ talking_is_through sent.talking
+through_then h kept e sent is =
+    ap (λ (x : Spoken). is_through x.talk) (sym is) ∙ sym (is_through_told h kept sent.talking)
+
+pub goes_on_open : (h : Holdings) (kept : List Kept) (e sent : EngineState) → IsUp e.link
+    → spoken_of h kept sent ≡ after_sends WINDOW_MAX h kept e → talking_is_through sent.talking ≡ false
+    → spoken_of h kept sent ≡ after_speaking h kept e
+goes_on_open h kept e sent up is open_still =
+    is ∙ sym (speaks_up h kept e up
+    ∙ ap (λ (b : Bool). spoken_with e.outbox.entries (closes_by b (all_sent h kept e))) (through_then h kept e sent is ∙ open_still))
+
+pub closes_behind : (h : Holdings) (kept : List Kept) (e sent closed : EngineState) → IsUp e.link
+    → spoken_of h kept sent ≡ after_sends WINDOW_MAX h kept e → talking_is_through sent.talking ≡ true
+    → closed.link ≡ (step sent.link to_close).state
+    → closed.outbox.entries ≡ sent.outbox.entries ++ map written (step sent.link to_close).emitted
+    → closed.talking ≡ sent.talking
+    → spoken_of h kept closed ≡ after_speaking h kept e
+closes_behind h kept e sent closed up is through link emitted talking =
+    let x = all_sent h kept e in
+    let comes_to : State → Talking → List EntryValue → Spoken = λ s t es. record { link = s; talk = talk_of h kept t; entries = es } in
+    let close_of : Spoken → Spoken = λ y. record { link = (step y.link to_close).state; talk = y.talk; entries = y.entries ++ map written (step y.link to_close).emitted } in
+    let so : List EntryValue → Spoken = λ es. record { link = (step x.link to_close).state; talk = x.keeper; entries = es } in
+    ap (λ (s : State). comes_to s closed.talking closed.outbox.entries) link
+    ∙ ap (λ (t : Talking). comes_to (step sent.link to_close).state t closed.outbox.entries) talking
+    ∙ ap (λ (es : List EntryValue). comes_to (step sent.link to_close).state sent.talking es) emitted
+    ∙ ap close_of is
+    ∙ ap so (append_assoc e.outbox.entries (map written x.emissions) (map written (step x.link to_close).emitted)
+    ∙ ap (λ (es : List EntryValue). e.outbox.entries ++ es) (sym (map-append written x.emissions (step x.link to_close).emitted)))
+    ∙ sym (speaks_up h kept e up
+    ∙ ap (λ (b : Bool). spoken_with e.outbox.entries (closes_by b x)) (through_then h kept e sent is ∙ through))
+
+pub says_nothing_down : (h : Holdings) (kept : List Kept) (e : EngineState) → is_up e.link.phase ≡ false
+    → spoken_of h kept e ≡ after_speaking h kept e
+says_nothing_down h kept e down =
+    let talk = talk_of h kept e.talking in
+    sym (stays_so e.outbox.entries _ e.link talk
+    (ap (λ (b : Bool). speaks_by b (end_keeper e.identity.side h) e.link talk) down))
+
+up_by : (phase : Phase) (b : Bool) → (IsTrue b ↔ (phase ≡ phases.Up)) → is_up phase ≡ b
+up_by phases.Up b told = grind arith
+up_by phases.Fresh b told = grind arith
+up_by phases.AwaitsInitA b told = grind arith
+up_by phases.AwaitsInitB b told = grind arith
+up_by phases.AwaitsInitC b told = grind arith
+up_by phases.Closing b told = grind arith
+up_by phases.Halted b told = grind arith
+
+pub up_told : (s : State) (b : Bool) → (IsTrue b ↔ IsUp s) → is_up s.phase ≡ b
+up_told s b told = up_by s.phase b told
+
+pub up_from : (s : State) (b : Bool) → (IsTrue b ↔ IsUp s) → b ≡ true → IsUp s
+up_from s b told e = grind arith

@@ -1,0 +1,17 @@
+use Rattle.std.proofs.Common.{◌≡◌, ap, ◌∙◌}
+use Rattle.uug_link.specs.State.{State}
+use Rattle.uug_link.specs.Step.{step, packet_found}
+use Rattle.uug_packet.specs.Packet.{shown}
+use Rattle.uug_session.specs.Engine.{EngineState}
+use Rattle.uug_session.proofs.EngineLemmas.{link_after, taken_is_up}
+use Rattle.uug_session.proofs.engine.Engine.answer.Goals as goal
+
+pub returns-clause-up : goal.returns-clause-up
+returns-clause-up g c =
+    let p = shown c.args.packet.now in
+    let s = c.self.inside.link in
+    let after : State = (step s (packet_found p)).state in
+    ap (λ (x : State). x.phase) (link_after (c.on_packet.new.self ≡ after) c.in-Ok._taken c.in-Ok.ensures.state)
+    ∙ (taken_is_up (step s (packet_found p)).outcome s.phase after.phase
+    (ap (λ (x : EngineState). (step x.link (packet_found p)).outcome) c.self.view_is ∙ c.requires.taken)
+    (c.what_a_link_answers.ensures.phases s (packet_found p) tt)).1

@@ -1,0 +1,113 @@
+use Rattle.std.proofs.Common.{◌≡◌, ℕ, Bool, false, ◌++◌, map, subst, ap, ◌∙◌, refl, Ok}
+use Rattle.uug_link.specs.Announced.{announced}
+use Rattle.uug_link.specs.declared.outcome.Outcome.{Outcome}
+use Rattle.uug_link.specs.Follows.{Follows, answered}
+use Rattle.uug_link.specs.State.{State}
+use Rattle.uug_link.specs.Step.{Effect, step, packet_found, nothing, up, closed}
+use Rattle.uug_link.specs.Terms.{size_of_code}
+use Rattle.uug_packet.specs.Packet.{shown}
+use Rattle.uug_session.specs.declared.end.End.TheVariants as ends
+use Rattle.uug_session.specs.EndStep.{ends_so, goes_on, leave, message_of}
+use Rattle.uug_session.specs.Engine.{Does, EngineState, end_of, entry_of, packet_effect, stage_of}
+use Rattle.uug_session.specs.Side.{side_of}
+use Rattle.uug_session.specs.Talk.{Talk, end_keeper, opened_with}
+use Rattle.uug_session.specs.Talking.{talk_of}
+use Rattle.uug_session.proofs.EngineLemmas.{by_outcome, ends_does, goes_on_does}
+use Rattle.uug_session.proofs.SpeakLemmas.{has_parted_told}
+use Rattle.uug_session.proofs.engine.Engine.hear.Goals as goal
+
+pub returns-in-Ok-Nothing : goal.returns-in-Ok-Nothing
+returns-in-Ok-Nothing g c =
+    let h = g.S.Spool.holdings c.args.spool.now in
+    let kept = g.S.Spool.kept c.args.spool.now in
+    let p = shown c.args.packet.now in
+    let i = c.self.inside in
+    let b : EngineState = record {
+      identity = record { side = side_of i.side; me = i.place.me; peer = i.place.peer };
+      own = announced i.place.announce;
+      stage = stage_of i.stage;
+      link = i.link;
+      talking = i.dialogue;
+      outbox = i.outbox;
+    } in
+    let m : EngineState = record {
+      identity = b.identity;
+      own = b.own;
+      stage = b.stage;
+      link = c.on_packet.new.self;
+      talking = i.dialogue;
+      outbox = c.on_packet.new.out;
+    } in
+    let e : Effect = step i.link (packet_found p) in
+    let told = subst (λ (o : Outcome). Follows e i.link c.on_packet.new.self i.outbox c.on_packet.new.out (answered (Ok o)))
+    c.in-Ok-Nothing.field-0-is c.in-Ok-Nothing.ensures in
+    let after = c.speak.new.self in
+    subst (λ (x : EngineState). Does (packet_effect h kept false p x) (end_of h kept after) x after) c.self.view_is
+    (by_outcome (end_keeper b.identity.side h) b.identity false nothing e (message_of p) (talk_of h kept b.talking) (end_of h kept after) b after told.outcome
+    (goes_on_does h kept false e b m after told.state told.emitted
+    (ap (λ (x : EngineState). x.stage) c.self.view_is ∙ c.requires.linked) refl refl c.speak.ensures.spoken c.speak.ensures.still))
+
+pub returns-in-Ok-Up : goal.returns-in-Ok-Up
+returns-in-Ok-Up g c =
+    let h = g.S.Spool.holdings c.args.spool.now in
+    let kept = g.S.Spool.kept c.args.spool.now in
+    let p = shown c.args.packet.now in
+    let i = c.self.inside in
+    let b : EngineState = record {
+      identity = record { side = side_of i.side; me = i.place.me; peer = i.place.peer };
+      own = announced i.place.announce;
+      stage = stage_of i.stage;
+      link = i.link;
+      talking = i.dialogue;
+      outbox = i.outbox;
+    } in
+    let m : EngineState = record {
+      identity = b.identity;
+      own = b.own;
+      stage = b.stage;
+      link = c.on_packet.new.self;
+      talking = c.open.new.self;
+      outbox = c.on_packet.new.out;
+    } in
+    let e : Effect = step i.link (packet_found p) in
+    let told = subst (λ (o : Outcome). Follows e i.link c.on_packet.new.self i.outbox c.on_packet.new.out (answered (Ok o)))
+    c.in-Ok-Up.field-0-is c.in-Ok-Up.ensures in
+    let after = c.speak-in-Ok-Up.new.self in
+    let talk = talk_of h kept b.talking in
+    let opened : talk_of h kept c.open.new.self ≡ opened_with b.identity.side h (size_of_code e.state.size_code) talk =
+    c.open.ensures.opened ∙ ap (λ (n : ℕ). opened_with b.identity.side h n talk)
+    (c.size-size.ensures.value ∙ ap (λ (s : State). size_of_code s.size_code) told.state) in
+    subst (λ (x : EngineState). Does (packet_effect h kept false p x) (end_of h kept after) x after) c.self.view_is
+    (by_outcome (end_keeper b.identity.side h) b.identity false up e (message_of p) talk (end_of h kept after) b after told.outcome
+    (subst (λ (t : Talk). Does (goes_on (end_keeper b.identity.side h) false e t) (end_of h kept after) b after) opened
+    (goes_on_does h kept false e b m after told.state told.emitted
+    (ap (λ (x : EngineState). x.stage) c.self.view_is ∙ c.requires.linked) refl refl c.speak-in-Ok-Up.ensures.spoken c.speak-in-Ok-Up.ensures.still)))
+
+pub returns-in-Ok-Closed : goal.returns-in-Ok-Closed
+returns-in-Ok-Closed g c =
+    let h = g.S.Spool.holdings c.args.spool.now in
+    let kept = g.S.Spool.kept c.args.spool.now in
+    let p = shown c.args.packet.now in
+    let i = c.self.inside in
+    let b : EngineState = record {
+      identity = record { side = side_of i.side; me = i.place.me; peer = i.place.peer };
+      own = announced i.place.announce;
+      stage = stage_of i.stage;
+      link = i.link;
+      talking = i.dialogue;
+      outbox = i.outbox;
+    } in
+    let e : Effect = step i.link (packet_found p) in
+    let told = subst (λ (o : Outcome). Follows e i.link c.on_packet.new.self i.outbox c.on_packet.new.out (answered (Ok o)))
+    c.in-Ok-Closed.field-0-is c.in-Ok-Closed.ensures in
+    let after = c.finish.new.self in
+    let done = c.finish.ensures in
+    let talk = talk_of h kept b.talking in
+    let parted = c.has_parted-has_parted.ensures ∙ has_parted_told h kept b.talking in
+    subst (λ (x : EngineState). Does (packet_effect h kept false p x) (end_of h kept after) x after) c.self.view_is
+    (by_outcome (end_keeper b.identity.side h) b.identity false closed e (message_of p) talk (end_of h kept after) b after told.outcome
+    (subst (λ (x : Bool). Does (ends_so b.identity x ends.PeerClosed e talk false) (end_of h kept after) b after) parted
+    (ends_does b.identity c.has_parted-has_parted.result ends.PeerClosed e talk (talk_of h kept after.talking) false b after
+    done.stage (done.link ∙ told.state) (ap (talk_of h kept) done.talking)
+    (done.emitted ∙ ap (λ x. x ++ map entry_of (leave c.has_parted-has_parted.result b.identity.side)) told.emitted)
+    done.identity done.own)))

@@ -1,0 +1,43 @@
+use Rattle.std.proofs.Common.{false, ◌++◌, map, [], subst, ap, ◌∙◌, refl, Ok}
+use Rattle.uug_link.specs.Announced.{announced}
+use Rattle.uug_link.specs.declared.outcome.Outcome.{Outcome}
+use Rattle.uug_link.specs.Follows.{Follows, answered, written}
+use Rattle.uug_link.specs.Step.{Effect, step, bad_found, nothing}
+use Rattle.uug_session.specs.EndStep.{bad_came}
+use Rattle.uug_session.specs.Engine.{Does, EngineState, end_of, stage_of}
+use Rattle.uug_session.specs.Side.{side_of}
+use Rattle.uug_session.specs.Talk.{end_keeper}
+use Rattle.uug_session.specs.Talking.{talk_of}
+use Rattle.uug_session.proofs.EngineLemmas.{by_outcome, goes_on_does}
+use Rattle.uug_session.proofs.engine.Engine.on_bad.Goals as goal
+
+pub returns-in-Ok-Nothing-clause-ok : goal.returns-in-Ok-Nothing-clause-ok
+returns-in-Ok-Nothing-clause-ok g c =
+    let h = g.S.Spool.holdings c.args.spool.now in
+    let kept = g.S.Spool.kept c.args.spool.now in
+    let i = c.self.inside in
+    let b : EngineState = record {
+      identity = record { side = side_of i.side; me = i.place.me; peer = i.place.peer };
+      own = announced i.place.announce;
+      stage = stage_of i.stage;
+      link = i.link;
+      talking = i.dialogue;
+      outbox = i.outbox;
+    } in
+    let m : EngineState = record {
+      identity = b.identity;
+      own = b.own;
+      stage = b.stage;
+      link = c.on_bad.new.self;
+      talking = i.dialogue;
+      outbox = c.on_bad.new.out;
+    } in
+    let e : Effect = step i.link bad_found in
+    let told = subst (λ (o : Outcome). Follows e i.link c.on_bad.new.self c.reserve.new.self c.on_bad.new.out (answered (Ok o)))
+    c.in-Ok-Nothing.field-0-is c.in-Ok-Nothing.ensures in
+    let after = c.speak.new.self in
+    subst (λ (x : EngineState). Does (bad_came (end_keeper x.identity.side h) x.identity x.link (talk_of h kept x.talking))
+    (end_of h kept after) x after) c.self.view_is
+    (by_outcome (end_keeper b.identity.side h) b.identity false nothing e [] (talk_of h kept b.talking) (end_of h kept after) b after told.outcome
+    (goes_on_does h kept false e b m after told.state (told.emitted ∙ ap (λ x. x ++ map written e.emitted) c.reserve.ensures.entries)
+    (ap (λ (x : EngineState). x.stage) c.self.view_is ∙ c.requires.linked) refl refl c.speak.ensures.spoken c.speak.ensures.still))

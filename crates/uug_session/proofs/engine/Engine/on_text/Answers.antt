@@ -1,0 +1,39 @@
+use Rattle.std.proofs.Common.{List, ◌++◌, map, subst, ap, ◌∙◌, refl}
+use Rattle.uug_link.specs.Announced.{announced}
+use Rattle.uug_link.specs.Entries.{EntryValue}
+use Rattle.uug_session.specs.declared.greeting.Greeted.{Greeted}
+use Rattle.uug_session.specs.EndStep.{behind_greeting, greeted_so, says_text}
+use Rattle.uug_session.specs.Engine.{Does, EngineState, bare, stage_of}
+use Rattle.uug_session.specs.Greeting.{GreetingStep, text_came}
+use Rattle.uug_session.specs.Says.{entry_of_text}
+use Rattle.uug_session.specs.Side.{side_of}
+use Rattle.uug_session.proofs.EngineLemmas.{greeted_does}
+use Rattle.uug_session.proofs.engine.Engine.on_text.Goals as goal
+
+pub returns-clause-ok : goal.returns-clause-ok
+returns-clause-ok g c =
+    let i = c.self.inside in
+    let b : EngineState = record {
+      identity = record { side = side_of i.side; me = i.place.me; peer = i.place.peer };
+      own = announced i.place.announce;
+      stage = stage_of i.stage;
+      link = i.link;
+      talking = i.dialogue;
+      outbox = i.outbox;
+    } in
+    let m : EngineState = record {
+      identity = b.identity;
+      own = b.own;
+      stage = b.stage;
+      link = i.link;
+      talking = i.dialogue;
+      outbox = c.on_text.new.out;
+    } in
+    let after = c.lead_to.new.self in
+    let greeted : GreetingStep = text_came i.place.me i.place.peer c.args.greeting c.args.text.now in
+    subst (λ (x : EngineState). Does (behind_greeting x.identity (text_came x.identity.me x.identity.peer c.args.greeting c.args.text.now) x.link x.talking)
+    (bare after) x after) c.self.view_is
+    (subst (λ (x : Greeted). Does (greeted_so b.identity x (map says_text greeted.says) i.link i.dialogue) (bare after) b after) c.in_ok-greeted.ensures.greeted
+    (greeted_does b.identity c.in_ok-greeted.greeted greeted.says i.link i.dialogue (bare after) b m after
+    (c.in_ok-greeted.ensures.says.added ∙ ap (λ (x : List EntryValue). x ++ map entry_of_text greeted.says) c.reserve.ensures.entries)
+    refl refl c.lead_to.ensures))

@@ -1,0 +1,37 @@
+use Rattle.std.proofs.Common.{sym, ◌∙◌, ap, ℕ, option_map}
+use Rattle.arrayvec.specs.ArrayVec.{ArrayVec}
+use Rattle.uug_link.specs.Announced.{announced}
+use Rattle.uug_session.specs.EndStep.{has_room}
+use Rattle.uug_session.specs.Engine.{EngineState, after_sends, stage_of}
+use Rattle.uug_session.specs.Side.{side_of}
+use Rattle.uug_session.specs.Talk.{end_keeper}
+use Rattle.uug_session.specs.Talking.{talk_of}
+use Rattle.uug_session.proofs.SpeakLemmas.{room_told, no_room, stays_so, says_nothing_more}
+use Rattle.uug_session.proofs.engine.Engine.send_next.Goals as goal
+
+pub returns-then-not-room-clause-done : goal.returns-then-not-room-clause-done
+returns-then-not-room-clause-done g c n =
+    let h = g.S.Spool.holdings c.args.spool.now in
+    let kept = g.S.Spool.kept c.args.spool.now in
+    let e = c.args.self.now in
+    stays_so e.outbox.entries _ e.link (talk_of h kept e.talking)
+    (no_room (end_keeper e.identity.side h) n e.link (talk_of h kept e.talking)
+    (ap (λ (x : EngineState). has_room x.link) (sym c.self.view_is)
+    ∙ room_told c.self.inside.link c.room.result c.room.ensures ∙ c.if-not-room.true))
+
+pub returns-in_default-clause-done : goal.returns-in_default-clause-done
+returns-in_default-clause-done g c n =
+    let h = g.S.Spool.holdings c.args.spool.now in
+    let kept = g.S.Spool.kept c.args.spool.now in
+    let i = c.self.inside in
+    let e : EngineState = record {
+      identity = record { side = side_of i.side; me = i.place.me; peer = i.place.peer };
+      own = announced i.place.announce;
+      stage = stage_of i.stage;
+      link = i.link;
+      talking = i.dialogue;
+      outbox = i.outbox;
+    } in
+    ap (after_sends n h kept) (sym c.self.view_is)
+    ∙ says_nothing_more n h kept e c.take_message.new.self
+    (c.take_message.ensures.first ∙ ap (option_map (λ (m : ArrayVec ℕ). m.items)) c.in_default.is) c.take_message.ensures.sent

@@ -1,0 +1,149 @@
+use Rattle.std.proofs.Common.{◌≡◌, ℕ, Bool, true, false, List, ◌++◌, map, sym, subst, ap, ◌∙◌, refl, Err}
+use Rattle.uug_link.specs.Announced.{announced}
+use Rattle.uug_link.specs.Entries.{EntryValue}
+use Rattle.uug_link.specs.Follows.{written}
+use Rattle.uug_link.specs.State.{State}
+use Rattle.uug_link.specs.Step.{Effect, step, packet_found, to_close}
+use Rattle.uug_packet.specs.Packet.{shown}
+use Rattle.uug_session.specs.declared.end.End.TheVariants as ends
+use Rattle.uug_session.specs.EndStep.{Identity, ends_so, goes_on, leave, message_of, then_closes}
+use Rattle.uug_session.specs.Engine.{Does, EngineState, HasFailed, TakesUp, after_speaking, end_of, entry_of, spoken_of, stage_of}
+use Rattle.uug_session.specs.Holdings.{Holdings, Kept}
+use Rattle.uug_session.specs.Runs.{is_bad}
+use Rattle.uug_session.specs.Side.{side_of}
+use Rattle.uug_session.specs.Talk.{Talk, asks_spool, end_keeper, taking}
+use Rattle.uug_session.specs.Talking.{Talking, talk_of}
+use Rattle.uug_session.proofs.EngineLemmas.{closed_behind, ends_does, goes_on_does, not_so, taken_bad, taken_failed, taken_well, takes_up}
+use Rattle.uug_session.proofs.SpeakLemmas.{has_parted_told}
+use Rattle.uug_session.proofs.engine.Engine.take.Goals as goal
+
+pub returns-then-is_bad-clause-ok : goal.returns-then-is_bad-clause-ok
+returns-then-is_bad-clause-ok g c =
+    let h = g.S.Spool.holdings c.args.spool.now in
+    let kept = g.S.Spool.kept c.args.spool.now in
+    let kept_after = g.S.Spool.kept c.take.new.spool in
+    let failure = HasFailed 18446744073709551615 (g.S.Spool.faults c.args.spool.now) (g.S.Spool.faults c.take.new.spool) in
+    let p = shown c.args.packet.now in
+    let i = c.self.inside in
+    let b : EngineState = record {
+      identity = record { side = side_of i.side; me = i.place.me; peer = i.place.peer };
+      own = announced i.place.announce;
+      stage = stage_of i.stage;
+      link = i.link;
+      talking = i.dialogue;
+      outbox = i.outbox;
+    } in
+    let e : Effect = step i.link (packet_found p) in
+    let k = end_keeper b.identity.side h in
+    let talk = talk_of h kept i.dialogue in
+    let outcome = ap (λ (x : EngineState). (step x.link (packet_found p)).outcome) c.self.view_is ∙ c.requires.taken in
+    let told : talk_of h kept_after c.take.new.self ≡ taking h (message_of p) talk =
+    c.in-Ok.ensures.taken ∙ ap (λ (x : List ℕ). taking h x talk) c.message_of.ensures in
+    let a = c.answer.new.self in
+    let answered = c.answer.ensures in
+    let bad_as : is_bad (taking h (message_of p) talk).machine.awaits ≡ c.is_bad.result =
+    ap (λ (x : Talk). is_bad x.machine.awaits) (sym told)
+    ∙ ap (λ (x : Talking). is_bad x.machine.awaits) (sym answered.talking)
+    ∙ ap (λ (x : EngineState). is_bad x.talking.machine.awaits) (sym c.self-in-Ok.view_is)
+    ∙ sym c.is_bad.ensures in
+    let after = c.break_off.new.self in
+    let done = c.break_off.ensures in
+    let parted = c.has_parted-has_parted.result in
+    let as_parted = c.has_parted-has_parted.ensures ∙ has_parted_told h kept i.dialogue in
+    subst (λ (x : EngineState). TakesUp h kept kept_after failure p x after true) c.self.view_is
+    (takes_up h kept kept_after failure false p b after (ends_so b.identity (k.has_parted talk) ends.BadTalk (then_closes e) (taking h (message_of p) talk) true)
+    (taken_bad k b.identity e (message_of p) talk outcome (bad_as ∙ c.if-is_bad.true))
+    (subst (λ (x : Bool). Does (ends_so b.identity x ends.BadTalk (then_closes e) (taking h (message_of p) talk) true) (end_of h kept_after after) b after) as_parted
+    (ends_does b.identity parted ends.BadTalk (then_closes e) (taking h (message_of p) talk) (talk_of h kept_after after.talking) true b after
+    done.stage (done.link ∙ ap (λ (s : State). (step s to_close).state) answered.link)
+    (ap (talk_of h kept_after) (done.talking ∙ answered.talking) ∙ told)
+    (done.emitted
+    ∙ ap (λ (x : Identity). (a.outbox.entries ++ map written (step a.link to_close).emitted) ++ map entry_of (leave parted x.side)) answered.still.identity
+    ∙ ap (λ (x : List EntryValue). x ++ map entry_of (leave parted b.identity.side))
+    (closed_behind e a.link b.outbox.entries a.outbox.entries _ answered.link answered.emitted refl))
+    (done.identity ∙ answered.still.identity) (done.own ∙ answered.still.own)))
+    refl (not_so failure))
+
+pub returns-else-is_bad-clause-ok : goal.returns-else-is_bad-clause-ok
+returns-else-is_bad-clause-ok g c =
+    let h = g.S.Spool.holdings c.args.spool.now in
+    let kept = g.S.Spool.kept c.args.spool.now in
+    let kept_after = g.S.Spool.kept c.take.new.spool in
+    let failure = HasFailed 18446744073709551615 (g.S.Spool.faults c.args.spool.now) (g.S.Spool.faults c.take.new.spool) in
+    let p = shown c.args.packet.now in
+    let i = c.self.inside in
+    let b : EngineState = record {
+      identity = record { side = side_of i.side; me = i.place.me; peer = i.place.peer };
+      own = announced i.place.announce;
+      stage = stage_of i.stage;
+      link = i.link;
+      talking = i.dialogue;
+      outbox = i.outbox;
+    } in
+    let e : Effect = step i.link (packet_found p) in
+    let k = end_keeper b.identity.side h in
+    let talk = talk_of h kept i.dialogue in
+    let outcome = ap (λ (x : EngineState). (step x.link (packet_found p)).outcome) c.self.view_is ∙ c.requires.taken in
+    let told : talk_of h kept_after c.take.new.self ≡ taking h (message_of p) talk =
+    c.in-Ok.ensures.taken ∙ ap (λ (x : List ℕ). taking h x talk) c.message_of.ensures in
+    let a = c.answer.new.self in
+    let answered = c.answer.ensures in
+    let bad_as : is_bad (taking h (message_of p) talk).machine.awaits ≡ c.is_bad.result =
+    ap (λ (x : Talk). is_bad x.machine.awaits) (sym told)
+    ∙ ap (λ (x : Talking). is_bad x.machine.awaits) (sym answered.talking)
+    ∙ ap (λ (x : EngineState). is_bad x.talking.machine.awaits) (sym c.self-in-Ok.view_is)
+    ∙ sym c.is_bad.ensures in
+    let after = c.speak.new.self in
+    let spoken = subst (λ (x : Holdings). spoken_of x kept_after after ≡ after_speaking x kept_after a) c.in-Ok.ensures.holdings c.speak.ensures.spoken in
+    subst (λ (x : EngineState). TakesUp h kept kept_after failure p x after true) c.self.view_is
+    (takes_up h kept kept_after failure false p b after (goes_on k true e (taking h (message_of p) talk))
+    (taken_well k b.identity e (message_of p) talk outcome (bad_as ∙ c.if-is_bad.false))
+    (subst (λ (x : Talk). Does (goes_on k true e x) (end_of h kept_after after) b after) (ap (talk_of h kept_after) answered.talking ∙ told)
+    (goes_on_does h kept_after true e b a after answered.link answered.emitted
+    (answered.still.stage ∙ ap (λ (x : EngineState). x.stage) c.self.view_is ∙ c.requires.linked)
+    answered.still.identity answered.still.own spoken c.speak.ensures.still))
+    refl (not_so failure))
+
+pub returns-in-Err-Device-clause-ok : goal.returns-in-Err-Device-clause-ok
+returns-in-Err-Device-clause-ok g c =
+    let h = g.S.Spool.holdings c.args.spool.now in
+    let kept = g.S.Spool.kept c.args.spool.now in
+    let kept_after = g.S.Spool.kept c.take.new.spool in
+    let failure = HasFailed 18446744073709551615 (g.S.Spool.faults c.args.spool.now) (g.S.Spool.faults c.take.new.spool) in
+    let p = shown c.args.packet.now in
+    let i = c.self.inside in
+    let b : EngineState = record {
+      identity = record { side = side_of i.side; me = i.place.me; peer = i.place.peer };
+      own = announced i.place.announce;
+      stage = stage_of i.stage;
+      link = i.link;
+      talking = i.dialogue;
+      outbox = i.outbox;
+    } in
+    let e : Effect = step i.link (packet_found p) in
+    let k = end_keeper b.identity.side h in
+    let talk = talk_of h kept i.dialogue in
+    let outcome = ap (λ (x : EngineState). (step x.link (packet_found p)).outcome) c.self.view_is ∙ c.requires.taken in
+    let failed = c.in-Err-Device.ensures in
+    let a = c.answer-in-Err-Device.new.self in
+    let answered = c.answer-in-Err-Device.ensures in
+    let after = c.break_off-in-Err-Device.new.self in
+    let done = c.break_off-in-Err-Device.ensures in
+    let parted = c.has_parted-has_parted.result in
+    let as_parted = c.has_parted-has_parted.ensures ∙ has_parted_told h kept i.dialogue in
+    let told : talk_of h kept_after c.take.new.self ≡ talk =
+    ap (talk_of h kept_after) failed.same ∙ ap (λ (x : List Kept). talk_of h x i.dialogue) failed.none_kept in
+    subst (λ (x : EngineState). TakesUp h kept kept_after failure p x after true) c.self.view_is
+    (takes_up h kept kept_after failure true p b after (ends_so b.identity (k.has_parted talk) ends.SpoolFault (then_closes e) talk true)
+    (taken_failed k b.identity e (message_of p) talk outcome
+    (ap (asks_spool h i.dialogue.machine) (sym c.message_of.ensures) ∙ failed.asked (ap Err c.in-Err-Device.field-0-is)))
+    (subst (λ (x : Bool). Does (ends_so b.identity x ends.SpoolFault (then_closes e) talk true) (end_of h kept_after after) b after) as_parted
+    (ends_does b.identity parted ends.SpoolFault (then_closes e) talk (talk_of h kept_after after.talking) true b after
+    done.stage (done.link ∙ ap (λ (s : State). (step s to_close).state) answered.link)
+    (ap (talk_of h kept_after) (done.talking ∙ answered.talking) ∙ told)
+    (done.emitted
+    ∙ ap (λ (x : Identity). (a.outbox.entries ++ map written (step a.link to_close).emitted) ++ map entry_of (leave parted x.side)) answered.still.identity
+    ∙ ap (λ (x : List EntryValue). x ++ map entry_of (leave parted b.identity.side))
+    (closed_behind e a.link b.outbox.entries a.outbox.entries _ answered.link answered.emitted refl))
+    (done.identity ∙ answered.still.identity) (done.own ∙ answered.still.own)))
+    refl (λ _. failed.device (ap Err c.in-Err-Device.field-0-is)))

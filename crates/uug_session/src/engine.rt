@@ -1,0 +1,547 @@
+ghost use Rattle.std.specs.Prelude.{◌≡◌, ◌≢◌, ℕ, suc, ◌+◌, ◌<◌, ◌≤◌, ◌↔◌, List, length, [], ◌++◌, map, true, false, OnOk, OnErr, IfOk, IsTrue, MatchOption};
+ghost use Rattle.std.specs.Bool.{OnTrue, OnFalse};
+ghost use Rattle.uug_link.specs.Announced.{announced};
+ghost use Rattle.uug_link.specs.State.{IsUp, IsFresh};
+ghost use Rattle.uug_link.specs.Follows.{written};
+ghost use Rattle.uug_link.specs.Step.{step, packet_found, to_close, taken};
+ghost use Rattle.uug_packet.specs.Packet.{shown};
+ghost use Rattle.uug_session.specs.Engine.{BeginsSession, Does, HasFailed, IsHailing, StandsStill, TakesUp, after_sends, after_speaking, all_ahead, bare, end_of, entry_of, hung_up, packet_effect, spoken_of, stage_late, stage_of, with_outbox, with_stage};
+ghost use Rattle.uug_session.specs.EndStep.{bad_came, begins_link, ended, final_text, first_link, first_stage, first_words, greeted_so, hailing, hailing_step, how_it_ends, late, leave, linked, message_of, text_found, unmoved};
+ghost use Rattle.uug_session.specs.Node.{phase_at};
+ghost use Rattle.uug_session.specs.Side.{side_of};
+ghost use Rattle.uug_session.specs.Talk.{end_keeper};
+ghost use Rattle.uug_session.specs.Talking.{talk_of, talking_has_parted};
+
+use crate::dialogue::Dialogue;
+use crate::end::End;
+use crate::greeting::{Greeted, Greeting};
+use crate::outgoing::SAYINGS_MAX;
+use crate::phase::Phase;
+use crate::place::Place;
+use crate::queue::Queue;
+use crate::saying::say;
+use crate::side::Side;
+use crate::spool::Spool;
+use crate::stage::Stage;
+use crate::whole_file::FileFault;
+use std::alloc::{AllocError, Allocator};
+use std::marker::Model;
+use uug_link::laws::what_a_link_answers;
+use uug_link::{Announce, Link, LinkFault, Outbox, Outcome, WINDOW_MAX};
+use uug_packet::Packet;
+use uug_talk::Name;
+
+/// More than what a packet, a broken one or a timeout can bring an end to emit: the link's answer, as many new messages
+/// as a window has, CLOSE and the final text.
+const EMITTED_MAX: usize = 16;
+
+/// One end of a session, but for its spool and the bytes that it has not read yet.
+#[derive(Drop)]
+pub(crate) struct Engine<A: Allocator> {
+    side: Side,
+    place: Place,
+    stage: Stage,
+    link: Link,
+    dialogue: Dialogue<A>,
+    outbox: Outbox<A>,
+}
+
+impl<A: Allocator> Model for Engine<A> {
+    ghost use Rattle.uug_link.specs.Announced.{announced};
+    ghost use Rattle.uug_session.specs.Engine.{EngineState, IsReady, stage_of};
+    ghost use Rattle.uug_session.specs.Side.{side_of};
+
+    ghost Value = { EngineState };
+
+    ghost view = { λ engine. record {
+      identity = record { side = side_of engine.side; me = engine.place.me; peer = engine.place.peer };
+      own = announced engine.place.announce;
+      stage = stage_of engine.stage;
+      link = engine.link;
+      talking = engine.dialogue;
+      outbox = engine.outbox;
+    } };
+
+    ghost invariant = { λ engine. IsReady (stage_of engine.stage)
+        (record { side = side_of engine.side; me = engine.place.me; peer = engine.place.peer })
+        (announced engine.place.announce) engine.link engine.dialogue };
+}
+
+impl<A: Allocator + Copy> Engine<A> {
+    /// Sends the next message, if there is one and there is room for it, and says whether it did.
+    fn send_next<S: Spool>(&mut self, spool: &S) -> bool
+        requires spare { 1 ≤ self.old.outbox.spare }
+        ensures more { OnTrue result ((n : ℕ) →
+            after_sends (suc n) (S.holdings spool.now) (S.kept spool.now) self.old
+            ≡ after_sends n (S.holdings spool.now) (S.kept spool.now) self.new) }
+        ensures done { OnFalse result ((n : ℕ) →
+            after_sends n (S.holdings spool.now) (S.kept spool.now) self.old
+            ≡ spoken_of (S.holdings spool.now) (S.kept spool.now) self.new) }
+        ensures still { StandsStill self.old self.new }
+        ensures up { IsUp self.old.link → IsUp self.new.link }
+        ensures spare { self.old.outbox.spare ≤ self.new.outbox.spare + 1 }
+    {
+        if !self.link.room() {
+            return false;
+        }
+        let Some(message) = self.dialogue.take_message(spool) else {
+            return false;
+        };
+        let Ok(()) = self.link.send(&message, &mut self.outbox) else {
+            unreachable!();
+        };
+        true
+    }
+
+    /// Sends messages while there are any and there is room.
+    fn send_all<S: Spool>(&mut self, spool: &S)
+        requires spare { WINDOW_MAX ≤ self.old.outbox.spare }
+        ensures sent { spoken_of (S.holdings spool.now) (S.kept spool.now) self.new
+            ≡ after_sends WINDOW_MAX (S.holdings spool.now) (S.kept spool.now) self.old }
+        ensures still { StandsStill self.old self.new }
+        ensures up { IsUp self.old.link → IsUp self.new.link }
+        ensures spare { self.old.outbox.spare ≤ self.new.outbox.spare + WINDOW_MAX }
+    {
+        for _sent in 0..WINDOW_MAX {
+            if !self.send_next(spool) {
+                return;
+            }
+        }
+    }
+
+    /// Where the link is up, says what there is to say, and closes the link where all is over.
+    fn speak<S: Spool>(&mut self, spool: &S)
+        requires spare { WINDOW_MAX + 1 ≤ self.old.outbox.spare }
+        ensures spoken { spoken_of (S.holdings spool.now) (S.kept spool.now) self.new
+            ≡ after_speaking (S.holdings spool.now) (S.kept spool.now) self.old }
+        ensures still { StandsStill self.old self.new }
+    {
+        if !self.link.is_up() {
+            return;
+        }
+        self.send_all(spool);
+        if self.dialogue.is_through() {
+            self.close();
+        }
+    }
+
+    /// Closes the link.
+    fn close(&mut self)
+        requires up { IsUp self.old.link }
+        requires spare { 1 ≤ self.old.outbox.spare }
+        ensures link { self.new.link ≡ (step self.old.link to_close).state }
+        ensures emitted { self.new.outbox.entries
+            ≡ self.old.outbox.entries ++ map written (step self.old.link to_close).emitted }
+        ensures talking { self.new.talking ≡ self.old.talking }
+        ensures still { StandsStill self.old self.new }
+        ensures spare { self.old.outbox.spare ≤ self.new.outbox.spare + 1 }
+    {
+        let Ok(()) = self.link.close(&mut self.outbox) else {
+            unreachable!();
+        };
+    }
+
+    /// The session is over: it is done, and the end takes its leave, where it had parted.
+    fn finish(&mut self, has_parted: bool, how: End)
+        requires spare { 1 ≤ self.old.outbox.spare }
+        ensures stage { self.new.stage ≡ ended (how_it_ends has_parted how) }
+        ensures emitted { self.new.outbox.entries
+            ≡ self.old.outbox.entries ++ map entry_of (leave has_parted self.old.identity.side) }
+        ensures link { self.new.link ≡ self.old.link }
+        ensures talking { self.new.talking ≡ self.old.talking }
+        ensures identity { self.new.identity ≡ self.old.identity }
+        ensures own { self.new.own ≡ self.old.own }
+    {
+        if !has_parted {
+            self.stage = Stage::Ended(how);
+            return;
+        }
+        self.stage = Stage::Ended(End::Done);
+        let Ok(()) = say(final_text(self.side), &mut self.outbox) else {
+            unreachable!();
+        };
+    }
+
+    /// Takes up a packet whose message is not the next one.
+    fn hear<S: Spool>(&mut self, spool: &S, packet: &Packet<'_>)
+        requires linked { self.old.stage ≡ linked }
+        requires spare { EMITTED_MAX ≤ self.old.outbox.spare }
+        requires room { SAYINGS_MAX ≤ self.old.talking.outgoing.room }
+        requires not_taken { (step self.old.link (packet_found (shown packet.now))).outcome ≢ taken }
+        ensures { Does (packet_effect (S.holdings spool.now) (S.kept spool.now) false (shown packet.now) self.old)
+            (end_of (S.holdings spool.now) (S.kept spool.now) self.new) self.old self.new }
+    {
+        what_a_link_answers();
+        match self.link.on_packet(packet, &mut self.outbox) {
+            Ok(Outcome::Nothing) => self.speak(spool),
+            Err(LinkFault::Halted) => self.speak(spool),
+            Ok(Outcome::Up) => {
+                let size = self.link.size();
+                self.dialogue.open(self.side, spool, size);
+                self.speak(spool);
+            }
+            Ok(Outcome::Closed) => {
+                let has_parted = self.dialogue.has_parted();
+                self.finish(has_parted, End::PeerClosed);
+            }
+            Ok(Outcome::Taken) | Err(LinkFault::Memory | LinkFault::GaveUp) => unreachable!(),
+        }
+    }
+
+    /// Takes up a packet whose message is the next one. The spool is asked first, where a file ends with it.
+    fn take<S: Spool>(&mut self, spool: &mut S, packet: &Packet<'_>) -> Result<(), AllocError>
+        requires linked { self.old.stage ≡ linked }
+        requires spare { EMITTED_MAX ≤ self.old.outbox.spare }
+        requires room { SAYINGS_MAX ≤ self.old.talking.outgoing.room }
+        requires taken { (step self.old.link (packet_found (shown packet.now))).outcome ≡ taken }
+        ensures ok { OnOk result (TakesUp (S.holdings spool.old) (S.kept spool.old) (S.kept spool.new)
+            (HasFailed u64.MAX (S.faults spool.old) (S.faults spool.new)) (shown packet.now) self.old self.new true) }
+        ensures err { OnErr result (self.new ≡ self.old) }
+        ensures none_kept { OnErr result (S.kept spool.new ≡ S.kept spool.old) }
+        ensures faults { OnErr result (S.faults spool.new ≡ S.faults spool.old) }
+        ensures holdings { S.holdings spool.new ≡ S.holdings spool.old }
+        ensures count { S.faults spool.old ≤ S.faults spool.new }
+    {
+        let has_parted = self.dialogue.has_parted();
+        match self.dialogue.take(spool, message_of(packet)) {
+            Ok(()) => {
+                self.answer(packet);
+                if self.dialogue.is_bad() {
+                    self.break_off(has_parted, End::BadTalk);
+                } else {
+                    self.speak(spool);
+                }
+            }
+            Err(FileFault::Device) => {
+                self.answer(packet);
+                self.break_off(has_parted, End::SpoolFault);
+            }
+            Err(FileFault::Memory) => return Err(AllocError),
+        }
+        Ok(())
+    }
+
+    /// Lets the link answer a packet whose message is taken.
+    fn answer(&mut self, packet: &Packet<'_>)
+        requires spare { EMITTED_MAX ≤ self.old.outbox.spare }
+        requires taken { (step self.old.link (packet_found (shown packet.now))).outcome ≡ taken }
+        ensures link { self.new.link ≡ (step self.old.link (packet_found (shown packet.now))).state }
+        ensures emitted { self.new.outbox.entries ≡ self.old.outbox.entries
+            ++ map written (step self.old.link (packet_found (shown packet.now))).emitted }
+        ensures up { IsUp self.new.link }
+        ensures talking { self.new.talking ≡ self.old.talking }
+        ensures still { StandsStill self.old self.new }
+        ensures spare { EMITTED_MAX ≤ self.new.outbox.spare + WINDOW_MAX }
+    {
+        what_a_link_answers();
+        let Ok(_taken) = self.link.on_packet(packet, &mut self.outbox) else {
+            unreachable!();
+        };
+    }
+
+    /// Ends a session that can't go on: closes the link, and takes leave where the end had parted.
+    fn break_off(&mut self, has_parted: bool, how: End)
+        requires up { IsUp self.old.link }
+        requires spare { 2 ≤ self.old.outbox.spare }
+        ensures stage { self.new.stage ≡ ended (how_it_ends has_parted how) }
+        ensures link { self.new.link ≡ (step self.old.link to_close).state }
+        ensures emitted { self.new.outbox.entries ≡ (self.old.outbox.entries
+            ++ map written (step self.old.link to_close).emitted)
+            ++ map entry_of (leave has_parted self.old.identity.side) }
+        ensures talking { self.new.talking ≡ self.old.talking }
+        ensures identity { self.new.identity ≡ self.old.identity }
+        ensures own { self.new.own ≡ self.old.own }
+    {
+        self.close();
+        self.finish(has_parted, how);
+    }
+
+    /// Takes up a packet that was found, on a link that has begun, and says whether its message was taken.
+    pub(crate) fn on_packet<S: Spool>(
+        &mut self,
+        spool: &mut S,
+        packet: &Packet<'_>,
+    ) -> Result<bool, AllocError>
+        requires linked { self.old.stage ≡ linked }
+        ensures ok { IfOk result (λ took. TakesUp (S.holdings spool.old) (S.kept spool.old) (S.kept spool.new)
+            (HasFailed u64.MAX (S.faults spool.old) (S.faults spool.new)) (shown packet.now) self.old self.new took) }
+        ensures err { OnErr result (Does (unmoved (end_of (S.holdings spool.old) (S.kept spool.old) self.old))
+            (end_of (S.holdings spool.old) (S.kept spool.new) self.new) self.old self.new) }
+        ensures faults { OnErr result (S.faults spool.new ≡ S.faults spool.old) }
+        ensures holdings { S.holdings spool.new ≡ S.holdings spool.old }
+        ensures count { S.faults spool.old ≤ S.faults spool.new }
+    {
+        self.outbox.reserve(EMITTED_MAX)?;
+        self.dialogue.reserve()?;
+        if self.link.takes(packet) {
+            self.take(spool, packet)?;
+            Ok(true)
+        } else {
+            self.hear(spool, packet);
+            Ok(false)
+        }
+    }
+
+    /// Takes up a broken packet, on a link that has begun.
+    pub(crate) fn on_bad<S: Spool>(&mut self, spool: &S) -> Result<(), AllocError>
+        requires linked { self.old.stage ≡ linked }
+        ensures ok { OnOk result (Does (bad_came (end_keeper self.old.identity.side (S.holdings spool.now)) self.old.identity
+            self.old.link (talk_of (S.holdings spool.now) (S.kept spool.now) self.old.talking))
+            (end_of (S.holdings spool.now) (S.kept spool.now) self.new) self.old self.new) }
+        ensures err { OnErr result (Does (unmoved (bare self.old)) (bare self.new) self.old self.new) }
+        ensures nothing_taken { (bad_came (end_keeper self.old.identity.side (S.holdings spool.now)) self.old.identity
+            self.old.link (talk_of (S.holdings spool.now) (S.kept spool.now) self.old.talking)).took ≡ false }
+    {
+        what_a_link_answers();
+        self.outbox.reserve(EMITTED_MAX)?;
+        match self.link.on_bad(&mut self.outbox) {
+            Ok(Outcome::Nothing) => self.speak(spool),
+            Err(LinkFault::Halted) => self.speak(spool),
+            Ok(Outcome::Up | Outcome::Taken | Outcome::Closed) => unreachable!(),
+            Err(LinkFault::Memory | LinkFault::GaveUp) => unreachable!(),
+        }
+        Ok(())
+    }
+
+    /// Takes up that nothing has come for some time.
+    pub(crate) fn on_timeout(&mut self) -> Result<(), AllocError>
+        ensures ok { OnOk result (Does (stage_late self.old.identity (talking_has_parted self.old.talking) self.old.stage
+            self.old.link self.old.talking) (bare self.new) self.old self.new) }
+        ensures err { OnErr result (Does (unmoved (bare self.old)) (bare self.new) self.old self.new) }
+    {
+        match self.stage {
+            Stage::Hailing(greeting) => self.lead_to(greeting.on_timeout()),
+            Stage::Linked => self.late()?,
+            Stage::Ended(_) => {}
+        }
+        Ok(())
+    }
+
+    /// Nothing has come on a link for some time.
+    fn late(&mut self) -> Result<(), AllocError>
+        requires linked { self.old.stage ≡ linked }
+        ensures ok { OnOk result (Does (late self.old.identity (talking_has_parted self.old.talking)
+            self.old.link self.old.talking) (bare self.new) self.old self.new) }
+        ensures err { OnErr result (Does (unmoved (bare self.old)) (bare self.new) self.old self.new) }
+    {
+        what_a_link_answers();
+        self.outbox.reserve(EMITTED_MAX)?;
+        match self.link.on_timeout(&mut self.outbox) {
+            Ok(Outcome::Nothing) => {}
+            Err(LinkFault::Halted) => {}
+            Err(LinkFault::GaveUp) => {
+                let has_parted = self.dialogue.has_parted();
+                self.finish(has_parted, End::GaveUp);
+            }
+            Ok(Outcome::Up | Outcome::Taken | Outcome::Closed) => unreachable!(),
+            Err(LinkFault::Memory) => unreachable!(),
+        }
+        Ok(())
+    }
+
+    /// Takes up a text of the greeting.
+    pub(crate) fn on_text(&mut self, greeting: Greeting, text: &[u8]) -> Result<(), AllocError>
+        requires hailing { self.old.stage ≡ hailing greeting }
+        ensures ok { OnOk result (Does (hailing_step self.old.identity greeting (text_found text.now) (bare self.old))
+            (bare self.new) self.old self.new) }
+        ensures err { OnErr result (Does (unmoved (bare self.old)) (bare self.new) self.old self.new) }
+    {
+        self.outbox.reserve(EMITTED_MAX)?;
+        let greeted = greeting.on_text(&self.place.me, &self.place.peer, text, &mut self.outbox)?;
+        self.lead_to(greeted);
+        Ok(())
+    }
+
+    /// Takes up that a text of the greeting is too long: the session is over.
+    pub(crate) fn on_long_text(&mut self)
+        ensures { self.new ≡ with_stage (ended End.BadTalk) self.old }
+    {
+        self.stage = Stage::Ended(End::BadTalk);
+    }
+
+    /// What the greeting has led to.
+    fn lead_to(&mut self, greeted: Greeted)
+        requires hailing { IsHailing self.old.stage }
+        requires spare { greeted ≡ Greeted.LinkBegins → WINDOW_MAX ≤ self.old.outbox.spare }
+        ensures { Does (greeted_so self.old.identity greeted [] self.old.link self.old.talking)
+            (bare self.new) self.old self.new }
+    {
+        match greeted {
+            Greeted::GoesOn(greeting) => self.stage = Stage::Hailing(greeting),
+            Greeted::LinkBegins => self.begin_link(),
+            Greeted::Ended(how) => self.stage = Stage::Ended(how),
+        }
+    }
+
+    /// The link begins, by the caller.
+    fn begin_link(&mut self)
+        requires hailing { IsHailing self.old.stage }
+        requires spare { WINDOW_MAX ≤ self.old.outbox.spare }
+        ensures { Does (begins_link self.old.identity.side self.old.link self.old.talking [])
+            (bare self.new) self.old self.new }
+    {
+        self.stage = Stage::Linked;
+        match self.side {
+            Side::Called => {}
+            Side::Caller => {
+                let Ok(()) = self.link.begin(&mut self.outbox) else {
+                    unreachable!();
+                };
+            }
+        }
+    }
+
+    /// The line is gone.
+    pub(crate) fn hang_up(&mut self)
+        ensures { self.new ≡ with_stage (hung_up (talking_has_parted self.old.talking) self.old.stage) self.old }
+    {
+        match self.stage {
+            Stage::Hailing(_) => self.stage = Stage::Ended(End::HungUp),
+            Stage::Linked if self.dialogue.has_parted() => self.stage = Stage::Ended(End::Done),
+            Stage::Linked => self.stage = Stage::Ended(End::HungUp),
+            Stage::Ended(_) => {}
+        }
+    }
+
+    /// How far the session has come.
+    pub(crate) fn stage(&self) -> Stage
+        ensures { stage_of result ≡ self.now.stage }
+    {
+        self.stage
+    }
+
+    /// The same, with how far the link has come.
+    pub(crate) fn phase(&self) -> Phase
+        ensures { result ≡ phase_at self.now.stage self.now.link.phase }
+    {
+        match self.stage {
+            Stage::Hailing(_) => Phase::Hail,
+            Stage::Linked if self.link.is_up() => Phase::Talking,
+            Stage::Linked if self.link.is_closing() => Phase::Closing,
+            Stage::Linked => Phase::Starting,
+            Stage::Ended(how) => Phase::Ended(how),
+        }
+    }
+
+    /// How many messages were sent and not acknowledged.
+    pub(crate) fn unacked(&self) -> usize
+        ensures { result ≡ length self.now.link.unacked }
+    {
+        self.link.unacked()
+    }
+
+    /// What was emitted and not yet cleared.
+    pub(crate) fn outbox(&self) -> &Outbox<A>
+        ensures { result.now ≡ self.now.outbox }
+    {
+        &self.outbox
+    }
+
+    /// Takes all that was emitted away.
+    pub(crate) fn clear_outbox(&mut self)
+        ensures entries { self.new.outbox.entries ≡ [] }
+        ensures rest { self.new ≡ with_outbox self.new.outbox self.old }
+    {
+        self.outbox.clear();
+    }
+
+    /// The jobs.
+    pub(crate) fn queue(&self) -> &Queue<A>
+        ensures { result.now ≡ self.now.talking.machine.lists }
+    {
+        self.dialogue.queue()
+    }
+}
+
+impl<A: Allocator + Copy> Engine<A> {
+    /// An end whose first session begins. It takes no memory.
+    pub(crate) fn new(
+        alloc: A,
+        side: Side,
+        place: Place,
+        mut queue: Queue<A>,
+        mut outbox: Outbox<A>,
+    ) -> Self
+        requires spare { 1 ≤ outbox.spare }
+        ensures { BeginsSession (record { side = side_of side; me = place.me; peer = place.peer }) (announced place.announce)
+            (all_ahead queue) outbox.entries result }
+    {
+        queue.restart();
+        let greeting = first_greeting(side, &place.me, &mut outbox);
+        Engine {
+            side,
+            place,
+            stage: Stage::Hailing(greeting),
+            link: first_link(side, place.announce),
+            dialogue: Dialogue::new(alloc, queue),
+            outbox,
+        }
+    }
+
+    /// Makes room for what an end says first. All else stays, with and without memory for it.
+    pub(crate) fn reserve_first_words(&mut self) -> Result<(), AllocError>
+        ensures same { Does (unmoved (bare self.old)) (bare self.new) self.old self.new }
+        ensures spare { OnOk result (1 ≤ self.new.outbox.spare) }
+    {
+        self.outbox.reserve(1)
+    }
+
+    /// The next session begins: what was left of the last one is dropped, and every pending job is to be offered.
+    pub(crate) fn restart(&mut self)
+        requires spare { 1 ≤ self.old.outbox.spare }
+        ensures { BeginsSession self.old.identity self.old.own (all_ahead self.old.talking.machine.lists)
+            self.old.outbox.entries self.new }
+    {
+        let greeting = first_greeting(self.side, &self.place.me, &mut self.outbox);
+        self.stage = Stage::Hailing(greeting);
+        self.link = first_link(self.side, self.place.announce);
+        self.dialogue.restart();
+    }
+}
+
+/// The greeting of an end on this side. The called end says its name.
+fn first_greeting<A: Allocator>(side: Side, me: &Name, out: &mut Outbox<A>) -> Greeting
+    requires spare { 1 ≤ out.old.spare }
+    ensures stage { hailing result ≡ first_stage (side_of side) }
+    ensures said { out.new.entries ≡ out.old.entries ++ map entry_of (first_words (side_of side) me.now) }
+{
+    match side {
+        Side::Caller => Greeting::caller(),
+        Side::Called => {
+            let Ok(greeting) = Greeting::called(me, out) else {
+                unreachable!();
+            };
+            greeting
+        }
+    }
+}
+
+/// The link of an end on this side, before it has begun.
+fn first_link(side: Side, announce: Announce) -> Link
+    ensures { result ≡ first_link (side_of side) (announced announce) }
+{
+    match side {
+        Side::Caller => Link::caller(announce),
+        Side::Called => Link::called(announce),
+    }
+}
+
+/// The text with which an end that is done takes its leave.
+fn final_text(side: Side) -> &'static [u8]
+    ensures text { result.now ≡ final_text (side_of side) }
+{
+    match side {
+        Side::Caller => b"OOOOOO",
+        Side::Called => b"OOOOOOO",
+    }
+}
+
+/// The message of a data packet.
+fn message_of<'a>(packet: &Packet<'a>) -> &'a [u8]
+    ensures { result.now ≡ message_of (shown packet.now) }
+{
+    match packet {
+        Packet::Control(_) => &[],
+        Packet::Carry { message, .. } => message,
+    }
+}

@@ -1,0 +1,238 @@
+ghost use Rattle.std.specs.Prelude.{◌≡◌, ◌≢◌, ◌<◌, ◌≤◌, ℕ, [], length, take, true, false, OnOk, OnErr, IfOk, MatchOption, IsTrue};
+ghost use Rattle.uug_session.specs.Engine.{Does, HasFailed, bare, hung_up, stage_late, with_outbox, with_stage};
+ghost use Rattle.uug_session.specs.Node.{node_of, accepted, held_bytes, item_size, offered, phase_at, searched, shown_item, IsAsBefore, ShowsItem, TakesShown};
+ghost use Rattle.uug_session.specs.NodeLoan.{EndsFound};
+ghost use Rattle.uug_session.specs.Talking.{talking_has_parted};
+ghost use Rattle.std.specs.Borrow.{sem};
+ghost use Rattle.uug_session.specs.EndStep.{hailing, linked, unmoved};
+
+use crate::engine::Engine;
+use crate::greeting::Greeting;
+use crate::item::Item;
+use crate::phase::Phase;
+use crate::queue::Queue;
+use crate::spool::Spool;
+use crate::stage::Stage;
+use crate::texts::Texts;
+use std::alloc::{AllocError, Allocator};
+use uug_link::Outbox;
+use uug_reader::{Found, Reader};
+
+/// One whole end: what it knows of itself and the other, its jobs, its files, and how far its session has come. It reads
+/// bytes that are offered to it, and what it emits goes into its outbox. It knows no time and no line.
+#[derive(Drop)]
+pub struct Node<S: Spool, A: Allocator> {
+    pub(crate) engine: Engine<A>,
+    /// The bytes that came in the greeting and were not read yet.
+    pub(crate) texts: Texts<A>,
+    /// The bytes that came on the link and were not read yet.
+    pub(crate) packets: Reader<A>,
+    pub(crate) spool: S,
+}
+
+impl<S: Spool, A: Allocator + Copy> Node<S, A> {
+    /// Takes the first bytes of a piece that fit, and says how many. An end whose session is over takes all and forgets
+    /// them.
+    pub fn offer(&mut self, piece: &[u8]) -> usize
+        ensures count { result ≡ accepted (node_of self.old) piece.now }
+        ensures bytes { node_of self.new ≡ offered (take result piece.now) (node_of self.old) }
+        ensures spool { self.new.spool ≡ self.old.spool }
+    {
+        match self.engine.stage() {
+            Stage::Hailing(_) => self.texts.push(piece),
+            Stage::Linked => self.packets.push(piece),
+            Stage::Ended(_) => piece.len(),
+        }
+    }
+
+    /// How many bytes are held that were not read yet, 0 where the session is over.
+    pub fn waiting(&self) -> usize
+        ensures { result ≡ length (held_bytes (node_of self.now)) }
+    {
+        match self.engine.stage() {
+            Stage::Hailing(_) => self.texts.waiting(),
+            Stage::Linked => self.packets.waiting(),
+            Stage::Ended(_) => 0,
+        }
+    }
+
+    /// What was found and is shown, which stands first among the bytes held.
+    fn showing(&self) -> Option<Item<'_>>
+        ensures { MatchOption result (item_size (node_of self.now) ≡ 0)
+            (λ item. ShowsItem (node_of self.now).engine.stage (node_of self.now).texts (node_of self.now).packets (shown_item item)) }
+    {
+        match self.engine.stage() {
+            Stage::Hailing(_) => Some(Item::Text(self.texts.showing()?)),
+            Stage::Linked => match self.packets.showing()? {
+                Found::Packet(packet) => Some(Item::Packet(packet)),
+                Found::Bad => Some(Item::Bad),
+            },
+            Stage::Ended(_) => None,
+        }
+    }
+
+    /// Drops what is passed over in front of the first item, which is then shown. At a text that is too long the session
+    /// is over.
+    fn search(&mut self)
+        ensures found { node_of self.new ≡ searched (node_of self.old) }
+        ensures spool { self.new.spool ≡ self.old.spool }
+    {
+        match self.engine.stage() {
+            Stage::Hailing(_) => {
+                if self.texts.search().is_err() {
+                    self.engine.on_long_text();
+                }
+            }
+            Stage::Linked => {
+                self.packets.search();
+            }
+            Stage::Ended(_) => {}
+        }
+    }
+
+    /// Shows the first item in the bytes held, which stays until it is taken: a text in the greeting, a packet or a broken
+    /// one on the link. What is passed over in front is taken away. At a text that is too long the session is over.
+    pub fn next_found(&mut self) -> Option<Item<'_>>
+        ensures* after { sem 𝓛 (EndsFound S.row A.row A.Allocator self.entry result) }
+    {
+        self.search();
+        self.showing()
+    }
+
+    /// Takes up the item that is shown, and takes its bytes away. The answer is true exactly where its message was taken.
+    pub fn take_found(&mut self) -> Result<bool, AllocError>
+        requires shown { 0 < item_size (node_of self.old) }
+        ensures taken { IfOk result (λ took.
+            TakesShown (S.holdings self.old.spool) (S.kept self.old.spool) (S.kept self.new.spool)
+            (HasFailed u64.MAX (S.faults self.old.spool) (S.faults self.new.spool)) (node_of self.old) (node_of self.new) took) }
+        ensures err { OnErr result (IsAsBefore (S.holdings self.old.spool) (S.kept self.old.spool) (S.kept self.new.spool)
+            (node_of self.old) (node_of self.new)) }
+        ensures faults { OnErr result (S.faults self.new.spool ≡ S.faults self.old.spool) }
+        ensures holdings { S.holdings self.new.spool ≡ S.holdings self.old.spool }
+        ensures count { S.faults self.old.spool ≤ S.faults self.new.spool }
+    {
+        match self.engine.stage() {
+            Stage::Hailing(greeting) => {
+                self.take_text(greeting)?;
+                Ok(false)
+            }
+            Stage::Linked => self.take_packet(),
+            Stage::Ended(_) => Ok(false),
+        }
+    }
+
+    /// Takes up the text that is shown.
+    fn take_text(&mut self, greeting: Greeting) -> Result<(), AllocError>
+        requires hailing { (node_of self.old).engine.stage ≡ hailing greeting }
+        requires shown { 0 < (node_of self.old).texts.shown_size }
+        ensures ok { OnOk result (TakesShown (S.holdings self.old.spool) (S.kept self.old.spool) (S.kept self.new.spool)
+            (HasFailed u64.MAX (S.faults self.old.spool) (S.faults self.new.spool)) (node_of self.old) (node_of self.new) false) }
+        ensures err { OnErr result (IsAsBefore (S.holdings self.old.spool) (S.kept self.old.spool) (S.kept self.new.spool)
+            (node_of self.old) (node_of self.new)) }
+        ensures spool { self.new.spool ≡ self.old.spool }
+    {
+        let Some(text) = self.texts.showing() else {
+            unreachable!();
+        };
+        self.engine.on_text(greeting, text)?;
+        self.texts.drop_found();
+        self.packets.clear();
+        let rest = self.texts.bytes();
+        self.packets.push(rest);
+        Ok(())
+    }
+
+    /// Takes up the packet or the broken one that is shown.
+    fn take_packet(&mut self) -> Result<bool, AllocError>
+        requires linked { (node_of self.old).engine.stage ≡ linked }
+        requires shown { 0 < (node_of self.old).packets.shown_size }
+        ensures ok { IfOk result (λ took. TakesShown (S.holdings self.old.spool) (S.kept self.old.spool) (S.kept self.new.spool)
+            (HasFailed u64.MAX (S.faults self.old.spool) (S.faults self.new.spool)) (node_of self.old) (node_of self.new) took) }
+        ensures err { OnErr result (IsAsBefore (S.holdings self.old.spool) (S.kept self.old.spool) (S.kept self.new.spool)
+            (node_of self.old) (node_of self.new)) }
+        ensures faults { OnErr result (S.faults self.new.spool ≡ S.faults self.old.spool) }
+        ensures holdings { S.holdings self.new.spool ≡ S.holdings self.old.spool }
+        ensures count { S.faults self.old.spool ≤ S.faults self.new.spool }
+    {
+        match self.packets.showing() {
+            Some(Found::Packet(packet)) => {
+                let took = self.engine.on_packet(&mut self.spool, &packet)?;
+                self.packets.drop_found();
+                Ok(took)
+            }
+            Some(Found::Bad) => {
+                self.engine.on_bad(&self.spool)?;
+                self.packets.drop_found();
+                Ok(false)
+            }
+            None => unreachable!(),
+        }
+    }
+
+    /// Nothing has come for some time.
+    pub fn on_timeout(&mut self) -> Result<(), AllocError>
+        ensures ok { OnOk result (Does (stage_late (node_of self.old).engine.identity
+            (talking_has_parted (node_of self.old).engine.talking) (node_of self.old).engine.stage
+            (node_of self.old).engine.link (node_of self.old).engine.talking)
+            (bare (node_of self.new).engine) (node_of self.old).engine (node_of self.new).engine) }
+        ensures err { OnErr result (Does (unmoved (bare (node_of self.old).engine)) (bare (node_of self.new).engine)
+            (node_of self.old).engine (node_of self.new).engine) }
+        ensures bytes { ((node_of self.new).texts ≡ (node_of self.old).texts) × ((node_of self.new).packets ≡ (node_of self.old).packets) }
+        ensures spool { self.new.spool ≡ self.old.spool }
+    {
+        self.engine.on_timeout()
+    }
+
+    /// The line is gone: the session is over. Nothing is emitted.
+    pub fn hang_up(&mut self)
+        ensures stage { (node_of self.new).engine ≡ with_stage (hung_up (talking_has_parted (node_of self.old).engine.talking)
+            (node_of self.old).engine.stage) (node_of self.old).engine }
+        ensures spool { self.new.spool ≡ self.old.spool }
+    {
+        self.engine.hang_up();
+    }
+
+    /// How far the session has come.
+    pub fn phase(&self) -> Phase
+        ensures { result ≡ phase_at (node_of self.now).engine.stage (node_of self.now).engine.link.phase }
+    {
+        self.engine.phase()
+    }
+
+    /// How many messages were sent and not acknowledged.
+    pub fn unacked(&self) -> usize
+        ensures { result ≡ length (node_of self.now).engine.link.unacked }
+    {
+        self.engine.unacked()
+    }
+
+    /// What was emitted and not yet cleared.
+    pub fn outbox(&self) -> &Outbox<A>
+        ensures { result.now ≡ (node_of self.now).engine.outbox }
+    {
+        self.engine.outbox()
+    }
+
+    /// Takes all that was emitted away.
+    pub fn clear_outbox(&mut self)
+        ensures entries { (node_of self.new).engine.outbox.entries ≡ [] }
+        ensures rest { (node_of self.new).engine ≡ with_outbox (node_of self.new).engine.outbox (node_of self.old).engine }
+        ensures spool { self.new.spool ≡ self.old.spool }
+    {
+        self.engine.clear_outbox();
+    }
+
+    /// The jobs.
+    pub fn queue(&self) -> &Queue<A>
+        ensures { result.now ≡ (node_of self.now).engine.talking.machine.lists }
+    {
+        self.engine.queue()
+    }
+
+    /// The files.
+    pub fn spool(&self) -> &S
+        ensures { result.now ≡ self.now.spool }
+    {
+        &self.spool
+    }
+}

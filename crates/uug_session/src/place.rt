@@ -1,0 +1,13 @@
+use uug_link::Announce;
+use uug_talk::Name;
+
+/// Where an end stands: its name, the name of the end that it calls or is called by, and what it announces.
+#[derive(Clone, Copy, Debug, PartialEq, Eq)]
+pub struct Place {
+    /// The end's own name.
+    pub me: Name,
+    /// The name of the other end.
+    pub peer: Name,
+    /// The window and the packet size that the other end shall use.
+    pub announce: Announce,
+}

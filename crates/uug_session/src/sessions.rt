@@ -1,0 +1,149 @@
+ghost use Rattle.std.specs.Prelude.{◌≡◌, ◌≤◌, [], IfOk, IfErr, OnOk, OnErr};
+ghost use Rattle.uug_link.specs.Announced.{announced};
+ghost use Rattle.uug_reader.specs.Reading.{fresh};
+ghost use Rattle.uug_session.specs.Engine.{BeginsSession, Does, IsEnded, all_ahead, bare};
+ghost use Rattle.uug_session.specs.EndStep.{unmoved};
+ghost use Rattle.uug_session.specs.Node.{node_of};
+ghost use Rattle.uug_session.specs.Sessions.{HoldsNothing};
+ghost use Rattle.uug_session.specs.Side.{side_of};
+ghost use Rattle.uug_session.specs.TextsHeld.{nothing_held};
+ghost use Rattle.uug_session.specs.Turns.{caller, called};
+
+use crate::engine::Engine;
+use crate::node::Node;
+use crate::place::Place;
+use crate::queue::Queue;
+use crate::side::Side;
+use crate::spool::Spool;
+use crate::texts::Texts;
+use std::alloc::{AllocError, Allocator};
+use uug_link::Outbox;
+use uug_reader::Reader;
+
+/// There is no memory for a node. All that was handed in for it is given back as it was.
+#[derive(Drop)]
+pub struct NotMade<S: Spool, A: Allocator> {
+    /// Where the end was to stand.
+    pub place: Place,
+    /// Its jobs.
+    pub queue: Queue<A>,
+    /// Its files.
+    pub spool: S,
+}
+
+impl<S: Spool, A: Allocator + Copy> Node<S, A> {
+    /// The end that calls, whose first session begins. It waits for the called end's name, and all pending jobs are to be
+    /// offered.
+    pub fn caller(alloc: A, place: Place, queue: Queue<A>, spool: S) -> Result<Self, NotMade<S, A>>
+        ensures session { IfOk result (λ node. BeginsSession (record { side = caller; me = place.me; peer = place.peer })
+            (announced place.announce) (all_ahead queue) [] (node_of node).engine) }
+        ensures nothing_held { IfOk result (λ node. HoldsNothing (node_of node)) }
+        ensures spool { IfOk result (λ node. node.spool ≡ spool) }
+        ensures place_back { IfErr result (λ refused. refused.place ≡ place) }
+        ensures jobs_back { IfErr result (λ refused. refused.queue ≡ queue) }
+        ensures spool_back { IfErr result (λ refused. refused.spool ≡ spool) }
+    {
+        Node::begin(alloc, Side::Caller, place, queue, spool)
+    }
+
+    /// The end that is called, whose first session begins. It says its name, and all pending jobs are to be offered.
+    pub fn called(alloc: A, place: Place, queue: Queue<A>, spool: S) -> Result<Self, NotMade<S, A>>
+        ensures session { IfOk result (λ node. BeginsSession (record { side = called; me = place.me; peer = place.peer })
+            (announced place.announce) (all_ahead queue) [] (node_of node).engine) }
+        ensures nothing_held { IfOk result (λ node. HoldsNothing (node_of node)) }
+        ensures spool { IfOk result (λ node. node.spool ≡ spool) }
+        ensures place_back { IfErr result (λ refused. refused.place ≡ place) }
+        ensures jobs_back { IfErr result (λ refused. refused.queue ≡ queue) }
+        ensures spool_back { IfErr result (λ refused. refused.spool ≡ spool) }
+    {
+        Node::begin(alloc, Side::Called, place, queue, spool)
+    }
+
+    /// The next session begins, on a new call, of an end whose session is over. All that are pending still are to be
+    /// offered; no byte of the last session is read any more, and what the outbox holds stays in front of what the end
+    /// says. Without memory for that nothing has changed.
+    pub fn call_again(&mut self) -> Result<(), AllocError>
+        requires ended { IsEnded (node_of self.old).engine.stage }
+        ensures session { OnOk result (BeginsSession (node_of self.old).engine.identity (node_of self.old).engine.own
+            (all_ahead (node_of self.old).engine.talking.machine.lists) (node_of self.old).engine.outbox.entries
+            (node_of self.new).engine) }
+        ensures nothing_held { OnOk result (HoldsNothing (node_of self.new)) }
+        ensures spool { self.new.spool ≡ self.old.spool }
+        ensures err { OnErr result (Does (unmoved (bare (node_of self.old).engine)) (bare (node_of self.new).engine)
+            (node_of self.old).engine (node_of self.new).engine) }
+        ensures texts_stay { OnErr result ((node_of self.new).texts ≡ (node_of self.old).texts) }
+        ensures packets_stay { OnErr result ((node_of self.new).packets ≡ (node_of self.old).packets) }
+    {
+        self.engine.reserve_first_words()?;
+        self.engine.restart();
+        self.texts.clear();
+        self.packets.clear();
+        Ok(())
+    }
+
+    /// An end on this side, whose first session begins.
+    fn begin(
+        alloc: A,
+        side: Side,
+        place: Place,
+        queue: Queue<A>,
+        spool: S,
+    ) -> Result<Self, NotMade<S, A>>
+        ensures session { IfOk result (λ node. BeginsSession (record { side = side_of side; me = place.me; peer = place.peer })
+            (announced place.announce) (all_ahead queue) [] (node_of node).engine) }
+        ensures nothing_held { IfOk result (λ node. HoldsNothing (node_of node)) }
+        ensures spool { IfOk result (λ node. node.spool ≡ spool) }
+        ensures place_back { IfErr result (λ refused. refused.place ≡ place) }
+        ensures jobs_back { IfErr result (λ refused. refused.queue ≡ queue) }
+        ensures spool_back { IfErr result (λ refused. refused.spool ≡ spool) }
+    {
+        let Ok(
+            Buffers {
+                texts,
+                packets,
+                outbox,
+            },
+        ) = Buffers::new(alloc)
+        else {
+            return Err(NotMade {
+                place,
+                queue,
+                spool,
+            });
+        };
+        Ok(Node {
+            engine: Engine::new(alloc, side, place, queue, outbox),
+            texts,
+            packets,
+            spool,
+        })
+    }
+}
+
+/// What a node holds of bytes: those that are not read yet, and those that go out.
+#[derive(Drop)]
+struct Buffers<A: Allocator> {
+    texts: Texts<A>,
+    packets: Reader<A>,
+    outbox: Outbox<A>,
+}
+
+impl<A: Allocator + Copy> Buffers<A> {
+    /// They hold nothing, and there is room for what an end says first.
+    fn new(alloc: A) -> Result<Self, AllocError>
+        ensures texts { IfOk result (λ buffers. buffers.texts ≡ nothing_held) }
+        ensures packets { IfOk result (λ buffers. buffers.packets ≡ fresh) }
+        ensures entries { IfOk result (λ buffers. buffers.outbox.entries ≡ []) }
+        ensures spare { IfOk result (λ buffers. 1 ≤ buffers.outbox.spare) }
+    {
+        let texts = Texts::new(alloc)?;
+        let packets = Reader::new(alloc)?;
+        let mut outbox = Outbox::new(alloc);
+        outbox.reserve(1)?;
+        Ok(Buffers {
+            texts,
+            packets,
+            outbox,
+        })
+    }
+}

@@ -1,0 +1,69 @@
+//! Laws of the search for texts in the bytes of the greeting. The functions do nothing.
+ghost use Rattle.std.specs.Prelude.{◌≡◌, ◌↔◌, ℕ, List, [], ◌∷◌, ◌++◌};
+ghost use Rattle.uug_session.specs.HearingLaws.{HearingLaws};
+ghost use Rattle.uug_session.specs.TextCalls.{TextCall, Makes, Make, dropped, all_accepted, all_dropped};
+ghost use Rattle.uug_session.specs.TextsFound.{ReadsAs, FindsText, FindsNone, with_texts};
+ghost use Rattle.uug_session.specs.TextsHeld.{TextsHeld, nothing_held, text_waits, text_stands, text_too_long, search_text, ShowsText, shown_text};
+ghost use Rattle.uug_talk.specs.StreamTexts.{Rest, TooLong, StandBefore, no_text, texts_of};
+ghost use Rattle.uug_talk.specs.Texts.{IsFirstText};
+
+use uug_talk::{
+    hearing_finds_the_texts, hearing_in_pieces, hearing_says_what_came, one_reading_of_texts,
+};
+
+/// The laws of handshake texts, for the proofs here.
+fn hearing_laws()
+    ensures { HearingLaws }
+{
+    one_reading_of_texts();
+    hearing_says_what_came();
+    hearing_in_pieces();
+    hearing_finds_the_texts();
+}
+
+/// A search of some bytes finds their first text, or that none is whole, or that the first is too long: just as the bytes
+/// say. What it leaves goes on as the bytes do.
+pub fn text_search_finds_the_first()
+    ensures stands { (stream text others : List ℕ) → search_text stream ≡ text_stands text others
+        → FindsText stream text others }
+    ensures waits { (stream rest : List ℕ) → search_text stream ≡ text_waits rest → FindsNone stream rest }
+    ensures too_long { (stream : List ℕ) → search_text stream ≡ text_too_long → texts_of stream ≡ no_text TooLong }
+
+    // Each is found where it is there.
+    ensures some { (front text behind : List ℕ) → IsFirstText front text
+        → (others : List ℕ) × (search_text (front ++ behind) ≡ text_stands text others) }
+    ensures none { (stream : List ℕ) → texts_of stream ≡ no_text (Rest stream)
+        → (rest : List ℕ) × (search_text stream ≡ text_waits rest) }
+    ensures long { (stream : List ℕ) → texts_of stream ≡ no_text TooLong → search_text stream ≡ text_too_long }
+{
+    hearing_laws();
+}
+
+/// Whatever was called since `new` or `clear`, with no text that is too long: the texts that were dropped are the first of
+/// all bytes that were accepted, and the others are those of what is held. Right behind a drop exactly the bytes behind the
+/// text are held. Where a search then finds a text too long, there are no others.
+pub fn taken_texts_are_first()
+    ensures texts { (calls : List TextCall) (now : TextsHeld) → Make calls nothing_held now
+        → ReadsAs (texts_of (all_accepted calls)) (with_texts (all_dropped calls) (texts_of now.bytes)) }
+    ensures stand { (calls : List TextCall) (now : TextsHeld) → Make calls nothing_held now
+        → (passed : List ℕ) × StandBefore (all_dropped calls) (passed ++ now.bytes) (all_accepted calls) }
+    ensures behind { (calls : List TextCall) (text : List ℕ) (old now : TextsHeld) → Make calls nothing_held old
+        → Makes (dropped text) old now → StandBefore (all_dropped calls ++ text ∷ []) now.bytes (all_accepted calls) }
+    ensures too_long { (calls : List TextCall) (now : TextsHeld) → Make calls nothing_held now
+        → search_text now.bytes ≡ text_too_long
+        → texts_of (all_accepted calls) ≡ record { texts = all_dropped calls; end = TooLong } }
+{
+    hearing_laws();
+}
+
+/// A text that is shown is the one that stands first. It stays shown, whatever is pushed, searched and shown, until it is
+/// dropped; a further search, with more bytes behind, passes over nothing and finds it again.
+pub fn a_shown_text_stays()
+    ensures is { (text : List ℕ) (held : TextsHeld) → ShowsText text held → text ≡ shown_text held }
+    ensures again { (text more : List ℕ) (held : TextsHeld) → ShowsText text held
+        → search_text (held.bytes ++ more) ≡ text_stands text (held.bytes ++ more) }
+    ensures stays { (text : List ℕ) (calls : List TextCall) (old new : TextsHeld)
+        → ShowsText text old → Make calls old new → all_dropped calls ≡ [] → ShowsText text new }
+{
+    hearing_laws();
+}
