@@ -1,0 +1,5 @@
+mod CleanLineFacts
+mod FactSetups
+mod NoisyLineFacts
+mod PlaceLemmas
+mod Summaries

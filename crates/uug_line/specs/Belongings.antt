@@ -1,0 +1,43 @@
+-- What the ends of a line are given, and what they have after some sessions (this project's profile).
+use Rattle.std.specs.Prelude.{ℕ, List}
+use Rattle.uug_link.specs.Announced.{Announced}
+use Rattle.uug_link.specs.Terms.{size_of_code}
+use Rattle.uug_session.specs.EndStep.{Identity}
+use Rattle.uug_session.specs.Holdings.{Kept, Holdings}
+use Rattle.uug_session.specs.Jobs.{Lists, at_start, pending}
+use Rattle.uug_session.specs.Party.{Party}
+use Rattle.uug_line.specs.declared.side.Side.{Side}
+use Rattle.uug_line.specs.Sides.{other, session_side, AtBoth, at}
+
+-- an end's jobs, and all that its spool has kept
+pub record Belongings : Type 0 where
+  pub lists : Lists
+  pub kept : List Kept
+
+-- at a session's start all pending jobs are to be offered
+abbrev pub renewed : Belongings → Belongings
+renewed b = record { lists = at_start (pending b.lists) b.lists.struck b.lists.failed; kept = b.kept }
+
+-- an end as it is set up: its name, what the other end shall use, what its spool gives and accepts, and what it has
+pub record EndSetupValue : Type 0 where
+  pub name : List ℕ
+  pub own : Announced
+  pub holdings : Holdings
+  pub belongings : Belongings
+
+-- both of them
+abbrev pub SetupValue : Type 0
+SetupValue = AtBoth EndSetupValue
+
+-- each end expects the other by its name
+abbrev pub identity : SetupValue → Side → Identity
+identity setup side =
+    record { side = session_side side; me = (at side setup).name; peer = (at (other side) setup).name }
+
+-- an end as it comes to a session to which the two bring this: its messages have the size that the other announces
+abbrev pub party : SetupValue → (brought : AtBoth Belongings) → Side → Party
+party setup brought side = record {
+  jobs = pending (at side brought).lists;
+  holdings = (at side setup).holdings;
+  size = size_of_code (at (other side) setup).own.size_code;
+}

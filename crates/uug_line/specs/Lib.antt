@@ -1,0 +1,9 @@
+pub mod Belongings
+pub mod LineEnd
+pub mod Report
+pub mod Run
+pub mod RunKeeper
+pub mod Sides
+pub mod Taking
+pub mod WereSent
+pub mod World

@@ -1,0 +1,111 @@
+-- An end of a session on a line, and what is written down of it.
+use Rattle.std.specs.Prelude.{ℕ, suc, max, Bool, true, false, List, [], ◌∷◌, ◌++◌, length}
+use Rattle.uug_packet.specs.Packet.{PacketValue, carry}
+use Rattle.uug_packet.specs.Spelling.{canonical}
+use Rattle.uug_session.specs.EndStep.{Stage, ended, EndState, Emitted, says_text, sends_packet, EndEffect, EndEvent, Identity, end_step}
+use Rattle.uug_session.specs.Keeper.{Keeper}
+use Rattle.uug_session.specs.Says.{written_text}
+
+-- what an end did in a session
+pub record Log : Type 0 where
+  -- the messages that it sent, in the order of their first sending, and those that it took
+  pub sent : List (List ℕ)
+  pub taken : List (List ℕ)
+  -- all packets that it emitted
+  pub packets : List PacketValue
+  -- the places of the packets that it found, among those that the other end emitted; and how many of those were found
+  -- or gone past
+  pub arrivals : List ℕ
+  pub passed : ℕ
+  -- the most packets that were unacknowledged after any call
+  pub most : ℕ
+
+pub record LineEnd (C : Type 0) : Type 0 where
+  pub state : EndState C
+  -- the bytes that came and were not used yet
+  pub held : List ℕ
+  pub log : Log
+  -- the bytes that it has emitted and that are still on the line to the other end
+  pub line : List ℕ
+
+-- who an end is, and what keeps its conversation in a session
+pub record Player (C : Type 0) : Type 0 where
+  pub identity : Identity
+  pub keeper : Keeper C
+
+-- ---- what is emitted
+
+-- a data packet that goes out for the first time sends its message
+abbrev pub sent_by : (first : Bool) → PacketValue → List (List ℕ)
+sent_by true (carry seq ack k message) = message ∷ []
+sent_by _ _ = []
+
+abbrev pub messages_sent : List Emitted → List (List ℕ)
+messages_sent [] = []
+messages_sent (says_text text ∷ es) = messages_sent es
+messages_sent (sends_packet e ∷ es) = sent_by e.first e.packet ++ messages_sent es
+
+abbrev pub packets_in : List Emitted → List PacketValue
+packets_in [] = []
+packets_in (says_text text ∷ es) = packets_in es
+packets_in (sends_packet e ∷ es) = e.packet ∷ packets_in es
+
+-- as it goes out: a text framed, a packet in its canonical spelling
+abbrev pub bytes_in : List Emitted → List ℕ
+bytes_in [] = []
+bytes_in (says_text text ∷ es) = written_text text ++ bytes_in es
+bytes_in (sends_packet e ∷ es) = canonical e.packet ++ bytes_in es
+
+-- ---- what is written down
+
+abbrev pub nothing_done : Log
+nothing_done = record { sent = []; taken = []; packets = []; arrivals = []; passed = 0; most = 0 }
+
+-- the other end's packet at this place was found
+abbrev pub found_at : (place : ℕ) → Log → Log
+found_at place log = record log { arrivals = log.arrivals ++ place ∷ []; passed = suc place }
+
+-- by whether its message was taken
+abbrev pub took : Bool → (message : List ℕ) → Log → Log
+took false message log = log
+took true message log = record log { taken = log.taken ++ message ∷ [] }
+
+-- a call emitted this, and left so many packets unacknowledged
+abbrev pub emitting : List Emitted → (unacked : ℕ) → Log → Log
+emitting emitted unacked log = record log {
+  sent = log.sent ++ messages_sent emitted;
+  packets = log.packets ++ packets_in emitted;
+  most = max log.most unacked;
+}
+
+-- ---- a call
+
+-- an end that has ended forgets all bytes
+abbrev pub held_in : Stage → List ℕ → List ℕ
+held_in (ended how) bytes = []
+held_in _ bytes = bytes
+
+-- an end that holds these bytes
+abbrev pub with_held : {C : Type 0} → List ℕ → LineEnd C → LineEnd C
+with_held bytes e = record { state = e.state; held = held_in e.state.stage bytes; log = e.log; line = e.line }
+
+-- the bytes on the line are changed so, which the end does not notice
+abbrev pub changed_line : {C : Type 0} → (List ℕ → List ℕ) → LineEnd C → LineEnd C
+changed_line change e = record { state = e.state; held = e.held; log = e.log; line = change e.line }
+
+-- a call did this to an end, which then holds these bytes; what it emits goes on the line at once
+abbrev pub after_call : {C : Type 0} → (held : List ℕ) → Log → (line : List ℕ) → EndEffect C → LineEnd C
+after_call held log line effect = record {
+  state = effect.state;
+  held = held_in effect.state.stage held;
+  log = emitting effect.emitted (length effect.state.link.unacked) log;
+  line = line ++ bytes_in effect.emitted;
+}
+
+-- one of an end's calls, which uses no bytes
+abbrev pub called_with : {C : Type 0} → Player C → EndEvent → LineEnd C → LineEnd C
+called_with p event e = after_call e.held e.log e.line (end_step p.keeper p.identity event e.state)
+
+-- a session begins so
+abbrev pub begins : {C : Type 0} → EndEffect C → LineEnd C
+begins effect = after_call [] nothing_done [] effect

@@ -1,0 +1,57 @@
+-- What keeps the conversations of a run, session by session. A run is told once over any such keeper: over the two
+-- ends themselves, and over how many messages of the whole conversation each has sent and taken (this project's
+-- profile).
+use Rattle.std.specs.Prelude.{ℕ, Bool, true, false, List, ◌++◌}
+use Rattle.uug_session.specs.Count.{Count, nothing_yet, count_keeper}
+use Rattle.uug_session.specs.EarlierJobs.{behind}
+use Rattle.uug_session.specs.Keeper.{Keeper}
+use Rattle.uug_session.specs.Party.{Party}
+use Rattle.uug_session.specs.Talk.{Talk, unopened, end_keeper}
+use Rattle.uug_session.specs.View.{Seen, conversation_view, kept_after, lists_after}
+use Rattle.uug_line.specs.declared.side.Side.{Side}
+use Rattle.uug_line.specs.Belongings.{Belongings}
+use Rattle.uug_line.specs.Sides.{session_side, AtBoth, at}
+
+pub record RunKeeper (C : Type 0) : Type 0 where
+  -- the keeper of an end in a session of these two parties
+  pub keeper : AtBoth Party → Side → Keeper C
+  -- how an end begins a session to which it brings this
+  pub first : Belongings → C
+  -- what it has when it has come so far
+  pub has : AtBoth Party → Side → (brought : Belongings) → C → Belongings
+
+-- ---- the ends themselves, neither of which knows the other's jobs
+
+abbrev pub by_themselves : RunKeeper Talk
+by_themselves = record {
+  keeper = λ parties side. end_keeper (session_side side) (at side parties).holdings;
+  first = λ brought. unopened brought.lists brought.kept;
+  has = λ parties side brought talk. record { lists = talk.machine.lists; kept = talk.kept };
+}
+
+-- ---- two numbers an end, in the conversation of the two parties
+
+abbrev pub view_at : AtBoth Party → Side → List Seen
+view_at parties side = conversation_view (session_side side) parties.at_caller parties.at_called
+
+-- what an end has, whose link has come up, after so many messages of the other's: its jobs and files of earlier
+-- sessions stay in front
+abbrev pub has_after : AtBoth Party → Side → (brought : Belongings) → (taken : ℕ) → Belongings
+has_after parties side brought taken = record {
+  lists = behind brought.lists.struck brought.lists.failed
+      (lists_after (session_side side) parties.at_caller parties.at_called taken);
+  kept = brought.kept ++ kept_after taken (view_at parties side);
+}
+
+-- before the link is up nothing has changed
+abbrev pub has_by : (opened : Bool) → AtBoth Party → Side → (brought : Belongings) → (taken : ℕ) →
+    Belongings
+has_by false parties side brought taken = brought
+has_by true parties side brought taken = has_after parties side brought taken
+
+abbrev pub by_numbers : RunKeeper Count
+by_numbers = record {
+  keeper = λ parties side. count_keeper (view_at parties side);
+  first = λ brought. nothing_yet;
+  has = λ parties side brought count. has_by count.opened parties side brought count.taken;
+}

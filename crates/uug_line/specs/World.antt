@@ -1,0 +1,63 @@
+-- What a run tells; and the world, in which somebody who knows both ends' jobs and spools tells it (this project's
+-- profile).
+use Rattle.std.specs.Prelude.{List, [], ◌∷◌, ◌++◌, length}
+use Rattle.uug_session.specs.Count.{Count}
+use Rattle.uug_session.specs.Talk.{Talk}
+use Rattle.uug_line.specs.declared.event.Event.{Event}
+use Rattle.uug_line.specs.declared.verdict.LineVerdict.{LineVerdict}
+use Rattle.uug_line.specs.Belongings.{Belongings, SetupValue}
+use Rattle.uug_line.specs.LineEnd.{LineEnd}
+use Rattle.uug_line.specs.Report.{EndReportValue, report_of_end}
+use Rattle.uug_line.specs.Run.{Run, end_at, has_now, run_of}
+use Rattle.uug_line.specs.RunKeeper.{RunKeeper, by_themselves, by_numbers}
+use Rattle.uug_line.specs.Sides.{AtBoth, at_each}
+
+pub record ReportValue : Type 0 where
+  -- the sessions in order, the present one last
+  pub sessions : List (AtBoth EndReportValue)
+  -- what the ends have then
+  pub belongings : AtBoth Belongings
+  pub verdict : LineVerdict
+
+abbrev pub report_of : {C : Type 0} → RunKeeper C → SetupValue → Run C → ReportValue
+report_of k setup run = record {
+  sessions = run.past ++ at_each (λ side. report_of_end (end_at side run)) ∷ [];
+  belongings = at_each (has_now k setup run);
+  verdict = run.verdict;
+}
+
+-- ---- the two ends themselves, and in the world
+
+abbrev pub run_of_ends : SetupValue → List Event → Run Talk
+run_of_ends setup events = run_of by_themselves setup events
+
+abbrev pub world : SetupValue → List Event → Run Count
+world setup events = run_of by_numbers setup events
+
+abbrev pub report_of_ends : SetupValue → List Event → ReportValue
+report_of_ends setup events = report_of by_themselves setup (run_of_ends setup events)
+
+abbrev pub report_of_world : SetupValue → List Event → ReportValue
+report_of_world setup events = report_of by_numbers setup (world setup events)
+
+-- ---- the one as the other
+
+-- all but its conversation, of which is told how many messages were sent and taken
+abbrev pub count_of : LineEnd Talk → Count
+count_of e = record { opened = e.state.keeper.opened; sent = length e.log.sent; taken = length e.log.taken }
+
+abbrev pub counted_end : LineEnd Talk → LineEnd Count
+counted_end e = record {
+  state = record { stage = e.state.stage; link = e.state.link; keeper = count_of e };
+  held = e.held;
+  log = e.log;
+  line = e.line;
+}
+
+abbrev pub counted : Run Talk → Run Count
+counted run = record {
+  past = run.past;
+  brought = run.brought;
+  ends = at_each (λ side. counted_end (end_at side run));
+  verdict = run.verdict;
+}
