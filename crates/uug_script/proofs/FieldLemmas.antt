@@ -1,0 +1,141 @@
+-- What single words say.
+use Rattle.std.proofs.Common.{◌≡◌, ◌==◌, ◌⊎◌, inl, inr, ◌↔◌, ℕ, zero, suc, ◌<◌, ◌≤◌, ◌^◌, Bool, true, false, if◌then◌else◌, List, [], ◌∷◌, length, nat_le, nat_lt, Option, Some, None, Result, Ok, Err, IfOk, lit<, refl, sym, ap, subst, ◌∙◌, arith}
+use Rattle.std.proofs.lemmas.Bool.{and_parts}
+use Rattle.std.proofs.lemmas.Bool.Decides.{nat_tests}
+use Rattle.std.proofs.lemmas.Str.{IsUtf8-from_ascii}
+use Rattle.std.proofs.lemmas.Str.Ascii.{IsAscii-nil, IsAscii-cons}
+use Rattle.std.specs.Char.{is_ascii_digit}
+use Rattle.std.specs.List.{list_all}
+use Rattle.std.specs.Prelude.{IsErrOf}
+use Rattle.std.specs.Result.{result_ok}
+use Rattle.std.specs.Str.{IsAscii, IsUtf8}
+use Rattle.std.specs.Str.Parse.{AllDigits, IsNumeral, ParsesUnsigned, digits_value, without_leading_plus}
+use Rattle.uug_link.specs.Announced.{Announced, announced}
+use Rattle.uug_link.specs.Terms.{IsSize, IsWindow, size_of_code}
+use Rattle.uug_link.specs.declared.announce.Announce.{Announce}
+use Rattle.uug_link.specs.declared.announce.BadAnnounce.{BadAnnounce}
+use Rattle.uug_link.specs.declared.announce.BadAnnounce.TheVariants as bad
+use Rattle.uug_link.specs.declared.limits.TheConstants.{MESSAGE_MAX, SIZE_CODES, WINDOW_MAX}
+use Rattle.uug_script.specs.Fields.{◌>>=◌, is_numeral, number_of, code_of_size, announcement, announcement_of}
+use Rattle.uug_script.specs.Meaning.{announced_by}
+
+-- ---- numbers
+
+digits_are_ascii : (word : List ℕ) → list_all is_ascii_digit word ≡ true → IsAscii word
+digits_are_ascii [] e = IsAscii-nil
+digits_are_ascii (c ∷ cs) e =
+    let p = and_parts (is_ascii_digit c) (list_all is_ascii_digit cs) e in
+    IsAscii-cons c cs (grind (arith, nat_tests, p.0)) (digits_are_ascii cs p.1)
+
+all_digits : (word : List ℕ) → list_all is_ascii_digit word ≡ true → AllDigits 10 word
+all_digits [] e = tt
+all_digits (c ∷ cs) e =
+    let p = and_parts (is_ascii_digit c) (list_all is_ascii_digit cs) e in
+    (grind (arith, nat_tests, p.0), all_digits cs p.1)
+
+pub numeral_is_text : (word : List ℕ) → is_numeral word ≡ true → IsUtf8 word
+numeral_is_text word e = IsUtf8-from_ascii word (digits_are_ascii word (and_parts (nat_lt 0 (length word)) (list_all is_ascii_digit word) e).1)
+
+pub numeral_parses : (word : List ℕ) → is_numeral word ≡ true → IsNumeral 10 word
+numeral_parses [] e = absurd cc
+numeral_parses (c ∷ cs) e =
+    let p = and_parts (nat_lt 0 (length (c ∷ cs))) (list_all is_ascii_digit (c ∷ cs)) e in
+    (omega arith, all_digits (c ∷ cs) p.1)
+
+-- a numeral has no sign
+no_sign : (word : List ℕ) → is_numeral word ≡ true → without_leading_plus word ≡ word
+no_sign [] e = refl
+no_sign (c ∷ cs) e =
+    let q = and_parts (nat_lt 0 (length (c ∷ cs))) (list_all is_ascii_digit (c ∷ cs)) e in
+    let p = and_parts (is_ascii_digit c) (list_all is_ascii_digit cs) q.1 in
+    let other : (c == 43) ≡ false = grind (arith, nat_tests, p.0) in
+    rw other refl
+
+-- what no number of this type is, is too large
+pub number_not_found : {E : Type 0} (most : ℕ) (word text : List ℕ) (r : Result ℕ E) (e : E) → is_numeral word ≡ true → text ≡ word → most < 2 ^ 32
+    → ParsesUnsigned 32 10 text r → r ≡ Err e → None ≡ number_of most word
+number_not_found {E} most word text r e numeral same fits parses refused =
+    let p : ParsesUnsigned {E = E} 32 10 word (Err e) = rw (same, refused) at parses in
+    let q = rw (no_sign word numeral) at p in
+    let digits = numeral_parses word numeral in
+    let large : nat_le (digits_value 10 word) most ≡ false = not_small (nat_le (digits_value 10 word) most) refl q digits in
+    rw (numeral, large) refl where
+      not_small : (b : Bool) → nat_le (digits_value 10 word) most ≡ b → (IsNumeral 10 word × (digits_value 10 word < 2 ^ 32) → ⊥) → IsNumeral 10 word → b ≡ false
+      not_small false t unfit digits = refl
+      not_small true t unfit digits = absurd (unfit (digits, (let le : digits_value 10 word ≤ most = grind (arith, nat_tests) in omega arith)))
+
+-- ---- announcements
+
+-- each of the eight sizes has its code
+pub code_of_its_size : (code : ℕ) → code < SIZE_CODES → code_of_size (size_of_code code) ≡ Some code
+code_of_its_size zero h = refl
+code_of_its_size (suc zero) h = refl
+code_of_its_size (suc (suc zero)) h = refl
+code_of_its_size (suc (suc (suc zero))) h = refl
+code_of_its_size (suc (suc (suc (suc zero)))) h = refl
+code_of_its_size (suc (suc (suc (suc (suc zero))))) h = refl
+code_of_its_size (suc (suc (suc (suc (suc (suc zero)))))) h = refl
+code_of_its_size (suc (suc (suc (suc (suc (suc (suc zero))))))) h = refl
+code_of_its_size (suc (suc (suc (suc (suc (suc (suc (suc n)))))))) h = absurd (omega arith)
+
+-- what has a code is the size of it
+size_step : (size n code y : ℕ) (rest : Option ℕ) → size_of_code code ≡ n → code < SIZE_CODES → (if size == n then Some code else rest) ≡ Some y
+    → (rest ≡ Some y → (y < SIZE_CODES) × (size ≡ size_of_code y)) → (y < SIZE_CODES) × (size ≡ size_of_code y)
+size_step size n code y rest is small e later = go (size == n) refl e where
+  go : (b : Bool) → (size == n) ≡ b → (if b then Some code else rest) ≡ Some y → (y < SIZE_CODES) × (size ≡ size_of_code y)
+  go true t e =
+      let k : code ≡ y = cc in
+      let s : size ≡ n = grind (arith, nat_tests) in
+      (subst (λ z. z < SIZE_CODES) k small, s ∙ sym is ∙ ap size_of_code k)
+  go false t e = later e
+
+pub size_of_its_code : (size y : ℕ) → code_of_size size ≡ Some y → (y < SIZE_CODES) × (size ≡ size_of_code y)
+size_of_its_code size y e =
+    size_step size 32 0 y _ refl (lit< tt) e (λ e.
+    size_step size 64 1 y _ refl (lit< tt) e (λ e.
+    size_step size 128 2 y _ refl (lit< tt) e (λ e.
+    size_step size 256 3 y _ refl (lit< tt) e (λ e.
+    size_step size 512 4 y _ refl (lit< tt) e (λ e.
+    size_step size 1024 5 y _ refl (lit< tt) e (λ e.
+    size_step size 2048 6 y _ refl (lit< tt) e (λ e.
+    size_step size 4096 7 y _ refl (lit< tt) e (λ e. absurd cc))))))))
+
+no_code : (size : ℕ) (o : Option ℕ) → code_of_size size ≡ o → (IsSize size → ⊥) → o ≡ None
+no_code size None e other = refl
+no_code size (Some y) e other = absurd (let s = size_of_its_code size y e in other (y, s.0, s.1))
+
+abbrev pub announced_as : ℕ → ℕ → Announced
+announced_as window code = record { window = window; size_code = code }
+
+-- an announcement is made exactly of a window and a size
+pub announcement_made : (window size : ℕ) (r : Result Announce BadAnnounce) → window ≤ WINDOW_MAX
+    → IfOk r (λ a. (announced a).window ≡ window) → IfOk r (λ a. size_of_code (announced a).size_code ≡ size)
+    → (IsErrOf r bad.BadWindow ↔ ((window < 1) ⊎ (WINDOW_MAX < window)))
+    → (IsErrOf r bad.BadSize ↔ (IsWindow window × (IsSize size → ⊥)))
+    → announced_by (result_ok r) ≡ announcement window size
+announcement_made window size (Ok a) small window_is size_is bad_window bad_size =
+    let some : nat_le 1 window ≡ true = window_some (nat_le 1 window) refl in
+    let code : code_of_size size ≡ Some (announced a).size_code = ap code_of_size (sym size_is) ∙ code_of_its_size (announced a).size_code a.size_code.below in
+    rw (some, code) (ap (λ w. Some (announced_as w (announced a).size_code)) window_is) where
+      window_some : (b : Bool) → nat_le 1 window ≡ b → b ≡ true
+      window_some true t = refl
+      window_some false t =
+          let low : window < 1 = grind (arith, nat_tests) in
+          let e = bad_window.1 (inl low) in
+          absurd cc
+announcement_made window size (Err bad.BadWindow) small window_is size_is bad_window bad_size =
+    let none : nat_le 1 window ≡ false = elim (bad_window.0 refl) [ inl low ↦ grind (arith, nat_tests) | inr high ↦ absurd (omega arith) ] in
+    rw none refl
+announcement_made window size (Err bad.BadSize) small window_is size_is bad_window bad_size =
+    let none : code_of_size size ≡ None = no_code size (code_of_size size) refl (bad_size.0 refl).1 in
+    no_size (nat_le 1 window) none where
+      no_size : (b : Bool) → code_of_size size ≡ None → None ≡ (if b then code_of_size size >>= (λ code. Some (announced_as window code)) else None)
+      no_size true e = rw e refl
+      no_size false e = refl
+
+-- the words of a window and of a size, read as numbers
+pub announcement_read : (most window size : ℕ) (window_word size_word : List ℕ) → most ≡ WINDOW_MAX → Some window ≡ number_of most window_word
+    → Some size ≡ number_of MESSAGE_MAX size_word → announcement window size ≡ announcement_of window_word size_word
+announcement_read most window size window_word size_word m e f =
+    ap (λ o. o >>= (λ s. announcement window s)) f
+    ∙ ap (λ o. o >>= (λ w. number_of MESSAGE_MAX size_word >>= (λ s. announcement w s))) (e ∙ ap (λ k. number_of k window_word) m)

@@ -1,0 +1,9 @@
+pub mod AfreshLemmas
+pub mod FieldLemmas
+pub mod LineLemmas
+pub mod ReportLemmas
+pub mod ScriptFacts
+pub mod ScriptLemmas
+pub mod ScriptTableLemmas
+pub mod TableLemmas
+pub mod WordTableLemmas

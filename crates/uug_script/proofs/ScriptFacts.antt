@@ -1,0 +1,102 @@
+-- Worked scripts and reports, computed from the definitions.
+use Rattle.std.proofs.Common.{◌≡◌, ℕ, List, [], ◌∷◌, ◌++◌, codes, Some, None, Ok, Err, refl}
+use Rattle.std.specs.Fmt.{digits}
+use Rattle.hex.proofs.OnLiterals.{hex_on_literals}
+use Rattle.uug_session.specs.Jobs.{at_start}
+use Rattle.uug_session.specs.Holdings.{kept_file}
+use Rattle.uug_session.specs.MemoryHoldings.{no_holdings}
+use Rattle.uug_session.specs.declared.end.End.TheVariants.{Done}
+use Rattle.uug_session.specs.declared.job.Job.TheVariants.{Send}
+use Rattle.uug_line.specs.declared.event.Event.TheVariants.{Flip, Call}
+use Rattle.uug_session.specs.declared.phase.Phase.TheVariants.{Ended}
+use Rattle.uug_script.specs.declared.report.EndNumbers.{EndNumbers}
+use Rattle.uug_line.specs.declared.side.Side.TheVariants.{Caller, Called}
+use Rattle.uug_line.specs.declared.verdict.LineVerdict.TheVariants.{Clean, Fooled}
+use Rattle.uug_script.specs.Lines.{lines}
+use Rattle.uug_script.specs.Meaning.{event}
+use Rattle.uug_script.specs.ReadLine.{line_of}
+use Rattle.uug_script.specs.ReportText.{RunResult, ended, report_text, stored_line, verdict_line}
+use Rattle.uug_script.specs.Script.{ScriptSays, flow_events}
+use Rattle.uug_script.specs.ScriptOf.{script_of}
+
+abbrev both_ends : List ℕ
+both_ends = ended (codes "caller a 2 32") ++ ended (codes "called b 2 32")
+
+abbrev sent_file : List ℕ
+sent_file = both_ends ++ ended (codes "file caller x 0644 -") ++ ended (codes "send caller x y u") ++ ended (codes "flow 2")
+
+-- a file that is sent, over a line that works
+abbrev sent_file_says : ScriptSays
+sent_file_says = record {
+  caller = record {
+    name = codes "a";
+    announced = record { window = 2; size_code = 0 };
+    queue = at_start (Send (codes "x") (codes "y") (codes "u") None ∷ []) [] [];
+    held = record no_holdings { files = kept_file (codes "x") 420 [] ∷ [] };
+  };
+  called = record { name = codes "b"; announced = record { window = 2; size_code = 0 }; queue = at_start [] [] []; held = no_holdings };
+  events = flow_events 2;
+}
+
+a_script : script_of sent_file ≡ Ok sent_file_says
+a_script = refl
+
+-- an end that is missing makes the line behind the last one bad
+no_text : script_of [] ≡ Err 1
+no_text = refl
+
+no_called : script_of (codes "caller a 2 32") ≡ Err 2
+no_called = refl
+
+bad_window : script_of (ended (codes "caller a 2 32") ++ codes "called b 8 32") ≡ Err 2
+bad_window = refl
+
+-- the first bad line counts
+one_digit : script_of (both_ends ++ ended (codes "flip caller 1") ++ codes "other") ≡ Err 3
+unfolding hex_on_literals
+one_digit = refl
+
+two_digits : line_of (codes "flip caller fF") ≡ Some (event (Flip Caller 255))
+unfolding hex_on_literals
+two_digits = refl
+
+five_digits : line_of (codes "file caller x 06444 -") ≡ None
+five_digits = refl
+
+a_tab : line_of (9 ∷ codes "call") ≡ None
+a_tab = refl
+
+spaces : line_of (codes "  call  ") ≡ Some (event Call)
+spaces = refl
+
+last_line : lines (codes "a" ++ 10 ∷ 10 ∷ codes "b") ≡ codes "a" ∷ [] ∷ codes "b" ∷ []
+last_line = refl
+
+abbrev numbers : ℕ → ℕ → EndNumbers
+numbers sent taken = record { sent = sent; taken = taken; most = 1; phase = Ended Done }
+
+abbrev done : RunResult
+done = record {
+  sessions = record { caller = numbers 4 3; called = numbers 3 4 } ∷ [];
+  caller = record { pending = 0; struck = 1; failed = 0; stored = [] };
+  called = record { pending = 0; struck = 0; failed = 0; stored = kept_file (codes "y") 420 [] ∷ [] };
+  verdict = Clean;
+}
+
+abbrev done_text : List ℕ
+done_text =
+    ended (codes "session 1") ++ ended (codes "caller sent 4 taken 3 most 1 done")
+    ++ ended (codes "called sent 3 taken 4 most 1 done") ++ ended (codes "caller pending 0 struck 1 failed 0")
+    ++ ended (codes "called pending 0 struck 0 failed 0") ++ ended (codes "called stored y 0644 -") ++ ended (codes "verdict clean")
+
+a_report : report_text done ≡ done_text
+unfolding digits
+a_report = refl
+
+fooled : verdict_line (Fooled 14 Called) ≡ ended (codes "verdict fooled 14 called")
+unfolding digits
+fooled = refl
+
+a_stored_file : stored_line Called (kept_file (codes "y") 7 (0 ∷ 171 ∷ [])) ≡ ended (codes "called stored y 0007 00ab")
+unfolding hex_on_literals
+a_stored_file = refl

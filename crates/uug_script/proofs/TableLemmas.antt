@@ -1,0 +1,351 @@
+-- The function that reads a line and the table of lines agree.
+use Rattle.std.proofs.Common.{◌≡◌, ℕ, Bool, true, false, if◌then◌else◌, List, [], ◌∷◌, length, codes, nat_le, Option, Some, None, Ok, refl, sym, ap, subst, ◌∙◌, arith}
+use Rattle.std.proofs.lemmas.Bool.Decides.{nat_tests}
+use Rattle.std.specs.Str.{bytes_eq}
+use Rattle.uug_session.specs.Holdings.{kept_file}
+use Rattle.uug_session.specs.declared.job.Job.TheVariants.{Send, Request}
+use Rattle.uug_talk.specs.Name.{IsName}
+use Rattle.uug_talk.specs.Words.{words}
+use Rattle.uug_line.specs.declared.event.Event.TheVariants.{Pass, Drop, Flip, Insert, Timeout, HangUp, Call}
+use Rattle.uug_script.specs.declared.line.TheConstants.{BYTES_MAX, LINE_MAX, TURNS_MAX}
+use Rattle.uug_line.specs.declared.side.Side.{Side}
+use Rattle.uug_line.specs.declared.side.Side.TheVariants.{Caller, Called}
+use Rattle.uug_script.specs.Fields.{◌>>=◌, side_word, side_of, name_of, number_of, mode_of_word, hex_bytes, byte_of, announcement_of, is_comment}
+use Rattle.hex.specs.Hex.{decode_of}
+use Rattle.uug_script.specs.LineSays.{WritesNumber, NamesCopy, LineSays, TextSays, blank, comment, end_line, file_line, send_line, request_line, deny_line, later_line, immovable_line, pass_line, drop_line, flip_line, insert_line, timeout_line, hangup_line, call_line, flow_line}
+use Rattle.uug_script.specs.Meaning.{LineMeaning, nothing, of_end, event, flow, place, file, job, deny, later, immovable, file_meaning, of_side}
+use Rattle.uug_script.specs.ReadLine.{place_of, file_of, last_name_of, send_of, request_of, side_and_name, side_and_count, side_and_byte, one_side, call_of, flow_of, deny_of, later_of, immovable_of, pass_of, drop_of, flip_of, insert_of, timeout_of, hang_up_of, event_by, line_by, line_of_words, line_of}
+use Rattle.uug_script.proofs.WordTableLemmas.{bind_some, same_bytes, name_of_name, name_is, number_written, writes_number, announcement_written, announces, mode_written, writes_mode, bytes_written, writes_bytes, byte_written, writes_byte}
+
+-- ---- what the table says is read
+
+side_read : (side : Side) → side_of (side_word side) ≡ Some side
+side_read Caller = refl
+side_read Called = refl
+
+last_name_read : (more : List (List ℕ)) (temp : Option (List ℕ)) → NamesCopy more temp → last_name_of more ≡ Some temp
+last_name_read more None h = ap last_name_of h
+last_name_read more (Some temp) h = ap last_name_of h.1 ∙ rw (name_of_name temp h.0) refl
+
+says_read : (ws : List (List ℕ)) (m : LineMeaning) → LineSays ws m → line_of_words ws ≡ Some m
+says_read ws m blank = refl
+says_read ws m comment = refl
+says_read ws m (end_line {side = Caller} {name = name} {window = window} {size = size} {a = a} n h) = rw (name_of_name name n, announcement_written window size a h) refl
+says_read ws m (end_line {side = Called} {name = name} {window = window} {size = size} {a = a} n h) = rw (name_of_name name n, announcement_written window size a h) refl
+says_read ws m (file_line {side = side} {name = name} {digits = digits} {hex = hex} {bytes = bytes} {mode = mode} n d b) =
+    rw (name_of_name name n, mode_written digits mode d, side_read side, bytes_written hex bytes b) refl
+says_read ws m (send_line {side = side} {source = source} {target = target} {user = user} {temp = temp} {more = more} h t) =
+    rw (name_of_name source h.0, name_of_name target h.1, name_of_name user h.2, last_name_read more temp t, side_read side) refl
+says_read ws m (request_line {side = side} {source = source} {target = target} {user = user} h) =
+    rw (name_of_name source h.0, name_of_name target h.1, name_of_name user h.2, side_read side) refl
+says_read ws m (deny_line {side = side} {name = name} n) = rw (side_read side, name_of_name name n) refl
+says_read ws m (later_line {side = side} {name = name} n) = rw (side_read side, name_of_name name n) refl
+says_read ws m (immovable_line {side = side} {name = name} n) = rw (side_read side, name_of_name name n) refl
+says_read ws m (pass_line {side = side} {word = word} {n = n} h) = rw (side_read side, number_written BYTES_MAX word n h) refl
+says_read ws m (drop_line {side = side} {word = word} {n = n} h) = rw (side_read side, number_written BYTES_MAX word n h) refl
+says_read ws m (flip_line {side = side} {hex = hex} {byte = byte} h) = rw (side_read side, byte_written hex byte h) refl
+says_read ws m (insert_line {side = side} {hex = hex} {byte = byte} h) = rw (side_read side, byte_written hex byte h) refl
+says_read ws m (timeout_line {side = side}) = rw (side_read side) refl
+says_read ws m (hangup_line {side = side}) = rw (side_read side) refl
+says_read ws m call_line = refl
+says_read ws m (flow_line {word = word} {n = n} h) = rw (number_written TURNS_MAX word n h) refl
+
+pub text_says_read : (line : List ℕ) (m : LineMeaning) → TextSays line m → line_of line ≡ Some m
+text_says_read line m h =
+    let fits : nat_le (length line) LINE_MAX ≡ true = grind (arith, nat_tests, h.within) in
+    rw fits (says_read (words line) m h.said)
+
+-- ---- what is read the table says
+
+as_meaning : (ws : List (List ℕ)) (x m : LineMeaning) → LineSays ws x → x ≡ m → LineSays ws m
+as_meaning ws x m h e = subst (LineSays ws) e h
+
+side_is : (word : List ℕ) (side : Side) → side_of word ≡ Some side → side_word side ≡ word
+side_is word side e = by_caller (bytes_eq word (codes "caller")) refl e where
+  by_called : (b : Bool) → bytes_eq word (codes "called") ≡ b → (if b then Some Called else None) ≡ Some side → side_word side ≡ word
+  by_called true t f = let same : Called ≡ side = cc in ap side_word (sym same) ∙ sym (same_bytes word (codes "called") t)
+  by_called false t f = absurd cc
+
+  by_caller : (b : Bool) → bytes_eq word (codes "caller") ≡ b
+      → (if b then Some Caller else (if bytes_eq word (codes "called") then Some Called else None)) ≡ Some side → side_word side ≡ word
+  by_caller true t f = let same : Caller ≡ side = cc in ap side_word (sym same) ∙ sym (same_bytes word (codes "caller") t)
+  by_caller false t f = by_called (bytes_eq word (codes "called")) refl f
+
+-- with the word of the side put in its place
+with_side : (first side_text : List ℕ) (side : Side) (more : List (List ℕ)) (m : LineMeaning) → side_word side ≡ side_text
+    → LineSays (first ∷ side_word side ∷ more) m → LineSays (first ∷ side_text ∷ more) m
+with_side first side_text side more m e h = subst (λ w. LineSays (first ∷ w ∷ more) m) e h
+
+place_says : (side : Side) (ws : List (List ℕ)) (m : LineMeaning) → place_of side ws ≡ Some m → LineSays (side_word side ∷ ws) m
+place_says side [] m e = absurd cc
+place_says side (a ∷ []) m e = absurd cc
+place_says side (a ∷ b ∷ []) m e = absurd cc
+place_says side (name ∷ window ∷ size ∷ []) m e =
+    let n = bind_some (name_of name) (λ n. announcement_of window size >>= (λ a. Some (of_end side (place n a)))) m e in
+    let a = bind_some (announcement_of window size) (λ a. Some (of_end side (place n.0 a))) m n.2 in
+    let named = name_is name n.0 n.1 in
+    let same = named.1 in
+    let found = a.2 in
+    as_meaning _ (of_end side (place name a.0)) m (end_line (subst IsName (sym same) named.0) (announces window size a.0 a.1)) cc
+place_says side (a ∷ b ∷ c ∷ d ∷ more) m e = absurd cc
+
+file_meaning_is : (side : Side) (name : List ℕ) (mode : ℕ) (o : Option (List ℕ)) (m : LineMeaning) → of_side side (file_meaning name mode o) ≡ Some m
+    → (bytes : List ℕ) × (o ≡ Some bytes) × (of_end side (file (kept_file name mode bytes)) ≡ m)
+file_meaning_is side name mode None m e = absurd cc
+file_meaning_is side name mode (Some bytes) m e = (bytes, refl, cc)
+
+file_says : (ws : List (List ℕ)) (m : LineMeaning) → file_of ws ≡ Some m → LineSays (codes "file" ∷ ws) m
+file_says [] m e = absurd cc
+file_says (a ∷ []) m e = absurd cc
+file_says (a ∷ b ∷ []) m e = absurd cc
+file_says (a ∷ b ∷ c ∷ []) m e = absurd cc
+file_says (side ∷ name ∷ mode ∷ hex ∷ []) m e =
+    let n = bind_some (name_of name) (λ n. mode_of_word mode >>= (λ o. side_of side >>= (λ s. of_side s (file_meaning n o (hex_bytes hex))))) m e in
+    let o = bind_some (mode_of_word mode) (λ o. side_of side >>= (λ s. of_side s (file_meaning n.0 o (hex_bytes hex)))) m n.2 in
+    let s = bind_some (side_of side) (λ s. of_side s (file_meaning n.0 o.0 (hex_bytes hex))) m o.2 in
+    let b = file_meaning_is s.0 n.0 o.0 (hex_bytes hex) m s.2 in
+    let named = name_is name n.0 n.1 in
+    let same = named.1 in
+    let found = b.2 in
+    with_side (codes "file") side s.0 (name ∷ mode ∷ hex ∷ []) m (side_is side s.0 s.1)
+    (as_meaning _ (of_end s.0 (file (kept_file name o.0 b.0))) m
+    (file_line (subst IsName (sym same) named.0) (writes_mode mode o.0 o.1) (writes_bytes hex b.0 b.1))
+    (ap (λ z. of_end s.0 (file (kept_file z o.0 b.0))) same ∙ found))
+file_says (a ∷ b ∷ c ∷ d ∷ f ∷ more) m e = absurd cc
+
+last_name_says : (more : List (List ℕ)) (temp : Option (List ℕ)) → last_name_of more ≡ Some temp → NamesCopy more temp
+last_name_says [] temp e = let none : None ≡ temp = cc in subst (NamesCopy []) none refl
+last_name_says (word ∷ []) temp e =
+    let n = bind_some (name_of word) (λ n. Some (Some n)) temp e in
+    let named = name_is word n.0 n.1 in
+    let found = n.2 in
+    let same : Some n.0 ≡ temp = cc in
+    subst (NamesCopy (word ∷ [])) same (named.0, ap (λ w. w ∷ []) named.1)
+last_name_says (a ∷ b ∷ more) temp e = absurd cc
+
+send_says : (ws : List (List ℕ)) (m : LineMeaning) → send_of ws ≡ Some m → LineSays (codes "send" ∷ ws) m
+send_says [] m e = absurd cc
+send_says (a ∷ []) m e = absurd cc
+send_says (a ∷ b ∷ []) m e = absurd cc
+send_says (a ∷ b ∷ c ∷ []) m e = absurd cc
+send_says (side ∷ source ∷ target ∷ user ∷ more) m e =
+    let s = bind_some (name_of source) (λ s. name_of target >>= (λ t. name_of user >>= (λ u. last_name_of more >>= (λ temp. side_of side >>= (λ end. Some (of_end end (job (Send s t u temp)))))))) m e in
+    let t = bind_some (name_of target) (λ t. name_of user >>= (λ u. last_name_of more >>= (λ temp. side_of side >>= (λ end. Some (of_end end (job (Send s.0 t u temp))))))) m s.2 in
+    let u = bind_some (name_of user) (λ u. last_name_of more >>= (λ temp. side_of side >>= (λ end. Some (of_end end (job (Send s.0 t.0 u temp)))))) m t.2 in
+    let c = bind_some (last_name_of more) (λ temp. side_of side >>= (λ end. Some (of_end end (job (Send s.0 t.0 u.0 temp))))) m u.2 in
+    let d = bind_some (side_of side) (λ end. Some (of_end end (job (Send s.0 t.0 u.0 c.0)))) m c.2 in
+    let sn = name_is source s.0 s.1 in
+    let tn = name_is target t.0 t.1 in
+    let un = name_is user u.0 u.1 in
+    let s_is = sn.1 in
+    let t_is = tn.1 in
+    let u_is = un.1 in
+    let found = d.2 in
+    with_side (codes "send") side d.0 (source ∷ target ∷ user ∷ more) m (side_is side d.0 d.1)
+    (as_meaning _ (of_end d.0 (job (Send source target user c.0))) m
+    (send_line {side = d.0} {temp = c.0} (subst IsName (sym s_is) sn.0, subst IsName (sym t_is) tn.0, subst IsName (sym u_is) un.0) (last_name_says more c.0 c.1)) cc)
+
+request_says : (ws : List (List ℕ)) (m : LineMeaning) → request_of ws ≡ Some m → LineSays (codes "request" ∷ ws) m
+request_says [] m e = absurd cc
+request_says (a ∷ []) m e = absurd cc
+request_says (a ∷ b ∷ []) m e = absurd cc
+request_says (a ∷ b ∷ c ∷ []) m e = absurd cc
+request_says (side ∷ source ∷ target ∷ user ∷ []) m e =
+    let s = bind_some (name_of source) (λ s. name_of target >>= (λ t. name_of user >>= (λ u. side_of side >>= (λ end. Some (of_end end (job (Request s t u))))))) m e in
+    let t = bind_some (name_of target) (λ t. name_of user >>= (λ u. side_of side >>= (λ end. Some (of_end end (job (Request s.0 t u)))))) m s.2 in
+    let u = bind_some (name_of user) (λ u. side_of side >>= (λ end. Some (of_end end (job (Request s.0 t.0 u))))) m t.2 in
+    let d = bind_some (side_of side) (λ end. Some (of_end end (job (Request s.0 t.0 u.0)))) m u.2 in
+    let sn = name_is source s.0 s.1 in
+    let tn = name_is target t.0 t.1 in
+    let un = name_is user u.0 u.1 in
+    let s_is = sn.1 in
+    let t_is = tn.1 in
+    let u_is = un.1 in
+    let found = d.2 in
+    with_side (codes "request") side d.0 (source ∷ target ∷ user ∷ []) m (side_is side d.0 d.1)
+    (as_meaning _ (of_end d.0 (job (Request source target user))) m
+    (request_line {side = d.0} (subst IsName (sym s_is) sn.0, subst IsName (sym t_is) tn.0, subst IsName (sym u_is) un.0)) cc)
+request_says (a ∷ b ∷ c ∷ d ∷ f ∷ more) m e = absurd cc
+
+-- ---- a side and one more word
+
+record SideAndName (ws : List (List ℕ)) (side : Side) (name : List ℕ) : Type 0 where
+  spelled : side_word side ∷ name ∷ [] ≡ ws
+  named : IsName name
+
+side_and_name_is : (ws : List (List ℕ)) (p : Side × List ℕ) → side_and_name ws ≡ Some p → SideAndName ws p.0 p.1
+side_and_name_is [] p e = absurd cc
+side_and_name_is (a ∷ []) p e = absurd cc
+side_and_name_is (side ∷ name ∷ []) p e =
+    let s = bind_some (side_of side) (λ s. name_of name >>= (λ n. Some (s, n))) p e in
+    let n = bind_some (name_of name) (λ n. Some (s.0, n)) p s.2 in
+    let named = name_is name n.0 n.1 in
+    let found = n.2 in
+    let same : (s.0, n.0) ≡ p = cc in
+    subst (λ (q : Side × List ℕ). SideAndName (side ∷ name ∷ []) q.0 q.1) same
+    (record { spelled = ap (λ w. w ∷ n.0 ∷ []) (side_is side s.0 s.1) ∙ ap (λ w. side ∷ w ∷ []) (sym named.1); named = named.0 })
+side_and_name_is (a ∷ b ∷ c ∷ more) p e = absurd cc
+
+record SideAndNumber (ws : List (List ℕ)) (side : Side) (n : ℕ) : Type 0 where
+  word : List ℕ
+  spelled : side_word side ∷ word ∷ [] ≡ ws
+  written : WritesNumber BYTES_MAX word n
+
+side_and_number_is : (ws : List (List ℕ)) (p : Side × ℕ) → side_and_count ws ≡ Some p → SideAndNumber ws p.0 p.1
+side_and_number_is [] p e = absurd cc
+side_and_number_is (a ∷ []) p e = absurd cc
+side_and_number_is (side ∷ number ∷ []) p e =
+    let s = bind_some (side_of side) (λ s. number_of BYTES_MAX number >>= (λ n. Some (s, n))) p e in
+    let n = bind_some (number_of BYTES_MAX number) (λ n. Some (s.0, n)) p s.2 in
+    let found = n.2 in
+    let same : (s.0, n.0) ≡ p = cc in
+    subst (λ (q : Side × ℕ). SideAndNumber (side ∷ number ∷ []) q.0 q.1) same
+    (record { word = number; spelled = ap (λ w. w ∷ number ∷ []) (side_is side s.0 s.1); written = writes_number BYTES_MAX number n.0 n.1 })
+side_and_number_is (a ∷ b ∷ c ∷ more) p e = absurd cc
+
+record SideAndByte (ws : List (List ℕ)) (side : Side) (byte : ℕ) : Type 0 where
+  word : List ℕ
+  spelled : side_word side ∷ word ∷ [] ≡ ws
+  written : decode_of word ≡ Ok (byte ∷ [])
+
+side_and_byte_is : (ws : List (List ℕ)) (p : Side × ℕ) → side_and_byte ws ≡ Some p → SideAndByte ws p.0 p.1
+side_and_byte_is [] p e = absurd cc
+side_and_byte_is (a ∷ []) p e = absurd cc
+side_and_byte_is (side ∷ hex ∷ []) p e =
+    let s = bind_some (side_of side) (λ s. byte_of hex >>= (λ b. Some (s, b))) p e in
+    let b = bind_some (byte_of hex) (λ b. Some (s.0, b)) p s.2 in
+    let found = b.2 in
+    let same : (s.0, b.0) ≡ p = cc in
+    subst (λ (q : Side × ℕ). SideAndByte (side ∷ hex ∷ []) q.0 q.1) same
+    (record { word = hex; spelled = ap (λ w. w ∷ hex ∷ []) (side_is side s.0 s.1); written = writes_byte hex b.0 b.1 })
+side_and_byte_is (a ∷ b ∷ c ∷ more) p e = absurd cc
+
+one_side_is : (ws : List (List ℕ)) (side : Side) → one_side ws ≡ Some side → side_word side ∷ [] ≡ ws
+one_side_is [] side e = absurd cc
+one_side_is (word ∷ []) side e = ap (λ w. w ∷ []) (side_is word side e)
+one_side_is (a ∷ b ∷ more) side e = absurd cc
+
+-- ---- the other lines
+
+some_is : {x m : LineMeaning} → Some x ≡ Some m → x ≡ m
+some_is e = cc
+
+-- the words behind the first one, spelled out
+spelled_says : (first : List ℕ) (spelled ws : List (List ℕ)) (x m : LineMeaning) → spelled ≡ ws → LineSays (first ∷ spelled) x → Some x ≡ Some m
+    → LineSays (first ∷ ws) m
+spelled_says first spelled ws x m e h f = subst (λ rest. LineSays (first ∷ rest) m) e (as_meaning (first ∷ spelled) x m h (some_is f))
+
+deny_says : (ws : List (List ℕ)) (m : LineMeaning) → deny_of ws ≡ Some m → LineSays (codes "deny" ∷ ws) m
+deny_says ws m e =
+    let p = bind_some (side_and_name ws) (λ p. Some (of_end p.0 (deny p.1))) m e in
+    let w = side_and_name_is ws p.0 p.1 in
+    spelled_says (codes "deny") (side_word p.0.0 ∷ p.0.1 ∷ []) ws (of_end p.0.0 (deny p.0.1)) m w.spelled (deny_line w.named) p.2
+
+later_says : (ws : List (List ℕ)) (m : LineMeaning) → later_of ws ≡ Some m → LineSays (codes "later" ∷ ws) m
+later_says ws m e =
+    let p = bind_some (side_and_name ws) (λ p. Some (of_end p.0 (later p.1))) m e in
+    let w = side_and_name_is ws p.0 p.1 in
+    spelled_says (codes "later") (side_word p.0.0 ∷ p.0.1 ∷ []) ws (of_end p.0.0 (later p.0.1)) m w.spelled (later_line w.named) p.2
+
+immovable_says : (ws : List (List ℕ)) (m : LineMeaning) → immovable_of ws ≡ Some m → LineSays (codes "immovable" ∷ ws) m
+immovable_says ws m e =
+    let p = bind_some (side_and_name ws) (λ p. Some (of_end p.0 (immovable p.1))) m e in
+    let w = side_and_name_is ws p.0 p.1 in
+    spelled_says (codes "immovable") (side_word p.0.0 ∷ p.0.1 ∷ []) ws (of_end p.0.0 (immovable p.0.1)) m w.spelled (immovable_line w.named) p.2
+
+pass_says : (ws : List (List ℕ)) (m : LineMeaning) → pass_of ws ≡ Some m → LineSays (codes "pass" ∷ ws) m
+pass_says ws m e =
+    let p = bind_some (side_and_count ws) (λ p. Some (event (Pass p.0 p.1))) m e in
+    let w = side_and_number_is ws p.0 p.1 in
+    spelled_says (codes "pass") (side_word p.0.0 ∷ w.word ∷ []) ws (event (Pass p.0.0 p.0.1)) m w.spelled (pass_line w.written) p.2
+
+drop_says : (ws : List (List ℕ)) (m : LineMeaning) → drop_of ws ≡ Some m → LineSays (codes "drop" ∷ ws) m
+drop_says ws m e =
+    let p = bind_some (side_and_count ws) (λ p. Some (event (Drop p.0 p.1))) m e in
+    let w = side_and_number_is ws p.0 p.1 in
+    spelled_says (codes "drop") (side_word p.0.0 ∷ w.word ∷ []) ws (event (Drop p.0.0 p.0.1)) m w.spelled (drop_line w.written) p.2
+
+flip_says : (ws : List (List ℕ)) (m : LineMeaning) → flip_of ws ≡ Some m → LineSays (codes "flip" ∷ ws) m
+flip_says ws m e =
+    let p = bind_some (side_and_byte ws) (λ p. Some (event (Flip p.0 p.1))) m e in
+    let w = side_and_byte_is ws p.0 p.1 in
+    spelled_says (codes "flip") (side_word p.0.0 ∷ w.word ∷ []) ws (event (Flip p.0.0 p.0.1)) m w.spelled (flip_line w.written) p.2
+
+insert_says : (ws : List (List ℕ)) (m : LineMeaning) → insert_of ws ≡ Some m → LineSays (codes "insert" ∷ ws) m
+insert_says ws m e =
+    let p = bind_some (side_and_byte ws) (λ p. Some (event (Insert p.0 p.1))) m e in
+    let w = side_and_byte_is ws p.0 p.1 in
+    spelled_says (codes "insert") (side_word p.0.0 ∷ w.word ∷ []) ws (event (Insert p.0.0 p.0.1)) m w.spelled (insert_line w.written) p.2
+
+timeout_says : (ws : List (List ℕ)) (m : LineMeaning) → timeout_of ws ≡ Some m → LineSays (codes "timeout" ∷ ws) m
+timeout_says ws m e =
+    let s = bind_some (one_side ws) (λ s. Some (event (Timeout s))) m e in
+    spelled_says (codes "timeout") (side_word s.0 ∷ []) ws (event (Timeout s.0)) m (one_side_is ws s.0 s.1) timeout_line s.2
+
+hang_up_says : (ws : List (List ℕ)) (m : LineMeaning) → hang_up_of ws ≡ Some m → LineSays (codes "hangup" ∷ ws) m
+hang_up_says ws m e =
+    let s = bind_some (one_side ws) (λ s. Some (event (HangUp s))) m e in
+    spelled_says (codes "hangup") (side_word s.0 ∷ []) ws (event (HangUp s.0)) m (one_side_is ws s.0 s.1) hangup_line s.2
+
+call_says : (ws : List (List ℕ)) (m : LineMeaning) → call_of ws ≡ Some m → LineSays (codes "call" ∷ ws) m
+call_says [] m e = as_meaning (codes "call" ∷ []) (event Call) m call_line (some_is e)
+call_says (a ∷ more) m e = absurd cc
+
+flow_says : (ws : List (List ℕ)) (m : LineMeaning) → flow_of ws ≡ Some m → LineSays (codes "flow" ∷ ws) m
+flow_says [] m e = absurd cc
+flow_says (number ∷ []) m e =
+    let n = bind_some (number_of TURNS_MAX number) (λ n. Some (flow n)) m e in
+    as_meaning (codes "flow" ∷ number ∷ []) (flow n.0) m (flow_line (writes_number TURNS_MAX number n.0 n.1)) (some_is n.2)
+flow_says (a ∷ b ∷ more) m e = absurd cc
+
+-- by the first word
+by_word : {P : Type 0} (first word : List ℕ) (x y : Option LineMeaning) (m : LineMeaning) → (if bytes_eq first word then x else y) ≡ Some m
+    → (word ≡ first → x ≡ Some m → P) → (y ≡ Some m → P) → P
+by_word {P = P} first word x y m e here elsewhere = by_test (bytes_eq first word) refl e where
+  by_test : (b : Bool) → bytes_eq first word ≡ b → (if b then x else y) ≡ Some m → P
+  by_test true t f = here (sym (same_bytes first word t)) f
+  by_test false t f = elsewhere f
+
+with_first : (word first : List ℕ) (ws : List (List ℕ)) (m : LineMeaning) → word ≡ first → LineSays (word ∷ ws) m → LineSays (first ∷ ws) m
+with_first word first ws m e h = subst (λ w. LineSays (w ∷ ws) m) e h
+
+event_says : (first : List ℕ) (ws : List (List ℕ)) (m : LineMeaning) → event_by first ws ≡ Some m → LineSays (first ∷ ws) m
+event_says first ws m e =
+    by_word first (codes "pass") _ _ m e (λ k f. with_first _ first ws m k (pass_says ws m f)) (λ e.
+    by_word first (codes "drop") _ _ m e (λ k f. with_first _ first ws m k (drop_says ws m f)) (λ e.
+    by_word first (codes "flip") _ _ m e (λ k f. with_first _ first ws m k (flip_says ws m f)) (λ e.
+    by_word first (codes "insert") _ _ m e (λ k f. with_first _ first ws m k (insert_says ws m f)) (λ e.
+    by_word first (codes "timeout") _ _ m e (λ k f. with_first _ first ws m k (timeout_says ws m f)) (λ e.
+    by_word first (codes "hangup") _ _ m e (λ k f. with_first _ first ws m k (hang_up_says ws m f)) (λ e.
+    by_word first (codes "call") _ _ m e (λ k f. with_first _ first ws m k (call_says ws m f)) (λ e.
+    by_word first (codes "flow") _ _ m e (λ k f. with_first _ first ws m k (flow_says ws m f)) (λ e. absurd cc))))))))
+
+line_says : (first : List ℕ) (ws : List (List ℕ)) (m : LineMeaning) → line_by first ws ≡ Some m → LineSays (first ∷ ws) m
+line_says first ws m e =
+    by_word first (codes "caller") _ _ m e (λ k f. with_first _ first ws m k (place_says Caller ws m f)) (λ e.
+    by_word first (codes "called") _ _ m e (λ k f. with_first _ first ws m k (place_says Called ws m f)) (λ e.
+    by_word first (codes "file") _ _ m e (λ k f. with_first _ first ws m k (file_says ws m f)) (λ e.
+    by_word first (codes "send") _ _ m e (λ k f. with_first _ first ws m k (send_says ws m f)) (λ e.
+    by_word first (codes "request") _ _ m e (λ k f. with_first _ first ws m k (request_says ws m f)) (λ e.
+    by_word first (codes "deny") _ _ m e (λ k f. with_first _ first ws m k (deny_says ws m f)) (λ e.
+    by_word first (codes "later") _ _ m e (λ k f. with_first _ first ws m k (later_says ws m f)) (λ e.
+    by_word first (codes "immovable") _ _ m e (λ k f. with_first _ first ws m k (immovable_says ws m f)) (λ e. event_says first ws m e))))))))
+
+comment_is : (first : List ℕ) → is_comment first ≡ true → (letters : List ℕ) × (35 ∷ letters ≡ first)
+comment_is [] e = absurd cc
+comment_is (c ∷ cs) e = let k : 35 ≡ c = grind (arith, nat_tests) in (cs, ap (λ z. z ∷ cs) k)
+
+read_says : (ws : List (List ℕ)) (m : LineMeaning) → line_of_words ws ≡ Some m → LineSays ws m
+read_says [] m e = as_meaning [] nothing m blank (some_is e)
+read_says (first ∷ ws) m e = by_comment (is_comment first) refl e where
+  by_comment : (b : Bool) → is_comment first ≡ b → (if b then Some nothing else line_by first ws) ≡ Some m → LineSays (first ∷ ws) m
+  by_comment true t f =
+      let c = comment_is first t in
+      with_first (35 ∷ c.0) first ws m c.1 (as_meaning ((35 ∷ c.0) ∷ ws) nothing m comment (some_is f))
+  by_comment false t f = line_says first ws m f
+
+pub read_text_says : (line : List ℕ) (m : LineMeaning) → line_of line ≡ Some m → TextSays line m
+read_text_says line m e = by_length (nat_le (length line) LINE_MAX) refl e where
+  by_length : (b : Bool) → nat_le (length line) LINE_MAX ≡ b → (if b then line_of_words (words line) else None) ≡ Some m → TextSays line m
+  by_length true t f = record { within = grind (arith, nat_tests); said = read_says (words line) m f }
+  by_length false t f = absurd cc

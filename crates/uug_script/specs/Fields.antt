@@ -1,0 +1,86 @@
+-- What single words of a script's line say (this project's profile), as functions.
+use Rattle.std.specs.Prelude.{◌==◌, ◌&&◌, ℕ, Bool, List, [], length, codes, nat_eq, nat_lt, nat_le, slice_index, Option, Some, None, Result, Ok, Err, if◌then◌else◌}
+use Rattle.std.specs.Char.{is_ascii_digit}
+use Rattle.std.specs.List.{list_all, starts_with}
+use Rattle.std.specs.Result.{result_ok}
+use Rattle.std.specs.Str.{bytes_eq}
+use Rattle.std.specs.Str.Parse.{digits_value}
+use Rattle.hex.specs.Hex.{decode_of, decode_sized}
+use Rattle.hex.specs.declared.error.FromHexError.{FromHexError}
+use Rattle.uug_link.specs.Announced.{Announced}
+use Rattle.uug_link.specs.declared.limits.TheConstants.{MESSAGE_MAX, WINDOW_MAX}
+use Rattle.uug_talk.specs.Mode.{mode_read}
+use Rattle.uug_talk.specs.Name.{name_read}
+use Rattle.uug_script.specs.declared.fields.TheConstants.{MODE_DIGITS}
+use Rattle.uug_line.specs.declared.side.Side.{Side}
+use Rattle.uug_line.specs.declared.side.Side.TheVariants.{Caller, Called}
+
+-- the second step, where the first gave a value
+infixl 10 ◌>>=◌
+abbrev pub ◌>>=◌ : {A B : Type 0} → Option A → (A → Option B) → Option B
+None >>= f = None
+(Some x) >>= f = f x
+
+-- the word of an end
+abbrev pub side_word : Side → List ℕ
+side_word Caller = codes "caller"
+side_word Called = codes "called"
+
+abbrev pub side_of : List ℕ → Option Side
+side_of word =
+    if bytes_eq word (codes "caller") then Some Caller else
+    (if bytes_eq word (codes "called") then Some Called else None)
+
+-- the name that the word is
+abbrev pub name_of : List ℕ → Option (List ℕ)
+name_of word = result_ok (name_read word)
+
+-- one or more decimal digits, with no sign
+abbrev pub is_numeral : List ℕ → Bool
+is_numeral word = nat_lt 0 (length word) && list_all is_ascii_digit word
+
+-- the number that the digits write, if it is at most this one
+abbrev pub number_of : ℕ → List ℕ → Option ℕ
+number_of most word =
+    if is_numeral word && nat_le (digits_value 10 word) most then Some (digits_value 10 word) else None
+
+-- a mode has one to four octal digits
+abbrev pub mode_of_word : List ℕ → Option ℕ
+mode_of_word word = if nat_le (length word) MODE_DIGITS then result_ok (mode_read word) else None
+
+-- the bytes that hexadecimal digits write, two for each in either case, or a dash for none
+abbrev pub hex_bytes : List ℕ → Option (List ℕ)
+hex_bytes word = if bytes_eq word (codes "-") then Some [] else result_ok (decode_of word)
+
+-- the byte that two hexadecimal digits write
+abbrev pub first_byte : Result (List ℕ) FromHexError → Option ℕ
+first_byte (Ok bytes) = Some (slice_index bytes 0)
+first_byte (Err e) = None
+
+abbrev pub byte_of : List ℕ → Option ℕ
+byte_of word = first_byte (decode_sized word 1)
+
+-- the code of a packet size
+abbrev pub code_of_size : ℕ → Option ℕ
+code_of_size size =
+    if size == 32 then Some 0 else
+    (if size == 64 then Some 1 else
+    (if size == 128 then Some 2 else
+    (if size == 256 then Some 3 else
+    (if size == 512 then Some 4 else
+    (if size == 1024 then Some 5 else
+    (if size == 2048 then Some 6 else
+    (if size == 4096 then Some 7 else None)))))))
+
+-- the announcement of this window and size
+abbrev pub announcement : ℕ → ℕ → Option Announced
+announcement window size =
+    if nat_le 1 window then code_of_size size >>= (λ code. Some (record { window = window; size_code = code })) else None
+
+abbrev pub announcement_of : List ℕ → List ℕ → Option Announced
+announcement_of window size =
+    number_of WINDOW_MAX window >>= (λ w. number_of MESSAGE_MAX size >>= (λ s. announcement w s))
+
+-- a line whose first word begins so is a comment
+abbrev pub is_comment : List ℕ → Bool
+is_comment word = starts_with nat_eq word (codes "#")

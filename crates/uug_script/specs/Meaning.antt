@@ -1,0 +1,70 @@
+-- What a line of a script can say (this project's profile).
+use Rattle.std.specs.Prelude.{ℕ, List, Option, Some, None}
+use Rattle.uug_link.specs.Announced.{Announced, announced}
+use Rattle.uug_link.specs.declared.announce.Announce.{Announce}
+use Rattle.uug_session.specs.Holdings.{Kept, kept_file}
+use Rattle.uug_session.specs.declared.job.Job.{Job}
+use Rattle.uug_script.specs.Fields.{hex_bytes}
+use Rattle.uug_line.specs.declared.event.Event.{Event}
+use Rattle.uug_script.specs.declared.line.EndLine.{EndLine}
+use Rattle.uug_script.specs.declared.line.EndLine.TheVariants as end_line
+use Rattle.uug_script.specs.declared.line.Line.{Line}
+use Rattle.uug_script.specs.declared.line.Line.TheVariants as line
+use Rattle.uug_script.specs.declared.mode.Mode.{Mode}
+use Rattle.uug_line.specs.declared.side.Side.{Side}
+
+-- of an end's set-up
+pub data EndMeaning : Type 0 where
+  -- its name, and what it announces
+  place : List ℕ → Announced → EndMeaning
+  -- a file that it has to give
+  file : Kept → EndMeaning
+  -- a job more
+  job : Job → EndMeaning
+  -- files of this name are never taken, are not taken now, can't be put in their place
+  deny : List ℕ → EndMeaning
+  later : List ℕ → EndMeaning
+  immovable : List ℕ → EndMeaning
+
+pub data LineMeaning : Type 0 where
+  nothing : LineMeaning
+  of_end : Side → EndMeaning → LineMeaning
+  event : Event → LineMeaning
+  -- so many times all bytes for the called end come to it, and then all for the caller
+  flow : ℕ → LineMeaning
+
+-- ---- how the program keeps it: the bytes of a file as they are written
+
+abbrev pub announced_by : Option Announce → Option Announced
+announced_by None = None
+announced_by (Some a) = Some (announced a)
+
+abbrev pub mode_bits : Option Mode → Option ℕ
+mode_bits None = None
+mode_bits (Some m) = Some m.bits
+
+abbrev pub file_meaning : List ℕ → ℕ → Option (List ℕ) → Option EndMeaning
+file_meaning name mode None = None
+file_meaning name mode (Some bytes) = Some (file (kept_file name mode bytes))
+
+abbrev pub of_side : Side → Option EndMeaning → Option LineMeaning
+of_side side None = None
+of_side side (Some m) = Some (of_end side m)
+
+abbrev pub end_meaning : EndLine → Option EndMeaning
+end_meaning (end_line.Place name announce) = Some (place name (announced announce))
+end_meaning (end_line.File name mode hex) = file_meaning name mode.bits (hex_bytes hex.now)
+end_meaning (end_line.Job j) = Some (job j)
+end_meaning (end_line.Deny name) = Some (deny name)
+end_meaning (end_line.Later name) = Some (later name)
+end_meaning (end_line.Immovable name) = Some (immovable name)
+
+abbrev pub line_meaning : Line → Option LineMeaning
+line_meaning line.Nothing = Some nothing
+line_meaning (line.End side e) = of_side side (end_meaning e)
+line_meaning (line.Event e) = Some (event e)
+line_meaning (line.Flow n) = Some (flow n)
+
+abbrev pub meaning_of : Option Line → Option LineMeaning
+meaning_of None = None
+meaning_of (Some l) = line_meaning l

@@ -1,0 +1,96 @@
+-- What the lines of a script say together (this project's profile).
+use Rattle.std.specs.Prelude.{◌==◌, ℕ, zero, suc, List, [], ◌∷◌, ◌++◌, length, Option, Some, None, if◌then◌else◌}
+use Rattle.uug_link.specs.Announced.{Announced}
+use Rattle.uug_session.specs.Jobs.{Lists, at_start, pending, added as job_added}
+use Rattle.uug_session.specs.MemoryHoldings.{MemoryHoldings, no_holdings}
+use Rattle.uug_session.specs.declared.queue.TheConstants.{JOBS_MAX}
+use Rattle.uug_line.specs.declared.event.Event.{Event}
+use Rattle.uug_line.specs.declared.event.Event.TheVariants.{Pass}
+use Rattle.uug_script.specs.declared.line.TheConstants.{BYTES_MAX}
+use Rattle.uug_line.specs.declared.side.Side.TheVariants.{Caller, Called}
+use Rattle.uug_script.specs.Fields.{◌>>=◌}
+use Rattle.uug_script.specs.Meaning.{EndMeaning, place, file, job, deny, later, immovable, LineMeaning, nothing, of_end, event, flow}
+
+-- an end's name, and what it announces
+pub record Place : Type 0 where
+  pub name : List ℕ
+  pub announced : Announced
+
+-- what was said of an end so far
+pub record EndSaid : Type 0 where
+  pub place : Option Place
+  -- its jobs, all of them pending
+  pub queue : Lists
+  -- what its spool has
+  pub held : MemoryHoldings
+
+pub record Said : Type 0 where
+  pub caller : EndSaid
+  pub called : EndSaid
+  pub events : List Event
+
+abbrev pub nothing_of_end : EndSaid
+nothing_of_end = record { place = None; queue = at_start [] [] []; held = no_holdings }
+
+abbrev pub nothing_said : Said
+nothing_said = record { caller = nothing_of_end; called = nothing_of_end; events = [] }
+
+-- an end is placed once
+abbrev pub placed : Place → Option Place → EndSaid → Option EndSaid
+placed p None end = Some (record end { place = Some p })
+placed p (Some earlier) end = None
+
+abbrev pub place_at : List ℕ → Announced → Place
+place_at name a = record { name = name; announced = a }
+
+-- a line more on an end. A job is bad where the most are pending that may be
+abbrev pub end_added : EndMeaning → EndSaid → Option EndSaid
+end_added (place name a) end = placed (place_at name a) end.place end
+end_added (file f) end = Some (record end { held = record end.held { files = end.held.files ++ f ∷ [] } })
+end_added (job j) end =
+    if length (pending end.queue) == JOBS_MAX then None else Some (record end { queue = job_added j end.queue })
+end_added (deny name) end = Some (record end { held = record end.held { denied = end.held.denied ++ name ∷ [] } })
+end_added (later name) end = Some (record end { held = record end.held { postponed = end.held.postponed ++ name ∷ [] } })
+end_added (immovable name) end = Some (record end { held = record end.held { immovable = end.held.immovable ++ name ∷ [] } })
+
+-- all bytes for the called end come to it, and then all for the caller, so many times
+abbrev pub flow_events : ℕ → List Event
+flow_events zero = []
+flow_events (suc n) = Pass Called BYTES_MAX ∷ Pass Caller BYTES_MAX ∷ flow_events n
+
+abbrev pub with_caller : Said → EndSaid → Said
+with_caller s end = record s { caller = end }
+
+abbrev pub with_called : Said → EndSaid → Said
+with_called s end = record s { called = end }
+
+-- a line more, or none where the line is bad behind those before it
+abbrev pub added : LineMeaning → Said → Option Said
+added nothing s = Some s
+added (of_end Caller m) s = end_added m s.caller >>= (λ end. Some (with_caller s end))
+added (of_end Called m) s = end_added m s.called >>= (λ end. Some (with_called s end))
+added (event e) s = Some (record s { events = s.events ++ e ∷ [] })
+added (flow n) s = Some (record s { events = s.events ++ flow_events n })
+
+-- what an end is set up with
+pub record EndSays : Type 0 where
+  pub name : List ℕ
+  pub announced : Announced
+  pub queue : Lists
+  pub held : MemoryHoldings
+
+-- what a script says: the two ends, and what happens
+pub record ScriptSays : Type 0 where
+  pub caller : EndSays
+  pub called : EndSays
+  pub events : List Event
+
+-- the end has to be placed
+abbrev pub end_completed : Option Place → EndSaid → Option EndSays
+end_completed None end = None
+end_completed (Some p) end = Some (record { name = p.name; announced = p.announced; queue = end.queue; held = end.held })
+
+abbrev pub completed : Said → Option ScriptSays
+completed s =
+    end_completed s.caller.place s.caller >>= (λ caller. end_completed s.called.place s.called >>= (λ called.
+    Some (record { caller = caller; called = called; events = s.events })))

@@ -1,0 +1,212 @@
+//! What the lines of a script said so far.
+ghost use Rattle.std.specs.Prelude.{◌≡◌, [], ◌∷◌, ◌++◌, OnOk, IfOk, IfErr, Some};
+ghost use Rattle.uug_script.specs.Fields.{hex_bytes};
+ghost use Rattle.uug_script.specs.Meaning.{place as placed_line, job as job_line};
+ghost use Rattle.uug_link.specs.Announced.{announced};
+ghost use Rattle.uug_script.specs.Refusals.{Refuses};
+ghost use Rattle.uug_script.specs.Script.{end_added, flow_events, completed, end_completed, nothing_of_end, nothing_said};
+ghost use Rattle.uug_script.specs.ScriptOf.{file_added, end_line_added, line_added, text_added, said_of_end, said_by, place_by, end_said_by, script_said_by};
+
+use crate::fault::LineFault;
+use crate::fields::spells;
+use crate::line::{BYTES_MAX, EndLine, Line, read_line};
+use crate::mode::Mode;
+use crate::script::{EndSetup, Script};
+use hex::FromHexError;
+use std::alloc::{AllocError, Allocator};
+use uug_line::{Event, Side};
+use uug_link::Announce;
+use uug_session::{Job, MemorySpool, Queue, QueueFault};
+use uug_talk::Name;
+
+/// What an end is called, and what it announces.
+#[derive(Clone, Copy, Debug)]
+pub(crate) struct EndPlace {
+    name: Name,
+    announce: Announce,
+}
+
+/// What was said of an end.
+#[derive(Drop)]
+pub(crate) struct EndDraft<A: Allocator> {
+    place: Option<EndPlace>,
+    queue: Queue<A>,
+    spool: MemorySpool<A>,
+}
+
+/// What was said.
+#[derive(Drop)]
+pub(crate) struct Draft<A: Allocator> {
+    caller: EndDraft<A>,
+    called: EndDraft<A>,
+    events: Vec<Event, A>,
+}
+
+/// The bytes that a word writes in hexadecimal digits; a dash writes none.
+fn decode_bytes<A: Allocator>(alloc: A, hex: &[u8]) -> Result<Vec<u8, A>, LineFault>
+    ensures bytes { IfOk result (λ bytes. hex_bytes hex.now ≡ Some bytes.items) }
+    ensures fault { IfErr result (λ fault. Refuses fault (hex_bytes hex.now)) }
+{
+    if spells(hex, b"-") {
+        return Ok(Vec::new(alloc));
+    }
+    match hex::decode(alloc, hex) {
+        Ok(bytes) => Ok(bytes),
+        Err(FromHexError::OutOfMemory) => Err(LineFault::Memory),
+        Err(_) => Err(LineFault::Bad),
+    }
+}
+
+impl<A: Allocator + Copy> EndDraft<A> {
+    fn new(alloc: A) -> Self
+        ensures { said_of_end result ≡ nothing_of_end }
+    {
+        EndDraft {
+            place: None,
+            queue: Queue::new(alloc),
+            spool: MemorySpool::new(alloc),
+        }
+    }
+
+    fn set_place(&mut self, name: Name, announce: Announce) -> Result<(), LineFault>
+        ensures ok { OnOk result (end_added (placed_line name (announced announce)) (said_of_end self.old) ≡ Some (said_of_end self.new)) }
+        ensures fault { IfErr result (λ fault. Refuses fault (end_added (placed_line name (announced announce)) (said_of_end self.old))) }
+    {
+        if self.place.is_some() {
+            return Err(LineFault::Bad);
+        }
+        self.place = Some(EndPlace { name, announce });
+        Ok(())
+    }
+
+    fn add_file(&mut self, alloc: A, name: Name, mode: Mode, hex: &[u8]) -> Result<(), LineFault>
+        ensures ok { OnOk result (file_added name mode.bits hex.now (said_of_end self.old) ≡ Some (said_of_end self.new)) }
+        ensures fault { IfErr result (λ fault. Refuses fault (file_added name mode.bits hex.now (said_of_end self.old))) }
+    {
+        let bytes = decode_bytes(alloc, hex)?;
+        self.spool.add_file(name, mode.bits, bytes.as_slice())?;
+        Ok(())
+    }
+
+    fn add_job(&mut self, job: Job) -> Result<(), LineFault>
+        ensures ok { OnOk result (end_added (job_line job) (said_of_end self.old) ≡ Some (said_of_end self.new)) }
+        ensures fault { IfErr result (λ fault. Refuses fault (end_added (job_line job) (said_of_end self.old))) }
+    {
+        match self.queue.add(job) {
+            Ok(()) => Ok(()),
+            Err(QueueFault::Full) => Err(LineFault::Bad),
+            Err(QueueFault::Memory) => Err(LineFault::Memory),
+        }
+    }
+
+    /// Adds what a line says of the end.
+    fn add(&mut self, alloc: A, line: &EndLine<'_>) -> Result<(), LineFault>
+        ensures ok { OnOk result (end_line_added line.now (said_of_end self.old) ≡ Some (said_of_end self.new)) }
+        ensures fault { IfErr result (λ fault. Refuses fault (end_line_added line.now (said_of_end self.old))) }
+    {
+        match line {
+            EndLine::Place(name, announce) => self.set_place(*name, *announce),
+            EndLine::File(name, mode, hex) => self.add_file(alloc, *name, *mode, hex),
+            EndLine::Job(job) => self.add_job(*job),
+            EndLine::Deny(name) => Ok(self.spool.deny(*name)?),
+            EndLine::Later(name) => Ok(self.spool.later(*name)?),
+            EndLine::Immovable(name) => Ok(self.spool.immovable(*name)?),
+        }
+    }
+
+    /// What the end is set up with, or `None` where it is not placed.
+    fn complete(self) -> Option<EndSetup<A>>
+        ensures { end_said_by result ≡ end_completed (place_by self.place) (said_of_end self) }
+    {
+        let EndDraft {
+            place,
+            queue,
+            spool,
+        } = self;
+        let EndPlace { name, announce } = place?;
+        Some(EndSetup {
+            name,
+            announce,
+            queue,
+            spool,
+        })
+    }
+}
+
+fn add_event<A: Allocator>(events: &mut Vec<Event, A>, event: Event) -> Result<(), AllocError>
+    ensures { OnOk result (events.new.items ≡ events.old.items ++ event ∷ []) }
+{
+    events.push(event)?;
+    Ok(())
+}
+
+/// So many times all bytes for the called end, and then all for the caller.
+fn add_flow<A: Allocator>(events: &mut Vec<Event, A>, turns: u32) -> Result<(), AllocError>
+    ensures { OnOk result (events.new.items ≡ events.old.items ++ flow_events turns) }
+{
+    for _ in 0..turns {
+        events.push(Event::Pass {
+            side: Side::Called,
+            n: BYTES_MAX,
+        })?;
+        events.push(Event::Pass {
+            side: Side::Caller,
+            n: BYTES_MAX,
+        })?;
+    }
+    Ok(())
+}
+
+impl<A: Allocator + Copy> Draft<A> {
+    /// Nothing said yet. It takes no memory.
+    pub(crate) fn new(alloc: A) -> Self
+        ensures { said_by result ≡ nothing_said }
+    {
+        Draft {
+            caller: EndDraft::new(alloc),
+            called: EndDraft::new(alloc),
+            events: Vec::new(alloc),
+        }
+    }
+
+    /// Adds what a line says.
+    fn add(&mut self, alloc: A, line: &Line<'_>) -> Result<(), LineFault>
+        ensures ok { OnOk result (line_added line.now (said_by self.old) ≡ Some (said_by self.new)) }
+        ensures fault { IfErr result (λ fault. Refuses fault (line_added line.now (said_by self.old))) }
+    {
+        match line {
+            Line::Nothing => Ok(()),
+            Line::End(Side::Caller, line) => self.caller.add(alloc, line),
+            Line::End(Side::Called, line) => self.called.add(alloc, line),
+            Line::Event(event) => Ok(add_event(&mut self.events, *event)?),
+            Line::Flow(turns) => Ok(add_flow(&mut self.events, *turns)?),
+        }
+    }
+
+    /// Adds what a line of the script says. A bad line is refused, and what was said is then of no more use.
+    pub(crate) fn add_text(&mut self, alloc: A, line: &[u8]) -> Result<(), LineFault>
+        ensures ok { OnOk result (text_added line.now (said_by self.old) ≡ Some (said_by self.new)) }
+        ensures fault { IfErr result (λ fault. Refuses fault (text_added line.now (said_by self.old))) }
+    {
+        match &read_line(line) {
+            Some(line) => self.add(alloc, line),
+            None => Err(LineFault::Bad),
+        }
+    }
+
+    /// The script, or `None` where an end is not placed.
+    pub(crate) fn complete(self) -> Option<Script<A>>
+        ensures { script_said_by result ≡ completed (said_by self) }
+    {
+        let Draft {
+            caller,
+            called,
+            events,
+        } = self;
+        Some(Script {
+            caller: caller.complete()?,
+            called: called.complete()?,
+            events,
+        })
+    }
+}

@@ -1,0 +1,19 @@
+//! Scripts of sessions as texts, and the text of a report.
+#![tactic(auto)]
+
+mod draft;
+mod fault;
+mod fields;
+pub mod laws;
+mod line;
+mod lines;
+mod mode;
+mod report;
+mod script;
+#[cfg(test)]
+mod tests;
+
+pub use fault::ScriptFault;
+pub use line::{BYTES_MAX, LINE_MAX, TURNS_MAX};
+pub use report::{EndNumbers, SessionNumbers, ShownEnd, ShownReport, add_report};
+pub use script::{EndSetup, Script, read_script};

@@ -1,0 +1,337 @@
+//! What a line of a script says.
+ghost use Rattle.std.specs.Prelude.{◌≡◌, ◌≤◌, ⊤, MatchOption, [], ◌∷◌, List, IsTrue, ◌↔◌, length};
+ghost use Rattle.uug_talk.specs.Words.{words};
+ghost use Rattle.uug_script.specs.Meaning.{meaning_of};
+ghost use Rattle.uug_script.specs.ReadLine.{line_of, place_of, file_of, send_of, request_of, last_name_of, side_and_name, side_and_count, side_and_byte, one_side, call_of, flow_of, deny_of, later_of, immovable_of, pass_of, drop_of, flip_of, insert_of, timeout_of, hang_up_of, event_by, line_by};
+
+use crate::fields::{
+    read_announce, read_byte, read_name, read_number, read_short_mode, read_side, spells,
+};
+use crate::mode::Mode;
+use uug_line::{Event, Side};
+use uug_link::Announce;
+use uug_session::Job;
+use uug_talk::{Name, split_word};
+
+/// The longest line, in bytes, its spaces included and its line feed not.
+pub const LINE_MAX: usize = 65_536;
+
+/// The most bytes that one event passes or drops.
+pub const BYTES_MAX: u32 = 1_000_000_000;
+
+/// The most turns that one line has flow.
+pub const TURNS_MAX: u32 = 100_000;
+
+/// What a line says.
+#[derive(Clone, Copy, Debug)]
+pub(crate) enum Line<'a> {
+    /// Nothing: it has no word, or is a comment.
+    Nothing,
+    /// Something of an end's set-up.
+    End(Side, EndLine<'a>),
+    /// What happens next.
+    Event(Event),
+    /// So many times all bytes for the called end come to it, and then all for the caller.
+    Flow(u32),
+}
+
+/// What a line says of an end's set-up.
+#[derive(Clone, Copy, Debug)]
+pub(crate) enum EndLine<'a> {
+    /// What the end is called, and what it announces.
+    Place(Name, Announce),
+    /// A file to give, its bytes as they are written.
+    File(Name, Mode, &'a [u8]),
+    /// A job.
+    Job(Job),
+    /// A file of this name is never taken.
+    Deny(Name),
+    /// A file of this name is not taken now.
+    Later(Name),
+    /// A file of this name can't be put in its place.
+    Immovable(Name),
+}
+
+/// `caller NAME WINDOW SIZE`, or the same of the called end.
+fn read_place(side: Side, text: &[u8]) -> Option<Line<'_>>
+    ensures { meaning_of result ≡ place_of side (words text.now) }
+{
+    let (name, rest) = split_word(text)?;
+    let (window, rest) = split_word(rest)?;
+    let (size, rest) = split_word(rest)?;
+    if split_word(rest).is_some() {
+        return None;
+    }
+    let place = EndLine::Place(read_name(name)?, read_announce(window, size)?);
+    Some(Line::End(side, place))
+}
+
+/// `file SIDE NAME MODE HEX`.
+fn read_file(text: &[u8]) -> Option<Line<'_>>
+    ensures { meaning_of result ≡ file_of (words text.now) }
+{
+    let (side, rest) = split_word(text)?;
+    let (name, rest) = split_word(rest)?;
+    let (mode, rest) = split_word(rest)?;
+    let (hex, rest) = split_word(rest)?;
+    if split_word(rest).is_some() {
+        return None;
+    }
+    let file = EndLine::File(read_name(name)?, read_short_mode(mode)?, hex);
+    Some(Line::End(read_side(side)?, file))
+}
+
+/// `send SIDE SOURCE TARGET USER [TEMP]`.
+fn read_send(text: &[u8]) -> Option<Line<'_>>
+    ensures { meaning_of result ≡ send_of (words text.now) }
+{
+    let (side, rest) = split_word(text)?;
+    let (source, rest) = split_word(rest)?;
+    let (target, rest) = split_word(rest)?;
+    let (user, rest) = split_word(rest)?;
+    let job = Job::Send {
+        source: read_name(source)?,
+        target: read_name(target)?,
+        user: read_name(user)?,
+        temp: read_last_name(rest)?,
+    };
+    Some(Line::End(read_side(side)?, EndLine::Job(job)))
+}
+
+/// The name in the last word, if there is a word.
+fn read_last_name(text: &[u8]) -> Option<Option<Name>>
+    ensures { result ≡ last_name_of (words text.now) }
+{
+    let Some((word, rest)) = split_word(text) else {
+        return Some(None);
+    };
+    if split_word(rest).is_some() {
+        return None;
+    }
+    Some(Some(read_name(word)?))
+}
+
+/// `request SIDE SOURCE TARGET USER`.
+fn read_request(text: &[u8]) -> Option<Line<'_>>
+    ensures { meaning_of result ≡ request_of (words text.now) }
+{
+    let (side, rest) = split_word(text)?;
+    let (source, rest) = split_word(rest)?;
+    let (target, rest) = split_word(rest)?;
+    let (user, rest) = split_word(rest)?;
+    if split_word(rest).is_some() {
+        return None;
+    }
+    let job = Job::Request {
+        source: read_name(source)?,
+        target: read_name(target)?,
+        user: read_name(user)?,
+    };
+    Some(Line::End(read_side(side)?, EndLine::Job(job)))
+}
+
+/// A side and a name, and no more.
+fn read_side_and_name(text: &[u8]) -> Option<(Side, Name)>
+    ensures { result ≡ side_and_name (words text.now) }
+{
+    let (side, rest) = split_word(text)?;
+    let (name, rest) = split_word(rest)?;
+    if split_word(rest).is_some() {
+        return None;
+    }
+    Some((read_side(side)?, read_name(name)?))
+}
+
+/// A side and a number of bytes, and no more.
+fn read_side_and_count(text: &[u8]) -> Option<(Side, u32)>
+    ensures { result ≡ side_and_count (words text.now) }
+{
+    let (side, rest) = split_word(text)?;
+    let (number, rest) = split_word(rest)?;
+    if split_word(rest).is_some() {
+        return None;
+    }
+    Some((read_side(side)?, read_number(number, BYTES_MAX)?))
+}
+
+/// A side and a byte, and no more.
+fn read_side_and_byte(text: &[u8]) -> Option<(Side, u8)>
+    ensures { result ≡ side_and_byte (words text.now) }
+{
+    let (side, rest) = split_word(text)?;
+    let (byte, rest) = split_word(rest)?;
+    if split_word(rest).is_some() {
+        return None;
+    }
+    Some((read_side(side)?, read_byte(byte)?))
+}
+
+/// A side, and no more.
+fn read_one_side(text: &[u8]) -> Option<Side>
+    ensures { result ≡ one_side (words text.now) }
+{
+    let (side, rest) = split_word(text)?;
+    if split_word(rest).is_some() {
+        return None;
+    }
+    read_side(side)
+}
+
+/// `call`.
+fn read_call(text: &[u8]) -> Option<Line<'_>>
+    ensures { meaning_of result ≡ call_of (words text.now) }
+{
+    if split_word(text).is_some() {
+        return None;
+    }
+    Some(Line::Event(Event::Call))
+}
+
+/// `flow N`.
+fn read_flow(text: &[u8]) -> Option<Line<'_>>
+    ensures { meaning_of result ≡ flow_of (words text.now) }
+{
+    let (number, rest) = split_word(text)?;
+    if split_word(rest).is_some() {
+        return None;
+    }
+    Some(Line::Flow(read_number(number, TURNS_MAX)?))
+}
+
+/// `deny SIDE NAME`.
+fn read_deny(text: &[u8]) -> Option<Line<'_>>
+    ensures { meaning_of result ≡ deny_of (words text.now) }
+{
+    let (side, name) = read_side_and_name(text)?;
+    Some(Line::End(side, EndLine::Deny(name)))
+}
+
+/// `later SIDE NAME`.
+fn read_later(text: &[u8]) -> Option<Line<'_>>
+    ensures { meaning_of result ≡ later_of (words text.now) }
+{
+    let (side, name) = read_side_and_name(text)?;
+    Some(Line::End(side, EndLine::Later(name)))
+}
+
+/// `immovable SIDE NAME`.
+fn read_immovable(text: &[u8]) -> Option<Line<'_>>
+    ensures { meaning_of result ≡ immovable_of (words text.now) }
+{
+    let (side, name) = read_side_and_name(text)?;
+    Some(Line::End(side, EndLine::Immovable(name)))
+}
+
+/// `pass SIDE N`.
+fn read_pass(text: &[u8]) -> Option<Line<'_>>
+    ensures { meaning_of result ≡ pass_of (words text.now) }
+{
+    let (side, n) = read_side_and_count(text)?;
+    Some(Line::Event(Event::Pass { side, n }))
+}
+
+/// `drop SIDE N`.
+fn read_drop(text: &[u8]) -> Option<Line<'_>>
+    ensures { meaning_of result ≡ drop_of (words text.now) }
+{
+    let (side, n) = read_side_and_count(text)?;
+    Some(Line::Event(Event::Drop { side, n }))
+}
+
+/// `flip SIDE HH`.
+fn read_flip(text: &[u8]) -> Option<Line<'_>>
+    ensures { meaning_of result ≡ flip_of (words text.now) }
+{
+    let (side, mask) = read_side_and_byte(text)?;
+    Some(Line::Event(Event::Flip { side, mask }))
+}
+
+/// `insert SIDE HH`.
+fn read_insert(text: &[u8]) -> Option<Line<'_>>
+    ensures { meaning_of result ≡ insert_of (words text.now) }
+{
+    let (side, byte) = read_side_and_byte(text)?;
+    Some(Line::Event(Event::Insert { side, byte }))
+}
+
+/// `timeout SIDE`.
+fn read_timeout(text: &[u8]) -> Option<Line<'_>>
+    ensures { meaning_of result ≡ timeout_of (words text.now) }
+{
+    let side = read_one_side(text)?;
+    Some(Line::Event(Event::Timeout { side }))
+}
+
+/// `hangup SIDE`.
+fn read_hang_up(text: &[u8]) -> Option<Line<'_>>
+    ensures { meaning_of result ≡ hang_up_of (words text.now) }
+{
+    let side = read_one_side(text)?;
+    Some(Line::Event(Event::HangUp { side }))
+}
+
+/// A line of an end's set-up, or of an event, by its first word.
+fn read_by<'a>(first: &[u8], rest: &'a [u8]) -> Option<Line<'a>>
+    ensures { meaning_of result ≡ line_by first.now (words rest.now) }
+{
+    if spells(first, b"caller") {
+        read_place(Side::Caller, rest)
+    } else if spells(first, b"called") {
+        read_place(Side::Called, rest)
+    } else if spells(first, b"file") {
+        read_file(rest)
+    } else if spells(first, b"send") {
+        read_send(rest)
+    } else if spells(first, b"request") {
+        read_request(rest)
+    } else if spells(first, b"deny") {
+        read_deny(rest)
+    } else if spells(first, b"later") {
+        read_later(rest)
+    } else if spells(first, b"immovable") {
+        read_immovable(rest)
+    } else {
+        read_event(first, rest)
+    }
+}
+
+/// A line of an event, by its first word.
+fn read_event<'a>(first: &[u8], rest: &'a [u8]) -> Option<Line<'a>>
+    ensures { meaning_of result ≡ event_by first.now (words rest.now) }
+{
+    if spells(first, b"pass") {
+        read_pass(rest)
+    } else if spells(first, b"drop") {
+        read_drop(rest)
+    } else if spells(first, b"flip") {
+        read_flip(rest)
+    } else if spells(first, b"insert") {
+        read_insert(rest)
+    } else if spells(first, b"timeout") {
+        read_timeout(rest)
+    } else if spells(first, b"hangup") {
+        read_hang_up(rest)
+    } else if spells(first, b"call") {
+        read_call(rest)
+    } else if spells(first, b"flow") {
+        read_flow(rest)
+    } else {
+        None
+    }
+}
+
+/// What a line says, or `None` where it is bad. The bytes of a file are not looked at.
+pub(crate) fn read_line(line: &[u8]) -> Option<Line<'_>>
+    ensures { meaning_of result ≡ line_of line.now }
+{
+    if line.len() > LINE_MAX {
+        return None;
+    }
+    let Some((first, rest)) = split_word(line) else {
+        return Some(Line::Nothing);
+    };
+    if first.starts_with(b"#") {
+        return Some(Line::Nothing);
+    }
+    read_by(first, rest)
+}

@@ -1,0 +1,251 @@
+//! The text of a report.
+ghost use Rattle.std.specs.Prelude.{◌≡◌, ◌≤◌, ◌++◌, OnOk, IfOk, map, string_bytes};
+ghost use Rattle.uug_session.specs.MemoryHoldings.{kept_of};
+ghost use Rattle.uug_talk.specs.Mode.{mode_digits};
+ghost use Rattle.uug_script.specs.Fields.{side_word};
+ghost use Rattle.uug_script.specs.ReportText.{end_word, phase_word, end_line, session_text, sessions_text, jobs_line, hex_text, stored_line, stored_text, verdict_line, report_text};
+ghost use Rattle.uug_script.specs.ReportShown.{end_shown, report_shown};
+
+use std::alloc::{AllocError, Allocator};
+use uug_line::{LineVerdict, Side};
+use uug_session::{End, Phase, Stored};
+use uug_talk::{Name, mode_digits};
+
+/// What one end did in one session.
+#[derive(Clone, Copy, Debug)]
+pub struct EndNumbers {
+    /// How many messages it sent, each counted once.
+    pub sent: usize,
+    /// How many messages it took.
+    pub taken: usize,
+    /// The most packets that it had unacknowledged.
+    pub most: usize,
+    /// Where its session stands.
+    pub phase: Phase,
+}
+
+/// One session.
+#[derive(Clone, Copy, Debug)]
+pub struct SessionNumbers {
+    /// What the caller did.
+    pub caller: EndNumbers,
+    /// What the called end did.
+    pub called: EndNumbers,
+}
+
+/// What became of the jobs of an end, and the files that it has stored, in order.
+#[derive(Drop)]
+pub struct ShownEnd<'a, A: Allocator> {
+    /// How many jobs are pending.
+    pub pending: usize,
+    /// How many jobs were done.
+    pub struck: usize,
+    /// How many jobs were given up.
+    pub failed: usize,
+    /// The stored files.
+    pub stored: &'a [Stored<A>],
+}
+
+/// A report.
+#[derive(Drop)]
+pub struct ShownReport<'a, A: Allocator> {
+    /// The sessions, in order.
+    pub sessions: &'a [SessionNumbers],
+    /// The caller as it stands.
+    pub caller: ShownEnd<'a, A>,
+    /// The called end as it stands.
+    pub called: ShownEnd<'a, A>,
+    /// Whether the line fooled an end.
+    pub verdict: LineVerdict,
+}
+
+fn side_word(side: Side) -> &'static str
+    ensures { result.now ≡ side_word side }
+{
+    match side {
+        Side::Caller => "caller",
+        Side::Called => "called",
+    }
+}
+
+fn end_word(end: End) -> &'static str
+    ensures { result.now ≡ end_word end }
+{
+    match end {
+        End::Done => "done",
+        End::Refused => "refused",
+        End::WrongName => "wrongname",
+        End::NoProtocol => "noprotocol",
+        End::PeerClosed => "peerclosed",
+        End::GaveUp => "gaveup",
+        End::BadTalk => "badtalk",
+        End::SpoolFault => "spoolfault",
+        End::HungUp => "hungup",
+    }
+}
+
+fn phase_word(phase: Phase) -> &'static str
+    ensures { result.now ≡ phase_word phase }
+{
+    match phase {
+        Phase::Hail => "hail",
+        Phase::Starting => "starting",
+        Phase::Talking => "talking",
+        Phase::Closing => "closing",
+        Phase::Ended(end) => end_word(end),
+    }
+}
+
+/// Appends the line of one end in one session.
+fn add_end_line<A: Allocator>(
+    text: &mut String<A>,
+    side: Side,
+    end: EndNumbers,
+) -> Result<(), AllocError>
+    ensures { OnOk result (string_bytes text.new ≡ string_bytes text.old ++ end_line side end) }
+{
+    let side = side_word(side);
+    let EndNumbers {
+        sent,
+        taken,
+        most,
+        ..
+    } = end;
+    let phase = phase_word(end.phase);
+    write!(text, "{side} sent {sent} taken {taken}")?;
+    write!(text, " most {most} {phase}\n")
+}
+
+/// Appends the lines of a session.
+fn add_session<A: Allocator>(
+    text: &mut String<A>,
+    number: usize,
+    session: SessionNumbers,
+) -> Result<(), AllocError>
+    ensures { OnOk result (string_bytes text.new ≡ string_bytes text.old ++ session_text number session) }
+{
+    write!(text, "session {number}\n")?;
+    add_end_line(text, Side::Caller, session.caller)?;
+    add_end_line(text, Side::Called, session.called)
+}
+
+/// Appends the lines of the sessions, which are counted from 1.
+fn add_sessions<A: Allocator>(
+    text: &mut String<A>,
+    sessions: &[SessionNumbers],
+) -> Result<(), AllocError>
+    ensures { OnOk result (string_bytes text.new ≡ string_bytes text.old ++ sessions_text 1 sessions.now) }
+{
+    for (i, session) in sessions.iter().enumerate() {
+        add_session(text, i + 1, *session)?;
+    }
+    Ok(())
+}
+
+/// Appends the line of an end's jobs.
+fn add_jobs_line<A: Allocator, B: Allocator>(
+    text: &mut String<A>,
+    side: Side,
+    end: &ShownEnd<'_, B>,
+) -> Result<(), AllocError>
+    ensures { OnOk result (string_bytes text.new ≡ string_bytes text.old ++ jobs_line side (end_shown end.now)) }
+{
+    let side = side_word(side);
+    let ShownEnd {
+        pending,
+        struck,
+        failed,
+        ..
+    } = end;
+    write!(
+        text,
+        "{side} pending {pending} struck {struck} failed {failed}\n"
+    )
+}
+
+/// The digits of a file's bytes, or a dash where there is none.
+fn hex_text<A: Allocator>(alloc: A, bytes: &[u8]) -> Result<String<A>, AllocError>
+    ensures { IfOk result (λ text. string_bytes text ≡ hex_text bytes.now) }
+{
+    if bytes.is_empty() {
+        return String::from_str(alloc, "-");
+    }
+    hex::encode(alloc, bytes)
+}
+
+/// A name is a text.
+fn name_text(name: &Name) -> &str
+    ensures { result.now ≡ name.now }
+{
+    let Ok(text) = str::from_utf8(name.as_bytes()) else {
+        unreachable!();
+    };
+    text
+}
+
+/// Appends the line of a stored file.
+fn add_stored_line<A: Allocator + Copy, B: Allocator>(
+    alloc: A,
+    text: &mut String<A>,
+    side: Side,
+    file: &Stored<B>,
+) -> Result<(), AllocError>
+    ensures { OnOk result (string_bytes text.new ≡ string_bytes text.old ++ stored_line side (kept_of file.now)) }
+{
+    let side = side_word(side);
+    let name = name_text(&file.name);
+    let digits = mode_digits(file.mode);
+    let Ok(mode) = str::from_utf8(&digits) else {
+        unreachable!();
+    };
+    let bytes = hex_text(alloc, file.bytes.as_slice())?;
+    write!(text, "{side} stored {name} {mode} {bytes}\n")
+}
+
+/// Appends the lines of the stored files.
+fn add_stored<A: Allocator + Copy, B: Allocator>(
+    alloc: A,
+    text: &mut String<A>,
+    side: Side,
+    files: &[Stored<B>],
+) -> Result<(), AllocError>
+    ensures { OnOk result (string_bytes text.new ≡ string_bytes text.old ++ stored_text side (map kept_of files.now)) }
+{
+    for file in files {
+        add_stored_line(alloc, text, side, file)?;
+    }
+    Ok(())
+}
+
+/// Appends the line of the verdict.
+fn add_verdict_line<A: Allocator>(
+    text: &mut String<A>,
+    verdict: LineVerdict,
+) -> Result<(), AllocError>
+    ensures { OnOk result (string_bytes text.new ≡ string_bytes text.old ++ verdict_line verdict) }
+{
+    match verdict {
+        LineVerdict::Clean => text.push_str("verdict clean\n"),
+        LineVerdict::Fooled { event, side } => {
+            let side = side_word(side);
+            write!(text, "verdict fooled {event} {side}\n")
+        }
+    }
+}
+
+/// Appends the text of a report: the sessions, then what became of the jobs of the caller and of the called end, then
+/// the files that they stored, and last the verdict.
+pub fn add_report<A: Allocator + Copy, B: Allocator>(
+    alloc: A,
+    text: &mut String<A>,
+    report: &ShownReport<'_, B>,
+) -> Result<(), AllocError>
+    ensures { OnOk result (string_bytes text.new ≡ string_bytes text.old ++ report_text (report_shown report.now)) }
+{
+    add_sessions(text, report.sessions)?;
+    add_jobs_line(text, Side::Caller, &report.caller)?;
+    add_jobs_line(text, Side::Called, &report.called)?;
+    add_stored(alloc, text, Side::Caller, report.caller.stored)?;
+    add_stored(alloc, text, Side::Called, report.called.stored)?;
+    add_verdict_line(text, report.verdict)
+}

@@ -1,0 +1,200 @@
+//! Scripts from outside. What this catches beyond the clauses: a rule that is wrong in the definition.
+
+use crate::fault::ScriptFault;
+use crate::line::{BYTES_MAX, LINE_MAX};
+use crate::script::read_script;
+use std::test::Fail;
+use uug_line::{Event, Side};
+use uug_session::{Job, Spool, Verdict};
+use uug_talk::Name;
+
+/// A file that is sent, over a line that works.
+const SENT: &[u8] =
+    b"caller a 2 32\ncalled b 2 32\nfile caller x 0644 -\nsend caller x y u\nflow 20\n";
+
+/// Both ends, on two lines.
+const ENDS: &[u8] = b"caller a 2 32\ncalled b 2 32\n";
+
+/// Lines that are bad as the third one.
+const BAD_LINES: [&[u8]; 42] = [
+    b"caller a 2 32",
+    b"called b 2 32",
+    b"caller a 2",
+    b"caller a 2 32 x",
+    b"Caller a 2 32",
+    b"other",
+    b"pass both 1",
+    b"pass caller",
+    b"pass caller 1 1",
+    b"pass caller 1000000001",
+    b"pass caller 99999999999999999999",
+    b"pass caller +1",
+    b"pass caller -1",
+    b"pass caller 0x1",
+    b"pass caller 1\t",
+    b"pass\tcaller 1",
+    b"\tpass caller 1",
+    b"pass caller 1\r",
+    b"drop called",
+    b"drop called 1000000001",
+    b"flip caller 1",
+    b"flip caller 001",
+    b"flip caller 0g",
+    b"flip caller -",
+    b"insert called 1",
+    b"timeout",
+    b"timeout both",
+    b"timeout caller 1",
+    b"hangup",
+    b"hangup caller called",
+    b"call caller",
+    b"flow",
+    b"flow 100001",
+    b"flow caller 1",
+    b"file caller x 06444 -",
+    b"file caller x 0648 -",
+    b"file caller x 0644",
+    b"file caller x 0644 0",
+    b"file caller x 0644 --",
+    b"send caller x y u q r",
+    b"request caller x y u q",
+    b"deny caller \x7f",
+];
+
+/// Lines that are good, and how many events they add.
+const GOOD_LINES: [(&[u8], usize); 16] = [
+    (b"", 0),
+    (b"   ", 0),
+    (b"# any thing", 0),
+    (b"  #", 0),
+    (b"  pass   caller  7  ", 1),
+    (b"pass called 0001000000000", 1),
+    (b"pass called 0", 1),
+    (b"drop caller 1000000000", 1),
+    (b"flip called fF", 1),
+    (b"insert called 00", 1),
+    (b"hangup called", 1),
+    (b"call", 1),
+    (b"flow 0", 0),
+    (b"flow 100000", 200_000),
+    (b"send called x y u temp", 0),
+    (b"file called x 7 00fFAb", 0),
+];
+
+#[test]
+fn reads_a_script(rt: HostRuntime) -> Result<(), Fail> {
+    let script = read_script(rt.alloc(), SENT)?;
+    let (caller, called) = (&script.caller, &script.called);
+    assert_eq!(rt;
+        (caller.name, called.name),
+        (Name::new(b"a")?, Name::new(b"b")?)
+    );
+    assert_eq!(rt; (caller.announce.window(), called.announce.size()), (2, 32));
+    let job = Job::Send {
+        source: Name::new(b"x")?,
+        target: Name::new(b"y")?,
+        user: Name::new(b"u")?,
+        temp: None,
+    };
+    assert_eq!(rt; caller.queue.pending(), [job].as_slice());
+    assert_eq!(rt; called.queue.pending().len(), 0);
+    let file = caller.spool.fetch(&Name::new(b"x")?).ok_or("a file")?;
+    assert_eq!(rt; (file.mode, file.bytes.len()), (0o644, 0));
+    assert_eq!(rt; script.events.len(), 40);
+    let n = BYTES_MAX;
+    assert_eq!(rt;
+        script.events[0],
+        Event::Pass {
+            side: Side::Called,
+            n
+        }
+    );
+    assert_eq!(rt;
+        script.events[39],
+        Event::Pass {
+            side: Side::Caller,
+            n
+        }
+    );
+    Ok(())
+}
+
+#[test]
+fn reads_verdicts_anywhere(rt: HostRuntime) -> Result<(), Fail> {
+    let text = b"deny called y\nlater caller z\ncalled b 7 4096\nimmovable called w\ncaller a 1 64";
+    let script = read_script(rt.alloc(), text)?;
+    let (y, z) = (Name::new(b"y")?, Name::new(b"z")?);
+    assert_eq!(rt; script.called.spool.may_keep(&y), Verdict::Never);
+    assert_eq!(rt; script.caller.spool.may_keep(&z), Verdict::Later);
+    assert_eq!(rt; script.caller.spool.may_keep(&y), Verdict::Yes);
+    Ok(())
+}
+
+#[test]
+fn answers_the_line_behind_the_last(rt: HostRuntime) {
+    let texts: [(&[u8], usize); 8] = [
+        (b"", 1),
+        (b"\n", 2),
+        (b"# no end", 2),
+        (b"caller a 2 32", 2),
+        (b"caller a 2 32\n", 2),
+        (b"caller a 2 32\n\n", 3),
+        (b"called b 2 32\ncall\n", 3),
+        (b"caller a 2 32\ncalled b 8 32", 2),
+    ];
+    for (text, line) in texts {
+        let fault = read_script(rt.alloc(), text).err();
+        assert_eq!(rt; fault, Some(ScriptFault::Bad(line)), "in {text:?}");
+    }
+}
+
+#[test]
+fn answers_the_first_bad_line(rt: HostRuntime) -> Result<(), Fail> {
+    for line in BAD_LINES {
+        let mut text = ENDS.to_vec(rt.alloc())?;
+        text.extend_from_slice(line)?;
+        text.extend_from_slice(b"\nflip caller 1\n")?;
+        let fault = read_script(rt.alloc(), text.as_slice()).err();
+        assert_eq!(rt; fault, Some(ScriptFault::Bad(3)), "in {line:?}");
+    }
+    Ok(())
+}
+
+#[test]
+fn takes_good_lines(rt: HostRuntime) -> Result<(), Fail> {
+    for (line, events) in GOOD_LINES {
+        let mut text = ENDS.to_vec(rt.alloc())?;
+        text.extend_from_slice(line)?;
+        let script = read_script(rt.alloc(), text.as_slice())?;
+        assert_eq!(rt; script.events.len(), events, "in {line:?}");
+    }
+    Ok(())
+}
+
+#[test]
+fn takes_lines_up_to_the_limit(rt: HostRuntime) -> Result<(), Fail> {
+    let mut text = ENDS.to_vec(rt.alloc())?;
+    text.push(b'#')?;
+    for _ in 1..LINE_MAX {
+        text.push(b' ')?;
+    }
+    assert!(rt; read_script(rt.alloc(), text.as_slice()).is_ok());
+    text.push(b' ')?;
+    let fault = read_script(rt.alloc(), text.as_slice()).err();
+    assert_eq!(rt; fault, Some(ScriptFault::Bad(3)));
+    Ok(())
+}
+
+#[test]
+fn takes_jobs_up_to_the_limit(rt: HostRuntime) -> Result<(), Fail> {
+    let mut text = ENDS.to_vec(rt.alloc())?;
+    for _ in 0..64 {
+        text.extend_from_slice(b"send caller x y u\n")?;
+    }
+    text.extend_from_slice(b"send called x y u\n")?;
+    assert!(rt; read_script(rt.alloc(), text.as_slice()).is_ok());
+    text.extend_from_slice(b"request caller x y u\n")?;
+    let fault = read_script(rt.alloc(), text.as_slice()).err();
+    assert_eq!(rt; fault, Some(ScriptFault::Bad(68)));
+    Ok(())
+}
