@@ -10,23 +10,27 @@ use std::alloc::Global;
 use std::convert::AsStr;
 use std::rt::Env;
 use std::{env, io};
+use uug_play::play_stream;
 use uug_tool::{Output, ToolFault, scan_stream};
 
-/// Does what the words of a command line ask for, the name of the program first.
+/// Does what the words of a command line ask for, the name of the program first, and gives the program's status.
 pub fn perform<S: AsStr, I: uug_tool::Input, O: Output>(
     alloc: Global,
     words: &[S],
     input: &mut I,
     output: &mut O,
-) -> Result<(), Stop> {
+) -> Result<u8, Stop> {
     match task_of(alloc, words)? {
-        Task::Scan => scan_stream(alloc, input, output)?,
+        Task::Scan => {
+            scan_stream(alloc, input, output)?;
+            Ok(0)
+        }
+        Task::Play => Ok(play_stream(alloc, input, output)?),
     }
-    Ok(())
 }
 
 /// Does what the program's own command line asks for, on standard input and output.
-pub fn run<R: Env + Input + Print + AllocGlobal>(rt: &R) -> Result<(), Stop> {
+pub fn run<R: Env + Input + Print + AllocGlobal>(rt: &R) -> Result<u8, Stop> {
     let words: Vec<String> = env::args(rt)
         .map_err(|error| match error.kind() {
             io::ErrorKind::OutOfMemory => ToolFault::Memory,
@@ -40,11 +44,11 @@ pub fn run<R: Env + Input + Print + AllocGlobal>(rt: &R) -> Result<(), Stop> {
 
 /// Says on standard error why the program ends before its task is done, where that can be said, and gives the
 /// program's status.
-pub fn end(rt: &impl Eprint, ended: Result<(), Stop>) -> u8
-    ensures { MatchResult ended (λ _. result ≡ 0) (λ stop. result ≡ status_of_stop stop) }
+pub fn end(rt: &impl Eprint, ended: Result<u8, Stop>) -> u8
+    ensures { MatchResult ended (λ status. result ≡ status) (λ stop. result ≡ status_of_stop stop) }
 {
     match ended {
-        Ok(()) => 0,
+        Ok(status) => status,
         Err(stop) => {
             let _ = eprint!(rt; "{stop}");
             stop.status()

@@ -31,7 +31,7 @@ impl Eprint for Recorder {
 }
 
 /// The program's status where it ends so, and what it says.
-fn status_and_text(alloc: Global, ended: Result<(), Stop>) -> (u8, String) {
+fn status_and_text(alloc: Global, ended: Result<u8, Stop>) -> (u8, String) {
     let errors = Recorder {
         said: RefCell::new(String::new(alloc)),
     };
@@ -57,26 +57,71 @@ fn says_what_failed(rt: HostRuntime) -> Result<(), Fail> {
     Ok(())
 }
 
-// The words behind the program's name, the status, how what is said begins, and what is listed.
+/// Two ends whose line brings nothing.
+const SILENT: &str = "caller a 2 32\ncalled b 2 32\n";
+
+const SILENT_REPORT: &str = "session 1\ncaller sent 0 taken 0 most 0 hail\n\
+    called sent 0 taken 0 most 0 hail\ncaller pending 0 struck 0 failed 0\n\
+    called pending 0 struck 0 failed 0\nverdict clean\n";
+
+/// Two ends with nothing to do.
+const DONE: &str = "caller a 2 32\ncalled b 2 32\nflow 20\n";
+
+const DONE_REPORT: &str = "session 1\ncaller sent 2 taken 1 most 1 done\n\
+    called sent 1 taken 2 most 1 done\ncaller pending 0 struck 0 failed 0\n\
+    called pending 0 struck 0 failed 0\nverdict clean\n";
+
+/// The called end finds in the field of a packet whose header is lost what was not sent.
+const FOOLED: &str = "caller a 2 32\ncalled b 2 32\nfile caller x 0644 100985aa2503\n\
+    send caller x y u\nflow 5\npass called 1000\npass caller 1000\npass called 6\n\
+    drop called 6\npass called 1000\n";
+
+const FOOLED_REPORT: &str = "session 1\ncaller sent 3 taken 1 most 2 talking\n\
+    called sent 1 taken 1 most 1 talking\ncaller pending 1 struck 0 failed 0\n\
+    called pending 0 struck 0 failed 0\nverdict fooled 14 called\n";
+
+// The words of the command line, what is read, the status, how what is said begins, and what is printed.
 #[test]
-fn reads_the_command_line(rt: HostRuntime) -> Result<(), Fail> {
-    let rows: [(&[&str], u8, &str, &str); 6] = [
-        (&["uucpair", "scan"], 0, "", "REST 0\n"),
-        (&["uucpair"], 2, "error: ", ""),
-        (&["uucpair", "play"], 2, "error: ", ""),
-        (&["uucpair", "pair", "s", "a", "b"], 2, "error: ", ""),
-        (&["uucpair", "scan", "file"], 2, "error: ", ""),
-        (&["uucpair", "--help"], 2, "Tools for the", ""),
+fn does_what_the_command_line_asks(rt: HostRuntime) -> Result<(), Fail> {
+    let rows: [(&[&str], &str, u8, &str, &str); 10] = [
+        (&["uucpair", "scan"], "", 0, "", "REST 0\n"),
+        (&["uucpair", "play"], DONE, 0, "", DONE_REPORT),
+        (&["uucpair", "play"], SILENT, 1, "", SILENT_REPORT),
+        (&["uucpair", "play"], FOOLED, 5, "", FOOLED_REPORT),
+        (
+            &["uucpair", "play"],
+            "\ncall me\n",
+            2,
+            "uucpair: bad script at line 2\n",
+            "",
+        ),
+        (&["uucpair"], "", 2, "error: ", ""),
+        (&["uucpair", "pair", "s", "a", "b"], "", 2, "error: ", ""),
+        (&["uucpair", "scan", "file"], "", 2, "error: ", ""),
+        (&["uucpair", "play", "file"], "", 2, "error: ", ""),
+        (&["uucpair", "--help"], "", 2, "Tools for the", ""),
     ];
-    for (words, status, said, listed) in rows {
+    for (words, bytes, status, said, printed) in rows {
+        let mut input = MemoryInput::new(bytes.as_bytes());
         let mut output = MemoryOutput::new(rt.alloc());
-        let result = perform(rt.alloc(), words, &mut MemoryInput::new(&[]), &mut output);
+        let result = perform(rt.alloc(), words, &mut input, &mut output);
         let (ended, text) = status_and_text(rt.alloc(), result);
         assert_eq!(rt; ended, status);
         assert_eq!(rt; text.is_empty(), said.is_empty());
         assert!(rt; text.starts_with(said), "{text}");
-        assert_eq!(rt; output.bytes(), listed.as_bytes());
+        assert_eq!(rt; output.bytes(), printed.as_bytes());
     }
+    Ok(())
+}
+
+#[test]
+fn names_its_tools(rt: HostRuntime) -> Result<(), Fail> {
+    let mut output = MemoryOutput::new(rt.alloc());
+    let words = ["uucpair", "--help"];
+    let result = perform(rt.alloc(), &words, &mut MemoryInput::new(&[]), &mut output);
+    let (_, text) = status_and_text(rt.alloc(), result);
+    assert!(rt; text.contains("scan  Reads bytes"), "{text}");
+    assert!(rt; text.contains("play  Reads a script"), "{text}");
     Ok(())
 }
 

@@ -8,7 +8,7 @@ use Rattle.uug_session.specs.declared.end.End.TheVariants.{Done}
 use Rattle.uug_session.specs.MemoryHoldings.{no_holdings}
 use Rattle.uug_line.specs.declared.verdict.LineVerdict.TheVariants.{Clean}
 use Rattle.uug_line.specs.LineEnd.{Log}
-use Rattle.uug_line.specs.Report.{over}
+use Rattle.uug_session.specs.declared.phase.Phase.TheVariants.{Ended}
 use Rattle.uug_line.proofs.FactSetups.{cannot_place_y, denies_y, end_of_size, file, flow, gives, puts_y_off, q, request, send, sends_to, text, trickle, two_ends, x, y}
 use Rattle.uug_line.proofs.Summaries.{InSession, Has, Summary, ComeTo, Logs, at_ends, talks, owns}
 
@@ -26,47 +26,47 @@ nothing_left = owns 0 0 0 []
 -- ---- the caller sends a file
 
 pub file_is_sent : ComeTo (sends_to no_holdings) (flow 20)
-    (done (talks 4 3 1 (over Done)) (talks 3 4 1 (over Done)) (owns 0 1 0 []) (owns 0 0 0 (file y [] ∷ [])))
+    (done (talks 4 3 1 (Ended Done)) (talks 3 4 1 (Ended Done)) (owns 0 1 0 []) (owns 0 0 0 (file y [] ∷ [])))
 unfolding check header_at decoded
 file_is_sent = record { themselves = refl; numbers = refl; same = refl }
 
 pub file_is_denied : ComeTo (sends_to denies_y) (flow 20)
-    (done (talks 3 2 1 (over Done)) (talks 2 3 1 (over Done)) (owns 0 0 1 []) nothing_left)
+    (done (talks 3 2 1 (Ended Done)) (talks 2 3 1 (Ended Done)) (owns 0 0 1 []) nothing_left)
 unfolding check header_at decoded
 file_is_denied = record { themselves = refl; numbers = refl; same = refl }
 
 pub file_is_put_off : ComeTo (sends_to puts_y_off) (flow 20)
-    (done (talks 3 2 1 (over Done)) (talks 2 3 1 (over Done)) (owns 1 0 0 []) nothing_left)
+    (done (talks 3 2 1 (Ended Done)) (talks 2 3 1 (Ended Done)) (owns 1 0 0 []) nothing_left)
 unfolding check header_at decoded
 file_is_put_off = record { themselves = refl; numbers = refl; same = refl }
 
 pub file_has_no_place : ComeTo (sends_to cannot_place_y) (flow 20)
-    (done (talks 4 3 1 (over Done)) (talks 3 4 1 (over Done)) (owns 0 0 1 []) nothing_left)
+    (done (talks 4 3 1 (Ended Done)) (talks 3 4 1 (Ended Done)) (owns 0 0 1 []) nothing_left)
 unfolding check header_at decoded
 file_has_no_place = record { themselves = refl; numbers = refl; same = refl }
 
 -- ---- the caller asks for a file
 
 pub file_is_given : ComeTo (two_ends (request ∷ []) no_holdings [] (gives (file q []))) (flow 20)
-    (done (talks 4 3 2 (over Done)) (talks 3 4 2 (over Done)) (owns 0 1 0 (file y [] ∷ [])) nothing_left)
+    (done (talks 4 3 2 (Ended Done)) (talks 3 4 2 (Ended Done)) (owns 0 1 0 (file y [] ∷ [])) nothing_left)
 unfolding check header_at decoded
 file_is_given = record { themselves = refl; numbers = refl; same = refl }
 
 pub file_is_not_there : ComeTo (two_ends (request ∷ []) (gives (file x [])) [] no_holdings) (flow 20)
-    (done (talks 3 2 1 (over Done)) (talks 2 3 1 (over Done)) (owns 0 0 1 []) nothing_left)
+    (done (talks 3 2 1 (Ended Done)) (talks 2 3 1 (Ended Done)) (owns 0 0 1 []) nothing_left)
 unfolding check header_at decoded
 file_is_not_there = record { themselves = refl; numbers = refl; same = refl }
 
 -- ---- the called end sends a file: the roles are exchanged
 
 pub roles_are_exchanged : ComeTo (two_ends [] no_holdings (send ∷ []) (gives (file x []))) (flow 20)
-    (done (talks 4 5 1 (over Done)) (talks 5 4 2 (over Done)) (owns 0 0 0 (file y [] ∷ [])) (owns 0 1 0 []))
+    (done (talks 4 5 1 (Ended Done)) (talks 5 4 2 (Ended Done)) (owns 0 0 0 (file y [] ∷ [])) (owns 0 1 0 []))
 unfolding check header_at decoded
 roles_are_exchanged = record { themselves = refl; numbers = refl; same = refl }
 
 -- the bytes come one by one
 pub file_is_sent_byte_by_byte : ComeTo (sends_to no_holdings) (trickle 500)
-    (done (talks 4 3 1 (over Done)) (talks 3 4 1 (over Done)) (owns 0 1 0 []) (owns 0 0 0 (file y [] ∷ [])))
+    (done (talks 4 3 1 (Ended Done)) (talks 3 4 1 (Ended Done)) (owns 0 1 0 []) (owns 0 0 0 (file y [] ∷ [])))
 unfolding check header_at decoded
 file_is_sent_byte_by_byte = record { themselves = refl; numbers = refl; same = refl }
 
@@ -81,7 +81,7 @@ pub size_is_the_others : ComeTo
       at_called = end_of_size 0 (codes "b") [] no_holdings;
     })
     (flow 20)
-    (done (talks 6 3 2 (over Done)) (talks 3 6 1 (over Done)) (owns 0 1 0 []) (owns 0 0 0 (file y forty_bytes ∷ [])))
+    (done (talks 6 3 2 (Ended Done)) (talks 3 6 1 (Ended Done)) (owns 0 1 0 []) (owns 0 0 0 (file y forty_bytes ∷ [])))
 unfolding check header_at decoded
 size_is_the_others = record { themselves = refl; numbers = refl; same = refl }
 

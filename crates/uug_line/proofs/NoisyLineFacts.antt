@@ -12,7 +12,7 @@ use Rattle.uug_line.specs.declared.event.Event.TheVariants.{Pass, Drop, Flip, Ti
 use Rattle.uug_line.specs.declared.side.Side.TheVariants.{Caller, Called}
 use Rattle.uug_line.specs.declared.verdict.LineVerdict.TheVariants.{Clean, Fooled}
 use Rattle.uug_line.specs.Belongings.{Belongings, SetupValue}
-use Rattle.uug_line.specs.Report.{greeting, talking, over}
+use Rattle.uug_session.specs.declared.phase.Phase.TheVariants.{Hail, Talking, Ended}
 use Rattle.uug_line.specs.RunKeeper.{by_numbers}
 use Rattle.uug_line.specs.World.{world, report_of_ends, report_of_world}
 use Rattle.uug_line.proofs.FactSetups.{all, end_with, file, flow, flow_then, gives, idle, inserted_then, puts_y_off, q, request, send, send_copy, sends_to, two_ends, x, y}
@@ -30,7 +30,7 @@ abbrev a_byte_changed : List Event
 a_byte_changed = flow_then 5 (Flip Called 1 ∷ flow_then 1 (Timeout Caller ∷ flow 20))
 
 pub damage_is_repaired : ComeTo (sends_to no_holdings) a_byte_changed (record {
-  sessions = at_ends (talks 4 3 1 (over Done)) (talks 3 4 1 (over Done)) ∷ [];
+  sessions = at_ends (talks 4 3 1 (Ended Done)) (talks 3 4 1 (Ended Done)) ∷ [];
   ends = at_ends (owns 0 1 0 []) (owns 0 0 0 (file y [] ∷ []));
   verdict = Clean;
 })
@@ -43,8 +43,8 @@ abbrev broken_off : List Event
 broken_off = flow_then 6 (Pass Called 1000 ∷ HangUp Called ∷ Call ∷ flow 20)
 
 pub stored_twice : ComeTo (sends_to no_holdings) broken_off (record {
-  sessions = at_ends (talks 2 1 1 (over HungUp)) (talks 2 2 1 (over HungUp))
-      ∷ at_ends (talks 4 3 1 (over Done)) (talks 3 4 1 (over Done)) ∷ [];
+  sessions = at_ends (talks 2 1 1 (Ended HungUp)) (talks 2 2 1 (Ended HungUp))
+      ∷ at_ends (talks 4 3 1 (Ended Done)) (talks 3 4 1 (Ended Done)) ∷ [];
   ends = at_ends (owns 0 1 0 []) (owns 0 0 0 (file y [] ∷ file y [] ∷ []));
   verdict = Clean;
 })
@@ -61,7 +61,7 @@ header_lost = flow_then 5
     (Pass Called 1000 ∷ Pass Caller 1000 ∷ Pass Called 6 ∷ Drop Called 6 ∷ Pass Called 1000 ∷ [])
 
 pub image_is_found : ComeTo (two_ends (send ∷ []) (gives (file x image)) [] no_holdings) header_lost (record {
-  sessions = at_ends (talks 3 1 2 talking) (talks 1 1 1 talking) ∷ [];
+  sessions = at_ends (talks 3 1 2 Talking) (talks 1 1 1 Talking) ∷ [];
   ends = at_ends (owns 1 0 0 []) nothing_left;
   verdict = Fooled 14 Called;
 })
@@ -71,7 +71,7 @@ image_is_found = record { themselves = refl; numbers = refl; same = refl }
 -- what would happen then does not
 pub nothing_behind_it : ComeTo (two_ends (send ∷ []) (gives (file x image)) [] no_holdings)
     (header_lost ++ flow 20) (record {
-      sessions = at_ends (talks 3 1 2 talking) (talks 1 1 1 talking) ∷ [];
+      sessions = at_ends (talks 3 1 2 Talking) (talks 1 1 1 Talking) ∷ [];
       ends = at_ends (owns 1 0 0 []) nothing_left;
       verdict = Fooled 14 Called;
     })
@@ -84,7 +84,7 @@ abbrev forged : List Event
 forged = flow_then 5 (inserted_then image (Pass Caller 6 ∷ []))
 
 pub forged_packet_is_found : ComeTo (sends_to no_holdings) forged (record {
-  sessions = at_ends (talks 1 0 1 talking) (talks 0 0 0 talking) ∷ [];
+  sessions = at_ends (talks 1 0 1 Talking) (talks 0 0 0 Talking) ∷ [];
   ends = at_ends (owns 1 0 0 []) nothing_left;
   verdict = Fooled 16 Caller;
 })
@@ -99,7 +99,7 @@ abbrev found_again : List Event
 found_again = flow_then 5 (inserted_then last_init (Pass Caller 6 ∷ []))
 
 pub repeated_packet_is_found : ComeTo (sends_to no_holdings) found_again (record {
-  sessions = at_ends (talks 1 0 1 talking) (talks 0 0 0 talking) ∷ [];
+  sessions = at_ends (talks 1 0 1 Talking) (talks 0 0 0 Talking) ∷ [];
   ends = at_ends (owns 1 0 0 []) nothing_left;
   verdict = Fooled 16 Caller;
 })
@@ -112,7 +112,7 @@ good_and_forged = flow_then 4
     (Pass Called all ∷ Drop Caller all ∷ inserted_then (last_init ++ image) (Pass Caller all ∷ []))
 
 pub good_is_taken_up : ComeTo (sends_to no_holdings) good_and_forged (record {
-  sessions = at_ends (talks 1 0 1 talking) (talks 0 0 0 talking) ∷ [];
+  sessions = at_ends (talks 1 0 1 Talking) (talks 0 0 0 Talking) ∷ [];
   ends = at_ends (owns 1 0 0 []) nothing_left;
   verdict = Fooled 22 Caller;
 })
@@ -132,7 +132,7 @@ abbrev field_changed : List Event
 field_changed = flow_then 5 (Pass Called 10 ∷ Flip Called 1 ∷ flow 20)
 
 pub broken_packet_is_rejected : ComeTo (sends_to no_holdings) field_changed (record {
-  sessions = at_ends (talks 4 3 1 (over Done)) (talks 3 4 1 (over Done)) ∷ [];
+  sessions = at_ends (talks 4 3 1 (Ended Done)) (talks 3 4 1 (Ended Done)) ∷ [];
   ends = at_ends (owns 0 1 0 []) (owns 0 0 0 (file y [] ∷ []));
   verdict = Clean;
 })
@@ -153,7 +153,7 @@ abbrev with_noise : List Event
 with_noise = flow_then 5 (Pass Called all ∷ inserted_then noise (flow 20))
 
 pub noise_is_passed_over : ComeTo (sends_to no_holdings) with_noise (record {
-  sessions = at_ends (talks 4 3 1 (over Done)) (talks 3 4 1 (over Done)) ∷ [];
+  sessions = at_ends (talks 4 3 1 (Ended Done)) (talks 3 4 1 (Ended Done)) ∷ [];
   ends = at_ends (owns 0 1 0 []) (owns 0 0 0 (file y [] ∷ []));
   verdict = Clean;
 })
@@ -163,14 +163,14 @@ noise_is_passed_over = record { themselves = refl; numbers = refl; same = refl }
 -- ---- the greeting: the called end's name is lost; a text is too long
 
 pub name_is_lost : ComeTo idle (Drop Caller 100 ∷ flow 20) (record {
-  sessions = at_ends (talks 0 0 0 greeting) (talks 0 0 0 greeting) ∷ [];
+  sessions = at_ends (talks 0 0 0 Hail) (talks 0 0 0 Hail) ∷ [];
   ends = at_ends nothing_left nothing_left;
   verdict = Clean;
 })
 name_is_lost = record { themselves = refl; numbers = refl; same = refl }
 
 pub long_text_comes : ComeTo idle (inserted_then (0x10 ∷ replicate 257 0x61) (flow 2)) (record {
-  sessions = at_ends (talks 0 0 0 (over BadTalk)) (talks 0 0 0 greeting) ∷ [];
+  sessions = at_ends (talks 0 0 0 (Ended BadTalk)) (talks 0 0 0 Hail) ∷ [];
   ends = at_ends nothing_left nothing_left;
   verdict = Clean;
 })
@@ -179,8 +179,8 @@ long_text_comes = record { themselves = refl; numbers = refl; same = refl }
 -- ---- what was put off is offered again in a session to come
 
 pub put_off_twice : ComeTo (sends_to puts_y_off) (flow_then 20 (Call ∷ flow 20)) (record {
-  sessions = at_ends (talks 3 2 1 (over Done)) (talks 2 3 1 (over Done))
-      ∷ at_ends (talks 3 2 1 (over Done)) (talks 2 3 1 (over Done)) ∷ [];
+  sessions = at_ends (talks 3 2 1 (Ended Done)) (talks 2 3 1 (Ended Done))
+      ∷ at_ends (talks 3 2 1 (Ended Done)) (talks 2 3 1 (Ended Done)) ∷ [];
   ends = at_ends (owns 1 0 0 []) nothing_left;
   verdict = Clean;
 })
@@ -216,7 +216,7 @@ stays_in_front = record { themselves = refl; numbers = refl }
 -- ---- nothing happens; nothing comes
 
 pub nothing_happens : ComeTo idle [] (record {
-  sessions = at_ends (talks 0 0 0 greeting) (talks 0 0 0 greeting) ∷ [];
+  sessions = at_ends (talks 0 0 0 Hail) (talks 0 0 0 Hail) ∷ [];
   ends = at_ends nothing_left nothing_left;
   verdict = Clean;
 })
@@ -226,7 +226,7 @@ abbrev eight_timeouts : List Event
 eight_timeouts = replicate 8 (Timeout Caller)
 
 pub nothing_comes : ComeTo idle eight_timeouts (record {
-  sessions = at_ends (talks 0 0 0 (over GaveUp)) (talks 0 0 0 greeting) ∷ [];
+  sessions = at_ends (talks 0 0 0 (Ended GaveUp)) (talks 0 0 0 Hail) ∷ [];
   ends = at_ends nothing_left nothing_left;
   verdict = Clean;
 })

@@ -1,6 +1,7 @@
 -- What the worked runs are compared by: the numbers that a report prints.
 use Rattle.std.proofs.Common.{◌≡◌, ℕ, ◌==◌, Bool, true, false, ◌&&◌, List, [], ◌∷◌, length, map}
 use Rattle.uug_link.specs.Arrivals.{same_message, same_packet}
+use Rattle.uug_session.specs.Arriving.{Hearer}
 use Rattle.uug_session.specs.Count.{Count}
 use Rattle.uug_session.specs.Holdings.{Kept}
 use Rattle.uug_session.specs.Jobs.{pending}
@@ -8,7 +9,8 @@ use Rattle.uug_line.specs.declared.event.Event.{Event}
 use Rattle.uug_line.specs.declared.verdict.LineVerdict.{LineVerdict}
 use Rattle.uug_line.specs.Belongings.{Belongings, SetupValue}
 use Rattle.uug_line.specs.LineEnd.{Log, LineEnd}
-use Rattle.uug_line.specs.Report.{HowFar, EndReportValue}
+use Rattle.uug_line.specs.Report.{EndReportValue}
+use Rattle.uug_session.specs.declared.phase.Phase.{Phase}
 use Rattle.uug_line.specs.Run.{run_of}
 use Rattle.uug_line.specs.RunKeeper.{RunKeeper, by_themselves, by_numbers}
 use Rattle.uug_line.specs.Sides.{AtBoth}
@@ -19,10 +21,10 @@ pub record InSession : Type 0 where
   pub sent : ℕ
   pub taken : ℕ
   pub most : ℕ
-  pub how_far : HowFar
+  pub phase : Phase
 
 abbrev pub in_session : EndReportValue → InSession
-in_session r = record { sent = length r.sent; taken = length r.taken; most = r.most; how_far = r.how_far }
+in_session r = record { sent = length r.sent; taken = length r.taken; most = r.most; phase = r.phase }
 
 -- of what an end has
 pub record Has : Type 0 where
@@ -72,12 +74,12 @@ same_log l m =
 abbrev same_count : Count → Count → Bool
 same_count c d = (c.sent == d.sent) && (c.taken == d.taken)
 
-abbrev same_end : LineEnd Count → LineEnd Count → Bool
-same_end e f =
-    (same_log e.log f.log && same_message e.held f.held)
-    && (same_message e.line f.line && same_count e.state.keeper f.state.keeper)
+abbrev same_end : Hearer (LineEnd Count) → Hearer (LineEnd Count) → Bool
+same_end g h =
+    (same_log g.end.log h.end.log && same_message g.held h.held)
+    && (same_message g.end.line h.end.line && same_count g.end.state.keeper h.end.state.keeper)
 
-abbrev same_ends : AtBoth (LineEnd Count) → AtBoth (LineEnd Count) → Bool
+abbrev same_ends : AtBoth (Hearer (LineEnd Count)) → AtBoth (Hearer (LineEnd Count)) → Bool
 same_ends e f = same_end e.at_caller f.at_caller && same_end e.at_called f.at_called
 
 -- by themselves and by numbers the ends come to this, and told by numbers the ends themselves are those of the world
@@ -88,7 +90,7 @@ pub record ComeTo (setup : SetupValue) (events : List Event) (expected : Summary
 
 -- in the present session they have written this down
 abbrev pub logs : {C : Type 0} → RunKeeper C → SetupValue → List Event → AtBoth Log
-logs k setup events = both (λ e. e.log) (run_of k setup events).ends
+logs k setup events = both (λ h. h.end.log) (run_of k setup events).ends
 
 pub record Logs (setup : SetupValue) (events : List Event) (at_caller at_called : Log) : Type 0 where
   pub themselves : logs by_themselves setup events ≡ at_ends at_caller at_called
@@ -96,8 +98,8 @@ pub record Logs (setup : SetupValue) (events : List Event) (at_caller at_called 
 
 -- ---- as it is written
 
-abbrev pub talks : (sent taken most : ℕ) → HowFar → InSession
-talks sent taken most how_far = record { sent = sent; taken = taken; most = most; how_far = how_far }
+abbrev pub talks : (sent taken most : ℕ) → Phase → InSession
+talks sent taken most phase = record { sent = sent; taken = taken; most = most; phase = phase }
 
 abbrev pub owns : (pending struck failed : ℕ) → List Kept → Has
 owns pending struck failed stored = record { pending = pending; struck = struck; failed = failed; stored = stored }

@@ -2,7 +2,8 @@
 use Rattle.std.specs.Prelude.{ℕ, suc, max, Bool, true, false, List, [], ◌∷◌, ◌++◌, length}
 use Rattle.uug_packet.specs.Packet.{PacketValue, carry}
 use Rattle.uug_packet.specs.Spelling.{canonical}
-use Rattle.uug_session.specs.EndStep.{Stage, ended, EndState, Emitted, says_text, sends_packet, EndEffect, EndEvent, Identity, end_step}
+use Rattle.uug_session.specs.Arriving.{Hearer, held_in}
+use Rattle.uug_session.specs.EndStep.{EndState, Emitted, says_text, sends_packet, EndEffect, EndEvent, Identity, end_step}
 use Rattle.uug_session.specs.Keeper.{Keeper}
 use Rattle.uug_session.specs.Says.{written_text}
 
@@ -22,8 +23,6 @@ pub record Log : Type 0 where
 
 pub record LineEnd (C : Type 0) : Type 0 where
   pub state : EndState C
-  -- the bytes that came and were not used yet
-  pub held : List ℕ
   pub log : Log
   -- the bytes that it has emitted and that are still on the line to the other end
   pub line : List ℕ
@@ -80,32 +79,32 @@ emitting emitted unacked log = record log {
 
 -- ---- a call
 
--- an end that has ended forgets all bytes
-abbrev pub held_in : Stage → List ℕ → List ℕ
-held_in (ended how) bytes = []
-held_in _ bytes = bytes
-
--- an end that holds these bytes
-abbrev pub with_held : {C : Type 0} → List ℕ → LineEnd C → LineEnd C
-with_held bytes e = record { state = e.state; held = held_in e.state.stage bytes; log = e.log; line = e.line }
-
 -- the bytes on the line are changed so, which the end does not notice
-abbrev pub changed_line : {C : Type 0} → (List ℕ → List ℕ) → LineEnd C → LineEnd C
-changed_line change e = record { state = e.state; held = e.held; log = e.log; line = change e.line }
+abbrev pub changed_line : {C : Type 0} → (List ℕ → List ℕ) → Hearer (LineEnd C) → Hearer (LineEnd C)
+changed_line change h = record {
+  held = h.held;
+  end = record { state = h.end.state; log = h.end.log; line = change h.end.line };
+}
 
--- a call did this to an end, which then holds these bytes; what it emits goes on the line at once
-abbrev pub after_call : {C : Type 0} → (held : List ℕ) → Log → (line : List ℕ) → EndEffect C → LineEnd C
-after_call held log line effect = record {
+-- a call did this to an end; what it emits goes on the line at once
+abbrev pub after_call : {C : Type 0} → Log → (line : List ℕ) → EndEffect C → LineEnd C
+after_call log line effect = record {
   state = effect.state;
-  held = held_in effect.state.stage held;
   log = emitting effect.emitted (length effect.state.link.unacked) log;
   line = line ++ bytes_in effect.emitted;
 }
 
+abbrev pub does : {C : Type 0} → Player C → EndEvent → LineEnd C → LineEnd C
+does p event e = after_call e.log e.line (end_step p.keeper p.identity event e.state)
+
+-- an end that has ended forgets all bytes
+abbrev pub holding : {C : Type 0} → List ℕ → LineEnd C → Hearer (LineEnd C)
+holding bytes e = record { held = held_in e.state.stage bytes; end = e }
+
 -- one of an end's calls, which uses no bytes
-abbrev pub called_with : {C : Type 0} → Player C → EndEvent → LineEnd C → LineEnd C
-called_with p event e = after_call e.held e.log e.line (end_step p.keeper p.identity event e.state)
+abbrev pub called_with : {C : Type 0} → Player C → EndEvent → Hearer (LineEnd C) → Hearer (LineEnd C)
+called_with p event h = holding h.held (does p event h.end)
 
 -- a session begins so
-abbrev pub begins : {C : Type 0} → EndEffect C → LineEnd C
-begins effect = after_call [] nothing_done [] effect
+abbrev pub begins : {C : Type 0} → EndEffect C → Hearer (LineEnd C)
+begins effect = holding [] (after_call nothing_done [] effect)

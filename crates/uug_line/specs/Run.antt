@@ -1,5 +1,6 @@
 -- A run of two ends on a noisy line: what each event does (this project's profile).
 use Rattle.std.specs.Prelude.{ℕ, suc, List, [], ◌∷◌, ◌++◌, take, drop, bit_xor}
+use Rattle.uug_session.specs.Arriving.{Hearer, Came, all_taken, stopped, takes_piece}
 use Rattle.uug_session.specs.EndStep.{EndEvent, time_ran_out, line_lost, begins_session}
 use Rattle.uug_session.specs.Party.{Party}
 use Rattle.uug_line.specs.declared.event.Event.{Event}
@@ -12,7 +13,7 @@ use Rattle.uug_line.specs.LineEnd.{LineEnd, Player, begins, called_with, changed
 use Rattle.uug_line.specs.Report.{EndReportValue, report_of_end}
 use Rattle.uug_line.specs.RunKeeper.{RunKeeper}
 use Rattle.uug_line.specs.Sides.{other, AtBoth, at, with_at, at_each}
-use Rattle.uug_line.specs.Taking.{Came, sound, fooled, takes_piece}
+use Rattle.uug_line.specs.Taking.{line_taker}
 
 -- how a run stands
 pub record Run (C : Type 0) : Type 0 where
@@ -20,14 +21,14 @@ pub record Run (C : Type 0) : Type 0 where
   pub past : List (AtBoth EndReportValue)
   -- the present one: what the ends brought to it, and how they stand
   pub brought : AtBoth Belongings
-  pub ends : AtBoth (LineEnd C)
+  pub ends : AtBoth (Hearer (LineEnd C))
   pub verdict : LineVerdict
 
-abbrev pub end_at : {C : Type 0} → Side → Run C → LineEnd C
+abbrev pub end_at : {C : Type 0} → Side → Run C → Hearer (LineEnd C)
 end_at side run = at side run.ends
 
-abbrev pub with_end_at : {C : Type 0} → Side → LineEnd C → Run C → Run C
-with_end_at side e run = record run { ends = with_at side e run.ends }
+abbrev pub with_end_at : {C : Type 0} → Side → Hearer (LineEnd C) → Run C → Run C
+with_end_at side h run = record run { ends = with_at side h run.ends }
 
 abbrev pub parties : SetupValue → (brought : AtBoth Belongings) → AtBoth Party
 parties setup brought = at_each (party setup brought)
@@ -39,12 +40,12 @@ player k setup run side =
 -- what an end has by now
 abbrev pub has_now : {C : Type 0} → RunKeeper C → SetupValue → Run C → Side → Belongings
 has_now k setup run side =
-    k.has (parties setup run.brought) side (at side run.brought) (end_at side run).state.keeper
+    k.has (parties setup run.brought) side (at side run.brought) (end_at side run).end.state.keeper
 
 -- ---- a session begins
 
 -- the called end says its name
-abbrev pub first_end : {C : Type 0} → RunKeeper C → SetupValue → (brought : AtBoth Belongings) → Side → LineEnd C
+abbrev pub first_end : {C : Type 0} → RunKeeper C → SetupValue → (brought : AtBoth Belongings) → Side → Hearer (LineEnd C)
 first_end k setup brought side =
     begins (begins_session (identity setup side) (at side setup).own (k.first (at side brought)))
 
@@ -74,13 +75,13 @@ with_line_to side change run = with_end_at (other side) (changed_line change (en
 -- the next bytes, n of them or all, come to the end on the side as one piece
 abbrev pub hears_next : {C : Type 0} → RunKeeper C → SetupValue → Side → (n : ℕ) → Run C → Came (LineEnd C)
 hears_next k setup side n run =
-    takes_piece (player k setup run side) (end_at (other side) run).log.packets
-    (take n (end_at (other side) run).line) (end_at side run)
+    takes_piece (line_taker (player k setup run side) (end_at (other side) run).end.log.packets)
+    (take n (end_at (other side) run).end.line) (end_at side run)
 
 -- the end is then so; where it found a packet that was not sent, the run is fooled there
 abbrev pub after_hearing : {C : Type 0} → (number : ℕ) → Side → Came (LineEnd C) → Run C → Run C
-after_hearing number side (sound e) run = with_end_at side e run
-after_hearing number side (fooled e) run = record (with_end_at side e run) { verdict = Fooled number side }
+after_hearing number side (all_taken h) run = with_end_at side h run
+after_hearing number side (stopped h) run = record (with_end_at side h run) { verdict = Fooled number side }
 
 -- one of an end's calls
 abbrev pub calls : {C : Type 0} → RunKeeper C → SetupValue → Side → EndEvent → Run C → Run C
@@ -88,13 +89,13 @@ calls k setup side event run = with_end_at side (called_with (player k setup run
 
 -- both ends hang up (one that has ended does nothing), what is on the line is lost, and a session begins in which all
 -- pending jobs are to be offered again
-abbrev pub hung_up : {C : Type 0} → RunKeeper C → SetupValue → Run C → Side → LineEnd C
+abbrev pub hung_up : {C : Type 0} → RunKeeper C → SetupValue → Run C → Side → Hearer (LineEnd C)
 hung_up k setup run side = called_with (player k setup run side) line_lost (end_at side run)
 
 abbrev pub calls_again : {C : Type 0} → RunKeeper C → SetupValue → Run C → Run C
 calls_again k setup run =
     session_begins k setup
-    (run.past ++ at_each (λ side. report_of_end (hung_up k setup run side)) ∷ [])
+    (run.past ++ at_each (λ side. report_of_end (hung_up k setup run side).end) ∷ [])
     (at_each (λ side. renewed (has_now k setup run side)))
 
 -- the event of this number

@@ -1,6 +1,7 @@
 -- What a run tells; and the world, in which somebody who knows both ends' jobs and spools tells it (this project's
 -- profile).
 use Rattle.std.specs.Prelude.{List, [], ◌∷◌, ◌++◌, length}
+use Rattle.uug_session.specs.Arriving.{Hearer}
 use Rattle.uug_session.specs.Count.{Count}
 use Rattle.uug_session.specs.Talk.{Talk}
 use Rattle.uug_line.specs.declared.event.Event.{Event}
@@ -21,7 +22,7 @@ pub record ReportValue : Type 0 where
 
 abbrev pub report_of : {C : Type 0} → RunKeeper C → SetupValue → Run C → ReportValue
 report_of k setup run = record {
-  sessions = run.past ++ at_each (λ side. report_of_end (end_at side run)) ∷ [];
+  sessions = run.past ++ at_each (λ side. report_of_end (end_at side run).end) ∷ [];
   belongings = at_each (has_now k setup run);
   verdict = run.verdict;
 }
@@ -49,15 +50,17 @@ count_of e = record { opened = e.state.keeper.opened; sent = length e.log.sent; 
 abbrev pub counted_end : LineEnd Talk → LineEnd Count
 counted_end e = record {
   state = record { stage = e.state.stage; link = e.state.link; keeper = count_of e };
-  held = e.held;
   log = e.log;
   line = e.line;
 }
+
+abbrev pub counted_hearer : Hearer (LineEnd Talk) → Hearer (LineEnd Count)
+counted_hearer h = record { held = h.held; end = counted_end h.end }
 
 abbrev pub counted : Run Talk → Run Count
 counted run = record {
   past = run.past;
   brought = run.brought;
-  ends = at_each (λ side. counted_end (end_at side run));
+  ends = at_each (λ side. counted_hearer (end_at side run));
   verdict = run.verdict;
 }

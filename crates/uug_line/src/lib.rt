@@ -2,10 +2,25 @@
 #![tactic(auto)]
 
 mod event;
+mod fault;
+mod journal;
 pub mod laws;
+mod line;
+mod line_laws;
+mod live_end;
+mod report;
+mod running;
+mod setup;
 mod side;
+mod sighting;
+mod soundness;
 mod verdict;
+pub mod world_laws;
 
 pub use event::Event;
+pub use fault::RunFault;
+pub use report::{EndReport, Report, SessionReport};
+pub use running::run;
+pub use setup::{EndSetup, Setup};
 pub use side::Side;
 pub use verdict::LineVerdict;

@@ -15,3 +15,5 @@ pub mod TwoLinksFacts
 pub mod ArrivalLemmas
 pub mod OutcomeLemmas
 pub mod TermsLemmas
+pub mod StrayLemmas
+pub mod InRangeLemmas

@@ -3,9 +3,11 @@ pub mod Announced
 pub mod Entries
 pub mod State
 pub mod Step
+pub mod InRange
 pub mod Reactions
 pub mod Outcomes
 pub mod Follows
+pub mod Strays
 pub mod WindowMachine
 pub mod TwoLinks
 pub mod Arrivals

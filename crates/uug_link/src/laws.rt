@@ -1,17 +1,20 @@
 //! The laws of links and of the window machine: each is the contract of a function that does nothing.
-ghost use Rattle.std.specs.Prelude.{◌≡◌, ◌≢◌, ◌↔◌, ℕ, ◌+◌, ◌-◌, ◌%◌, ◌<◌, ◌≤◌, List, length, slice_get, Some, MatchOption, IsTrue};
-ghost use Rattle.uug_link.specs.Announced.{Announced};
+ghost use Rattle.std.specs.Prelude.{◌≡◌, ◌≢◌, ◌↔◌, ℕ, suc, ◌+◌, ◌-◌, ◌%◌, ◌<◌, ◌≤◌, List, drop, length, slice_get, Some, None, MatchOption, IsTrue};
+ghost use Rattle.uug_link.specs.Announced.{Announced, announced};
 ghost use Rattle.uug_link.specs.Arrivals.{IsPlace, arrived, as_happenings, place_of, same_packet};
+ghost use Rattle.uug_link.specs.InRange.{AreWellFormed, IsAnnouncement, IsInRange, MayMeet};
 ghost use Rattle.uug_link.specs.OnTheLine.{Reads};
 ghost use Rattle.uug_link.specs.Outcomes.{FirstBySend, IsComing, MayAnswer, MovesPhase};
-ghost use Rattle.uug_link.specs.State.{IsFresh, IsUp, KnowsSize, KnowsWindow, State};
-ghost use Rattle.uug_link.specs.Step.{Event, answers_halted, step, to_begin, to_close, to_send};
+ghost use Rattle.uug_link.specs.State.{IsFresh, IsUp, KnowsSize, KnowsWindow, State, called_state, caller_state};
+ghost use Rattle.uug_link.specs.Step.{Event, answers_halted, packet_found, step, to_begin, to_close, to_send, up};
+ghost use Rattle.uug_link.specs.Strays.{HasNumbers, StandsBehind, acknowledgement};
 ghost use Rattle.uug_link.specs.Terms.{IsWindow};
 ghost use Rattle.uug_link.specs.TwoLinks.{AllMayHappen, AlwaysOfTwo, End, Ends, Happening, IsFirst, IsFrontOf, IsRun, MayOccur, Occurrence, after_happenings, after_occurrence, first_ends, seen_from_far};
 ghost use Rattle.uug_link.specs.WindowMachine.{Always, EachAck, EachNumber, IsReached, Machine, Rise};
+ghost use Rattle.uug_link.specs.declared.announce.Announce.{Announce};
 ghost use Rattle.uug_link.specs.declared.limits.TheConstants.{ENTRIES_MAX, MESSAGE_MAX, SIZE_CODES, SIZE_MIN, TIMEOUTS_MAX, UNACKED_MAX, WINDOW_MAX};
 ghost use Rattle.uug_link.specs.declared.phase.Phase.TheVariants.{AwaitsInitA, Closing, Halted, Up};
-ghost use Rattle.uug_packet.specs.Packet.{PacketValue};
+ghost use Rattle.uug_packet.specs.Packet.{PacketValue, control, init_c};
 
 /// The limits of a link: each number stands here, and no other clause repeats it.
 pub fn limits()
@@ -42,6 +45,35 @@ pub fn what_a_link_answers()
     ensures own_stays { (s : State) (e : Event) → (step s e).state.own ≡ s.own }
     ensures size_stays { (s : State) (e : Event) → IsUp s → (step s e).state.size_code ≡ s.size_code }
     ensures window_stays { (s : State) (e : Event) → IsUp s → (step s e).state.window ≡ s.window }
+{}
+
+/// Whatever a peer sends that doesn't keep to the rules: it strikes no message but by the number of a packet that is
+/// outstanding, and no link comes up with a window larger than one that the peer has told.
+pub fn no_peer_leads_a_link_astray()
+    // A packet that acknowledges an outstanding one strikes its message and all before it.
+    ensures strikes { (s : State) (p : PacketValue) (y behind : ℕ) → IsUp s → HasNumbers s
+        → acknowledgement p ≡ Some y → StandsBehind s y behind
+        → (step s (packet_found p)).state.unacked ≡ drop (suc behind) s.unacked }
+    // One that acknowledges another, or none, strikes none.
+    ensures strays { (s : State) (p : PacketValue) (y : ℕ) → IsUp s → HasNumbers s → y < 8
+        → acknowledgement p ≡ Some y → ((behind : ℕ) → StandsBehind s y behind → ⊥)
+        → (step s (packet_found p)).state.unacked ≡ s.unacked }
+    ensures no_number { (s : State) (p : PacketValue) → acknowledgement p ≡ None
+        → (step s (packet_found p)).state.unacked ≡ s.unacked }
+    // A link comes up by INITC, with a window that is at most its own and that of the INITA before it.
+    ensures window { (s : State) (p : PacketValue) → (step s (packet_found p)).outcome ≡ up
+        → (y : ℕ) × (p ≡ control (init_c y)) × ((step s (packet_found p)).state.window ≤ y)
+        × ((step s (packet_found p)).state.window ≤ s.window) }
+{}
+
+/// Each packet that a link emits can be written, and so is read again as what it is, where the link has made a right
+/// announcement and meets what it may.
+pub fn what_a_link_emits_can_be_written()
+    // Each announcement of the program is a right one.
+    ensures right { (a : Announce) → IsAnnouncement (announced a) }
+    ensures first { (own : Announced) → IsAnnouncement own → IsInRange (caller_state own) × IsInRange (called_state own) }
+    ensures stays { (s : State) (e : Event) → IsInRange s → MayMeet s e → IsInRange (step s e).state }
+    ensures emitted { (s : State) (e : Event) → IsInRange s → MayMeet s e → AreWellFormed (step s e).emitted }
 {}
 
 /// What holds after every run of the window machine, of each direction `d` and the opposite one `o`: whatever was sent,

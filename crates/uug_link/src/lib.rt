@@ -14,8 +14,6 @@ mod phase;
 mod reaction;
 mod start_up;
 mod status;
-#[cfg(test)]
-mod tests;
 mod timeouts;
 mod window;
 

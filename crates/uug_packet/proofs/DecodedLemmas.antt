@@ -98,7 +98,7 @@ decoded-spelling (carry seq ack k message) w rest h =
 -- ---- what is read is spelled
 
 -- a step that gives a value, taken apart
-bind_ok : {A B : Type 0} (r : Result A NoPacket) (f : A → Result B NoPacket) (y : B) → (r >>= f) ≡ Ok y → (x : A) × (r ≡ Ok x) × (f x ≡ Ok y)
+pub bind_ok : {A B : Type 0} (r : Result A NoPacket) (f : A → Result B NoPacket) (y : B) → (r >>= f) ≡ Ok y → (x : A) × (r ≡ Ok x) × (f x ≡ Ok y)
 bind_ok (Ok x) f y h = (x, refl, h)
 bind_ok (Err e) f y h = cc
 
@@ -113,7 +113,7 @@ pub record ReadsPacket (s : List ℕ) (p : PacketValue) (n : ℕ) : Type 0 where
   pub long : n ≤ length s
 
 -- the control byte says the control packet that is read from it
-IsControlByte-control_of : (p : ControlValue) (c : ℕ) → control_of c ≡ Some p → IsControlByte p c
+pub IsControlByte-control_of : (p : ControlValue) (c : ℕ) → control_of c ≡ Some p → IsControlByte p c
 IsControlByte-control_of close c h = (c % 8, grind (arith, nat_tests), grind (arith, nat_tests))
 IsControlByte-control_of (rj y) c h = (grind (arith, nat_tests), grind (arith, nat_tests))
 IsControlByte-control_of (srj y) c h = (grind (arith, nat_tests), grind (arith, nat_tests))
@@ -122,14 +122,14 @@ IsControlByte-control_of (init_c y) c h = (grind (arith, nat_tests), grind (arit
 IsControlByte-control_of (init_b y) c h = (grind (arith, nat_tests), grind (arith, nat_tests))
 IsControlByte-control_of (init_a y) c h = (grind (arith, nat_tests), grind (arith, nat_tests))
 
-record DecodesControl (h : Header) (p : PacketValue) (n : ℕ) : Type 0 where
-  kind : ControlValue
-  says : control_of h.control ≡ Some kind
-  sum : h.checksum ≡ checksum_of h.control
-  packet_is : p ≡ control kind
-  length_is : n ≡ HEADER_SIZE
+pub record DecodesControl (h : Header) (p : PacketValue) (n : ℕ) : Type 0 where
+  pub kind : ControlValue
+  pub says : control_of h.control ≡ Some kind
+  pub sum : h.checksum ≡ checksum_of h.control
+  pub packet_is : p ≡ control kind
+  pub length_is : n ≡ HEADER_SIZE
 
-decodes_control : (h : Header) (p : PacketValue) (n : ℕ) → control_decoded h ≡ Ok (p, n) → DecodesControl h p n
+pub decodes_control : (h : Header) (p : PacketValue) (n : ℕ) → control_decoded h ≡ Ok (p, n) → DecodesControl h p n
 decodes_control h p n e =
     let step = bind_ok (ok_or (control_of h.control) BadKind) _ (p, n) e in
     record {
@@ -148,17 +148,17 @@ reads_control s h p n reads k d =
       long = reads.long;
     })
 
-record DecodesData (h : Header) (rest : List ℕ) (p : PacketValue) (n : ℕ) : Type 0 where
-  kind : FieldKind
-  field : List ℕ
-  message : List ℕ
-  says : kind_of h.control ≡ Some kind
-  field_is : take (field_size h.k) rest ≡ field
-  complete : field_size h.k ≤ length rest
-  sum : h.checksum ≡ checksum_of (bit_xor (check field) h.control)
-  valid : message_at kind field ≡ Ok message
-  packet_is : p ≡ carry (h.control / 8 % 8) (h.control % 8) h.k message
-  length_is : n ≡ HEADER_SIZE + field_size h.k
+pub record DecodesData (h : Header) (rest : List ℕ) (p : PacketValue) (n : ℕ) : Type 0 where
+  pub kind : FieldKind
+  pub field : List ℕ
+  pub message : List ℕ
+  pub says : kind_of h.control ≡ Some kind
+  pub field_is : take (field_size h.k) rest ≡ field
+  pub complete : field_size h.k ≤ length rest
+  pub sum : h.checksum ≡ checksum_of (bit_xor (check field) h.control)
+  pub valid : message_at kind field ≡ Ok message
+  pub packet_is : p ≡ carry (h.control / 8 % 8) (h.control % 8) h.k message
+  pub length_is : n ≡ HEADER_SIZE + field_size h.k
 
 kind_ok : (o : Option FieldKind) (kind : FieldKind) → ok_or o BadKind ≡ Ok kind → o ≡ Some kind
 kind_ok None kind e = cc
@@ -174,7 +174,7 @@ checked-ok false read message e = cc
 pub same_number : (a b : ℕ) → (a == b) ≡ true → a ≡ b
 same_number a b e = grind (arith, nat_tests)
 
-decodes_data : (h : Header) (rest : List ℕ) (p : PacketValue) (n : ℕ) → data_decoded h rest ≡ Ok (p, n) → DecodesData h rest p n
+pub decodes_data : (h : Header) (rest : List ℕ) (p : PacketValue) (n : ℕ) → data_decoded h rest ≡ Ok (p, n) → DecodesData h rest p n
 decodes_data h rest p n e =
     let first = bind_ok (ok_or (kind_of h.control) BadKind) _ (p, n) e in
     let second = bind_ok (field_at (field_size h.k) rest) _ (p, n) first.2 in
@@ -270,7 +270,7 @@ same_spelling p q w v x y left right e =
 
 -- ---- what is written is a spelling
 
-fits-holds : (kind : FieldKind) (size : ℕ) (message field : List ℕ) → Holds kind size message field → length message ≤ size
+pub fits-holds : (kind : FieldKind) (size : ℕ) (message field : List ℕ) → Holds kind size message field → length message ≤ size
 fits-holds Long size message field h = omega (arith, h.0)
 fits-holds Short size message field h = omega (arith, h.fewer)
 

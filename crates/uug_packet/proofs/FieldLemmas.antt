@@ -74,12 +74,12 @@ message_at-holds Short size message field h = message_at-short size message fiel
 -- ---- what is found is held
 
 -- what `valid_bytes` has tested, and where the message lies
-record IsValid (field : List ℕ) (front missing : ℕ) (message : List ℕ) : Type 0 where
-  low : front ≤ missing
-  high : missing ≤ length field
-  message_is : take (length field - missing) (drop front field) ≡ message
+pub record IsValid (field : List ℕ) (front missing : ℕ) (message : List ℕ) : Type 0 where
+  pub low : front ≤ missing
+  pub high : missing ≤ length field
+  pub message_is : take (length field - missing) (drop front field) ≡ message
 
-is_valid : (field : List ℕ) (front missing : ℕ) (message : List ℕ) → valid_bytes field front missing ≡ Ok message → IsValid field front missing message
+pub is_valid : (field : List ℕ) (front missing : ℕ) (message : List ℕ) → valid_bytes field front missing ≡ Ok message → IsValid field front missing message
 is_valid field front missing message e =
     record { low = grind (arith, nat_tests); high = grind (arith, nat_tests); message_is = grind (arith, nat_tests) }
 

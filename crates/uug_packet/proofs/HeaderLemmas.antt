@@ -22,17 +22,17 @@ split_six (a ∷ b ∷ c ∷ d ∷ e ∷ f ∷ rest) h = refl
 split_six _ h = absurd (omega arith)
 
 -- what the tests of a header have found
-record Tested (s : List ℕ) (h : Header) : Type 0 where
-  long : HEADER_SIZE ≤ length s
-  start : slice_index s 0 ≡ START
-  k_is : slice_index s 1 ≡ h.k
-  k_low : 1 ≤ h.k
-  k_high : h.k ≤ CONTROL_K
-  checksum : slice_index s 2 + 256 * slice_index s 3 ≡ h.checksum
-  control : slice_index s 4 ≡ h.control
-  xor : slice_index s 5 ≡ xor_byte (slice_index s 1) (slice_index s 2) (slice_index s 3) (slice_index s 4)
+pub record Tested (s : List ℕ) (h : Header) : Type 0 where
+  pub long : HEADER_SIZE ≤ length s
+  pub start : slice_index s 0 ≡ START
+  pub k_is : slice_index s 1 ≡ h.k
+  pub k_low : 1 ≤ h.k
+  pub k_high : h.k ≤ CONTROL_K
+  pub checksum : slice_index s 2 + 256 * slice_index s 3 ≡ h.checksum
+  pub control : slice_index s 4 ≡ h.control
+  pub xor : slice_index s 5 ≡ xor_byte (slice_index s 1) (slice_index s 2) (slice_index s 3) (slice_index s 4)
 
-tested : (s : List ℕ) (h : Header) → header_at s ≡ Ok h → Tested s h
+pub tested : (s : List ℕ) (h : Header) → header_at s ≡ Ok h → Tested s h
 unfolding header_at
 tested s h e =
     record {

@@ -6,3 +6,4 @@ pub mod DecodeLemmas
 pub mod BrokenLemmas
 pub mod PrefixLemmas
 pub mod EncodeLemmas
+pub mod WellFormedLemmas

@@ -4,6 +4,7 @@ pub mod Field
 pub mod Number
 pub mod Packet
 pub mod Spelling
+pub mod WellFormed
 pub mod Decoded
 pub mod Message
 pub mod Waits

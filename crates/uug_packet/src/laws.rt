@@ -7,6 +7,7 @@ ghost use Rattle.uug_packet.specs.Decoded.{decoded};
 ghost use Rattle.uug_packet.specs.Packet.{PacketValue};
 ghost use Rattle.uug_packet.specs.Spelling.{IsSpelling, canonical};
 ghost use Rattle.uug_packet.specs.Waits.{IsBroken, IsDamage, Waits};
+ghost use Rattle.uug_packet.specs.WellFormed.{IsWellFormed};
 
 use crate::decoding::NoPacket;
 
@@ -27,6 +28,14 @@ pub fn written_is_read()
     ensures spelled { (p : PacketValue) (w : List ℕ) → IsSpelling p w → IsSpelling p (canonical p) }
     ensures read { (p : PacketValue) (w rest : List ℕ) → IsSpelling p w →
         decoded (canonical p ++ rest) ≡ Ok (p, length (canonical p)) }
+{}
+
+/// What is spelled or read is a well-formed packet, and each well-formed one is written and read again.
+pub fn packets_are_well_formed()
+    ensures spelled { (p : PacketValue) (w : List ℕ) → IsSpelling p w → IsWellFormed p }
+    ensures decoded { (s : List ℕ) (p : PacketValue) (n : ℕ) → decoded s ≡ Ok (p, n) → IsWellFormed p }
+    ensures written { (p : PacketValue) → IsWellFormed p → IsSpelling p (canonical p) }
+    ensures read { (p : PacketValue) → IsWellFormed p → decoded (canonical p) ≡ Ok (p, length (canonical p)) }
 {}
 
 /// The function of the tests in their order agrees with the spellings, with bytes that wait and with broken ones.

@@ -4,5 +4,6 @@ pub mod OneCut
 pub mod ScanLemmas
 pub mod FindingLemmas
 pub mod SearchLemmas
+pub mod WellFormedLemmas
 pub mod PlaceLemmas
 pub mod CallLemmas

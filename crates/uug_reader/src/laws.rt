@@ -2,16 +2,19 @@
 //! does nothing but name the laws that it rests on.
 ghost use Rattle.std.specs.Prelude.{◌≡◌, ℕ, ◌+◌, ◌≤◌, ◌↔◌, List, [], ◌∷◌, ◌++◌, length, drop};
 ghost use Rattle.uug_packet.specs.Bytes.{AreBytes};
+ghost use Rattle.uug_packet.specs.Packet.{PacketValue};
 ghost use Rattle.uug_packet.specs.Waits.{Waits};
+ghost use Rattle.uug_packet.specs.WellFormed.{IsWellFormed};
 ghost use Rattle.uug_reader.specs.declared.reader.TheConstants.{READER_SIZE};
 ghost use Rattle.uug_reader.specs.Calls.{Call, Make, all_accepted, all_dropped};
-ghost use Rattle.uug_reader.specs.Cut.{Part, IsCut, Item, items_of};
+ghost use Rattle.uug_reader.specs.Cut.{Part, IsCut, Item, found, items_of};
 ghost use Rattle.uug_reader.specs.Finding.{StandsFirst, PassesNoise, FindsNothing};
 ghost use Rattle.uug_reader.specs.Reading.{Reading, fresh, Shows};
 ghost use Rattle.uug_reader.specs.Scan.{Finds, IsScan};
 ghost use Rattle.uug_reader.specs.Search.{search_of, standing, waiting};
 
 use crate::packet_laws::packet_laws;
+use uug_packet::laws::packets_are_well_formed;
 
 /// The limit of a reader, in numbers.
 pub fn limits()
@@ -95,6 +98,13 @@ pub fn search_finds_the_first()
     ensures rest { (s rest : List ℕ) → AreBytes s → (search_of s ≡ waiting rest) ↔ (PassesNoise s rest × Waits rest) }
 {
     packet_laws();
+}
+
+/// What the search finds as a packet is a well-formed one, whatever the stream.
+pub fn found_packets_are_well_formed()
+    ensures { (s others : List ℕ) (p : PacketValue) (n : ℕ) → search_of s ≡ standing (found p) n others → IsWellFormed p }
+{
+    packets_are_well_formed();
 }
 
 /// Whatever calls a reader had since it was made or cleared, the items that it dropped are the first of the

@@ -7,8 +7,6 @@ mod packet_laws;
 mod place;
 mod reader;
 mod search;
-#[cfg(test)]
-mod tests;
 
 pub use found::Found;
 pub use reader::{READER_SIZE, Reader};

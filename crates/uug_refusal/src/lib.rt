@@ -7,7 +7,5 @@
 
 mod refusing;
 mod requests;
-#[cfg(test)]
-mod tests;
 
 pub use refusing::Refusing;

@@ -1,5 +1,6 @@
 -- What a text says as a script, as a function, and what the program has read of it.
 use Rattle.std.specs.Prelude.{◌≡◌, ℕ, ⊤, suc, List, [], ◌∷◌, Option, Some, None, Result, Err, ok_or}
+use Rattle.uug_line.specs.declared.setup.EndSetup.{EndSetup}
 use Rattle.uug_link.specs.Announced.{announced}
 use Rattle.uug_session.specs.MemoryHoldings.{held_by}
 use Rattle.uug_script.specs.declared.draft.Draft.{Draft}
@@ -9,7 +10,6 @@ use Rattle.uug_script.specs.declared.fault.ScriptFault.{ScriptFault}
 use Rattle.uug_script.specs.declared.fault.ScriptFault.TheVariants as fault
 use Rattle.uug_script.specs.declared.line.EndLine.{EndLine}
 use Rattle.uug_script.specs.declared.line.Line.{Line}
-use Rattle.uug_script.specs.declared.script.EndSetup.{EndSetup}
 use Rattle.uug_script.specs.declared.script.Script.{Script}
 use Rattle.uug_script.specs.Fields.{◌>>=◌, hex_bytes}
 use Rattle.uug_script.specs.Lines.{lines}
@@ -52,7 +52,7 @@ end_said s = record { name = s.name; announced = announced s.announce; queue = s
 
 -- what a script in the program says
 abbrev pub script_said : {A : Type 0} → Script A → ScriptSays
-script_said s = record { caller = end_said s.caller; called = end_said s.called; events = s.events.items }
+script_said s = record { caller = end_said s.setup.caller; called = end_said s.setup.called; events = s.events.items }
 
 abbrev pub end_said_by : {A : Type 0} → Option (EndSetup A) → Option EndSays
 end_said_by None = None

@@ -11,10 +11,10 @@ use crate::fault::LineFault;
 use crate::fields::spells;
 use crate::line::{BYTES_MAX, EndLine, Line, read_line};
 use crate::mode::Mode;
-use crate::script::{EndSetup, Script};
+use crate::script::Script;
 use hex::FromHexError;
 use std::alloc::{AllocError, Allocator};
-use uug_line::{Event, Side};
+use uug_line::{EndSetup, Event, Setup, Side};
 use uug_link::Announce;
 use uug_session::{Job, MemorySpool, Queue, QueueFault};
 use uug_talk::Name;
@@ -203,10 +203,10 @@ impl<A: Allocator + Copy> Draft<A> {
             called,
             events,
         } = self;
-        Some(Script {
+        let setup = Setup {
             caller: caller.complete()?,
             called: called.complete()?,
-            events,
-        })
+        };
+        Some(Script { setup, events })
     }
 }

@@ -16,4 +16,4 @@ mod tests;
 pub use fault::ScriptFault;
 pub use line::{BYTES_MAX, LINE_MAX, TURNS_MAX};
 pub use report::{EndNumbers, SessionNumbers, ShownEnd, ShownReport, add_report};
-pub use script::{EndSetup, Script, read_script};
+pub use script::{Script, read_script};

@@ -6,31 +6,13 @@ use crate::draft::Draft;
 use crate::fault::ScriptFault;
 use crate::lines::split_line;
 use std::alloc::Allocator;
-use uug_line::Event;
-use uug_link::Announce;
-use uug_session::{MemorySpool, Queue};
-use uug_talk::Name;
-
-/// What an end is set up with.
-#[derive(Drop)]
-pub struct EndSetup<A: Allocator> {
-    /// What the end is called.
-    pub name: Name,
-    /// What the other end shall use.
-    pub announce: Announce,
-    /// Its jobs.
-    pub queue: Queue<A>,
-    /// Its files.
-    pub spool: MemorySpool<A>,
-}
+use uug_line::{Event, Setup};
 
 /// What a script says: the two ends, and what happens.
 #[derive(Drop)]
 pub struct Script<A: Allocator> {
-    /// The end that calls.
-    pub caller: EndSetup<A>,
-    /// The end that is called.
-    pub called: EndSetup<A>,
+    /// The two ends.
+    pub setup: Setup<A>,
     /// What happens, in order.
     pub events: Vec<Event, A>,
 }

@@ -20,7 +20,7 @@ pub record MessagesFit : Type 0 where
   pub command : (size : ℕ) (text : List ℕ) → All (Fits size) (command_messages size text)
   pub file : (size : ℕ) (bytes : List ℕ) → All (Fits size) (file_messages size bytes)
 
-said_fit : MessagesFit → (size : ℕ) (said : Said) → All (Fits size) (said_messages size said)
+pub said_fit : MessagesFit → (size : ℕ) (said : Said) → All (Fits size) (said_messages size said)
 said_fit f size (the_order order) = f.command size (order_text order)
 said_fit f size (the_answer answer) = f.command size (answer_text answer)
 said_fit f size (the_file bytes) = f.file size bytes

@@ -1,5 +1,6 @@
 mod Accord
 mod AlternationLemmas
+mod CallLemmas
 mod ConversationFacts
 mod DialogueLemmas
 mod EarlierJobLemmas
@@ -12,7 +13,9 @@ mod FirstLaw
 mod FitLemmas
 mod FrontLemmas
 mod GreetingFacts
+mod InRangeLemmas
 mod LimitLemmas
+mod LongTextLemmas
 mod MachineFacts
 mod MachineLemmas
 mod MachineMoveLemmas
@@ -27,17 +30,26 @@ mod TalkLaws
 mod TextCallLemmas
 mod TextSearchFacts
 mod TextSearchLemmas
+mod ToldFacts
+mod ToldLemmas
 mod TurnLemmas
 mod TwoEndsLemmas
 mod WholeFileLemmas
+pub mod ArrivingLemmas
 pub mod BeginningLemmas
 pub mod ChoiceLemmas
 pub mod CleanLineLemmas
+pub mod CourseLemmas
 pub mod EngineLemmas
+pub mod NodeCallLemmas
+pub mod NodeItemLemmas
+pub mod FoundLemmas
 pub mod NodeLemmas
+pub mod NodeSearchLemmas
 pub mod PiecesLemmas
 pub mod QueueLemmas
 pub mod SaidTextLemmas
 pub mod SpeakLemmas
 pub mod TextsHeldLemmas
 pub mod WholeGreetingLemmas
+pub mod PacketSearchLemmas

@@ -59,7 +59,7 @@ begun_beside h kept caller said s e after does =
 begun_beside h kept called said s e after does =
     record { end = ap (beside h kept) does.end; emitted = does.emitted; identity = does.identity; own = does.own }
 
-greeted_beside : (h : Holdings) (kept : List Kept) (id : Identity) (greeted : Greeted) (said : List Emitted) (s : State) (e after : EngineState)
+pub greeted_beside : (h : Holdings) (kept : List Kept) (id : Identity) (greeted : Greeted) (said : List Emitted) (s : State) (e after : EngineState)
     → Does (greeted_so id greeted said s e.talking) (bare after) e after
     → Does (greeted_so id greeted said s (talk_of h kept e.talking)) (end_of h kept after) e after
 unfolding beside

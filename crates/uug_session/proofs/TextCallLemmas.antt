@@ -5,9 +5,9 @@ use Rattle.uug_talk.specs.StreamTexts.{TooLong, StandBefore, texts_of, no_text}
 use Rattle.uug_talk.specs.Texts.{IsFirstText, Passing, Whole, hear}
 use Rattle.uug_session.specs.HearingLaws.{HearingLaws}
 use Rattle.uug_session.specs.TextCalls.{TextCall, pushed, searched, showed, dropped, Makes, Make, all_accepted, all_dropped}
-use Rattle.uug_session.specs.TextsFound.{ReadsAs, with_texts}
+use Rattle.uug_session.specs.TextsFound.{ReadsAs, with_texts, FindsText, Passed, Taken}
 use Rattle.uug_session.specs.TextsHeld.{TextsHeld, nothing_held, TextSearch, text_waits, text_stands, text_too_long, size_of_text, search_text, after_text_search, ShowsText, shown_text}
-use Rattle.uug_session.proofs.TextSearchLemmas.{reads_with, Passed, passed_nothing, passed_same, passed_more, LeavesText, LeavesNone, leaves_as, reads_behind, hears_first, text_is_found}
+use Rattle.uug_session.proofs.TextSearchLemmas.{reads_with, passed_nothing, passed_same, passed_more, LeavesText, LeavesNone, leaves_as, reads_behind, finds_text, hears_first, text_is_found}
 use Rattle.uug_session.proofs.TextsHeldLemmas.{StandsAt, cut_at_text, cut_stands, standing_shown}
 
 -- ---- a text that is shown
@@ -40,14 +40,11 @@ stand_join : (texts later : List (List ℕ)) (rest middle stream : List ℕ) →
 stand_join [] later rest middle stream h k = subst (λ s. StandBefore later rest s) (sym h) k
 stand_join (text ∷ texts) later rest middle stream (front, behind, e, first, more) k = (front, behind, e, first, stand_join texts later rest middle behind more k)
 
--- these texts were taken of what was accepted, and this is held behind what was passed over
-pub record Taken (texts : List (List ℕ)) (accepted held : List ℕ) : Type 0 where
-  pub passed : List ℕ
-  pub stand : StandBefore texts (passed ++ held) accepted
-  pub passes : Passed passed held
+pub taken_right_behind : (texts : List (List ℕ)) (accepted held : List ℕ) → StandBefore texts held accepted → Taken texts accepted held
+taken_right_behind texts accepted held h = record { passed = []; stand = h; passes = passed_nothing held }
 
 module _ (laws : HearingLaws) where
-  taken_more : (texts : List (List ℕ)) (accepted held more : List ℕ) → Taken texts accepted held → Taken texts (accepted ++ more) (held ++ more)
+  pub taken_more : (texts : List (List ℕ)) (accepted held more : List ℕ) → Taken texts accepted held → Taken texts (accepted ++ more) (held ++ more)
   taken_more texts accepted held more t = record {
     passed = t.passed;
     stand = subst (λ b. StandBefore texts b (accepted ++ more)) (append_assoc t.passed held more) (stand_more texts (t.passed ++ held) accepted more t.stand);
@@ -61,7 +58,7 @@ module _ (laws : HearingLaws) where
     passes = p;
   }
 
-  taken_searched : (texts : List (List ℕ)) (accepted held : List ℕ) (search : TextSearch) → search ≢ text_too_long → search_text held ≡ search → Taken texts accepted held → Taken texts accepted (after_text_search search).bytes
+  pub taken_searched : (texts : List (List ℕ)) (accepted held : List ℕ) (search : TextSearch) → search ≢ text_too_long → search_text held ≡ search → Taken texts accepted held → Taken texts accepted (after_text_search search).bytes
   taken_searched texts accepted held (text_waits rest) n e t =
       let l : LeavesNone t.passed held rest = leaves_as laws t.passed held (text_waits rest) t.passes e in
       taken_behind texts accepted held l.more_passed rest t l.spelled l.passes
@@ -70,7 +67,7 @@ module _ (laws : HearingLaws) where
       taken_behind texts accepted held l.more_passed others t l.spelled l.passes
   taken_searched texts accepted held text_too_long n e t = absurd (n refl)
 
-  stands_dropped : (texts : List (List ℕ)) (accepted text : List ℕ) (old : TextsHeld) → ShowsText text old → Taken texts accepted old.bytes → StandBefore (texts ++ text ∷ []) (drop old.shown_size old.bytes) accepted
+  pub stands_dropped : (texts : List (List ℕ)) (accepted text : List ℕ) (old : TextsHeld) → ShowsText text old → Taken texts accepted old.bytes → StandBefore (texts ++ text ∷ []) (drop old.shown_size old.bytes) accepted
   stands_dropped texts accepted text old h t =
       let front = take old.shown_size old.bytes in
       let behind = drop old.shown_size old.bytes in
@@ -82,6 +79,13 @@ module _ (laws : HearingLaws) where
       (laws.holds t.passes.heard (Whole text) t.passed old.bytes (length front) t.passes.holds (passed_same t.passed old.bytes t.passes ∙ heard)) in
       stand_join texts (text ∷ []) behind (t.passed ++ old.bytes) accepted t.stand
       (t.passed ++ front, behind, ap (λ b. t.passed ++ b) (sym cut) ∙ sym (append_assoc t.passed front behind), first, refl)
+
+  pub first_taken : (texts : List (List ℕ)) (accepted held text others : List ℕ) → Taken texts accepted held → search_text held ≡ text_stands text others → StandBefore (texts ++ text ∷ []) (drop (size_of_text text) others) accepted
+  first_taken texts accepted held text others t e =
+      let f : FindsText held text others = finds_text laws held text others e in
+      stands_dropped texts accepted text (record { bytes = others; shown_size = size_of_text text })
+      (record { size = refl; within = f.within; first = f.stands })
+      (taken_searched texts accepted held (text_stands text others) (λ no. cc) e t)
 
   taken_by : (calls : List TextCall) (texts : List (List ℕ)) (accepted : List ℕ) (old new : TextsHeld) → Make calls old new → Taken texts accepted old.bytes → Taken (texts ++ all_dropped calls) (accepted ++ all_accepted calls) new.bytes
   taken_by [] texts accepted old new m t =
@@ -96,11 +100,9 @@ module _ (laws : HearingLaws) where
   taken_by (showed text ∷ calls) texts accepted old new m t =
       taken_by calls texts accepted m.0 new m.2 (subst (λ (h : TextsHeld). Taken texts accepted h.bytes) (sym m.1.0) t)
   taken_by (dropped text ∷ calls) texts accepted old new m t =
-      let here : Taken (texts ++ text ∷ []) accepted m.0.bytes = record {
-        passed = [];
-        stand = subst (λ b. StandBefore (texts ++ text ∷ []) b accepted) (sym m.1.2) (stands_dropped texts accepted text old m.1.1 t);
-        passes = passed_nothing m.0.bytes;
-      } in
+      let here : Taken (texts ++ text ∷ []) accepted m.0.bytes =
+      taken_right_behind (texts ++ text ∷ []) accepted m.0.bytes
+      (subst (λ b. StandBefore (texts ++ text ∷ []) b accepted) (sym m.1.2) (stands_dropped texts accepted text old m.1.1 t)) in
       subst (λ d. Taken d (accepted ++ all_accepted calls) new.bytes) (append_assoc texts (text ∷ []) (all_dropped calls)) (taken_by calls (texts ++ text ∷ []) accepted m.0 new m.2 here)
 
   taken : (calls : List TextCall) (now : TextsHeld) → Make calls nothing_held now → Taken (all_dropped calls) (all_accepted calls) now.bytes
@@ -112,11 +114,13 @@ module _ (laws : HearingLaws) where
       let r = laws.some rest in
       sym (laws.only stream (with_texts texts (texts_of rest)) (record { rest = r.rest; before = stand_join texts (texts_of rest).texts r.rest rest stream h r.before; ends = r.ends }))
 
+  pub taken_are_first : (texts : List (List ℕ)) (accepted held : List ℕ) → Taken texts accepted held → ReadsAs (texts_of accepted) (with_texts texts (texts_of held))
+  taken_are_first texts accepted held t =
+      subst (λ f. ReadsAs f (with_texts texts (texts_of held))) (sym (texts_behind texts (t.passed ++ held) accepted t.stand))
+      (reads_with texts (texts_of (t.passed ++ held)) (texts_of held) (reads_behind laws t.passed held t.passes))
+
   pub texts_are_first : (calls : List TextCall) (now : TextsHeld) → Make calls nothing_held now → ReadsAs (texts_of (all_accepted calls)) (with_texts (all_dropped calls) (texts_of now.bytes))
-  texts_are_first calls now m =
-      let t = taken calls now m in
-      subst (λ f. ReadsAs f (with_texts (all_dropped calls) (texts_of now.bytes))) (sym (texts_behind (all_dropped calls) (t.passed ++ now.bytes) (all_accepted calls) t.stand))
-      (reads_with (all_dropped calls) (texts_of (t.passed ++ now.bytes)) (texts_of now.bytes) (reads_behind laws t.passed now.bytes t.passes))
+  texts_are_first calls now m = taken_are_first (all_dropped calls) (all_accepted calls) now.bytes (taken calls now m)
 
   pub texts_stand : (calls : List TextCall) (now : TextsHeld) → Make calls nothing_held now → (passed : List ℕ) × StandBefore (all_dropped calls) (passed ++ now.bytes) (all_accepted calls)
   texts_stand calls now m = let t = taken calls now m in (t.passed, t.stand)
@@ -126,13 +130,15 @@ module _ (laws : HearingLaws) where
       subst (λ b. StandBefore (all_dropped calls ++ text ∷ []) b (all_accepted calls)) (sym d.2)
       (stands_dropped (all_dropped calls) (all_accepted calls) text old d.1 (taken calls old m))
 
+  pub taken_too_long : (texts : List (List ℕ)) (accepted held : List ℕ) → Taken texts accepted held → search_text held ≡ text_too_long → texts_of accepted ≡ record { texts = texts; end = TooLong }
+  taken_too_long texts accepted held t e =
+      let long : texts_of (t.passed ++ held) ≡ no_text TooLong = leaves_as laws t.passed held text_too_long t.passes e in
+      texts_behind texts (t.passed ++ held) accepted t.stand
+      ∙ ap (with_texts texts) long
+      ∙ ap (λ (d : List (List ℕ)). record { texts = d; end = TooLong }) (append-nil texts)
+
   pub no_others : (calls : List TextCall) (now : TextsHeld) → Make calls nothing_held now → search_text now.bytes ≡ text_too_long → texts_of (all_accepted calls) ≡ record { texts = all_dropped calls; end = TooLong }
-  no_others calls now m e =
-      let t = taken calls now m in
-      let long : texts_of (t.passed ++ now.bytes) ≡ no_text TooLong = leaves_as laws t.passed now.bytes text_too_long t.passes e in
-      texts_behind (all_dropped calls) (t.passed ++ now.bytes) (all_accepted calls) t.stand
-      ∙ ap (with_texts (all_dropped calls)) long
-      ∙ ap (λ (d : List (List ℕ)). record { texts = d; end = TooLong }) (append-nil (all_dropped calls))
+  no_others calls now m = taken_too_long (all_dropped calls) (all_accepted calls) now.bytes (taken calls now m)
 
   -- ---- a text that is shown stays so
 

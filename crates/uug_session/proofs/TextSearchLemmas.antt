@@ -6,7 +6,7 @@ use Rattle.uug_talk.specs.StreamTexts.{StreamTexts, TextsEnd, Rest, TooLong, Sta
 use Rattle.uug_talk.specs.Texts.{IsUnsettled, IsFirstText, Heard, Passing, Open, Whole, Holds, is_whole, waiting_of, hear}
 use Rattle.uug_session.specs.HearingLaws.{HearingLaws}
 use Rattle.uug_session.specs.Says.{start_byte}
-use Rattle.uug_session.specs.TextsFound.{EndsBehind, ReadsAs, with_texts, FindsText, FindsNone}
+use Rattle.uug_session.specs.TextsFound.{EndsBehind, ReadsAs, with_texts, FindsText, FindsNone, Passed}
 use Rattle.uug_session.specs.TextsHeld.{TextSearch, text_waits, text_stands, text_too_long, size_of_text, search_heard, search_text}
 use Rattle.uug_session.proofs.TextsHeldLemmas.{framed, CutAtText, cut_at_text, the_frame}
 
@@ -40,12 +40,6 @@ unsettled_before passed text last h =
     unsettled_front passed (start_byte ∷ text) (subst IsUnsettled front h.unsettled)
 
 -- ---- what was passed over
-
--- it changes nothing of what is heard behind it
-pub record Passed (passed held : List ℕ) : Type 0 where
-  pub heard : Heard
-  pub holds : Holds heard passed
-  pub same : (more : List ℕ) → hear heard (held ++ more) ≡ hear Passing (held ++ more)
 
 nothing_heard : Holds Passing []
 nothing_heard = All-nil (λ b. b ≢ start_byte)

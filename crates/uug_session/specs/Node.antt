@@ -1,7 +1,5 @@
 -- One whole end, as what its parts are: all but its spool.
-use Rattle.std.specs.Prelude.{◌≡◌, ℕ, ◌-◌, min, Bool, true, List, [], ◌++◌, length, drop}
-use Rattle.uug_link.specs.declared.phase.Phase.{Phase as LinkPhase}
-use Rattle.uug_link.specs.declared.phase.Phase.TheVariants as link_phases
+use Rattle.std.specs.Prelude.{◌≡◌, ◌<◌, ℕ, ◌-◌, min, Bool, true, List, [], ◌++◌, length, drop}
 use Rattle.uug_packet.specs.Packet.{PacketValue, shown}
 use Rattle.uug_reader.specs.Cut.{found, bad}
 use Rattle.uug_reader.specs.Reading.{Reading, Shows}
@@ -10,8 +8,6 @@ use Rattle.uug_reader.specs.declared.reader.TheConstants.{READER_SIZE}
 use Rattle.uug_session.specs.declared.item.Item.{Item}
 use Rattle.uug_session.specs.declared.item.Item.TheVariants as items
 use Rattle.uug_session.specs.declared.node.Node.{Node}
-use Rattle.uug_session.specs.declared.phase.Phase.{Phase}
-use Rattle.uug_session.specs.declared.phase.Phase.TheVariants as phases
 use Rattle.uug_session.specs.declared.end.End.TheVariants as ends
 use Rattle.uug_session.specs.EndStep.{Stage, hailing, linked, ended, EndEffect, EndEvent, text_found, packet_found_whole, broken_found, end_step, unmoved}
 use Rattle.uug_session.specs.Engine.{EngineState, Does, end_of, with_stage}
@@ -74,6 +70,14 @@ accepted_at linked n piece = min (READER_SIZE - length n.packets.bytes) (length 
 
 abbrev pub accepted : NodeState → (piece : List ℕ) → ℕ
 accepted n piece = accepted_at n.engine.stage n piece
+
+-- at least a byte of each piece is taken that has one
+abbrev pub HasRoom : NodeState → Type 0
+HasRoom n = (piece : List ℕ) → 0 < length piece → 0 < accepted n piece
+
+-- so it is where no item is shown
+abbrev pub LeavesRoom : NodeState → Type 0
+LeavesRoom n = item_size n ≡ 0 → HasRoom n
 
 -- they stand behind those held; an end whose session is over forgets them
 abbrev pub offered_at : Stage → (bytes : List ℕ) → NodeState → NodeState
@@ -144,16 +148,3 @@ pub record IsAsBefore (h : Holdings) (kept kept_after : List Kept) (before after
   pub does : Does (unmoved (end_of h kept before.engine)) (end_of h kept_after after.engine) before.engine after.engine
   pub texts : after.texts ≡ before.texts
   pub packets : after.packets ≡ before.packets
-
--- ---- phases
-
-abbrev pub phase_of_link : LinkPhase → Phase
-phase_of_link link_phases.Up = phases.Talking
-phase_of_link link_phases.Closing = phases.Closing
-phase_of_link _ = phases.Starting
-
--- how far an end is, by its session and its link
-abbrev pub phase_at : Stage → LinkPhase → Phase
-phase_at (hailing greeting) p = phases.Hail
-phase_at linked p = phase_of_link p
-phase_at (ended how) p = phases.Ended how

@@ -1,8 +1,8 @@
 -- How what a search of the greeting's bytes leaves goes on as the whole stream does. That bytes in front of a text are
 -- passed over is this project's profile.
 use Rattle.std.specs.Prelude.{◌≡◌, ℕ, ◌≤◌, List, ◌++◌, length, take, drop}
-use Rattle.uug_talk.specs.StreamTexts.{StreamTexts, TextsEnd, Rest, TooLong, texts_of, with_text, no_text}
-use Rattle.uug_talk.specs.Texts.{IsFirstText}
+use Rattle.uug_talk.specs.StreamTexts.{StreamTexts, TextsEnd, Rest, TooLong, StandBefore, texts_of, with_text, no_text}
+use Rattle.uug_talk.specs.Texts.{IsFirstText, Heard, Passing, Holds, hear}
 use Rattle.uug_session.specs.TextsHeld.{size_of_text}
 
 -- behind the texts stands the same, but for bytes in front that were passed over
@@ -37,3 +37,17 @@ pub record FindsNone (stream rest : List ℕ) : Type 0 where
   pub spelled : stream ≡ passed ++ rest
   pub none : texts_of stream ≡ no_text (Rest stream)
   pub goes_on : (more : List ℕ) → ReadsAs (texts_of (stream ++ more)) (texts_of (rest ++ more))
+
+-- ---- what was passed over
+
+-- it changes nothing of what is heard behind it
+pub record Passed (passed held : List ℕ) : Type 0 where
+  pub heard : Heard
+  pub holds : Holds heard passed
+  pub same : (more : List ℕ) → hear heard (held ++ more) ≡ hear Passing (held ++ more)
+
+-- these texts were taken of what was accepted, and this is held behind what was passed over
+pub record Taken (texts : List (List ℕ)) (accepted held : List ℕ) : Type 0 where
+  pub passed : List ℕ
+  pub stand : StandBefore texts (passed ++ held) accepted
+  pub passes : Passed passed held

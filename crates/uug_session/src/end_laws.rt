@@ -1,14 +1,20 @@
 //! Laws of one end, whatever the other is. The functions do nothing.
 ghost use Rattle.std.specs.Prelude.{◌≡◌, ◌≤◌, ℕ, List, [], All, length};
+ghost use Rattle.uug_link.specs.Announced.{Announced};
+ghost use Rattle.uug_link.specs.InRange.{IsAnnouncement};
 ghost use Rattle.uug_session.specs.declared.job.Job.{Job};
 ghost use Rattle.uug_session.specs.EarlierJobs.{behind, state_behind, reply_behind};
+ghost use Rattle.uug_session.specs.EndStep.{EndEvent, EndState, Identity, begins_session, end_step};
 ghost use Rattle.uug_session.specs.Holdings.{Holdings};
+ghost use Rattle.uug_session.specs.InRange.{CanBeWritten, IsEndInRange, MayFind};
 ghost use Rattle.uug_session.specs.Jobs.{Lists, at_start};
 ghost use Rattle.uug_session.specs.Machine.{State, step, opening};
 ghost use Rattle.uug_session.specs.Party.{Party};
+ghost use Rattle.uug_session.specs.Talk.{Talk, end_keeper};
 ghost use Rattle.uug_session.specs.Turns.{Side};
 ghost use Rattle.uug_session.specs.View.{conversation_view, own_messages, party};
 
+use uug_link::laws::{what_a_link_answers, what_a_link_emits_can_be_written};
 use uug_talk::messages_fit;
 
 /// Jobs that were struck and failed in earlier sessions change nothing of what an end does: they stay in front.
@@ -26,5 +32,23 @@ pub fn own_messages_fit()
     ensures { (me : Side) (a b : Party)
         → All (λ message. length message ≤ (party me a b).size) (own_messages (conversation_view me a b)) }
 {
+    messages_fit();
+}
+
+/// Each packet that an end emits can be written, and so is read again as what it is, where the end has made a right
+/// announcement.
+pub fn what_an_end_emits_can_be_written()
+    ensures first { (id : Identity) (own : Announced) (talk : Talk) → IsAnnouncement own
+        → IsEndInRange id.side (begins_session id own talk).state
+        × All CanBeWritten (begins_session id own talk).emitted }
+    ensures stays { (side : Side) (h : Holdings) (id : Identity) (event : EndEvent) (e : EndState Talk)
+        → IsEndInRange id.side e → MayFind event
+        → IsEndInRange id.side (end_step (end_keeper side h) id event e).state }
+    ensures emitted { (side : Side) (h : Holdings) (id : Identity) (event : EndEvent) (e : EndState Talk)
+        → IsEndInRange id.side e → MayFind event
+        → All CanBeWritten (end_step (end_keeper side h) id event e).emitted }
+{
+    what_a_link_answers();
+    what_a_link_emits_can_be_written();
     messages_fit();
 }

@@ -7,9 +7,9 @@ ghost use Rattle.uug_link.specs.Step.{step, packet_found, to_close, taken};
 ghost use Rattle.uug_packet.specs.Packet.{shown};
 ghost use Rattle.uug_session.specs.Engine.{BeginsSession, Does, HasFailed, IsHailing, StandsStill, TakesUp, after_sends, after_speaking, all_ahead, bare, end_of, entry_of, hung_up, packet_effect, spoken_of, stage_late, stage_of, with_outbox, with_stage};
 ghost use Rattle.uug_session.specs.EndStep.{bad_came, begins_link, ended, final_text, first_link, first_stage, first_words, greeted_so, hailing, hailing_step, how_it_ends, late, leave, linked, message_of, text_found, unmoved};
-ghost use Rattle.uug_session.specs.Node.{phase_at};
 ghost use Rattle.uug_session.specs.Side.{side_of};
 ghost use Rattle.uug_session.specs.Talk.{end_keeper};
+ghost use Rattle.uug_session.specs.Phases.{phase_at};
 ghost use Rattle.uug_session.specs.Talking.{talk_of, talking_has_parted};
 
 use crate::dialogue::Dialogue;

@@ -1,6 +1,8 @@
 //! A UUCP session: the conversation of two ends, and one end of it.
 #![tactic(auto)]
 
+mod arrive;
+pub mod arriving_laws;
 mod awaits;
 mod choice;
 pub mod conversation_laws;
@@ -16,6 +18,7 @@ pub mod laws;
 mod machine;
 mod memory_spool;
 mod node;
+pub mod node_laws;
 mod outgoing;
 mod part;
 mod phase;
@@ -29,13 +32,13 @@ mod spool;
 mod stage;
 mod stored;
 pub mod stored_laws;
-#[cfg(test)]
-mod tests;
 pub mod text_laws;
 mod texts;
+pub mod told_laws;
 mod verdict;
 mod whole_file;
 
+pub use arrive::Unfinished;
 pub use awaits::Awaits;
 pub use end::End;
 pub use greeting::{AwaitedText, Greeted, Greeting};

@@ -1,7 +1,8 @@
 ghost use Rattle.std.specs.Prelude.{◌≡◌, ◌≢◌, ◌<◌, ◌≤◌, ℕ, [], length, take, true, false, OnOk, OnErr, IfOk, MatchOption, IsTrue};
 ghost use Rattle.uug_session.specs.Engine.{Does, HasFailed, bare, hung_up, stage_late, with_outbox, with_stage};
-ghost use Rattle.uug_session.specs.Node.{node_of, accepted, held_bytes, item_size, offered, phase_at, searched, shown_item, IsAsBefore, ShowsItem, TakesShown};
+ghost use Rattle.uug_session.specs.Node.{node_of, accepted, held_bytes, item_size, offered, searched, shown_item, IsAsBefore, LeavesRoom, ShowsItem, TakesShown};
 ghost use Rattle.uug_session.specs.NodeLoan.{EndsFound};
+ghost use Rattle.uug_session.specs.Phases.{phase_at};
 ghost use Rattle.uug_session.specs.Talking.{talking_has_parted};
 ghost use Rattle.std.specs.Borrow.{sem};
 ghost use Rattle.uug_session.specs.EndStep.{hailing, linked, unmoved};
@@ -16,7 +17,7 @@ use crate::stage::Stage;
 use crate::texts::Texts;
 use std::alloc::{AllocError, Allocator};
 use uug_link::Outbox;
-use uug_reader::{Found, Reader};
+use uug_reader::{Found, READER_SIZE, Reader};
 
 /// One whole end: what it knows of itself and the other, its jobs, its files, and how far its session has come. It reads
 /// bytes that are offered to it, and what it emits goes into its outbox. It knows no time and no line.
@@ -57,7 +58,7 @@ impl<S: Spool, A: Allocator + Copy> Node<S, A> {
     }
 
     /// What was found and is shown, which stands first among the bytes held.
-    fn showing(&self) -> Option<Item<'_>>
+    pub(crate) fn showing(&self) -> Option<Item<'_>>
         ensures { MatchOption result (item_size (node_of self.now) ≡ 0)
             (λ item. ShowsItem (node_of self.now).engine.stage (node_of self.now).texts (node_of self.now).packets (shown_item item)) }
     {
@@ -73,8 +74,9 @@ impl<S: Spool, A: Allocator + Copy> Node<S, A> {
 
     /// Drops what is passed over in front of the first item, which is then shown. At a text that is too long the session
     /// is over.
-    fn search(&mut self)
+    pub(crate) fn search(&mut self)
         ensures found { node_of self.new ≡ searched (node_of self.old) }
+        ensures room { LeavesRoom (node_of self.new) }
         ensures spool { self.new.spool ≡ self.old.spool }
     {
         match self.engine.stage() {
@@ -217,6 +219,7 @@ impl<S: Spool, A: Allocator + Copy> Node<S, A> {
     pub fn clear_outbox(&mut self)
         ensures entries { (node_of self.new).engine.outbox.entries ≡ [] }
         ensures rest { (node_of self.new).engine ≡ with_outbox (node_of self.new).engine.outbox (node_of self.old).engine }
+        ensures bytes { ((node_of self.new).texts ≡ (node_of self.old).texts) × ((node_of self.new).packets ≡ (node_of self.old).packets) }
         ensures spool { self.new.spool ≡ self.old.spool }
     {
         self.engine.clear_outbox();

@@ -1,9 +1,9 @@
 //! Laws of the search for texts in the bytes of the greeting. The functions do nothing.
-ghost use Rattle.std.specs.Prelude.{◌≡◌, ◌↔◌, ℕ, List, [], ◌∷◌, ◌++◌};
+ghost use Rattle.std.specs.Prelude.{◌≡◌, ◌↔◌, ℕ, List, [], ◌∷◌, ◌++◌, drop};
 ghost use Rattle.uug_session.specs.HearingLaws.{HearingLaws};
 ghost use Rattle.uug_session.specs.TextCalls.{TextCall, Makes, Make, dropped, all_accepted, all_dropped};
-ghost use Rattle.uug_session.specs.TextsFound.{ReadsAs, FindsText, FindsNone, with_texts};
-ghost use Rattle.uug_session.specs.TextsHeld.{TextsHeld, nothing_held, text_waits, text_stands, text_too_long, search_text, ShowsText, shown_text};
+ghost use Rattle.uug_session.specs.TextsFound.{ReadsAs, FindsText, FindsNone, Taken, with_texts};
+ghost use Rattle.uug_session.specs.TextsHeld.{TextsHeld, nothing_held, text_waits, text_stands, text_too_long, search_text, ShowsText, shown_text, size_of_text};
 ghost use Rattle.uug_talk.specs.StreamTexts.{Rest, TooLong, StandBefore, no_text, texts_of};
 ghost use Rattle.uug_talk.specs.Texts.{IsFirstText};
 
@@ -12,7 +12,7 @@ use uug_talk::{
 };
 
 /// The laws of handshake texts, for the proofs here.
-fn hearing_laws()
+pub(crate) fn hearing_laws()
     ensures { HearingLaws }
 {
     one_reading_of_texts();
@@ -52,6 +52,29 @@ pub fn taken_texts_are_first()
     ensures too_long { (calls : List TextCall) (now : TextsHeld) → Make calls nothing_held now
         → search_text now.bytes ≡ text_too_long
         → texts_of (all_accepted calls) ≡ record { texts = all_dropped calls; end = TooLong } }
+{
+    hearing_laws();
+}
+
+/// Texts are taken one after the other, each found by a search of what is held: behind those that were taken of all bytes
+/// that were accepted the next one stands, or there is none, or it is too long.
+pub fn texts_are_taken_in_order()
+    ensures begins { Taken [] [] [] }
+    ensures more { (texts : List (List ℕ)) (accepted held more : List ℕ) → Taken texts accepted held
+        → Taken texts (accepted ++ more) (held ++ more) }
+    ensures stands { (texts : List (List ℕ)) (accepted held text others : List ℕ) → Taken texts accepted held
+        → search_text held ≡ text_stands text others
+        → StandBefore (texts ++ text ∷ []) (drop (size_of_text text) others) accepted }
+    // Right behind a text nothing was passed over.
+    ensures behind { (texts : List (List ℕ)) (accepted held : List ℕ) → StandBefore texts held accepted
+        → Taken texts accepted held }
+    ensures waits { (texts : List (List ℕ)) (accepted held rest : List ℕ) → Taken texts accepted held
+        → search_text held ≡ text_waits rest → Taken texts accepted rest }
+    ensures too_long { (texts : List (List ℕ)) (accepted held : List ℕ) → Taken texts accepted held
+        → search_text held ≡ text_too_long → texts_of accepted ≡ record { texts = texts; end = TooLong } }
+    // The texts that were taken are the first of all bytes, and those of what is held are the others.
+    ensures first { (texts : List (List ℕ)) (accepted held : List ℕ) → Taken texts accepted held
+        → ReadsAs (texts_of accepted) (with_texts texts (texts_of held)) }
 {
     hearing_laws();
 }

@@ -28,6 +28,3 @@ pub use mode::{MODE_MAX, mode_digits, read_mode};
 pub use name::{NAME_MAX, Name};
 pub use order::{Order, read_order, write_order};
 pub use words::{COMMAND_MAX, WRITTEN_MAX, split_word};
-
-#[cfg(test)]
-mod tests;

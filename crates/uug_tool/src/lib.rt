@@ -17,5 +17,5 @@ pub use fault::ToolFault;
 pub use input::{Input, ReadFailed};
 pub use memory_input::MemoryInput;
 pub use memory_output::MemoryOutput;
-pub use output::{Output, WriteFailed};
+pub use output::{Output, WriteFailed, write_all};
 pub use scan::{PIECE_SIZE, READ_LIMIT, scan_stream};

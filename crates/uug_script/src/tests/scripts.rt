@@ -84,7 +84,7 @@ const GOOD_LINES: [(&[u8], usize); 16] = [
 #[test]
 fn reads_a_script(rt: HostRuntime) -> Result<(), Fail> {
     let script = read_script(rt.alloc(), SENT)?;
-    let (caller, called) = (&script.caller, &script.called);
+    let (caller, called) = (&script.setup.caller, &script.setup.called);
     assert_eq!(rt;
         (caller.name, called.name),
         (Name::new(b"a")?, Name::new(b"b")?)
@@ -124,9 +124,9 @@ fn reads_verdicts_anywhere(rt: HostRuntime) -> Result<(), Fail> {
     let text = b"deny called y\nlater caller z\ncalled b 7 4096\nimmovable called w\ncaller a 1 64";
     let script = read_script(rt.alloc(), text)?;
     let (y, z) = (Name::new(b"y")?, Name::new(b"z")?);
-    assert_eq!(rt; script.called.spool.may_keep(&y), Verdict::Never);
-    assert_eq!(rt; script.caller.spool.may_keep(&z), Verdict::Later);
-    assert_eq!(rt; script.caller.spool.may_keep(&y), Verdict::Yes);
+    assert_eq!(rt; script.setup.called.spool.may_keep(&y), Verdict::Never);
+    assert_eq!(rt; script.setup.caller.spool.may_keep(&z), Verdict::Later);
+    assert_eq!(rt; script.setup.caller.spool.may_keep(&y), Verdict::Yes);
     Ok(())
 }
 

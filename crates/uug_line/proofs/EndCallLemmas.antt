@@ -1,0 +1,232 @@
+-- What the calls of an end of the program come to.
+use Rattle.std.proofs.Common.{◌≡◌, ℕ, ◌+◌, ◌<◌, ◌≤◌, Bool, true, false, nat_lt, if◌then◌else◌, List, [], ◌∷◌, ◌++◌, map, length, ap, sym, subst, ◌∙◌, refl, arith}
+use Rattle.std.proofs.lemmas.List.{append-nil}
+use Rattle.std.proofs.lemmas.List.Elements.{recursion_from_All}
+use Rattle.std.specs.List.{All}
+use Rattle.uug_link.specs.Announced.{Announced}
+use Rattle.uug_link.specs.declared.limits.TheConstants.{TIMEOUTS_MAX}
+use Rattle.uug_link.specs.Entries.{EntryValue}
+use Rattle.uug_link.specs.InRange.{IsAnnouncement}
+use Rattle.uug_link.specs.State.{State}
+use Rattle.uug_link.specs.Step.{Effect, OutcomeValue, nothing, up, taken, closed, gave_up, halted, step, timed_out}
+use Rattle.uug_reader.specs.declared.reader.TheConstants.{READER_SIZE}
+use Rattle.uug_session.specs.Arriving.{Hearer, held_in}
+use Rattle.uug_session.specs.EndStep.{EndEffect, EndEvent, EndState, Identity, Stage, hailing, linked, ended, begins_session, behind_greeting, end_step, late_link, line_lost, stage_step, time_ran_out, unmoved}
+use Rattle.uug_session.specs.Engine.{BeginsSession, Does, EngineState, all_ahead, bare, end_of, entry_of, hung_up, stage_late, with_stage}
+use Rattle.uug_session.specs.declared.end.End.TheVariants as ends
+use Rattle.uug_session.specs.declared.greeting.Greeted.TheVariants.{GoesOn}
+use Rattle.uug_session.specs.declared.greeting.Greeting.{Greeting}
+use Rattle.uug_session.specs.Greeting.{fails}
+use Rattle.uug_session.specs.Holdings.{Holdings, Kept}
+use Rattle.uug_session.specs.MemoryHoldings.{MemoryHoldings, holdings_of}
+use Rattle.uug_session.specs.InRange.{CanBeWritten, IsEndInRange}
+use Rattle.uug_session.specs.Jobs.{Lists}
+use Rattle.uug_session.specs.Keeper.{Keeper}
+use Rattle.uug_session.specs.Node.{NodeState, bytes_at, effect_of, held_bytes}
+use Rattle.uug_session.specs.Sessions.{HoldsNothing}
+use Rattle.uug_reader.specs.Reading.{Reading}
+use Rattle.uug_session.specs.Talk.{Talk, unopened}
+use Rattle.uug_session.specs.TextsHeld.{TextsHeld}
+use Rattle.uug_session.specs.Talking.{talking_has_parted}
+use Rattle.uug_line.specs.Jottings.{Jottings, log_of, no_jottings}
+use Rattle.uug_line.specs.LineEnd.{LineEnd, after_call, begins, called_with, holding}
+use Rattle.uug_line.specs.Live.{AreWritten, BeginsAgain, HasBegun, HasRoom, HoldsOn, IsCalled, IsNoted, IsOrdered, Parts, Standing, hearer_of, line_end_of, player_of, standing_of, state_of}
+use Rattle.uug_line.specs.LineLaws.{CallsAreSteps, LineLaws, ReadsWritten, StaysInRange}
+use Rattle.uug_line.proofs.SpokenLemmas.{Calls, does_so, steps_so}
+
+-- ---- the bytes held
+
+pub same_bytes : (stage : Stage) (a b : NodeState) → a.texts ≡ b.texts → a.packets ≡ b.packets → bytes_at stage a ≡ bytes_at stage b
+same_bytes (hailing g) a b texts packets = ap (λ (t : TextsHeld). t.bytes) texts
+same_bytes linked a b texts packets = ap (λ (r : Reading). r.bytes) packets
+same_bytes (ended how) a b texts packets = refl
+
+greeting_late : (in_time : Bool) (id : Identity) (g : Greeting) (s : State) (c : Talk) (n : NodeState)
+    → HoldsOn (behind_greeting id (if in_time
+    then record { says = []; greeted = GoesOn (record { awaited = g.awaited; timeouts = g.timeouts + 1 }) }
+    else fails [] ends.GaveUp) s c) (hailing g) n
+greeting_late true id g s c n = refl
+greeting_late false id g s c n = refl
+
+link_late : (id : Identity) (parted : Bool) (o : OutcomeValue) (e : Effect) (c : Talk) (n : NodeState)
+    → HoldsOn (late_link id parted o e c) linked n
+link_late id parted nothing e c n = refl
+link_late id parted up e c n = refl
+link_late id parted taken e c n = refl
+link_late id parted closed e c n = refl
+link_late id parted gave_up e c n = refl
+link_late id parted halted e c n = refl
+
+held_late : (k : Keeper Talk) (id : Identity) (stage : Stage) (s : State) (c : Talk) (n : NodeState)
+    → HoldsOn (stage_step k id stage time_ran_out (record { stage = stage; link = s; keeper = c })) stage n
+held_late k id (hailing g) s c n = greeting_late (nat_lt (g.timeouts + 1) TIMEOUTS_MAX) id g s c n
+held_late k id linked s c n = link_late id (k.has_parted c) (step s timed_out).outcome (step s timed_out) c n
+held_late k id (ended how) s c n = refl
+
+-- ---- a call that uses no bytes
+
+-- it forgets them where it has ended
+pub called_is : (event : EndEvent) (e : EndEffect Talk) (old called new : Parts)
+    → e ≡ end_step (player_of old).keeper (player_of old).identity event (state_of old)
+    → Calls e old called new → called.jottings ≡ old.jottings → called.line ≡ old.line
+    → held_bytes new.node ≡ held_in e.state.stage (held_bytes old.node)
+    → hearer_of new ≡ called_with (player_of old) event (hearer_of old)
+called_is event e old called new is calls jottings line held =
+    let by_held : List ℕ → Hearer (LineEnd Talk) = λ x. record { held = x; end = line_end_of new } in
+    let by_end : LineEnd Talk → Hearer (LineEnd Talk) = λ x. record { held = held_in e.state.stage (held_bytes old.node); end = x } in
+    let by_jottings : Jottings → Hearer (LineEnd Talk) =
+    λ x. holding (held_bytes old.node) (after_call (log_of x) called.line e) in
+    let by_line : List ℕ → Hearer (LineEnd Talk) = λ x. holding (held_bytes old.node) (after_call (log_of old.jottings) x e) in
+    let by_effect : EndEffect Talk → Hearer (LineEnd Talk) =
+    λ x. holding (held_bytes old.node) (after_call (log_of old.jottings) old.line x) in
+    ap by_held held ∙ ap by_end calls.end ∙ ap by_jottings jottings ∙ ap by_line line ∙ ap by_effect is
+
+room_kept : (stage : Stage) (bytes : List ℕ) → length bytes < READER_SIZE → length (held_in stage bytes) < READER_SIZE
+room_kept (hailing g) bytes room = room
+room_kept linked bytes room = room
+room_kept (ended how) bytes room = omega arith
+
+calls_so : (event : EndEvent) (old called new : Parts) (e : EndEffect Talk)
+    → e ≡ end_step (player_of old).keeper (player_of old).identity event (state_of old)
+    → HasRoom old → Calls e old called new → called.jottings ≡ old.jottings → called.line ≡ old.line
+    → held_bytes new.node ≡ held_in e.state.stage (held_bytes old.node)
+    → IsCalled event old new
+calls_so event old called new e is room calls jottings line held = record {
+  hearer = called_is event e old called new is calls jottings line held;
+  ordered = calls.ordered;
+  room = subst (λ (bytes : List ℕ). length bytes < READER_SIZE) (sym held) (room_kept e.state.stage (held_bytes old.node) room);
+  standing = calls.standing;
+}
+
+stage_after : (e : EndEffect Talk) (old called new : Parts) → Calls e old called new → new.node.engine.stage ≡ e.state.stage
+stage_after e old called new calls = ap (λ (x : LineEnd Talk). x.state.stage) calls.end
+
+-- nothing has come for some time
+pub timed_out_so : ReadsWritten → StaysInRange → CallsAreSteps → (old called new : Parts) → IsOrdered old → HasRoom old
+    → Does (stage_late old.node.engine.identity (talking_has_parted old.node.engine.talking) old.node.engine.stage old.node.engine.link old.node.engine.talking)
+    (bare called.node.engine) old.node.engine called.node.engine
+    → called.node.texts ≡ old.node.texts → called.node.packets ≡ old.node.packets → called.spool ≡ old.spool
+    → called.jottings ≡ old.jottings → called.line ≡ old.line → IsNoted called new
+    → IsCalled time_ran_out old new
+timed_out_so reads in_range steps old called new ordered room does texts packets spool jottings line noted_so =
+    let e = effect_of (holdings_of old.spool) old.spool.stored time_ran_out old.node.engine in
+    let of_spool : MemoryHoldings → Type 0 = λ m. Does e (end_of (holdings_of m) m.stored called.node.engine) old.node.engine called.node.engine in
+    let calls : Calls e old called new =
+    steps_so reads in_range time_ran_out old called new ordered tt
+    (subst of_spool (sym spool) (steps.late (holdings_of old.spool) old.spool.stored old.node.engine called.node.engine does))
+    noted_so (subst (λ (j : Jottings). AreWritten j.packets) (sym jottings) ordered.written) (ap holdings_of spool) in
+    calls_so time_ran_out old called new e refl room calls jottings line
+    (ap (λ (x : Stage). bytes_at x new.node) (stage_after e old called new calls)
+    ∙ same_bytes e.state.stage new.node old.node (noted_so.texts ∙ texts) (noted_so.packets ∙ packets)
+    ∙ held_late (player_of old).keeper old.node.engine.identity old.node.engine.stage old.node.engine.link (state_of old).keeper old.node)
+
+-- ---- the line is gone
+
+lost_does : (lost : EndEffect Talk) (h : Holdings) (kept : List Kept) (stage : Stage) (old called : EngineState)
+    → lost ≡ unmoved (end_of h kept (with_stage stage old)) → called ≡ with_stage stage old
+    → Does lost (end_of h kept called) old called
+lost_does lost h kept stage old called is engine = record {
+  end = ap (λ (x : EngineState). end_of h kept x) engine ∙ sym (ap (λ (x : EndEffect Talk). x.state) is);
+  emitted = ap (λ (x : EngineState). x.outbox.entries) engine ∙ sym (append-nil old.outbox.entries)
+      ∙ ap (λ (x : EndEffect Talk). old.outbox.entries ++ map entry_of x.emitted) (sym is);
+  identity = ap (λ (x : EngineState). x.identity) engine;
+  own = ap (λ (x : EngineState). x.own) engine;
+}
+
+held_lost : (parted : Bool) (stage : Stage) (n : NodeState) (bytes : List ℕ)
+    → bytes_at (hung_up parted stage) n ≡ held_in (hung_up parted stage) bytes
+held_lost parted (hailing g) n bytes = refl
+held_lost parted linked n bytes = refl
+held_lost parted (ended how) n bytes = refl
+
+pub hung_up_so : ReadsWritten → StaysInRange → CallsAreSteps → (old called new : Parts) → IsOrdered old → HasRoom old
+    → called.node.engine ≡ with_stage (hung_up (talking_has_parted old.node.engine.talking) old.node.engine.stage) old.node.engine
+    → called.spool ≡ old.spool → called.jottings ≡ old.jottings → called.line ≡ old.line → IsNoted called new
+    → IsCalled line_lost old new
+hung_up_so reads in_range steps old called new ordered room engine spool jottings line noted_so =
+    let parted = talking_has_parted old.node.engine.talking in
+    let stage = hung_up parted old.node.engine.stage in
+    let e = effect_of (holdings_of old.spool) old.spool.stored line_lost old.node.engine in
+    let is : e ≡ unmoved (end_of (holdings_of old.spool) old.spool.stored (with_stage stage old.node.engine)) =
+    steps.lost (holdings_of old.spool) old.spool.stored old.node.engine in
+    let of_spool : MemoryHoldings → Type 0 = λ m. Does e (end_of (holdings_of m) m.stored called.node.engine) old.node.engine called.node.engine in
+    let calls : Calls e old called new =
+    steps_so reads in_range line_lost old called new ordered tt
+    (subst of_spool (sym spool) (lost_does e (holdings_of old.spool) old.spool.stored stage old.node.engine called.node.engine is engine))
+    noted_so (subst (λ (j : Jottings). AreWritten j.packets) (sym jottings) ordered.written) (ap holdings_of spool) in
+    let at : stage ≡ e.state.stage = ap (λ (x : EndEffect Talk). x.state.stage) (sym is) in
+    calls_so line_lost old called new e refl room calls jottings line
+    (ap (λ (x : Stage). bytes_at x new.node) (stage_after e old called new calls ∙ sym at)
+    ∙ held_lost parted old.node.engine.stage new.node (held_bytes old.node)
+    ∙ ap (λ (x : Stage). held_in x (held_bytes old.node)) at)
+
+-- ---- a session begins
+
+-- an end beside whom nothing has happened
+with_nothing_said : Identity → Announced → Parts → Parts
+with_nothing_said id own p = record p {
+  node = record p.node {
+    engine = record p.node.engine {
+      identity = id;
+      own = own;
+      outbox = record { entries = []; spare = 0 };
+    };
+  };
+}
+
+nothing_at : (stage : Stage) (n : NodeState) → HoldsNothing n → bytes_at stage n ≡ []
+nothing_at (hailing g) n is = ap (λ (t : TextsHeld). t.bytes) is.texts
+nothing_at linked n is = ap (λ (r : Reading). r.bytes) is.packets
+nothing_at (ended how) n is = refl
+
+none_held : (stage : Stage) → [] ≡ held_in stage []
+none_held (hailing g) = refl
+none_held linked = refl
+none_held (ended how) = refl
+
+pub begun_so : ReadsWritten → StaysInRange
+    → CallsAreSteps → (id : Identity) (own : Announced) (l : Lists) (called new : Parts) → IsAnnouncement own
+    → BeginsSession id own l [] called.node.engine → HoldsNothing called.node
+    → called.jottings ≡ no_jottings → called.line ≡ [] → IsNoted called new
+    → HasBegun id own l called.spool new
+unfolding with_nothing_said
+begun_so reads in_range steps id own l called new announces session nothing_held jottings line noted_so =
+    let old = with_nothing_said id own called in
+    let e = begins_session id own (unopened l called.spool.stored) in
+    let range = in_range.first id own (unopened l called.spool.stored) announces in
+    let does : Does e (state_of called) old.node.engine called.node.engine = record {
+      end = steps.begins (holdings_of called.spool) called.spool.stored id own l [] called.node.engine session;
+      emitted = session.emitted;
+      identity = session.identity;
+      own = session.own;
+    } in
+    let calls : Calls e old called new =
+    does_so reads e old called new refl (recursion_from_All CanBeWritten e.emitted range.1) does noted_so range.0 announces
+    (subst (λ (j : Jottings). AreWritten j.packets) (sym jottings) tt) refl in
+    let bytes : held_bytes new.node ≡ [] =
+    same_bytes new.node.engine.stage new.node called.node noted_so.texts noted_so.packets
+    ∙ nothing_at new.node.engine.stage called.node nothing_held in
+    let by_held : List ℕ → Hearer (LineEnd Talk) = λ x. record { held = x; end = line_end_of new } in
+    let by_end : LineEnd Talk → Hearer (LineEnd Talk) = λ x. record { held = held_in e.state.stage []; end = x } in
+    let by_jottings : Jottings → LineEnd Talk = λ x. after_call (log_of x) called.line e in
+    let by_line : List ℕ → LineEnd Talk = λ x. after_call (log_of no_jottings) x e in
+    record {
+      hearer = ap by_held (bytes ∙ none_held e.state.stage)
+          ∙ ap by_end (calls.end ∙ ap by_jottings jottings ∙ ap by_line line);
+      ordered = calls.ordered;
+      room = subst (λ (xs : List ℕ). length xs < READER_SIZE) (sym bytes) (omega arith);
+      standing = calls.standing;
+    }
+
+-- the next one begins
+pub begun_again : LineLaws → (old called new : Parts) → IsOrdered old
+    → BeginsSession old.node.engine.identity old.node.engine.own (all_ahead old.node.engine.talking.machine.lists) old.node.engine.outbox.entries
+    called.node.engine → HoldsNothing called.node → called.spool ≡ old.spool
+    → called.jottings ≡ no_jottings → called.line ≡ [] → IsNoted called new → BeginsAgain old new
+begun_again laws old called new ordered session nothing_held spool jottings line noted_so =
+    let e = old.node.engine in
+    let l = all_ahead e.talking.machine.lists in
+    subst (λ (m : MemoryHoldings). HasBegun e.identity e.own l m new) spool
+    (begun_so laws.reads laws.in_range laws.steps e.identity e.own l called new ordered.own
+    (subst (λ (es : List EntryValue). BeginsSession e.identity e.own l es called.node.engine) ordered.cleared session)
+    nothing_held jottings line noted_so)

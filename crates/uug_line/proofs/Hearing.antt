@@ -1,0 +1,111 @@
+-- Bytes that come to an end leave it joined to the other, and numbers tell what it does with them.
+use Rattle.std.proofs.Common.{◌≡◌, ℕ, zero, suc, List, ◌++◌, length, Option, Some, None, refl, ap, ◌∙◌}
+use Rattle.std.specs.Bool.{⊤}
+use Rattle.uug_link.specs.Arrivals.{place_of}
+use Rattle.uug_packet.specs.Packet.{PacketValue}
+use Rattle.uug_reader.specs.Cut.{found, bad}
+use Rattle.uug_reader.specs.Search.{Search, waiting, standing, search_of}
+use Rattle.uug_session.specs.Arriving.{Taker, Hearer, holds, Came, all_taken, stopped, takes_if, takes_up, takes_up_to, takes_piece}
+use Rattle.uug_session.specs.Count.{Count}
+use Rattle.uug_session.specs.EndStep.{Stage, hailing, linked, ended}
+use Rattle.uug_session.specs.Finding.{Finding, finds_nothing, finds, finds_packet, text_finding, item_finding, finding}
+use Rattle.uug_session.specs.Talk.{Talk}
+use Rattle.uug_session.specs.TextsHeld.{TextSearch, text_waits, text_stands, text_too_long, search_text}
+use Rattle.uug_line.specs.declared.side.Side.{Side}
+use Rattle.uug_line.specs.Belongings.{Belongings, SetupValue}
+use Rattle.uug_line.specs.LineEnd.{LineEnd, does}
+use Rattle.uug_line.specs.Sides.{AtBoth}
+use Rattle.uug_line.specs.Taking.{takes_sent, line_taker, packet_taken_up}
+use Rattle.uug_line.specs.World.{counted_end, counted_hearer}
+use Rattle.uug_line.proofs.Joining.{EndsJoined}
+use Rattle.uug_line.proofs.Steps.{talk_player, count_player, IsNoPacket, Steps}
+
+-- ---- what is found but packets
+
+abbrev FindsNoPacket : Finding → Type 0
+FindsNoPacket (finds event behind) = IsNoPacket event
+FindsNoPacket _ = ⊤
+
+text_is_no_packet : (bytes : List ℕ) (s : TextSearch) → FindsNoPacket (text_finding bytes s)
+text_is_no_packet bytes (text_waits rest) = tt
+text_is_no_packet bytes (text_stands text others) = tt
+text_is_no_packet bytes text_too_long = tt
+
+item_is_no_packet : (s : Search) → FindsNoPacket (item_finding s)
+item_is_no_packet (waiting rest) = tt
+item_is_no_packet (standing (found p) size bytes) = tt
+item_is_no_packet (standing bad size bytes) = tt
+
+finds_no_packet : (stage : Stage) (bytes : List ℕ) → FindsNoPacket (finding stage bytes)
+finds_no_packet (hailing g) bytes = text_is_no_packet bytes (search_text bytes)
+finds_no_packet linked bytes = item_is_no_packet (search_of bytes)
+finds_no_packet (ended how) bytes = tt
+
+-- ---- what came, by numbers
+
+abbrev pub counted_came : Came (LineEnd Talk) → Came (LineEnd Count)
+counted_came (all_taken h) = all_taken (counted_hearer h)
+counted_came (stopped h) = stopped (counted_hearer h)
+
+abbrev pub end_of : Came (LineEnd Talk) → LineEnd Talk
+end_of (all_taken h) = h.end
+end_of (stopped h) = h.end
+
+module _ (setup : SetupValue) (brought : AtBoth Belongings) (steps : Steps setup brought) (side : Side) (f : LineEnd Talk) where
+  abbrev talks : Taker (LineEnd Talk)
+  talks = line_taker (talk_player setup side) f.log.packets
+
+  abbrev counts : Taker (LineEnd Count)
+  counts = line_taker (count_player setup brought side) f.log.packets
+
+  pub record IsTaken (came : Came (LineEnd Talk)) (numbers : Came (LineEnd Count)) : Type 0 where
+    pub joined : EndsJoined setup brought side (end_of came) f
+    pub counted : counted_came came ≡ numbers
+
+  -- at most so many are taken so
+  abbrev AreTaken : ℕ → Type 0
+  AreTaken n = (h : Hearer (LineEnd Talk)) → EndsJoined setup brought side h.end f →
+      IsTaken (takes_up_to n talks h) (takes_up_to n counts (counted_hearer h))
+
+  taken_behind : (n : ℕ) → AreTaken n → (behind : List ℕ) (e : LineEnd Talk) (c : LineEnd Count) →
+      EndsJoined setup brought side e f → counted_end e ≡ c →
+      IsTaken (takes_up_to n talks (holds talks behind e)) (takes_up_to n counts (holds counts behind c))
+  taken_behind n more behind e c joined counted =
+      let rest = more (holds talks behind e) joined in
+      record {
+        joined = rest.joined;
+        counted = rest.counted ∙ ap (λ z. takes_up_to n counts (holds counts behind z)) counted;
+      }
+
+  taken_if : (n : ℕ) → AreTaken n → (p : PacketValue) (place : Option ℕ) (from behind : List ℕ) (e : LineEnd Talk) →
+      place_of p f.log.packets e.log.passed ≡ place → EndsJoined setup brought side e f →
+      IsTaken (takes_if (takes_up_to n talks) talks (takes_sent (talk_player setup side) p place e) from behind e)
+      (takes_if (takes_up_to n counts) counts (takes_sent (count_player setup brought side) p place (counted_end e)) from behind
+      (counted_end e))
+  taken_if n more p None from behind e is joined = record { joined = joined; counted = refl }
+  taken_if n more p (Some place) from behind e is joined =
+      taken_behind n more behind (packet_taken_up (talk_player setup side) p place e)
+      (packet_taken_up (count_player setup brought side) p place (counted_end e))
+      (steps.packet_joined side p place e f is joined) (steps.packet_counted side p place e f is joined)
+
+  taken_so : (n : ℕ) → AreTaken n → (what : Finding) → FindsNoPacket what → (e : LineEnd Talk) →
+      EndsJoined setup brought side e f →
+      IsTaken (takes_up (takes_up_to n talks) talks what e) (takes_up (takes_up_to n counts) counts what (counted_end e))
+  taken_so n more (finds_nothing rest) no_packet e joined = record { joined = joined; counted = refl }
+  taken_so n more (finds event behind) no_packet e joined =
+      taken_behind n more behind (does (talk_player setup side) event e)
+      (does (count_player setup brought side) event (counted_end e))
+      (steps.does_joined side event e f no_packet joined) (steps.does_counted side event e f no_packet joined)
+  taken_so n more (finds_packet p from behind) no_packet e joined =
+      taken_if n more p (place_of p f.log.packets e.log.passed) from behind e refl joined
+
+  taken_up_to : (n : ℕ) → AreTaken n
+  taken_up_to zero h joined = record { joined = joined; counted = refl }
+  taken_up_to (suc n) h joined =
+      taken_so n (taken_up_to n) (finding h.end.state.stage h.held) (finds_no_packet h.end.state.stage h.held) h.end joined
+
+  pub taken_piece : (piece : List ℕ) (h : Hearer (LineEnd Talk)) → EndsJoined setup brought side h.end f →
+      IsTaken (takes_piece talks piece h) (takes_piece counts piece (counted_hearer h))
+  taken_piece piece h joined =
+      let held = holds talks (h.held ++ piece) h.end in
+      taken_up_to (suc (length held.held)) held joined

@@ -1,0 +1,535 @@
+-- What taking up an item comes to.
+use Rattle.std.proofs.Common.{◌≡◌, ◌⊎◌, inl, inr, ℕ, ◌+◌, ◌<◌, ◌≤◌, max, Bool, true, false, ◌&&◌, List, [], ◌∷◌, ◌++◌, map, length, drop, take, get_or, slice_get, Vec, Option, Some, None, MatchOption, Ok, ap, sym, subst, ◌∙◌, refl, arith}
+use Rattle.std.proofs.lemmas.List.{append-nil, length-map}
+use Rattle.std.proofs.lemmas.Option.{slice_get-map, slice_get_read, slice_get_within}
+use Rattle.std.specs.Option.{option_map}
+use Rattle.std.specs.Bool.{⊤}
+use Rattle.uug_link.specs.Arrivals.{place_of}
+use Rattle.uug_link.specs.InRange.{IsAnnouncement}
+use Rattle.uug_link.specs.State.{State}
+use Rattle.uug_link.specs.Step.{Effect, OutcomeValue, nothing, up, taken, closed, gave_up, halted, step, bad_found, packet_found}
+use Rattle.uug_packet.specs.Packet.{PacketValue}
+use Rattle.uug_packet.specs.Spelling.{IsSpelling, canonical}
+use Rattle.uug_packet.specs.WellFormed.{IsWellFormed}
+use Rattle.uug_reader.specs.declared.reader.TheConstants.{READER_SIZE}
+use Rattle.uug_reader.specs.Reading.{Reading}
+use Rattle.uug_session.specs.Arriving.{Came, Hearer, Taker, all_taken, held_in, holds, stopped, takes_all, takes_if, takes_up}
+use Rattle.uug_session.specs.declared.end.End.{End}
+use Rattle.uug_session.specs.declared.end.End.TheVariants as ends
+use Rattle.uug_session.specs.declared.greeting.Greeting.{Greeting}
+use Rattle.uug_session.specs.EndStep.{EndEffect, EndEvent, EndState, Identity, Stage, hailing, linked, ended, bad_came, behind_link, broken_found, end_step, goes_on, long_text_found, message_of, packet_came, packet_found_whole, takes_by, talks_by, text_found, stage_step}
+use Rattle.uug_session.specs.Engine.{Does, EngineState, HasFailed, end_of, with_stage}
+use Rattle.uug_session.specs.Finding.{Finding, FindingLaws, LeavesFewer, finding, finds, finds_nothing}
+use Rattle.uug_session.specs.Holdings.{Holdings, Kept}
+use Rattle.uug_session.specs.InRange.{IsEndInRange, MayFind}
+use Rattle.uug_session.specs.Keeper.{Keeper}
+use Rattle.uug_session.specs.MemoryHoldings.{MemoryHoldings, holdings_of}
+use Rattle.uug_session.specs.Node.{ItemValue, IsLeft, NodeState, ShowsItem, TakesItem, TakesShown, bad_item, bytes_at, effect_of, event_of, held_bytes, item_size, packet_item, searched, shown_size_at, text_item}
+use Rattle.uug_session.specs.Talk.{Talk, end_keeper}
+use Rattle.uug_session.specs.TextsHeld.{TextsHeld}
+use Rattle.uug_session.proofs.ArrivingLemmas.{held_fewer, takes_first}
+use Rattle.uug_line.specs.declared.sighting.Sighting.TheVariants.{Other, At, Unsent}
+use Rattle.uug_line.specs.Jottings.{Jottings, log_of, packet_in, packet_jotted}
+use Rattle.uug_line.specs.LineEnd.{LineEnd, Log, Player, after_call, does, found_at, took}
+use Rattle.uug_line.specs.LineLaws.{LineLaws}
+use Rattle.uug_line.specs.Live.{AreWritten, HasRoom, IsNoted, IsOrdered, IsStopped, IsTakenUp, Parts, TakesAll, TakesOne, hearer_of, line_end_of, player_of, standing_of, state_of, taker_of}
+use Rattle.uug_line.specs.Shown.{lists_in}
+use Rattle.uug_line.specs.Sightings.{Sights, SightsShown, StandsAt, StandsNowhere}
+use Rattle.uug_line.specs.Taking.{takes_sent}
+use Rattle.uug_line.proofs.ShownItemLemmas.{ItemFound, NothingFound, finding_of, is_too_long, item_found, nothing_found, one_item, waits}
+use Rattle.uug_line.proofs.SpokenLemmas.{Calls, steps_so}
+use Rattle.uug_line.proofs.TakenLemmas.{no_place_found, packet_logged, place_found}
+
+-- ---- behind an item of the link no end hails
+
+abbrev NotHailing : Stage → Type 0
+NotHailing (hailing g) = ⊥
+NotHailing linked = ⊤
+NotHailing (ended how) = ⊤
+
+talks_on : (bad : Bool) (k : Keeper Talk) (id : Identity) (e : Effect) (before after : Talk) → NotHailing (talks_by bad k id e before after).state.stage
+talks_on true k id e before after = tt
+talks_on false k id e before after = tt
+
+takes_on : (device_failed : Bool) (k : Keeper Talk) (id : Identity) (e : Effect) (message : List ℕ) (c : Talk)
+    → NotHailing (takes_by device_failed k id e message c).state.stage
+takes_on true k id e message c = tt
+takes_on false k id e message c = talks_on (k.is_bad (k.taking message c)) k id e c (k.taking message c)
+
+link_on : (k : Keeper Talk) (id : Identity) (device_failed : Bool) (o : OutcomeValue) (e : Effect) (message : List ℕ) (c : Talk)
+    → NotHailing (behind_link k id device_failed o e message c).state.stage
+link_on k id device_failed nothing e message c = tt
+link_on k id device_failed up e message c = tt
+link_on k id device_failed taken e message c = takes_on (device_failed && k.asks_spool message c) k id e message c
+link_on k id device_failed closed e message c = tt
+link_on k id device_failed gave_up e message c = tt
+link_on k id device_failed halted e message c = tt
+
+abbrev MayBeAt : ItemValue → Stage → Type 0
+MayBeAt (text_item text) stage = ⊤
+MayBeAt (packet_item p) stage = NotHailing stage
+MayBeAt bad_item stage = NotHailing stage
+
+item_on : (k : Keeper Talk) (id : Identity) (device_failed : Bool) (stage : Stage) (texts : TextsHeld) (packets : Reading) (item : ItemValue)
+    (s : State) (c : Talk) → ShowsItem stage texts packets item
+    → MayBeAt item (stage_step k id stage (event_of device_failed item) (record { stage = stage; link = s; keeper = c })).state.stage
+item_on k id device_failed stage texts packets (text_item text) s c shows = tt
+item_on k id device_failed linked texts packets (packet_item p) s c shows =
+    link_on k id device_failed (step s (packet_found p)).outcome (step s (packet_found p)) (message_of p) c
+item_on k id device_failed linked texts packets bad_item s c shows =
+    link_on k id false (step s bad_found).outcome (step s bad_found) [] c
+item_on k id device_failed (hailing g) texts packets (packet_item p) s c shows = absurd shows
+item_on k id device_failed (hailing g) texts packets bad_item s c shows = absurd shows
+item_on k id device_failed (ended how) texts packets (packet_item p) s c shows = absurd shows
+item_on k id device_failed (ended how) texts packets bad_item s c shows = absurd shows
+
+-- ---- the bytes behind it
+
+text_left : (stage : Stage) (after : NodeState) (bytes : List ℕ)
+    → after.texts ≡ record { bytes = bytes; shown_size = 0 } → after.packets ≡ record { bytes = bytes; shown_size = 0 }
+    → bytes_at stage after ≡ held_in stage bytes
+text_left (hailing g) after bytes texts packets = ap (λ (t : TextsHeld). t.bytes) texts
+text_left linked after bytes texts packets = ap (λ (r : Reading). r.bytes) packets
+text_left (ended how) after bytes texts packets = refl
+
+item_left : (stage : Stage) (after : NodeState) (bytes : List ℕ) → NotHailing stage
+    → after.packets ≡ record { bytes = bytes; shown_size = 0 } → bytes_at stage after ≡ held_in stage bytes
+item_left (hailing g) after bytes not packets = absurd not
+item_left linked after bytes not packets = ap (λ (r : Reading). r.bytes) packets
+item_left (ended how) after bytes not packets = refl
+
+left_at : (at next : Stage) (texts : TextsHeld) (packets : Reading) (item : ItemValue) (before called after : NodeState)
+    → before.texts ≡ texts → before.packets ≡ packets → ShowsItem at texts packets item → MayBeAt item next → IsLeft item before called
+    → after.texts ≡ called.texts → after.packets ≡ called.packets
+    → bytes_at next after ≡ held_in next (drop (shown_size_at at before) (bytes_at at before))
+left_at (hailing g) next texts packets (text_item text) before called after t p shows may left a b =
+    text_left next after (drop before.texts.shown_size before.texts.bytes) (a ∙ left.0) (b ∙ left.1)
+left_at linked next texts packets (packet_item q) before called after t p shows may left a b =
+    item_left next after (drop before.packets.shown_size before.packets.bytes) may (b ∙ left)
+left_at linked next texts packets bad_item before called after t p shows may left a b =
+    item_left next after (drop before.packets.shown_size before.packets.bytes) may (b ∙ left)
+left_at linked next texts packets (text_item text) before called after t p shows may left a b = absurd shows
+left_at (hailing g) next texts packets (packet_item q) before called after t p shows may left a b = absurd shows
+left_at (hailing g) next texts packets bad_item before called after t p shows may left a b = absurd shows
+left_at (ended how) next texts packets (text_item text) before called after t p shows may left a b = absurd shows
+left_at (ended how) next texts packets (packet_item q) before called after t p shows may left a b = absurd shows
+left_at (ended how) next texts packets bad_item before called after t p shows may left a b = absurd shows
+
+-- ---- an item is taken up
+
+abbrev pub sought : Parts → Parts
+sought e = record e { node = searched e.node }
+
+not_failed : (b : Bool) → (b ≡ true → HasFailed 18446744073709551615 0 0) → b ≡ false
+not_failed false failed = refl
+not_failed true failed = never (failed refl) where
+  never : (0 < 0) ⊎ (◌≡◌ {A = ℕ} 0 18446744073709551615) → true ≡ false
+  never (inl less) = absurd (omega (arith, less))
+  never (inr same) = absurd (omega (arith, same))
+
+may_find : LineLaws → (stage : Stage) (texts : TextsHeld) (packets : Reading) (item : ItemValue) → ShowsItem stage texts packets item
+    → MayFind (event_of false item)
+may_find laws stage texts packets (text_item text) shows = tt
+may_find laws stage texts packets bad_item shows = tt
+may_find laws linked texts packets (packet_item p) shows = laws.spelled p (take packets.shown_size packets.bytes) shows.0.0
+may_find laws (hailing g) texts packets (packet_item p) shows = absurd shows
+may_find laws (ended how) texts packets (packet_item p) shows = absurd shows
+
+pub ordered_with : (e : Parts) (n : NodeState) → n.engine ≡ e.node.engine → IsOrdered e → IsOrdered (record e { node = n })
+ordered_with e n same ordered = record {
+  cleared = ap (λ (x : EngineState). x.outbox.entries) same ∙ ordered.cleared;
+  in_range = subst (λ (x : EngineState). IsEndInRange x.identity.side (end_of (holdings_of e.spool) e.spool.stored x)) (sym same) ordered.in_range;
+  own = subst (λ (x : EngineState). IsAnnouncement x.own) (sym same) ordered.own;
+  written = ordered.written;
+  most = subst (λ (x : EngineState). length x.link.unacked ≤ e.jottings.most) (sym same) ordered.most;
+}
+
+abbrev effect_at : EndEvent → Parts → EndEffect Talk
+effect_at event e = end_step (player_of e).keeper (player_of e).identity event (state_of e)
+
+-- the item was taken up, and this had been written down of it
+record IsTaken (item : ItemValue) (behind : List ℕ) (log : Log) (old new : Parts) : Type 0 where
+  end : line_end_of new ≡ after_call log old.line (effect_at (event_of false item) old)
+  held : held_bytes new.node ≡ held_in (effect_at (event_of false item) old).state.stage behind
+  ordered : IsOrdered new
+  standing : standing_of new ≡ standing_of old
+
+of_item : (h : Holdings) (kept kept_after : List Kept) (failure : Type 0) (item other : ItemValue) (before after : NodeState) (took : Bool)
+    → other ≡ item → TakesItem h kept kept_after failure other before after took → TakesItem h kept kept_after failure item before after took
+of_item h kept kept_after failure item other before after took same takes =
+    subst (λ (x : ItemValue). TakesItem h kept kept_after failure x before after took) same takes
+
+item_taken : LineLaws → (old new : Parts) (item : ItemValue) (found : Bool → Jottings) → IsOrdered old
+    → ShowsItem (searched old.node).engine.stage (searched old.node).texts (searched old.node).packets item
+    → ((b : Bool) → (found b).packets ≡ old.jottings.packets) → IsTakenUp found (sought old) new
+    → IsTaken item (drop (item_size (searched old.node)) (held_bytes (searched old.node)))
+    (log_of (found (effect_at (event_of false item) old).took)) old new
+item_taken laws old new item found ordered shows keeps taken_up =
+    let n = searched old.node in
+    let h = holdings_of old.spool in
+    let kept = old.spool.stored in
+    let f : ItemFound item old.node n = item_found laws.search old.node item shows in
+    let failure = HasFailed 18446744073709551615 0 0 in
+    let takes : TakesItem h kept taken_up.called.spool.stored failure item n taken_up.called.node taken_up.took =
+    of_item h kept taken_up.called.spool.stored failure item taken_up.shown.0 n taken_up.called.node taken_up.took
+    (one_item laws.search old.node taken_up.shown.0 item taken_up.shown.1 shows) taken_up.shown.2 in
+    let well : takes.device_failed ≡ false = not_failed takes.device_failed takes.device in
+    let of_failed : Bool → EndEffect Talk = λ b. effect_of h kept (event_of b item) n.engine in
+    let effect = of_failed false in
+    let of_holdings : Holdings → EndState Talk = λ x. end_of x taken_up.called.spool.stored taken_up.called.node.engine in
+    let does_so : Does effect (state_of taken_up.called) n.engine taken_up.called.node.engine =
+    subst (λ (x : EndState Talk). Does effect x n.engine taken_up.called.node.engine) (ap of_holdings (sym taken_up.holdings))
+    (subst (λ (b : Bool). Does (of_failed b) (end_of h taken_up.called.spool.stored taken_up.called.node.engine) n.engine taken_up.called.node.engine) well takes.does) in
+    let written : AreWritten taken_up.called.jottings.packets =
+    subst AreWritten (sym (keeps taken_up.took) ∙ ap (λ (j : Jottings). j.packets) (sym taken_up.jottings)) ordered.written in
+    let calls : Calls effect (sought old) taken_up.called new =
+    steps_so laws.reads laws.in_range (event_of false item) (sought old) taken_up.called new (ordered_with old n f.engine ordered)
+    (may_find laws n.engine.stage n.texts n.packets item shows) does_so taken_up.noted written taken_up.holdings in
+    let of_engine : EngineState → EndEffect Talk = λ x. effect_of h kept (event_of false item) x in
+    let same : effect ≡ effect_at (event_of false item) old = ap of_engine f.engine in
+    let took_is : taken_up.took ≡ (effect_at (event_of false item) old).took =
+    takes.answer ∙ ap (λ (b : Bool). (of_failed b).took) well ∙ ap (λ (x : EndEffect Talk). x.took) same in
+    let stage : new.node.engine.stage ≡ effect.state.stage = ap (λ (x : LineEnd Talk). x.state.stage) calls.end in
+    let by_jottings : Jottings → LineEnd Talk = λ j. after_call (log_of j) taken_up.called.line effect in
+    let by_line : List ℕ → LineEnd Talk = λ x. after_call (log_of (found taken_up.took)) x effect in
+    let by_took : Bool → LineEnd Talk = λ b. after_call (log_of (found b)) old.line effect in
+    let by_effect : EndEffect Talk → LineEnd Talk = λ x. after_call (log_of (found (effect_at (event_of false item) old).took)) old.line x in
+    let behind = drop (item_size n) (held_bytes n) in
+    record {
+      end = calls.end ∙ ap by_jottings taken_up.jottings ∙ ap by_line taken_up.line ∙ ap by_took took_is ∙ ap by_effect same;
+      held = ap (λ (x : Stage). bytes_at x new.node) stage
+          ∙ left_at n.engine.stage effect.state.stage n.texts n.packets item n taken_up.called.node new.node refl refl shows
+          (item_on (player_of (sought old)).keeper n.engine.identity false n.engine.stage n.texts n.packets item n.engine.link (state_of (sought old)).keeper shows)
+          takes.left taken_up.noted.texts taken_up.noted.packets
+          ∙ ap (λ (x : EndEffect Talk). held_in x.state.stage behind) same;
+      ordered = calls.ordered;
+      standing = calls.standing ∙ ap (λ (x : EngineState). standing_of (record old { node = record n { engine = x } })) f.engine;
+    }
+
+-- ---- one of them is the taker's step
+
+holds_itself : (stage : Stage) (n : NodeState) → bytes_at stage n ≡ held_in stage (bytes_at stage n)
+holds_itself (hailing g) n = refl
+holds_itself linked n = refl
+holds_itself (ended how) n = refl
+
+behind_item : (item : ItemValue) (from behind bytes : List ℕ) → LeavesFewer (finding_of item from behind) bytes → length behind < length bytes
+behind_item (text_item text) from behind bytes fewer = fewer
+behind_item (packet_item p) from behind bytes fewer = fewer.1
+behind_item bad_item from behind bytes fewer = fewer
+
+-- so the taker takes it
+abbrev TakesIt : (others : List (List ℕ)) → ItemValue → (from behind : List ℕ) → Log → Parts → Type 0
+TakesIt others item from behind log old =
+    let t = taker_of others old in
+    takes_up (takes_all t) t (finding_of item from behind) (line_end_of old)
+    ≡ takes_all t (holds t behind (after_call log old.line (effect_at (event_of false item) old)))
+
+one_so : LineLaws → (others : List (List ℕ)) (item : ItemValue) (log : Log) (old new : Parts)
+    → ShowsItem (searched old.node).engine.stage (searched old.node).texts (searched old.node).packets item
+    → IsTaken item (drop (item_size (searched old.node)) (held_bytes (searched old.node))) log old new
+    → TakesIt others item (held_bytes (searched old.node)) (drop (item_size (searched old.node)) (held_bytes (searched old.node))) log old
+    → TakesOne others old new
+one_so laws others item log old new shows taken_so takes =
+    let n = searched old.node in
+    let t = taker_of others old in
+    let from = held_bytes n in
+    let behind = drop (item_size n) (held_bytes n) in
+    let f : ItemFound item old.node n = item_found laws.search old.node item shows in
+    let e = effect_at (event_of false item) old in
+    let by_held : List ℕ → Hearer (LineEnd Talk) = λ x. record { held = x; end = line_end_of old } in
+    let by_held_after : List ℕ → Hearer (LineEnd Talk) = λ x. record { held = x; end = line_end_of new } in
+    let by_end : LineEnd Talk → Hearer (LineEnd Talk) = λ x. record { held = held_in e.state.stage behind; end = x } in
+    let after : hearer_of new ≡ holds t behind (after_call log old.line e) = ap by_held_after taken_so.held ∙ ap by_end taken_so.end in
+    let less : length behind < length (held_bytes old.node) =
+    behind_item item from behind (held_bytes old.node)
+    (subst (λ (x : Finding). LeavesFewer x (held_bytes old.node)) f.finding (laws.findings.fewer old.node.engine.stage (held_bytes old.node))) in
+    record {
+      same = ap (λ (x : Hearer (LineEnd Talk)). takes_all t x) (ap by_held (holds_itself old.node.engine.stage old.node))
+          ∙ takes_first laws.findings (LineEnd Talk) t (held_bytes old.node) (line_end_of old)
+          ∙ ap (λ (x : Finding). takes_up (takes_all t) t x (line_end_of old)) f.finding
+          ∙ takes ∙ ap (takes_all t) (sym after);
+      ordered = taken_so.ordered;
+      standing = taken_so.standing;
+      fewer = let held = ap (λ (x : List ℕ). length x) taken_so.held in
+          omega (arith, held, held_fewer e.state.stage behind, less);
+    }
+
+-- ---- a text or a broken packet
+
+abbrev IsOther : ItemValue → Type 0
+IsOther (packet_item p) = ⊥
+IsOther _ = ⊤
+
+is_other : (item : ItemValue) (others : List (List ℕ)) (passed : ℕ) → Sights item others passed Other → IsOther item
+is_other (text_item text) others passed sights = tt
+is_other bad_item others passed sights = tt
+is_other (packet_item p) others passed sights = absurd sights
+
+takes_other : (others : List (List ℕ)) (item : ItemValue) (from behind : List ℕ) (old : Parts) → IsOther item
+    → TakesIt others item from behind (log_of old.jottings) old
+takes_other others (text_item text) from behind old is = refl
+takes_other others bad_item from behind old is = refl
+takes_other others (packet_item p) from behind old is = absurd is
+
+pub other_taken : LineLaws → (others : List (List ℕ)) (old new : Parts) → IsOrdered old
+    → SightsShown (searched old.node) others old.jottings.passed Other
+    → IsTakenUp (λ (b : Bool). old.jottings) (sought old) new → TakesOne others old new
+other_taken laws others old new ordered sights taken_up =
+    let n = searched old.node in
+    let item = sights.0 in
+    one_so laws others item (log_of old.jottings) old new sights.1
+    (item_taken laws old new item (λ (b : Bool). old.jottings) ordered sights.1 (λ b. refl) taken_up)
+    (takes_other others item (held_bytes n) (drop (item_size n) (held_bytes n)) old (is_other item others old.jottings.passed sights.2))
+
+-- ---- a packet
+
+takes_packet : LineLaws → (others : List (List ℕ)) (p : PacketValue) (from behind bytes : List ℕ) (place : ℕ) (old : Parts)
+    → IsWellFormed p → AreWritten others → StandsAt (canonical p) others old.jottings.passed place → bytes ≡ canonical p
+    → TakesIt others (packet_item p) from behind
+    (log_of (packet_jotted bytes place old.jottings (effect_at (packet_found_whole false p) old).took)) old
+takes_packet laws others p from behind bytes place old well written stands is =
+    let t = taker_of others old in
+    let e = effect_at (packet_found_whole false p) old in
+    let by_place : Option ℕ → Came (LineEnd Talk) =
+    λ o. takes_if (takes_all t) t (takes_sent (player_of old) p o (line_end_of old)) from behind (line_end_of old) in
+    let by_log : Log → Came (LineEnd Talk) = λ log. takes_all t (holds t behind (after_call log old.line e)) in
+    ap by_place (place_found laws.places laws.reads p others old.jottings.passed place well written stands)
+    ∙ ap by_log (sym (packet_logged laws.reads p bytes place old.jottings e.took well is))
+
+packet_at : (item : ItemValue) (others : List (List ℕ)) (passed place : ℕ) → Sights item others passed (At place)
+    → (p : PacketValue) × (item ≡ packet_item p) × StandsAt (canonical p) others passed place
+packet_at (packet_item p) others passed place sights = (p, refl, sights)
+packet_at (text_item text) others passed place sights = absurd sights
+packet_at bad_item others passed place sights = absurd sights
+
+shown_packet : (n : NodeState) (item : ItemValue) (p : PacketValue) → item ≡ packet_item p → ShowsItem n.engine.stage n.texts n.packets item
+    → ShowsItem n.engine.stage n.texts n.packets (packet_item p)
+shown_packet n item p is shows = subst (λ (x : ItemValue). ShowsItem n.engine.stage n.texts n.packets x) is shows
+
+jotted_packets : (bytes : List ℕ) (place : ℕ) (j : Jottings) (b : Bool) → (packet_jotted bytes place j b).packets ≡ j.packets
+jotted_packets bytes place j false = refl
+jotted_packets bytes place j true = refl
+
+some_same : (x y : List ℕ) → ◌≡◌ {A = Option (List ℕ)} (Some x) (Some y) → x ≡ y
+some_same x y e = cc
+
+pub packet_taken : LineLaws → (others : List (List ℕ)) (place : ℕ) (bytes : List ℕ) (old new : Parts) → IsOrdered old → AreWritten others
+    → SightsShown (searched old.node) others old.jottings.passed (At place) → slice_get others place ≡ Some bytes
+    → IsTakenUp (packet_jotted bytes place old.jottings) (sought old) new → TakesOne others old new
+packet_taken laws others place bytes old new ordered written sights there taken_so =
+    let n = searched old.node in
+    let at = packet_at sights.0 others old.jottings.passed place sights.2 in
+    let p = at.0 in
+    let shows = shown_packet n sights.0 p at.1 sights.1 in
+    let is : bytes ≡ canonical p = some_same bytes (canonical p) (sym there ∙ at.2.there) in
+    let well : IsWellFormed p = may_find laws n.engine.stage n.texts n.packets (packet_item p) shows in
+    one_so laws others (packet_item p)
+    (log_of (packet_jotted bytes place old.jottings (effect_at (packet_found_whole false p) old).took)) old new shows
+    (item_taken laws old new (packet_item p) (packet_jotted bytes place old.jottings) ordered shows (jotted_packets bytes place old.jottings) taken_so)
+    (takes_packet laws others p (held_bytes n) (drop (item_size n) (held_bytes n)) bytes place old well written at.2 is)
+
+-- ---- a packet that was not sent
+
+unsent_packet : (item : ItemValue) (others : List (List ℕ)) (passed : ℕ) → Sights item others passed Unsent
+    → (p : PacketValue) × (item ≡ packet_item p) × StandsNowhere (canonical p) others passed
+unsent_packet (packet_item p) others passed sights = (p, refl, sights)
+unsent_packet (text_item text) others passed sights = absurd sights
+unsent_packet bad_item others passed sights = absurd sights
+
+-- the end, with the bytes that it holds
+abbrev with_bytes : List ℕ → Parts → Hearer (LineEnd Talk)
+with_bytes bytes e = record { held = bytes; end = line_end_of e }
+
+sought_end : (old : Parts) → (searched old.node).engine ≡ old.node.engine → line_end_of (sought old) ≡ line_end_of old
+sought_end old same = ap (λ (x : EngineState). line_end_of (record old { node = record old.node { engine = x } })) same
+
+first_of_all : LineLaws → (others : List (List ℕ)) (old : Parts)
+    → takes_all (taker_of others old) (hearer_of old)
+    ≡ takes_up (takes_all (taker_of others old)) (taker_of others old) (finding old.node.engine.stage (held_bytes old.node)) (line_end_of old)
+first_of_all laws others old =
+    let t = taker_of others old in
+    ap (λ (x : List ℕ). takes_all t (with_bytes x old)) (holds_itself old.node.engine.stage old.node)
+    ∙ takes_first laws.findings (LineEnd Talk) t (held_bytes old.node) (line_end_of old)
+
+sought_held : (old : Parts) → (searched old.node).engine ≡ old.node.engine
+    → hearer_of (sought old) ≡ record { held = held_in old.node.engine.stage (held_bytes (searched old.node)); end = line_end_of old }
+sought_held old same =
+    let n = searched old.node in
+    ap (λ (x : List ℕ). with_bytes x (sought old)) (holds_itself n.engine.stage n)
+    ∙ ap (λ (x : EngineState). record {
+      held = held_in x.stage (held_bytes n);
+      end = line_end_of (record old { node = record old.node { engine = x } });
+    }) same
+
+pub stopped_so : LineLaws → (others : List (List ℕ)) (old : Parts) → IsOrdered old → AreWritten others
+    → SightsShown (searched old.node) others old.jottings.passed Unsent → IsStopped others old (sought old)
+stopped_so laws others old ordered written sights =
+    let n = searched old.node in
+    let t = taker_of others old in
+    let none = unsent_packet sights.0 others old.jottings.passed sights.2 in
+    let p = none.0 in
+    let f : ItemFound (packet_item p) old.node n = item_found laws.search old.node (packet_item p) (shown_packet n sights.0 p none.1 sights.1) in
+    let from = held_bytes n in
+    let behind = drop (item_size n) (held_bytes n) in
+    let by_place : Option ℕ → Came (LineEnd Talk) =
+    λ o. takes_if (takes_all t) t (takes_sent (player_of old) p o (line_end_of old)) from behind (line_end_of old) in
+    record {
+      stopped = first_of_all laws others old
+          ∙ ap (λ (x : Finding). takes_up (takes_all t) t x (line_end_of old)) f.finding
+          ∙ ap by_place (no_place_found laws.places p others old.jottings.passed written none.2)
+          ∙ ap (λ (x : Hearer (LineEnd Talk)). stopped x) (sym (sought_held old f.engine));
+      ordered = ordered_with old n f.engine ordered;
+      standing = ap (λ (x : EngineState). standing_of (record old { node = record n { engine = x } })) f.engine;
+    }
+
+-- ---- nothing is whole
+
+greatest : (most n : ℕ) → n ≤ most → max most n ≡ most
+greatest most n below = omega arith
+
+-- the session has ended at a text that is too long
+too_long_after : (old : Parts) (g : Greeting) → old.node.engine.stage ≡ hailing g → IsOrdered old
+    → after_call (log_of old.jottings) old.line (effect_at long_text_found old)
+    ≡ record (line_end_of old) { state = record (state_of old) { stage = ended ends.BadTalk } }
+too_long_after old g at ordered =
+    let j = old.jottings in
+    let by_stage : Stage → LineEnd Talk = λ x. after_call (log_of j) old.line
+    (stage_step (player_of old).keeper (player_of old).identity x long_text_found (state_of old)) in
+    let by_sent : List (List ℕ) → LineEnd Talk = λ x. record {
+      state = record (state_of old) { stage = ended ends.BadTalk };
+      log = record {
+        sent = x;
+        taken = j.taken;
+        packets = map packet_in j.packets ++ [];
+        arrivals = j.arrivals;
+        passed = j.passed;
+        most = max j.most (length old.node.engine.link.unacked);
+      };
+      line = old.line ++ [];
+    } in
+    let by_packets : List PacketValue → LineEnd Talk = λ x. record {
+      state = record (state_of old) { stage = ended ends.BadTalk };
+      log = record {
+        sent = j.sent;
+        taken = j.taken;
+        packets = x;
+        arrivals = j.arrivals;
+        passed = j.passed;
+        most = max j.most (length old.node.engine.link.unacked);
+      };
+      line = old.line ++ [];
+    } in
+    let by_most : ℕ → LineEnd Talk = λ x. record {
+      state = record (state_of old) { stage = ended ends.BadTalk };
+      log = record {
+        sent = j.sent;
+        taken = j.taken;
+        packets = map packet_in j.packets;
+        arrivals = j.arrivals;
+        passed = j.passed;
+        most = x;
+      };
+      line = old.line ++ [];
+    } in
+    let by_line : List ℕ → LineEnd Talk = λ x. record {
+      state = record (state_of old) { stage = ended ends.BadTalk };
+      log = log_of j;
+      line = x;
+    } in
+    ap by_stage at ∙ ap by_sent (append-nil j.sent) ∙ ap by_packets (append-nil (map packet_in j.packets))
+    ∙ ap by_most (greatest j.most (length old.node.engine.link.unacked) ordered.most) ∙ ap by_line (append-nil old.line)
+
+nothing_so_by : LineLaws → (others : List (List ℕ)) (old : Parts) → IsOrdered old → HasRoom (sought old)
+    → NothingFound old.node (searched old.node) → TakesAll others old (sought old)
+nothing_so_by laws others old ordered room (waits engine found_so) =
+    let n = searched old.node in
+    let t = taker_of others old in
+    record {
+      all = first_of_all laws others old
+          ∙ ap (λ (x : Finding). takes_up (takes_all t) t x (line_end_of old)) found_so
+          ∙ ap (λ (x : Hearer (LineEnd Talk)). all_taken x) (sym (sought_held old engine));
+      ordered = ordered_with old n engine ordered;
+      standing = ap (λ (x : EngineState). standing_of (record old { node = record n { engine = x } })) engine;
+      room = room;
+    }
+nothing_so_by laws others old ordered room (is_too_long g behind at found_so engine) =
+    let n = searched old.node in
+    let t = taker_of others old in
+    let after = too_long_after old g at ordered in
+    let id = old.node.engine.identity in
+    let state : state_of (sought old) ≡ (effect_at long_text_found old).state =
+    ap (λ (x : EngineState). end_of (holdings_of old.spool) old.spool.stored x) engine ∙ ap (λ (x : LineEnd Talk). x.state) (sym after) in
+    let hearer : hearer_of (sought old)
+    ≡ record { held = []; end = record (line_end_of old) { state = record (state_of old) { stage = ended ends.BadTalk } } } =
+    ap (λ (x : EngineState). record {
+      held = bytes_at x.stage n;
+      end = line_end_of (record old { node = record n { engine = x } });
+    }) engine in
+    record {
+      all = first_of_all laws others old
+          ∙ ap (λ (x : Finding). takes_up (takes_all t) t x (line_end_of old)) found_so
+          ∙ ap (λ (x : LineEnd Talk). takes_all t (holds t behind x)) after
+          ∙ ap (λ (x : Hearer (LineEnd Talk)). all_taken x) (sym hearer);
+      ordered = record {
+        cleared = ap (λ (x : EngineState). x.outbox.entries) engine ∙ ordered.cleared;
+        in_range = subst (λ (x : EngineState). IsEndInRange x.identity.side (state_of (sought old))) (sym engine)
+            (subst (IsEndInRange id.side) (sym state)
+            (laws.in_range.stays id.side (holdings_of old.spool) id long_text_found (state_of old) ordered.in_range tt));
+        own = subst (λ (x : EngineState). IsAnnouncement x.own) (sym engine) ordered.own;
+        written = ordered.written;
+        most = subst (λ (x : EngineState). length x.link.unacked ≤ old.jottings.most) (sym engine) ordered.most;
+      };
+      standing = ap (λ (x : EngineState). standing_of (record old { node = record n { engine = x } })) engine;
+      room = room;
+    }
+
+pub nothing_so : LineLaws → (others : List (List ℕ)) (old : Parts) → IsOrdered old → item_size (searched old.node) ≡ 0 → HasRoom (sought old)
+    → TakesAll others old (sought old)
+nothing_so laws others old ordered none room = nothing_so_by laws others old ordered room (nothing_found old.node none)
+
+-- ---- the parts behind a search
+
+pub sought_is : (old mid : Parts) → mid.node ≡ searched old.node → mid.spool ≡ old.spool → mid.jottings ≡ old.jottings → mid.line ≡ old.line
+    → mid ≡ sought old
+sought_is old mid node spool jottings line =
+    let by_node : NodeState → Parts = λ x. record { node = x; spool = mid.spool; jottings = mid.jottings; line = mid.line } in
+    let by_spool : MemoryHoldings → Parts = λ x. record { node = searched old.node; spool = x; jottings = mid.jottings; line = mid.line } in
+    let by_jottings : Jottings → Parts = λ x. record { node = searched old.node; spool = old.spool; jottings = x; line = mid.line } in
+    let by_line : List ℕ → Parts = λ x. record { node = searched old.node; spool = old.spool; jottings = old.jottings; line = x } in
+    ap by_node node ∙ ap by_spool spool ∙ ap by_jottings jottings ∙ ap by_line line
+
+pub sees_nothing : LineLaws → (others : List (List ℕ)) (old mid : Parts) → IsOrdered old → mid ≡ sought old
+    → item_size mid.node ≡ 0 → (item_size mid.node ≡ 0 → HasRoom mid) → TakesAll others old mid
+sees_nothing laws others old mid ordered is none room =
+    subst (λ (m : Parts). TakesAll others old m) (sym is)
+    (nothing_so laws others old ordered (subst (λ (m : Parts). item_size m.node ≡ 0) is none) (subst HasRoom is (room none)))
+
+pub sees_unsent : LineLaws → (others : List (List ℕ)) (old mid : Parts) → IsOrdered old → AreWritten others → mid ≡ sought old
+    → SightsShown mid.node others old.jottings.passed Unsent → IsStopped others old mid
+sees_unsent laws others old mid ordered written is sights =
+    subst (λ (m : Parts). IsStopped others old m) (sym is)
+    (stopped_so laws others old ordered written (subst (λ (m : Parts). SightsShown m.node others old.jottings.passed Unsent) is sights))
+
+pub sees_other : LineLaws → (others : List (List ℕ)) (old mid new : Parts) → IsOrdered old → mid ≡ sought old
+    → SightsShown mid.node others old.jottings.passed Other → IsTakenUp (λ (b : Bool). old.jottings) mid new → TakesOne others old new
+sees_other laws others old mid new ordered is sights taken_so =
+    other_taken laws others old new ordered (subst (λ (m : Parts). SightsShown m.node others old.jottings.passed Other) is sights)
+    (subst (λ (m : Parts). IsTakenUp (λ (b : Bool). old.jottings) m new) is taken_so)
+
+pub sees_packet : {A : Type 0} → LineLaws → (others : List (Vec ℕ A)) (place : ℕ) (v : Vec ℕ A) (bytes : List ℕ) (old mid new : Parts)
+    → IsOrdered old → AreWritten (lists_in others) → mid ≡ sought old
+    → SightsShown mid.node (lists_in others) old.jottings.passed (At place) → v ≡ get_or others place v → bytes ≡ v.items
+    → IsTakenUp (packet_jotted bytes place old.jottings) mid new → TakesOne (lists_in others) old new
+sees_packet {A} laws others place v bytes old mid new ordered written is sights there same taken_so =
+    let items : Vec ℕ A → List ℕ = λ x. x.items in
+    let at = packet_at sights.0 (lists_in others) old.jottings.passed place sights.2 in
+    let within : place < length (lists_in others) = slice_get_within (lists_in others) place (canonical at.0) at.2.there in
+    let count : length (lists_in others) ≡ length others = length-map others items in
+    let stands : slice_get (lists_in others) place ≡ Some bytes =
+    slice_get-map items others place
+    ∙ ap (option_map items) (slice_get_read others (length others) place v refl (omega (arith, within, count)) there)
+    ∙ ap Some (sym same) in
+    packet_taken laws (lists_in others) place bytes old new ordered written
+    (subst (λ (m : Parts). SightsShown m.node (lists_in others) old.jottings.passed (At place)) is sights) stands
+    (subst (λ (m : Parts). IsTakenUp (packet_jotted bytes place old.jottings) m new) is taken_so)

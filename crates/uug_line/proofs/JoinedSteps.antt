@@ -1,0 +1,22 @@
+-- What is known of an end's steps in a session, from what the crates below promise.
+use Rattle.uug_line.specs.Belongings.{Belongings, SetupValue}
+use Rattle.uug_line.specs.Sides.{AtBoth}
+use Rattle.uug_line.proofs.JoinedLemmas.{does_joined, packet_joined}
+use Rattle.uug_line.proofs.Joining.{IsSoundSession}
+use Rattle.uug_line.specs.LowerLaws.{Laws}
+use Rattle.uug_line.proofs.SessionLemmas.{first_counted, first_joined, front, has_joined, to_floor, turned}
+use Rattle.uug_line.proofs.Steps.{Steps}
+
+pub steps : Laws → (setup : SetupValue) (brought : AtBoth Belongings) → IsSoundSession setup brought → Steps setup brought
+steps law setup brought sound = record {
+  turned = turned law setup brought;
+  first_joined = first_joined law setup brought;
+  first_counted = first_counted setup brought;
+  does_joined = λ side event e f no_packet joined. (does_joined law setup brought sound side e f event no_packet joined).joined;
+  does_counted = λ side event e f no_packet joined. (does_joined law setup brought sound side e f event no_packet joined).same;
+  packet_joined = λ side p place e f there joined. (packet_joined law setup brought sound side e f p place there joined).joined;
+  packet_counted = λ side p place e f there joined. (packet_joined law setup brought sound side e f p place there joined).same;
+  has_counted = has_joined law setup brought sound;
+  front = front law setup brought sound;
+  to_floor = to_floor law setup brought sound;
+}

@@ -1,0 +1,181 @@
+-- What a link's events do to a run of two links, and to whether it is up.
+use Rattle.std.proofs.Common.{◌≡◌, ◌⊎◌, inl, inr, ℕ, zero, suc, ◌+◌, ◌-◌, ◌≤◌, false, List, [], ◌++◌, length, refl, sym, ap, subst, ◌∙◌, arith, true≢false}
+use Rattle.std.proofs.lemmas.List.{append-nil}
+use Rattle.std.proofs.lemmas.Option.{slice_get_within}
+use Rattle.std.specs.Bool.{⊤}
+use Rattle.uug_link.specs.declared.phase.Phase.{Phase}
+use Rattle.uug_link.specs.declared.phase.Phase.TheVariants as phases
+use Rattle.uug_link.specs.Announced.{Announced}
+use Rattle.uug_link.specs.Arrivals.{IsPlace, arrived}
+use Rattle.uug_link.specs.Outcomes.{MovesPhase}
+use Rattle.uug_link.specs.State.{State, IsStarting, IsUp}
+use Rattle.uug_link.specs.Step.{Emission, Event, OutcomeValue, nothing, up, taken, closed, gave_up, halted, bad_found, packet_found, timed_out, to_begin, to_close, to_send, step}
+use Rattle.uug_link.specs.TwoLinks.{End, IsRun, MayCall, at_near, misses, moved_by, moves, packets_of, sent_with, taken_by}
+use Rattle.uug_packet.specs.Packet.{PacketValue}
+use Rattle.uug_session.specs.EndStep.{is_up, packets}
+use Rattle.uug_session.specs.Talk.{Talk}
+use Rattle.uug_line.specs.LineEnd.{messages_sent, packets_in}
+use Rattle.uug_line.proofs.Invariant.{answer_to, found, heard_with, moved}
+use Rattle.uug_line.proofs.Joining.{IsOpened, Moment, link_end}
+use Rattle.uug_line.specs.LowerLaws.{Laws}
+use Rattle.uug_line.proofs.MomentLemmas.{none_sent, packets_in_packets}
+use Rattle.uug_line.proofs.SendLemmas.{sends_it}
+
+-- ---- the moments as ends of links
+
+-- what is no packet brings no message
+abbrev pub FindsNone : Event → Type 0
+FindsNone (packet_found p) = ⊥
+FindsNone _ = ⊤
+
+takes_none : (o : OutcomeValue) (event : Event) (messages : List (List ℕ)) → FindsNone event →
+    taken_by o event messages ≡ messages
+takes_none taken to_begin messages h = refl
+takes_none taken (packet_found p) messages h = absurd h
+takes_none taken bad_found messages h = refl
+takes_none taken timed_out messages h = refl
+takes_none taken (to_send message) messages h = refl
+takes_none taken to_close messages h = refl
+takes_none nothing event messages h = refl
+takes_none up event messages h = refl
+takes_none closed event messages h = refl
+takes_none gave_up event messages h = refl
+takes_none halted event messages h = refl
+
+-- the messages that an event sends are those that go out for the first time
+abbrev SendsSo : State → Event → Type 0
+SendsSo s event = (sent : List (List ℕ)) → sent_with event sent ≡ sent ++ messages_sent (packets (step s event).emitted)
+
+pub sends_none : (s : State) (event : Event) → messages_sent (packets (step s event).emitted) ≡ [] → (sent : List (List ℕ)) →
+    sent ≡ sent ++ messages_sent (packets (step s event).emitted)
+sends_none s event none sent = sym (ap (λ (l : List (List ℕ)). sent ++ l) none ∙ append-nil sent)
+
+sends_so : Laws → (s : State) (event : Event) → MayCall s event → SendsSo s event
+sends_so law s to_begin may sent = sends_none s to_begin (none_sent (step s to_begin).emitted (law.firsts s to_begin)) sent
+sends_so law s (packet_found p) may sent = absurd may
+sends_so law s bad_found may sent = sends_none s bad_found (none_sent (step s bad_found).emitted (law.firsts s bad_found)) sent
+sends_so law s timed_out may sent = sends_none s timed_out (none_sent (step s timed_out).emitted (law.firsts s timed_out)) sent
+sends_so law s (to_send message) may sent = ap (λ (l : List (List ℕ)). sent ++ l) (sym (sends_it s message may.0.0))
+sends_so law s to_close may sent = sends_none s to_close (none_sent (step s to_close).emitted (law.firsts s to_close)) sent
+
+abbrev end_with : State → (passed : ℕ) → (sent got : List (List ℕ)) → List PacketValue → End
+end_with link passed sent got emitted =
+    record { link = link; sent = sent; taken = got; emitted = emitted; passed = passed }
+
+-- behind an event an end of links is the moment's
+same_end : (link : State) (passed : ℕ) (sent then_sent got then_got : List (List ℕ)) (before : List PacketValue)
+    (es : List Emission) → sent ≡ then_sent → got ≡ then_got →
+    end_with link passed sent got (before ++ packets_of es)
+    ≡ end_with link passed then_sent then_got (before ++ packets_in (packets es))
+same_end link passed sent then_sent got then_got before es sends takes =
+    ap (λ (l : List (List ℕ)). end_with link passed l got (before ++ packets_of es)) sends
+    ∙ ap (λ (l : List (List ℕ)). end_with link passed then_sent l (before ++ packets_of es)) takes
+    ∙ ap (λ (l : List PacketValue). end_with link passed then_sent then_got (before ++ l)) (sym (packets_in_packets es))
+
+moved_end : Laws → (m : Moment) (event : Event) (talk : Talk) → MayCall m.link event → FindsNone event →
+    moved_by (link_end m) event ≡ link_end (moved m event talk)
+moved_end law m event talk may finds =
+    let e = step m.link event in
+    same_end e.state m.passed (sent_with event m.sent) (m.sent ++ messages_sent (packets e.emitted))
+    (taken_by e.outcome event m.taken) m.taken m.packets e.emitted (sends_so law m.link event may m.sent)
+    (takes_none e.outcome event m.taken finds)
+
+arrived_end : Laws → (m : Moment) (p : PacketValue) (place : ℕ) (talk : Talk) →
+    arrived p place (link_end m)
+    ≡ link_end (heard_with m p place (answer_to m p) talk)
+arrived_end law m p place talk =
+    let e = step m.link (packet_found p) in
+    let messages = taken_by (answer_to m p) (packet_found p) m.taken in
+    same_end e.state (suc place) m.sent (m.sent ++ messages_sent (packets e.emitted)) messages messages m.packets e.emitted
+    (sends_none m.link (packet_found p) (none_sent e.emitted (law.firsts m.link (packet_found p))) m.sent) refl
+
+-- ---- the runs
+
+-- to this end, with the other one at the far side
+abbrev pub RunsTo : (own others : Announced) (far : Moment) → End → Type 0
+RunsTo own others far e = IsRun own others (record { near = e; far = link_end far })
+
+-- so many of the other end's packets are gone past
+abbrev past : Moment → ℕ → End
+past m passed = end_with m.link passed m.sent m.taken m.packets
+
+module _ (law : Laws) (own others : Announced) (far : Moment) where
+  pub run_moves : (m : Moment) (event : Event) (talk : Talk) → RunsTo own others far (link_end m) →
+      MayCall m.link event → FindsNone event → RunsTo own others far (link_end (moved m event talk))
+  run_moves m event talk run may finds =
+      subst (RunsTo own others far) (moved_end law m event talk may finds)
+      (law.longer own others (record { near = link_end m; far = link_end far }) (at_near (moves event)) run may)
+
+  pub run_hears : (m : Moment) (p : PacketValue) (place : ℕ) (talk : Talk) → RunsTo own others far (link_end m) →
+      IsPlace p far.packets m.passed place →
+      RunsTo own others far (link_end (heard_with m p place (answer_to m p) talk))
+  run_hears m p place talk run there =
+      subst (RunsTo own others far) (arrived_end law m p place talk)
+      (law.arrival own others (record { near = link_end m; far = link_end far }) p place run there)
+
+  run_misses : (m : Moment) (n : ℕ) → RunsTo own others far (link_end m) → m.passed + n ≤ length far.packets →
+      RunsTo own others far (past m (m.passed + n))
+  run_misses m zero run within = subst (λ (k : ℕ). RunsTo own others far (past m k)) (omega arith) run
+  run_misses m (suc n) run within =
+      subst (λ (k : ℕ). RunsTo own others far (past m k)) (omega arith)
+      (law.longer own others (record { near = past m (m.passed + n); far = link_end far }) (at_near misses)
+      (run_misses m n run (omega (arith, within))) (omega (arith, within)))
+
+  pub run_goes_past : (m : Moment) (p : PacketValue) (place : ℕ) → RunsTo own others far (link_end m) →
+      IsPlace p far.packets m.passed place → RunsTo own others far (link_end (found m place m.taken))
+  run_goes_past m p place run there =
+      subst (λ (k : ℕ). RunsTo own others far (past m k)) (omega (arith, there.behind))
+      (run_misses m (suc place - m.passed) run (omega (arith, there.behind, slice_get_within far.packets place p there.there)))
+
+-- ---- whether it is up
+
+pub up_is_not_starting : (phase : Phase) → phase ≡ phases.Up → IsStarting phase → ⊥
+up_is_not_starting phase at starting = subst IsStarting at starting
+
+-- another phase
+pub not_up : (phase other_phase : Phase) → is_up other_phase ≡ false → phase ≡ other_phase → phase ≡ phases.Up → ⊥
+not_up phase other_phase other_is at risen = true≢false (sym (ap is_up risen) ∙ ap is_up at ∙ other_is)
+
+-- what happens that does not bring it up
+abbrev pub DoesNotOpen : (before after : State) → Type 0
+DoesNotOpen before after = (IsUp after → IsUp before) × (IsStarting after.phase → IsStarting before.phase)
+
+pub opened_stays : (m then_m : Moment) → then_m.talk.opened ≡ m.talk.opened → IsOpened m → DoesNotOpen m.link then_m.link →
+    IsOpened then_m
+opened_stays m then_m same is stays = record {
+  up = λ h. same ∙ is.up (stays.0 h);
+  starting = λ h. same ∙ is.starting (stays.1 h);
+}
+
+pub closes_it : (before after : State) → after.phase ≡ phases.Closing → DoesNotOpen before after
+closes_it before after at =
+    (λ risen. absurd (not_up after.phase phases.Closing refl at risen), λ starting. absurd (subst IsStarting at starting))
+
+halts : (before after : State) → after.phase ≡ phases.Halted → DoesNotOpen before after
+halts before after at =
+    (λ risen. absurd (not_up after.phase phases.Halted refl at risen), λ starting. absurd (subst IsStarting at starting))
+
+pub stays_up : (before after : State) → IsUp before → after.phase ≡ phases.Up → DoesNotOpen before after
+stays_up before after was at = (λ risen. was, λ starting. absurd (up_is_not_starting after.phase at starting))
+
+pub stays_starting : (before after : State) → IsStarting before.phase → IsStarting after.phase → DoesNotOpen before after
+stays_starting before after was at = (λ risen. absurd (up_is_not_starting after.phase risen at), λ starting. was)
+
+by_same_phase : (before after : State) → (after.phase ≡ before.phase) ⊎ (IsStarting before.phase × IsStarting after.phase) →
+    DoesNotOpen before after
+by_same_phase before after (inl same) = (λ risen. sym same ∙ risen, λ starting. subst IsStarting same starting)
+by_same_phase before after (inr both) = stays_starting before after both.0 both.1
+
+-- the answers that do not say that it has come up
+abbrev pub IsNotUp : OutcomeValue → Type 0
+IsNotUp up = ⊥
+IsNotUp _ = ⊤
+
+pub does_not_open : (o : OutcomeValue) (before after : State) → IsNotUp o → MovesPhase o before.phase after.phase →
+    DoesNotOpen before after
+does_not_open nothing before after h moving = by_same_phase before after moving.1
+does_not_open up before after h moving = absurd h
+does_not_open taken before after h moving = stays_up before after moving.0 moving.1
+does_not_open closed before after h moving = halts before after moving.1
+does_not_open gave_up before after h moving = halts before after moving.1
+does_not_open halted before after h moving = halts before after moving.1

@@ -1,0 +1,194 @@
+-- A piece that comes to an end of the program in parts is taken up whole.
+use Rattle.std.proofs.Common.{◌≡◌, ℕ, ◌-◌, ◌<◌, ◌≤◌, min, Bool, true, false, List, [], ◌∷◌, ◌++◌, length, map, take, drop, ap, sym, subst, ◌∙◌, refl, arith, length-drop}
+use Rattle.std.proofs.lemmas.List.{append-nil, take-append-drop, take_all}
+use Rattle.uug_reader.specs.declared.reader.TheConstants.{READER_SIZE}
+use Rattle.uug_session.specs.Arriving.{Came, Hearer, Taker, all_taken, held_in, holds, stopped, takes_all, takes_piece, then_takes}
+use Rattle.uug_session.specs.EndStep.{Stage, hailing, linked, ended}
+use Rattle.uug_session.specs.Engine.{EngineState}
+use Rattle.uug_session.specs.MemoryHoldings.{MemoryHoldings}
+use Rattle.uug_session.specs.Node.{NodeState, accepted, accepted_at, bytes_at, held_bytes, offered, offered_at}
+use Rattle.uug_session.specs.Talk.{Talk, end_keeper}
+use Rattle.uug_session.proofs.ArrivingLemmas.{in_pieces}
+use Rattle.uug_line.specs.Jottings.{Jottings, packet_in}
+use Rattle.uug_line.specs.LineEnd.{LineEnd}
+use Rattle.uug_line.specs.LineLaws.{LineLaws}
+use Rattle.uug_line.specs.Live.{HasRoom, HearsAll, HearsSome, IsOrdered, IsStopped, Parts, Standing, StillHears, StillTakes, TakesAll, TakesOne, hearer_of, line_end_of, standing_of, taker_of}
+use Rattle.uug_line.specs.Taking.{line_taker}
+use Rattle.uug_line.proofs.ItemLemmas.{ordered_with}
+
+-- ---- one item after the other
+
+-- the taker is told by what stays
+same_taker : (others : List (List ℕ)) (old now : Parts) → standing_of now ≡ standing_of old → taker_of others now ≡ taker_of others old
+same_taker others old now same = ap (λ (s : Standing). line_taker (record {
+  identity = s.identity;
+  keeper = end_keeper s.identity.side s.holdings;
+}) (map packet_in others)) same
+
+from_now : (others : List (List ℕ)) (old now new : Parts) → StillTakes others old now
+    → takes_all (taker_of others now) (hearer_of now) ≡ takes_all (taker_of others now) (hearer_of new)
+    → takes_all (taker_of others old) (hearer_of old) ≡ takes_all (taker_of others old) (hearer_of new)
+from_now others old now new still same =
+    still.same ∙ subst (λ (t : Taker (LineEnd Talk)). takes_all t (hearer_of now) ≡ takes_all t (hearer_of new)) (same_taker others old now still.standing) same
+
+result_from_now : (others : List (List ℕ)) (old now : Parts) (came : Came (LineEnd Talk)) → StillTakes others old now
+    → takes_all (taker_of others now) (hearer_of now) ≡ came → takes_all (taker_of others old) (hearer_of old) ≡ came
+result_from_now others old now came still same =
+    still.same ∙ subst (λ (t : Taker (LineEnd Talk)). takes_all t (hearer_of now) ≡ came) (same_taker others old now still.standing) same
+
+pub still_takes : (others : List (List ℕ)) (old now new : Parts) → StillTakes others old now → TakesOne others now new → StillTakes others old new
+still_takes others old now new still one = record {
+  same = from_now others old now new still one.same;
+  ordered = one.ordered;
+  standing = one.standing ∙ still.standing;
+}
+
+pub then_all : (others : List (List ℕ)) (old now new : Parts) → StillTakes others old now → TakesAll others now new → TakesAll others old new
+then_all others old now new still all = record {
+  all = result_from_now others old now (all_taken (hearer_of new)) still all.all;
+  ordered = all.ordered;
+  standing = all.standing ∙ still.standing;
+  room = all.room;
+}
+
+pub then_stopped : (others : List (List ℕ)) (old now new : Parts) → StillTakes others old now → IsStopped others now new → IsStopped others old new
+then_stopped others old now new still is = record {
+  stopped = result_from_now others old now (stopped (hearer_of new)) still is.stopped;
+  ordered = is.ordered;
+  standing = is.standing ∙ still.standing;
+}
+
+-- ---- one part after the other
+
+offered_engine : (stage : Stage) (part : List ℕ) (n : NodeState) → (offered_at stage part n).engine ≡ n.engine
+offered_engine (hailing g) part n = refl
+offered_engine linked part n = refl
+offered_engine (ended how) part n = refl
+
+offered_bytes : (stage : Stage) (part : List ℕ) (n : NodeState) → bytes_at stage (offered_at stage part n) ≡ held_in stage (bytes_at stage n ++ part)
+offered_bytes (hailing g) part n = refl
+offered_bytes linked part n = refl
+offered_bytes (ended how) part n = refl
+
+-- an end to which these bytes were offered
+abbrev pub with_part : List ℕ → Parts → Parts
+with_part part e = record e { node = offered part e.node }
+
+part_held : (others : List (List ℕ)) (part : List ℕ) (e : Parts)
+    → hearer_of (with_part part e) ≡ holds (taker_of others e) (held_bytes e.node ++ part) (line_end_of e)
+part_held others part e =
+    let engine = offered_engine e.node.engine.stage part e.node in
+    ap (λ (x : EngineState). record {
+      held = bytes_at x.stage (offered part e.node);
+      end = line_end_of (record e { node = record e.node { engine = x } });
+    }) engine
+    ∙ ap (λ (x : List ℕ). record { held = x; end = line_end_of e }) (offered_bytes e.node.engine.stage part e.node)
+
+part_ordered : (part : List ℕ) (e : Parts) → IsOrdered e → IsOrdered (with_part part e)
+part_ordered part e ordered = ordered_with e (offered part e.node) (offered_engine e.node.engine.stage part e.node) ordered
+
+part_standing : (part : List ℕ) (e : Parts) → standing_of (with_part part e) ≡ standing_of e
+part_standing part e =
+    ap (λ (x : EngineState). standing_of (record e { node = record e.node { engine = x } })) (offered_engine e.node.engine.stage part e.node)
+
+-- behind a part that was taken up
+part_came : LineLaws → (others : List (List ℕ)) (part rest behind : List ℕ) (now : Parts) (came : Came (LineEnd Talk)) → rest ≡ part ++ behind
+    → takes_all (taker_of others (with_part part now)) (hearer_of (with_part part now)) ≡ came
+    → takes_piece (taker_of others now) rest (hearer_of now) ≡ then_takes (taker_of others now) behind came
+part_came laws others part rest behind now came cut is =
+    let t = taker_of others now in
+    ap (λ (x : List ℕ). takes_piece t x (hearer_of now)) cut
+    ∙ in_pieces laws.findings (LineEnd Talk) t part behind (hearer_of now)
+    ∙ ap (λ (h : Hearer (LineEnd Talk)). then_takes t behind (takes_all t h)) (sym (part_held others part now))
+    ∙ ap (λ (x : Taker (LineEnd Talk)). then_takes t behind (takes_all x (hearer_of (with_part part now))))
+    (sym (same_taker others now (with_part part now) (part_standing part now)))
+    ∙ ap (λ (c : Came (LineEnd Talk)). then_takes t behind c) is
+
+-- the last part
+last_came : LineLaws → (others : List (List ℕ)) (part rest : List ℕ) (now : Parts) (came : Came (LineEnd Talk)) → rest ≡ part
+    → takes_all (taker_of others (with_part part now)) (hearer_of (with_part part now)) ≡ came
+    → takes_piece (taker_of others now) rest (hearer_of now) ≡ came
+last_came laws others part rest now came cut is =
+    let t = taker_of others now in
+    ap (λ (x : List ℕ). takes_piece t x (hearer_of now)) cut
+    ∙ ap (λ (h : Hearer (LineEnd Talk)). takes_all t h) (sym (part_held others part now))
+    ∙ ap (λ (x : Taker (LineEnd Talk)). takes_all x (hearer_of (with_part part now)))
+    (sym (same_taker others now (with_part part now) (part_standing part now)))
+    ∙ is
+
+piece_from_now : (others : List (List ℕ)) (piece rest : List ℕ) (old now : Parts) (came : Came (LineEnd Talk)) → StillHears others piece rest old now
+    → takes_piece (taker_of others now) rest (hearer_of now) ≡ came → takes_piece (taker_of others old) piece (hearer_of old) ≡ came
+piece_from_now others piece rest old now came still same =
+    still.same ∙ subst (λ (t : Taker (LineEnd Talk)). takes_piece t rest (hearer_of now) ≡ came) (same_taker others old now still.standing) same
+
+pub still_hears : LineLaws → (others : List (List ℕ)) (piece rest part behind : List ℕ) (old now mid new : Parts) → rest ≡ part ++ behind
+    → mid ≡ with_part part now → StillHears others piece rest old now → TakesAll others mid new → StillHears others piece behind old new
+still_hears laws others piece rest part behind old now mid new cut is still taken =
+    let all = subst (λ (m : Parts). TakesAll others m new) is taken in
+    record {
+      same = piece_from_now others piece rest old now (takes_piece (taker_of others old) behind (hearer_of new)) still
+          (part_came laws others part rest behind now (all_taken (hearer_of new)) cut all.all
+          ∙ ap (λ (t : Taker (LineEnd Talk)). takes_piece t behind (hearer_of new)) (same_taker others old now still.standing));
+      ordered = all.ordered;
+      standing = all.standing ∙ part_standing part now ∙ still.standing;
+      room = all.room;
+    }
+
+pub hears_all : LineLaws → (others : List (List ℕ)) (piece rest part : List ℕ) (old now mid new : Parts) → rest ≡ part
+    → mid ≡ with_part part now → StillHears others piece rest old now → TakesAll others mid new → HearsAll others piece old new
+hears_all laws others piece rest part old now mid new cut is still taken =
+    let all = subst (λ (m : Parts). TakesAll others m new) is taken in
+    record {
+      came = piece_from_now others piece rest old now (all_taken (hearer_of new)) still
+          (last_came laws others part rest now (all_taken (hearer_of new)) cut all.all);
+      ordered = all.ordered;
+      standing = all.standing ∙ part_standing part now ∙ still.standing;
+      room = all.room;
+    }
+
+pub hears_some : LineLaws → (others : List (List ℕ)) (piece rest part behind : List ℕ) (old now mid new : Parts) → rest ≡ part ++ behind
+    → mid ≡ with_part part now → StillHears others piece rest old now → IsStopped others mid new → HearsSome others piece old new
+hears_some laws others piece rest part behind old now mid new cut is still taken =
+    let none = subst (λ (m : Parts). IsStopped others m new) is taken in
+    let end : Hearer (LineEnd Talk) =
+    record { held = held_in new.node.engine.stage (held_bytes new.node ++ behind); end = line_end_of new } in
+    record {
+      held = end.held;
+      came = piece_from_now others piece rest old now (stopped end) still
+          (part_came laws others part rest behind now (stopped (hearer_of new)) cut none.stopped);
+      ordered = none.ordered;
+      standing = none.standing ∙ part_standing part now ∙ still.standing;
+    }
+
+-- ---- the parts behind an offer, and that the rest gets less
+
+pub parted : (count : ℕ) (rest behind : List ℕ) → behind ≡ drop count rest → rest ≡ take count rest ++ behind
+parted count rest behind is = sym (take-append-drop count rest) ∙ ap (λ (x : List ℕ). take count rest ++ x) (sym is)
+
+pub all_parted : (count : ℕ) (rest behind : List ℕ) → behind ≡ drop count rest → length behind ≡ 0 → rest ≡ take count rest
+all_parted count rest behind is none =
+    let left : length (drop count rest) ≡ 0 = ap (λ (x : List ℕ). length x) (sym is) ∙ none in
+    sym (take_all count rest (omega (arith, left, length-drop count rest)))
+
+accepts_some : (stage : Stage) (n : NodeState) (rest : List ℕ) → length (bytes_at stage n) < READER_SIZE → 0 < length rest
+    → 0 < accepted_at stage n rest
+accepts_some (hailing g) n rest room some = omega arith
+accepts_some linked n rest room some = omega arith
+accepts_some (ended how) n rest room some = omega arith
+
+pub rest_gets_less : (n : NodeState) (count : ℕ) (rest behind : List ℕ) → length (held_bytes n) < READER_SIZE → count ≡ accepted n rest
+    → behind ≡ drop count rest → 0 < length behind → length behind < length rest
+rest_gets_less n count rest behind room is left some =
+    let size : length behind ≡ length (drop count rest) = ap (λ (x : List ℕ). length x) left in
+    let longer : 0 < length rest = omega (arith, size, length-drop count rest, some) in
+    let more = accepts_some n.engine.stage n rest room longer in
+    omega (arith, size, length-drop count rest, is, more, longer)
+
+pub part_is : (now mid : Parts) (part : List ℕ) → mid.node ≡ offered part now.node → mid.spool ≡ now.spool → mid.jottings ≡ now.jottings
+    → mid.line ≡ now.line → mid ≡ with_part part now
+part_is now mid part node spool jottings line =
+    let by_node : NodeState → Parts = λ x. record { node = x; spool = mid.spool; jottings = mid.jottings; line = mid.line } in
+    let by_spool : MemoryHoldings → Parts = λ x. record { node = offered part now.node; spool = x; jottings = mid.jottings; line = mid.line } in
+    let by_jottings : Jottings → Parts = λ x. record { node = offered part now.node; spool = now.spool; jottings = x; line = mid.line } in
+    let by_line : List ℕ → Parts = λ x. record { node = offered part now.node; spool = now.spool; jottings = now.jottings; line = x } in
+    ap by_node node ∙ ap by_spool spool ∙ ap by_jottings jottings ∙ ap by_line line

@@ -1,0 +1,162 @@
+-- Two joined ends seen from the other side, at a session's start, and what they have come to by numbers.
+use Rattle.std.proofs.Common.{◌≡◌, inl, inr, ℕ, ◌≤◌, true, List, ◌++◌, length, refl, sym, ap, subst, ◌∙◌, arith}
+use Rattle.uug_link.specs.declared.phase.Phase.TheVariants as phases
+use Rattle.uug_session.specs.EarlierJobs.{behind}
+use Rattle.uug_session.specs.Holdings.{Kept}
+use Rattle.uug_session.specs.Jobs.{Lists}
+use Rattle.uug_session.specs.Talk.{Talk}
+use Rattle.uug_session.specs.TwoEnds.{IsFrontOf, Talker, at_first, first_two}
+use Rattle.uug_session.specs.View.{floor, kept_after, lists_after}
+use Rattle.uug_line.specs.declared.side.Side.{Side}
+use Rattle.uug_line.specs.declared.side.Side.TheVariants.{Caller, Called}
+use Rattle.uug_line.specs.Belongings.{Belongings, SetupValue, party}
+use Rattle.uug_line.specs.LineEnd.{LineEnd}
+use Rattle.uug_line.specs.Run.{first_end, parties}
+use Rattle.uug_line.specs.RunKeeper.{by_numbers, by_themselves, has_by, view_at}
+use Rattle.uug_line.specs.Sides.{AtBoth, at, other, session_side}
+use Rattle.uug_line.specs.World.{count_of, counted_end}
+use Rattle.uug_line.proofs.Joining.{EndsJoined, IsSoundSession, IsTalk, Joined, Moment, link_end, moment_of}
+use Rattle.uug_line.proofs.LinkLemmas.{not_up}
+use Rattle.uug_line.specs.LowerLaws.{Laws}
+use Rattle.uug_line.proofs.TalkLemmas.{IsToldAt, seen_at, talk_at, talker_at, told_at}
+
+module _ (law : Laws) (setup : SetupValue) (brought : AtBoth Belongings) where
+  -- ---- seen from the other side
+
+  joined_turned : (side : Side) (m n : Moment) → Joined setup brought side m n → Joined setup brought (other side) n m
+  joined_turned Caller m n j = record {
+    links = law.from_far setup.at_caller.own setup.at_called.own (record { near = link_end m; far = link_end n }) j.links;
+    two = j.two;
+    reached = j.reached;
+    near_talk = j.far_talk;
+    near_sent = j.far_sent;
+    near_taken = j.far_taken;
+    far_talk = j.near_talk;
+    far_sent = j.near_sent;
+    far_taken = j.near_taken;
+    near_opened = j.far_opened;
+    far_opened = j.near_opened;
+  }
+  joined_turned Called m n j = record {
+    links = law.from_far setup.at_called.own setup.at_caller.own (record { near = link_end m; far = link_end n }) j.links;
+    two = j.two;
+    reached = j.reached;
+    near_talk = j.far_talk;
+    near_sent = j.far_sent;
+    near_taken = j.far_taken;
+    far_talk = j.near_talk;
+    far_sent = j.near_sent;
+    far_taken = j.near_taken;
+    near_opened = j.far_opened;
+    far_opened = j.near_opened;
+  }
+
+  pub turned : (side : Side) (e f : LineEnd Talk) → EndsJoined setup brought side e f → EndsJoined setup brought (other side) f e
+  turned Caller e f joined = record {
+    joined = joined_turned Caller (moment_of e) (moment_of f) joined.joined;
+    near_hails = joined.far_hails;
+    far_hails = joined.near_hails;
+    near_most = joined.far_most;
+    far_most = joined.near_most;
+  }
+  turned Called e f joined = record {
+    joined = joined_turned Called (moment_of e) (moment_of f) joined.joined;
+    near_hails = joined.far_hails;
+    far_hails = joined.near_hails;
+    near_most = joined.far_most;
+    far_most = joined.near_most;
+  }
+
+  -- ---- a session starts
+
+  pub first_joined : EndsJoined setup brought Caller (first_end by_themselves setup brought Caller).end
+      (first_end by_themselves setup brought Called).end
+  first_joined = record {
+    joined = record {
+      links = law.first setup.at_caller.own setup.at_called.own _ _ (inl refl) (inr refl);
+      two = first_two (party setup brought Caller) (party setup brought Called);
+      reached = at_first;
+      near_talk = inl (refl, refl);
+      near_sent = refl;
+      near_taken = refl;
+      far_talk = inl (refl, refl);
+      far_sent = refl;
+      far_taken = refl;
+      near_opened = record {
+        up = λ at_up. absurd (not_up phases.Fresh phases.Fresh refl refl at_up);
+        starting = λ starting. refl;
+      };
+      far_opened = record {
+        up = λ at_up. absurd (not_up phases.AwaitsInitA phases.AwaitsInitA refl refl at_up);
+        starting = λ starting. refl;
+      };
+    };
+    near_hails = λ g hails. refl;
+    far_hails = λ g hails. refl;
+    near_most = omega arith;
+    far_most = omega arith;
+  }
+
+pub first_counted : (setup : SetupValue) (brought : AtBoth Belongings) (side : Side) →
+    counted_end (first_end by_themselves setup brought side).end ≡ (first_end by_numbers setup brought side).end
+first_counted setup brought Caller = refl
+first_counted setup brought Called = refl
+
+module _ (law : Laws) (setup : SetupValue) (brought : AtBoth Belongings) (sound : IsSoundSession setup brought) where
+  -- ---- what an end has
+
+  abbrev HasSame : Side → Talk → (sent taken : ℕ) → Type 0
+  HasSame side talk sent taken =
+      by_numbers.has (parties setup brought) side (at side brought) (record { opened = talk.opened; sent = sent; taken = taken })
+      ≡ by_themselves.has (parties setup brought) side (at side brought) talk
+
+  has_behind : (side : Side) (t : Talker) (taken : List (List ℕ)) →
+      t.taken ≡ taken →
+      t.state.lists ≡ lists_after (session_side side) (party setup brought Caller) (party setup brought Called) (length t.taken) →
+      t.kept ≡ kept_after (length t.taken) (seen_at setup brought side) → (sent : ℕ) →
+      HasSame side (talk_at setup brought side t) sent (length taken)
+  has_behind side t taken told lists kept sent =
+      let b : Belongings = at side brought in
+      let having : (Lists → List Kept → Belongings) = λ l k.
+      record { lists = behind b.lists.struck b.lists.failed l; kept = b.kept ++ k } in
+      ap (λ (l : List (List ℕ)). has_by true (parties setup brought) side b (length l)) (sym told)
+      ∙ ap (λ (l : Lists). having l (kept_after (length t.taken) (seen_at setup brought side))) (sym lists)
+      ∙ ap (λ (k : List Kept). having t.state.lists k) (sym kept)
+
+  pub has_joined : (side : Side) (e f : LineEnd Talk) → EndsJoined setup brought side e f →
+      by_numbers.has (parties setup brought) side (at side brought) (count_of e)
+      ≡ by_themselves.has (parties setup brought) side (at side brought) e.state.keeper
+  has_joined side e f joined = by joined.joined.near_talk
+    where
+      by : IsTalk (session_side side) (party setup brought side) (at side brought) e.state.keeper
+          (talker_at setup brought side joined.joined.two) →
+          HasSame side e.state.keeper (length e.log.sent) (length e.log.taken)
+      by (inl fresh) =
+          subst (λ (x : Talk). HasSame side x (length e.log.sent) (length e.log.taken)) (sym fresh.0) refl
+      by (inr is_behind) =
+          let two = joined.joined.two in
+          let told : IsToldAt setup brought side two = told_at setup brought law sound side two joined.joined.reached in
+          subst (λ (x : Talk). HasSame side x (length e.log.sent) (length e.log.taken)) (sym is_behind)
+          (has_behind side (talker_at setup brought side two) e.log.taken
+          joined.joined.near_taken told.stands.lists told.stands.kept (length e.log.sent))
+
+  -- ---- how far the ends have come
+
+  -- what it has taken is a front of what the other has sent
+  pub front : (side : Side) (e f : LineEnd Talk) → EndsJoined setup brought side e f → IsFrontOf e.log.taken f.log.sent
+  front side e f joined =
+      let front_and_rest = (law.front (at side setup).own (at (other side) setup).own
+      (record { near = link_end (moment_of e); far = link_end (moment_of f) })
+      (sound.window side) (sound.window (other side)) joined.joined.links).0 in
+      (front_and_rest.0, sym front_and_rest.1)
+
+  -- and it has sent no more than it may
+  pub to_floor : (side : Side) (e f : LineEnd Talk) → EndsJoined setup brought side e f →
+      length e.log.sent ≤ floor (length e.log.taken) (view_at (parties setup brought) side)
+  to_floor side e f joined =
+      let j = joined.joined in
+      let v = seen_at setup brought side in
+      let t = talker_at setup brought side j.two in
+      let told : IsToldAt setup brought side j.two = told_at setup brought law sound side j.two j.reached in
+      subst (λ (l : List (List ℕ)). length l ≤ floor (length e.log.taken) v) j.near_sent
+      (subst (λ (l : List (List ℕ)). length t.sent ≤ floor (length l) v) j.near_taken told.sent_to_floor)

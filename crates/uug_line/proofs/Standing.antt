@@ -1,0 +1,453 @@
+-- What a run of two ends has come to, after every event: its ends are joined, and the run by numbers is the same.
+use Rattle.std.proofs.Common.{◌≡◌, ℕ, suc, List, [], ◌∷◌, ◌++◌, take, drop, All, ◌+◌, refl, sym, ap, ap₂, ◌∙◌}
+use Rattle.std.proofs.lemmas.List.Elements.{All-nil, All-push}
+use Rattle.std.proofs.lemmas.Nat.{pow_pos}
+use Rattle.uug_session.specs.Arriving.{held_in, Hearer, Came, all_taken, stopped, takes_piece}
+use Rattle.uug_session.specs.Count.{Count}
+use Rattle.uug_session.specs.EndStep.{EndEvent, time_ran_out, line_lost}
+use Rattle.uug_session.specs.Jobs.{at_start, pending}
+use Rattle.uug_session.specs.Party.{IsSound}
+use Rattle.uug_session.specs.Talk.{Talk}
+use Rattle.uug_line.specs.declared.event.Event.{Event}
+use Rattle.uug_line.specs.declared.event.Event.TheVariants.{Pass, Drop, Flip, Insert, Timeout, HangUp, Call}
+use Rattle.uug_line.specs.declared.side.Side.{Side}
+use Rattle.uug_line.specs.declared.side.Side.TheVariants.{Caller, Called}
+use Rattle.uug_line.specs.declared.verdict.LineVerdict.{LineVerdict}
+use Rattle.uug_line.specs.declared.verdict.LineVerdict.TheVariants.{Clean, Fooled}
+use Rattle.uug_line.specs.Belongings.{Belongings, SetupValue, party, renewed}
+use Rattle.uug_line.specs.Headline.{TookFronts, KeptToWindows, RanAsMachine, StaysInFront}
+use Rattle.uug_line.specs.LineEnd.{LineEnd, does, called_with, changed_line}
+use Rattle.uug_line.specs.Report.{EndReportValue, report_of_end}
+use Rattle.uug_line.specs.Run.{Run, end_at, with_end_at, has_now, first_end, session_begins, flipped, with_line_to, after_hearing, calls, hung_up, calls_again, after_event, unless_fooled, goes_through, first_run}
+use Rattle.uug_line.specs.RunKeeper.{by_themselves, by_numbers}
+use Rattle.uug_line.specs.Sides.{AtBoth, at, at_each}
+use Rattle.uug_line.specs.SoundSetup.{IsSoundSetup}
+use Rattle.uug_line.specs.Taking.{line_taker}
+use Rattle.uug_line.specs.World.{report_of, counted_hearer, counted, run_of_ends, world, report_of_ends, report_of_world}
+use Rattle.uug_line.proofs.Hearing.{counted_came, end_of, taken_piece}
+use Rattle.uug_line.proofs.Joining.{EndsJoined, IsSoundSession, link_end, moment_of}
+use Rattle.uug_line.specs.SessionLaws.{SessionLaws}
+use Rattle.uug_line.proofs.Steps.{talk_player, count_player, IsNoPacket, Steps}
+use Rattle.uug_line.proofs.StoredSince.{OwnSince, names_now, own_of_both, own_at_first, OwnPlaces, own_places, set_up}
+
+-- the session is as the headline says
+pub record IsKept (setup : SetupValue) (session : AtBoth EndReportValue) : Type 0 where
+  pub front : TookFronts session
+  pub window : KeptToWindows setup session
+  pub machine : RanAsMachine setup session
+
+pub record Stands (setup : SetupValue) (run : Run Talk) : Type 0 where
+  pub sound : IsSoundSession setup run.brought
+  pub joined : EndsJoined setup run.brought Caller run.ends.at_caller.end run.ends.at_called.end
+  pub past : All (IsKept setup) run.past
+  pub own : (giver : Side) → OwnSince setup run.brought giver
+
+-- it stands so, and is told by numbers
+pub record Goes (setup : SetupValue) (run : Run Talk) (numbers : Run Count) : Type 0 where
+  pub stands : Stands setup run
+  pub counted_is : counted run ≡ numbers
+
+-- ---- the bytes on a line join and part nothing
+
+near_line : (setup : SetupValue) (brought : AtBoth Belongings) (side : Side) (change : List ℕ → List ℕ)
+    (h : Hearer (LineEnd Talk)) (f : LineEnd Talk) → EndsJoined setup brought side h.end f →
+    EndsJoined setup brought side (changed_line change h).end f
+near_line setup brought side change h f j = record {
+  joined = j.joined;
+  near_hails = j.near_hails;
+  far_hails = j.far_hails;
+  near_most = j.near_most;
+  far_most = j.far_most;
+}
+
+far_line : (setup : SetupValue) (brought : AtBoth Belongings) (side : Side) (change : List ℕ → List ℕ)
+    (e : LineEnd Talk) (h : Hearer (LineEnd Talk)) → EndsJoined setup brought side e h.end →
+    EndsJoined setup brought side e (changed_line change h).end
+far_line setup brought side change e h j = record {
+  joined = j.joined;
+  near_hails = j.near_hails;
+  far_hails = j.far_hails;
+  near_most = j.near_most;
+  far_most = j.far_most;
+}
+
+-- ---- a session's end by end
+
+abbrev pub AllSteps : SetupValue → Type 0
+AllSteps setup = (brought : AtBoth Belongings) → IsSoundSession setup brought → Steps setup brought
+
+both_are : {A : Type 0} (x y : AtBoth A) → x.at_caller ≡ y.at_caller → x.at_called ≡ y.at_called → x ≡ y
+both_are x y e f = ap₂ (λ a b. record { at_caller = a; at_called = b }) e f
+
+module _ (setup : SetupValue) (all_steps : (brought : AtBoth Belongings) → IsSoundSession setup brought → Steps setup brought) (laws : SessionLaws) where
+  steps_of : (run : Run Talk) → Stands setup run → Steps setup run.brought
+  steps_of run s = all_steps run.brought s.sound
+
+  turned_of : (run : Run Talk) → Stands setup run →
+      EndsJoined setup run.brought Called run.ends.at_called.end run.ends.at_caller.end
+  turned_of run s =
+      (steps_of run s).turned Caller run.ends.at_caller.end run.ends.at_called.end s.joined
+
+  -- the ends become others
+  with_ends : (run : Run Talk) (verdict : LineVerdict) (x y : Hearer (LineEnd Talk)) → Stands setup run →
+      EndsJoined setup run.brought Caller x.end y.end →
+      Stands setup (record { past = run.past; brought = run.brought; ends = record { at_caller = x; at_called = y }; verdict = verdict })
+  with_ends run verdict x y s joined = record { sound = s.sound; joined = joined; past = s.past; own = s.own }
+
+  -- ---- bytes on the line
+
+  line_changes : (side : Side) (change : List ℕ → List ℕ) (run : Run Talk) → Stands setup run →
+      Goes setup (with_line_to side change run) (with_line_to side change (counted run))
+  line_changes Caller change run s = record {
+    stands = with_ends run run.verdict run.ends.at_caller (changed_line change run.ends.at_called) s
+        (far_line setup run.brought Caller change run.ends.at_caller.end run.ends.at_called s.joined);
+    counted_is = refl;
+  }
+  line_changes Called change run s = record {
+    stands = with_ends run run.verdict (changed_line change run.ends.at_caller) run.ends.at_called s
+        (near_line setup run.brought Caller change run.ends.at_caller run.ends.at_called.end s.joined);
+    counted_is = refl;
+  }
+
+  -- ---- an end's call
+
+  calls_keep : (side : Side) (event : EndEvent) (run : Run Talk) → IsNoPacket event → Stands setup run →
+      Goes setup (calls by_themselves setup side event run) (calls by_numbers setup side event (counted run))
+  calls_keep Caller event run no_packet s =
+      let here = run.ends.at_caller in
+      let there = run.ends.at_called in
+      let steps = steps_of run s in
+      record {
+        stands = with_ends run run.verdict (called_with (talk_player setup Caller) event here) there s
+            (steps.does_joined Caller event here.end there.end no_packet s.joined);
+        counted_is = ap (λ (z : LineEnd Count). with_end_at Caller (record { held = held_in z.state.stage here.held; end = z }) (counted run))
+            (steps.does_counted Caller event here.end there.end no_packet s.joined);
+      }
+  calls_keep Called event run no_packet s =
+      let here = run.ends.at_called in
+      let there = run.ends.at_caller in
+      let steps = steps_of run s in
+      let joined = turned_of run s in
+      record {
+        stands = with_ends run run.verdict there (called_with (talk_player setup Called) event here) s
+            (steps.turned Called (does (talk_player setup Called) event here.end) there.end
+            (steps.does_joined Called event here.end there.end no_packet joined));
+        counted_is = ap (λ (z : LineEnd Count). with_end_at Called (record { held = held_in z.state.stage here.held; end = z }) (counted run))
+            (steps.does_counted Called event here.end there.end no_packet joined);
+      }
+
+  -- ---- bytes that come
+
+  -- the other end's line was changed so
+  heard_at_caller : (number : ℕ) (change : List ℕ → List ℕ) (run : Run Talk) → Stands setup run → (came : Came (LineEnd Talk)) →
+      EndsJoined setup run.brought Caller (end_of came) run.ends.at_called.end →
+      Goes setup (after_hearing number Caller came (with_line_to Caller change run))
+      (after_hearing number Caller (counted_came came) (with_line_to Caller change (counted run)))
+  heard_at_caller number change run s (all_taken h) joined = record {
+    stands = with_ends run run.verdict h (changed_line change run.ends.at_called) s
+        (far_line setup run.brought Caller change h.end run.ends.at_called joined);
+    counted_is = refl;
+  }
+  heard_at_caller number change run s (stopped h) joined = record {
+    stands = with_ends run (Fooled number Caller) h (changed_line change run.ends.at_called) s
+        (far_line setup run.brought Caller change h.end run.ends.at_called joined);
+    counted_is = refl;
+  }
+
+  heard_at_called : (number : ℕ) (change : List ℕ → List ℕ) (run : Run Talk) → Stands setup run → (came : Came (LineEnd Talk)) →
+      EndsJoined setup run.brought Called (end_of came) run.ends.at_caller.end →
+      Goes setup (after_hearing number Called came (with_line_to Called change run))
+      (after_hearing number Called (counted_came came) (with_line_to Called change (counted run)))
+  heard_at_called number change run s (all_taken h) joined = record {
+    stands = with_ends run run.verdict (changed_line change run.ends.at_caller) h s
+        (near_line setup run.brought Caller change run.ends.at_caller h.end
+        ((steps_of run s).turned Called h.end run.ends.at_caller.end joined));
+    counted_is = refl;
+  }
+  heard_at_called number change run s (stopped h) joined = record {
+    stands = with_ends run (Fooled number Called) (changed_line change run.ends.at_caller) h s
+        (near_line setup run.brought Caller change run.ends.at_caller h.end
+        ((steps_of run s).turned Called h.end run.ends.at_caller.end joined));
+    counted_is = refl;
+  }
+
+  goes_to : (run : Run Talk) (x y : Run Count) → Goes setup run x → x ≡ y → Goes setup run y
+  goes_to run x y g e = record { stands = g.stands; counted_is = g.counted_is ∙ e }
+
+  passes : (number : ℕ) (side : Side) (n : ℕ) (run : Run Talk) → Stands setup run →
+      Goes setup (after_event by_themselves setup number (Pass side n) run) (after_event by_numbers setup number (Pass side n) (counted run))
+  passes number Caller n run s =
+      let here = run.ends.at_caller in
+      let there = run.ends.at_called in
+      let piece = take n there.end.line in
+      let taken = taken_piece setup run.brought (steps_of run s) Caller there.end piece here s.joined in
+      let came = takes_piece (line_taker (talk_player setup Caller) there.end.log.packets) piece here in
+      let numbers = takes_piece (line_taker (count_player setup run.brought Caller) there.end.log.packets) piece (counted_hearer here) in
+      goes_to (after_hearing number Caller came (with_line_to Caller (drop n) run))
+      (after_hearing number Caller (counted_came came) (with_line_to Caller (drop n) (counted run)))
+      (after_hearing number Caller numbers (with_line_to Caller (drop n) (counted run)))
+      (heard_at_caller number (drop n) run s came taken.joined)
+      (ap (λ z. after_hearing number Caller z (with_line_to Caller (drop n) (counted run))) taken.counted)
+  passes number Called n run s =
+      let here = run.ends.at_called in
+      let there = run.ends.at_caller in
+      let piece = take n there.end.line in
+      let taken = taken_piece setup run.brought (steps_of run s) Called there.end piece here (turned_of run s) in
+      let came = takes_piece (line_taker (talk_player setup Called) there.end.log.packets) piece here in
+      let numbers = takes_piece (line_taker (count_player setup run.brought Called) there.end.log.packets) piece (counted_hearer here) in
+      goes_to (after_hearing number Called came (with_line_to Called (drop n) run))
+      (after_hearing number Called (counted_came came) (with_line_to Called (drop n) (counted run)))
+      (after_hearing number Called numbers (with_line_to Called (drop n) (counted run)))
+      (heard_at_called number (drop n) run s came taken.joined)
+      (ap (λ z. after_hearing number Called z (with_line_to Called (drop n) (counted run))) taken.counted)
+
+  -- ---- a session begins
+
+  begun_counted : (brought : AtBoth Belongings) → Steps setup brought → (side : Side) →
+      counted_hearer (first_end by_themselves setup brought side) ≡ first_end by_numbers setup brought side
+  begun_counted brought steps side =
+      ap (λ (z : LineEnd Count). record { held = held_in z.state.stage []; end = z }) (steps.first_counted side)
+
+  begins_so : (past : List (AtBoth EndReportValue)) (brought : AtBoth Belongings) → IsSoundSession setup brought →
+      All (IsKept setup) past → ((giver : Side) → OwnSince setup brought giver) →
+      Goes setup (session_begins by_themselves setup past brought) (session_begins by_numbers setup past brought)
+  begins_so past brought sound kept own =
+      let steps = all_steps brought sound in
+      record {
+        stands = record { sound = sound; joined = steps.first_joined; past = kept; own = own };
+        counted_is = ap₂ (λ x y. record { past = past; brought = brought; ends = record { at_caller = x; at_called = y }; verdict = Clean })
+            (begun_counted brought steps Caller) (begun_counted brought steps Called);
+      }
+
+  -- ---- a call
+
+  ran_as_machine : (brought : AtBoth Belongings) → IsSoundSession setup brought → (e f : LineEnd Talk) →
+      EndsJoined setup brought Caller e f →
+      RanAsMachine setup (record { at_caller = report_of_end e; at_called = report_of_end f })
+  ran_as_machine brought sound e f joined =
+      let m = laws.machine setup.at_caller.own setup.at_called.own
+      (record { near = link_end (moment_of e); far = link_end (moment_of f) })
+      (sound.window Caller) (sound.window Called) joined.joined.links in
+      record {
+        caller_link = e.state.link;
+        caller_passed = e.log.passed;
+        called_link = f.state.link;
+        called_passed = f.log.passed;
+        machine = m.0;
+        reached = m.1;
+        out = m.2;
+        back = m.3;
+      }
+
+  -- a session whose ends are joined is as the headline says
+  session_kept : (brought : AtBoth Belongings) → IsSoundSession setup brought → (e f : LineEnd Talk) →
+      EndsJoined setup brought Caller e f →
+      IsKept setup (record { at_caller = report_of_end e; at_called = report_of_end f })
+  session_kept brought sound e f joined =
+      record { front = front; window = window; machine = ran_as_machine brought sound e f joined }
+    where
+      steps : Steps setup brought
+      steps = all_steps brought sound
+
+      front : TookFronts (record { at_caller = report_of_end e; at_called = report_of_end f })
+      front Caller = steps.front Caller e f joined
+      front Called = steps.front Called f e (steps.turned Caller e f joined)
+
+      window : KeptToWindows setup (record { at_caller = report_of_end e; at_called = report_of_end f })
+      window Caller = joined.near_most
+      window Called = joined.far_most
+
+  -- both ends have hung up
+  hung_up_joined : (run : Run Talk) → Stands setup run →
+      EndsJoined setup run.brought Caller (does (talk_player setup Caller) line_lost run.ends.at_caller.end)
+      (does (talk_player setup Called) line_lost run.ends.at_called.end)
+  hung_up_joined run s =
+      let steps = steps_of run s in
+      let e = run.ends.at_caller.end in
+      let f = run.ends.at_called.end in
+      let e' = does (talk_player setup Caller) line_lost e in
+      let first = steps.does_joined Caller line_lost e f tt s.joined in
+      steps.turned Called (does (talk_player setup Called) line_lost f) e'
+      (steps.does_joined Called line_lost f e' tt (steps.turned Caller e' f first))
+
+  abbrev brings : Run Talk → AtBoth Belongings
+  brings run = at_each (λ side. renewed (has_now by_themselves setup run side))
+
+  brings_sound : (run : Run Talk) → Stands setup run → IsSoundSession setup (brings run)
+  brings_sound run s = record { window = s.sound.window; party = party_sound; renewed = renewed_so }
+    where
+      party_sound : (side : Side) → IsSound (party setup (brings run) side)
+      party_sound Caller = record {
+        names = names_now laws setup run.brought (steps_of run s) Caller run.ends.at_caller.end run.ends.at_called.end s.joined refl
+            (s.sound.party Caller).names;
+        modes = (s.sound.party Caller).modes;
+        size = (s.sound.party Caller).size;
+      }
+      party_sound Called = record {
+        names = names_now laws setup run.brought (steps_of run s) Called run.ends.at_called.end run.ends.at_caller.end
+            (turned_of run s) refl (s.sound.party Called).names;
+        modes = (s.sound.party Called).modes;
+        size = (s.sound.party Called).size;
+      }
+
+      renewed_so : (side : Side) → (at side (brings run)).lists
+          ≡ at_start (pending (at side (brings run)).lists) (at side (brings run)).lists.struck (at side (brings run)).lists.failed
+      renewed_so Caller = refl
+      renewed_so Called = refl
+
+  own_of_now : (run : Run Talk) → Stands setup run → (giver : Side) → OwnSince setup (at_each (has_now by_themselves setup run)) giver
+  own_of_now run s giver =
+      own_of_both laws setup run.brought (steps_of run s) giver (at_each (has_now by_themselves setup run))
+      run.ends.at_caller.end run.ends.at_called.end s.joined refl refl (s.own giver)
+
+  renewed_own : (now : AtBoth Belongings) (giver : Side) → OwnSince setup now giver → OwnSince setup (at_each (λ side. renewed (at side now))) giver
+  renewed_own now Caller own = record {
+    jobs = own.jobs;
+    givers = own.givers;
+    receivers = own.receivers;
+    entries = own.entries;
+    givers_are = own.givers_are;
+    receivers_are = own.receivers_are;
+    entries_are = own.entries_are;
+    own = own.own;
+  }
+  renewed_own now Called own = record {
+    jobs = own.jobs;
+    givers = own.givers;
+    receivers = own.receivers;
+    entries = own.entries;
+    givers_are = own.givers_are;
+    receivers_are = own.receivers_are;
+    entries_are = own.entries_are;
+    own = own.own;
+  }
+
+  has_counted : (run : Run Talk) → Stands setup run → at_each (has_now by_themselves setup run) ≡ at_each (has_now by_numbers setup (counted run))
+  has_counted run s =
+      let steps = steps_of run s in
+      both_are (at_each (has_now by_themselves setup run)) (at_each (has_now by_numbers setup (counted run)))
+      (sym (steps.has_counted Caller run.ends.at_caller.end run.ends.at_called.end s.joined))
+      (sym (steps.has_counted Called run.ends.at_called.end run.ends.at_caller.end (turned_of run s)))
+
+  -- what is told of the session that is over
+  abbrev told_by_numbers : Run Talk → AtBoth EndReportValue
+  told_by_numbers run = at_each (λ side. report_of_end (hung_up by_numbers setup (counted run) side).end)
+
+  abbrev told : Run Talk → AtBoth EndReportValue
+  told run = at_each (λ side. report_of_end (hung_up by_themselves setup run side).end)
+
+  told_counted : (run : Run Talk) → Stands setup run → told run ≡ told_by_numbers run
+  told_counted run s =
+      let steps = steps_of run s in
+      let e = run.ends.at_caller.end in
+      let f = run.ends.at_called.end in
+      both_are (told run) (told_by_numbers run)
+      (ap (λ (z : LineEnd Count). report_of_end z) (steps.does_counted Caller line_lost e f tt s.joined))
+      (ap (λ (z : LineEnd Count). report_of_end z) (steps.does_counted Called line_lost f e tt (turned_of run s)))
+
+  again : (run : Run Talk) → Stands setup run →
+      Goes setup (calls_again by_themselves setup run) (calls_again by_numbers setup (counted run))
+  again run s =
+      let past = run.past ++ told run ∷ [] in
+      let kept = session_kept run.brought s.sound (does (talk_player setup Caller) line_lost run.ends.at_caller.end)
+      (does (talk_player setup Called) line_lost run.ends.at_called.end) (hung_up_joined run s) in
+      goes_to (calls_again by_themselves setup run) (session_begins by_numbers setup past (brings run))
+      (calls_again by_numbers setup (counted run))
+      (begins_so past (brings run) (brings_sound run s) (All-push (IsKept setup) run.past (told run) s.past kept)
+      (λ giver. renewed_own (at_each (has_now by_themselves setup run)) giver (own_of_now run s giver)))
+      (ap₂ (session_begins by_numbers setup) (ap (λ z. run.past ++ z ∷ []) (told_counted run s))
+      (ap (λ (z : AtBoth Belongings). at_each (λ side. renewed (at side z))) (has_counted run s)))
+
+  -- ---- the events
+
+  keeps : (number : ℕ) (event : Event) (run : Run Talk) → Stands setup run →
+      Goes setup (after_event by_themselves setup number event run) (after_event by_numbers setup number event (counted run))
+  keeps number (Pass side n) run s = passes number side n run s
+  keeps number (Drop side n) run s = line_changes side (drop n) run s
+  keeps number (Flip side mask) run s = line_changes side (flipped mask) run s
+  keeps number (Insert side byte) run s = line_changes side (λ line. byte ∷ line) run s
+  keeps number (Timeout side) run s = calls_keep side time_ran_out run tt s
+  keeps number (HangUp side) run s = calls_keep side line_lost run tt s
+  keeps number Call run s = again run s
+
+  goes_unless : (verdict : LineVerdict) (more : Run Talk → Run Talk) (numbers : Run Count → Run Count) (run : Run Talk) →
+      Stands setup run → Goes setup (more run) (numbers (counted run)) →
+      Goes setup (unless_fooled verdict more run) (unless_fooled verdict numbers (counted run))
+  goes_unless Clean more numbers run s g = g
+  goes_unless (Fooled number side) more numbers run s g = record { stands = s; counted_is = refl }
+
+  goes_on : (number : ℕ) (events : List Event) (run : Run Talk) → Stands setup run →
+      Goes setup (goes_through by_themselves setup number events run) (goes_through by_numbers setup number events (counted run))
+  goes_on number [] run s = record { stands = s; counted_is = refl }
+  goes_on number (event ∷ events) run s =
+      let next = keeps number event run s in
+      let then = goes_on (suc number) events (after_event by_themselves setup number event run) next.stands in
+      goes_unless run.verdict (λ before. goes_through by_themselves setup (suc number) events (after_event by_themselves setup number event before))
+      (λ before. goes_through by_numbers setup (suc number) events (after_event by_numbers setup number event before)) run s
+      (goes_to (goes_through by_themselves setup (suc number) events (after_event by_themselves setup number event run))
+      (goes_through by_numbers setup (suc number) events (counted (after_event by_themselves setup number event run)))
+      (goes_through by_numbers setup (suc number) events (after_event by_numbers setup number event (counted run)))
+      then (ap (goes_through by_numbers setup (suc number) events) next.counted_is))
+
+  -- ---- the run
+
+  first_sound : IsSoundSetup setup → IsSoundSession setup (set_up setup)
+  first_sound sound = record { window = λ side. (sound side).window; party = party_sound; renewed = renewed_so }
+    where
+      party_sound : (side : Side) → IsSound (party setup (set_up setup) side)
+      party_sound Caller = record {
+        names = (sound Caller).names;
+        modes = (sound Caller).modes;
+        size = pow_pos (setup.at_called.own.size_code + 1 + 4);
+      }
+      party_sound Called = record {
+        names = (sound Called).names;
+        modes = (sound Called).modes;
+        size = pow_pos (setup.at_caller.own.size_code + 1 + 4);
+      }
+
+      renewed_so : (side : Side) → (at side (set_up setup)).lists
+          ≡ at_start (pending (at side (set_up setup)).lists) (at side (set_up setup)).lists.struck (at side (set_up setup)).lists.failed
+      renewed_so Caller = refl
+      renewed_so Called = refl
+
+  first_goes : IsSoundSetup setup → Goes setup (first_run by_themselves setup) (first_run by_numbers setup)
+  first_goes sound = begins_so [] (set_up setup) (first_sound sound) (All-nil (IsKept setup)) (own_at_first setup)
+
+  pub run_goes : IsSoundSetup setup → (events : List Event) → Goes setup (run_of_ends setup events) (world setup events)
+  run_goes sound events =
+      let first = first_goes sound in
+      goes_to (run_of_ends setup events) (goes_through by_numbers setup 0 events (counted (first_run by_themselves setup))) (world setup events)
+      (goes_on 0 events (first_run by_themselves setup) first.stands)
+      (ap (goes_through by_numbers setup 0 events) first.counted_is)
+
+  reported : (run : Run Talk) → Stands setup run → report_of by_themselves setup run ≡ report_of by_numbers setup (counted run)
+  reported run s = ap (λ z. record {
+    sessions = run.past ++ at_each (λ side. report_of_end (end_at side run).end) ∷ [];
+    belongings = z;
+    verdict = run.verdict;
+  }) (has_counted run s)
+
+  pub report_is : IsSoundSetup setup → (events : List Event) → report_of_ends setup events ≡ report_of_world setup events
+  report_is sound events =
+      let g = run_goes sound events in
+      reported (run_of_ends setup events) g.stands ∙ ap (report_of by_numbers setup) g.counted_is
+
+  pub all_kept : IsSoundSetup setup → (events : List Event) → All (IsKept setup) (report_of_ends setup events).sessions
+  all_kept sound events =
+      let s = (run_goes sound events).stands in
+      let run = run_of_ends setup events in
+      All-push (IsKept setup) run.past (at_each (λ side. report_of_end (end_at side run).end)) s.past
+      (session_kept run.brought s.sound run.ends.at_caller.end run.ends.at_called.end s.joined)
+
+  pub all_own : IsSoundSetup setup → (events : List Event) (giver : Side) →
+      OwnPlaces setup (report_of_ends setup events).belongings giver
+  all_own sound events giver =
+      own_places laws setup (report_of_ends setup events).belongings giver
+      (own_of_now (run_of_ends setup events) (run_goes sound events).stands giver)
+
+  pub stays_in_front : IsSoundSetup setup → (events : List Event) (side : Side) → StaysInFront setup (report_of_ends setup events) side
+  stays_in_front sound events Caller =
+      record { struck = (all_own sound events Caller).struck; stored = (all_own sound events Called).stored }
+  stays_in_front sound events Called =
+      record { struck = (all_own sound events Called).struck; stored = (all_own sound events Caller).stored }

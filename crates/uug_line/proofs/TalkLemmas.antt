@@ -1,0 +1,106 @@
+-- The conversation of the two ends of a session, seen from a side of the line.
+use Rattle.std.proofs.Common.{◌≡◌, ◌≤◌, false, List, All, length, refl}
+use Rattle.uug_session.specs.declared.job.Job.{Job}
+use Rattle.uug_session.specs.Count.{count_keeper}
+use Rattle.uug_session.specs.Holdings.{Holdings, Kept}
+use Rattle.uug_session.specs.Party.{Party}
+use Rattle.uug_session.specs.Talk.{Talk, end_keeper}
+use Rattle.uug_session.specs.Told.{count_of_talker, talk_behind}
+use Rattle.uug_session.specs.TwoEnds.{Act, IsTold, Permits, Reached, Talker, Two, after, after_act, talker, with_talker}
+use Rattle.uug_session.specs.Turns.{Side as SessionSide, caller, called}
+use Rattle.uug_session.specs.View.{Seen, conversation_view, own_messages, party as side_party}
+use Rattle.uug_line.specs.declared.side.Side.{Side}
+use Rattle.uug_line.specs.declared.side.Side.TheVariants.{Caller, Called}
+use Rattle.uug_line.specs.Belongings.{Belongings, SetupValue, party}
+use Rattle.uug_line.specs.Run.{parties}
+use Rattle.uug_line.specs.RunKeeper.{view_at}
+use Rattle.uug_line.specs.Sides.{AtBoth, at, other, session_side}
+use Rattle.uug_line.proofs.Joining.{IsSoundSession}
+use Rattle.uug_line.specs.LowerLaws.{Laws}
+
+-- what an end keeps, and its numbers, say the same
+pub record Agrees (me : SessionSide) (h : Holdings) (v : List Seen) (talk : Talk) (t : Talker) : Type 0 where
+  pub next : (end_keeper me h).next talk ≡ (count_keeper v).next (count_of_talker t)
+  pub over : (end_keeper me h).is_over talk ≡ (count_keeper v).is_over (count_of_talker t)
+  pub parted : (end_keeper me h).has_parted talk ≡ (count_keeper v).has_parted (count_of_talker t)
+  pub good : (end_keeper me h).is_bad talk ≡ false
+
+agrees : Laws → (me : SessionSide) (a b : Party) (own others : Talker) (struck failed : List Job) (kept : List Kept) →
+    IsTold me a b own others →
+    Agrees me (side_party me a b).holdings (conversation_view me a b)
+    (talk_behind struck failed kept (side_party me a b).size own) own
+agrees law me a b own others struck failed kept told = record {
+  next = law.next me a b own others struck failed kept told;
+  over = law.over me a b own others struck failed kept told;
+  parted = law.parted me a b own others struck failed kept told;
+  good = law.not_bad me a b own others struck failed kept told;
+}
+
+module _ (setup : SetupValue) (brought : AtBoth Belongings) where
+  -- two ends that these parties may come to
+  abbrev pub Reaches : Two → Type 0
+  Reaches two = Reached (party setup brought Caller) (party setup brought Called) two
+
+  -- the end on the side as it sees the conversation
+  abbrev pub seen_at : Side → List Seen
+  seen_at side = view_at (parties setup brought) side
+
+  abbrev pub talker_at : Side → Two → Talker
+  talker_at side two = talker (session_side side) two
+
+  abbrev pub IsToldAt : Side → Two → Type 0
+  IsToldAt side two = IsTold (session_side side) (party setup brought Caller) (party setup brought Called)
+      (talker_at side two) (talker_at (other side) two)
+
+  -- ---- an act on the side
+
+  pub record Acted (side : Side) (act : Act) (two : Two) : Type 0 where
+    pub then_two : Two
+    pub reached : Reaches then_two
+    pub near : talker_at side then_two ≡ after_act act (party setup brought side) (talker_at side two)
+    pub far : talker_at (other side) then_two ≡ talker_at (other side) two
+
+  pub acts : (side : Side) (act : Act) (two : Two) → Reaches two →
+      Permits act (talker_at side two) (talker_at (other side) two) → Acted side act two
+  acts Caller act two reached permits = record {
+    then_two = with_talker caller (after_act act (party setup brought Caller) two.caller_end) two;
+    reached = after two caller act reached permits;
+    near = refl;
+    far = refl;
+  }
+  acts Called act two reached permits = record {
+    then_two = with_talker called (after_act act (party setup brought Called) two.called_end) two;
+    reached = after two called act reached permits;
+    near = refl;
+    far = refl;
+  }
+
+  -- ---- two numbers tell the end on the side
+
+  module _ (law : Laws) (sound : IsSoundSession setup brought) where
+    pub told_at : (side : Side) (two : Two) → Reaches two → IsToldAt side two
+    told_at Caller two reached =
+        (law.told (party setup brought Caller) (party setup brought Called) (sound.party Caller) (sound.party Called) two reached).0
+    told_at Called two reached =
+        (law.told (party setup brought Caller) (party setup brought Called) (sound.party Caller) (sound.party Called) two reached).1
+
+  -- what it keeps behind what it brought
+  abbrev pub talk_at : Side → Talker → Talk
+  talk_at side t = talk_behind (at side brought).lists.struck (at side brought).lists.failed (at side brought).kept
+      (party setup brought side).size t
+
+  module _ (law : Laws) where
+    pub agrees_at : (side : Side) (two : Two) → IsToldAt side two →
+        Agrees (session_side side) (at side setup).holdings (seen_at side) (talk_at side (talker_at side two)) (talker_at side two)
+    agrees_at Caller two told =
+        agrees law caller (party setup brought Caller) (party setup brought Called) two.caller_end two.called_end
+        brought.at_caller.lists.struck brought.at_caller.lists.failed brought.at_caller.kept told
+    agrees_at Called two told =
+        agrees law called (party setup brought Caller) (party setup brought Called) two.called_end two.caller_end
+        brought.at_called.lists.struck brought.at_called.lists.failed brought.at_called.kept told
+
+    -- each of its messages fits
+    pub fit_at : (side : Side) →
+        All (λ message. length message ≤ (party setup brought side).size) (own_messages (seen_at side))
+    fit_at Caller = law.fit caller (party setup brought Caller) (party setup brought Called)
+    fit_at Called = law.fit called (party setup brought Caller) (party setup brought Called)

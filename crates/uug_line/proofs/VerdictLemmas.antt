@@ -1,0 +1,472 @@
+-- What the verdict of a run says of what its ends have found.
+use Rattle.std.proofs.Common.{◌≡◌, ℕ, suc, ◌+◌, Bool, true, false, nat_lt, if◌then◌else◌, List, [], ◌∷◌, ◌++◌, take, drop, slice_get, Some, All, refl, sym, ap, subst, ◌∙◌, arith}
+use Rattle.std.proofs.lemmas.List.Elements.{All-nil, All-push}
+use Rattle.std.specs.Bool.{⊤}
+use Rattle.uug_link.specs.Arrivals.{place_of}
+use Rattle.uug_link.specs.declared.limits.TheConstants.{TIMEOUTS_MAX}
+use Rattle.uug_link.specs.State.{State}
+use Rattle.uug_link.specs.Step.{Effect, OutcomeValue, nothing, up, taken, closed, gave_up, halted, step, timed_out}
+use Rattle.uug_session.specs.declared.end.End.TheVariants as ends
+use Rattle.uug_session.specs.declared.greeting.Greeted.TheVariants.{GoesOn}
+use Rattle.uug_session.specs.declared.greeting.Greeting.{Greeting}
+use Rattle.uug_session.specs.Arriving.{Hearer, held_in, Came, all_taken, stopped}
+use Rattle.uug_session.specs.EndStep.{EndEvent, text_found, long_text_found, packet_found_whole, broken_found, time_ran_out, line_lost, behind_greeting, stage_step, EndState, Identity, Stage, hailing, linked, ended, end_step, late_link}
+use Rattle.uug_packet.specs.Packet.{PacketValue}
+use Rattle.uug_session.specs.Finding.{FindingLaws, finds_nothing, finds_packet, finding}
+use Rattle.uug_session.specs.Greeting.{fails}
+use Rattle.uug_session.specs.Keeper.{Keeper}
+use Rattle.uug_line.specs.declared.event.Event.{Event}
+use Rattle.uug_line.specs.declared.event.Event.TheVariants.{Pass, Drop, Flip, Insert, Timeout, HangUp, Call}
+use Rattle.uug_line.specs.declared.side.Side.{Side}
+use Rattle.uug_line.specs.declared.side.Side.TheVariants.{Caller, Called}
+use Rattle.uug_line.specs.declared.verdict.LineVerdict.{LineVerdict}
+use Rattle.uug_line.specs.declared.verdict.LineVerdict.TheVariants.{Clean, Fooled}
+use Rattle.uug_line.specs.Belongings.{Belongings, SetupValue, renewed}
+use Rattle.uug_line.specs.Fooled.{FindsNothingMore, FindsUnsent, FoundWereSent, StoppedAt, present}
+use Rattle.uug_line.specs.LineEnd.{LineEnd, Player, does, called_with, changed_line}
+use Rattle.uug_line.specs.Report.{EndReportValue, report_of_end}
+use Rattle.uug_line.specs.Run.{Run, end_at, player, has_now, first_end, first_run, session_begins, flipped, with_line_to, hears_next, after_hearing, calls, hung_up, calls_again, after_event, unless_fooled, goes_through, run_of}
+use Rattle.uug_line.specs.RunKeeper.{RunKeeper}
+use Rattle.uug_line.specs.Sides.{other, AtBoth, at, at_each}
+use Rattle.uug_line.specs.World.{report_of}
+use Rattle.uug_line.proofs.FoundLemmas.{BothFound, IsUnsent, CameSo, does_found, came_piece}
+use Rattle.uug_line.proofs.PlaceLemmas.{PlaceIs, none_left}
+
+-- ---- a call of an end that finds nothing more
+
+-- an event that uses no bytes leaves an end hailing or linked, or ends it
+abbrev pub StaysOrEnds : Stage → Stage → Type 0
+StaysOrEnds s (ended how) = ⊤
+StaysOrEnds (hailing g) (hailing h) = ⊤
+StaysOrEnds linked linked = ⊤
+StaysOrEnds _ _ = ⊥
+
+late_stays : {C : Type 0} (id : Identity) (parted : Bool) (o : OutcomeValue) (e : Effect) (c : C) →
+    StaysOrEnds linked (late_link id parted o e c).state.stage
+late_stays id parted nothing e c = tt
+late_stays id parted up e c = tt
+late_stays id parted taken e c = tt
+late_stays id parted closed e c = tt
+late_stays id parted gave_up e c = tt
+late_stays id parted halted e c = tt
+
+greeting_stays : {C : Type 0} (id : Identity) (g : Greeting) (goes_on : Bool) (link : State) (c : C) →
+    StaysOrEnds (hailing g) (behind_greeting id (if goes_on
+    then record { says = []; greeted = GoesOn (record { awaited = g.awaited; timeouts = g.timeouts + 1 }) }
+    else fails [] ends.GaveUp) link c).state.stage
+greeting_stays id g true link c = tt
+greeting_stays id g false link c = tt
+
+abbrev pub UsesNoBytes : EndEvent → Type 0
+UsesNoBytes time_ran_out = ⊤
+UsesNoBytes line_lost = ⊤
+UsesNoBytes _ = ⊥
+
+pub call_stays : {C : Type 0} (k : Keeper C) (id : Identity) (s : Stage) (event : EndEvent) (e : EndState C) → e.stage ≡ s →
+    UsesNoBytes event → StaysOrEnds s (stage_step k id s event e).state.stage
+call_stays k id (hailing g) time_ran_out e is uses = greeting_stays id g (nat_lt (g.timeouts + 1) TIMEOUTS_MAX) e.link e.keeper
+call_stays k id (hailing g) line_lost e is uses = tt
+call_stays k id (hailing g) (text_found text) e is uses = absurd uses
+call_stays k id (hailing g) long_text_found e is uses = absurd uses
+call_stays k id (hailing g) (packet_found_whole failed p) e is uses = absurd uses
+call_stays k id (hailing g) broken_found e is uses = absurd uses
+call_stays k id linked time_ran_out e is uses =
+    late_stays id (k.has_parted e.keeper) (step e.link timed_out).outcome (step e.link timed_out) e.keeper
+call_stays k id linked line_lost e is uses = tt
+call_stays k id linked (text_found text) e is uses = absurd uses
+call_stays k id linked long_text_found e is uses = absurd uses
+call_stays k id linked (packet_found_whole failed p) e is uses = absurd uses
+call_stays k id linked broken_found e is uses = absurd uses
+call_stays k id (ended how) event e is uses = subst (StaysOrEnds (ended how)) (sym is) tt
+
+nothing_then : (s t : Stage) (bytes : List ℕ) → StaysOrEnds s t → finding s bytes ≡ finds_nothing bytes →
+    finding t (held_in t bytes) ≡ finds_nothing (held_in t bytes)
+nothing_then s (ended how) bytes stays none = refl
+nothing_then (hailing g) (hailing h) bytes stays none = none
+nothing_then linked linked bytes stays none = none
+nothing_then (hailing g) linked bytes stays none = absurd stays
+nothing_then linked (hailing h) bytes stays none = absurd stays
+nothing_then (ended how) (hailing h) bytes stays none = absurd stays
+nothing_then (ended how) linked bytes stays none = absurd stays
+
+call_finds_nothing : {C : Type 0} (p : Player C) (event : EndEvent) (h : Hearer (LineEnd C)) → UsesNoBytes event →
+    FindsNothingMore h → FindsNothingMore (called_with p event h)
+call_finds_nothing p event h uses none =
+    let s = h.end.state.stage in
+    nothing_then s (end_step p.keeper p.identity event h.end.state).state.stage h.held
+    (call_stays p.keeper p.identity s event h.end.state refl uses) none
+
+-- ---- a run
+
+-- all sessions that are over, and what the ends of the present one have found
+pub record FoundSo {C : Type 0} (run : Run C) : Type 0 where
+  pub both : BothFound run.ends.at_caller.end run.ends.at_called.end
+  pub past : All FoundWereSent run.past
+
+-- by the verdict nothing more is found at either end, or at one of them a packet that was not sent
+abbrev pub JudgedBy : {C : Type 0} → LineVerdict → Run C → Type 0
+JudgedBy Clean run = (side : Side) → FindsNothingMore (end_at side run)
+JudgedBy (Fooled number side) run =
+    IsUnsent (end_at side run) (end_at (other side) run).end × FindsNothingMore (end_at (other side) run)
+
+pub record IsJudged {C : Type 0} (run : Run C) : Type 0 where
+  pub found : FoundSo run
+  pub judged : JudgedBy run.verdict run
+
+turned : {C : Type 0} (e f : LineEnd C) → BothFound e f → BothFound f e
+turned e f both = record { near = both.far; far = both.near }
+
+-- the bytes on a line don't matter
+near_line : {C : Type 0} (change : List ℕ → List ℕ) (h : Hearer (LineEnd C)) (f : LineEnd C) → BothFound h.end f →
+    BothFound (changed_line change h).end f
+near_line change h f both = record {
+  near = record { packets = both.near.packets; places = both.near.places; passed = both.near.passed };
+  far = record { packets = both.far.packets; places = both.far.places; passed = both.far.passed };
+}
+
+-- in a session all that was found was sent
+session_found : {C : Type 0} (e f : LineEnd C) → BothFound e f →
+    FoundWereSent (record { at_caller = report_of_end e; at_called = report_of_end f })
+session_found e f both Caller = (both.near.packets, both.near.places)
+session_found e f both Called = (both.far.packets, both.far.places)
+
+module _ (laws : FindingLaws) (place_is : PlaceIs) {C : Type 0} (k : RunKeeper C) (setup : SetupValue) where
+  -- both ends, told in one
+  judged_ends : (past : List (AtBoth EndReportValue)) (brought : AtBoth Belongings) (x y : Hearer (LineEnd C)) →
+      All FoundWereSent past → BothFound x.end y.end → FindsNothingMore x → FindsNothingMore y →
+      IsJudged (record { past = past; brought = brought; ends = record { at_caller = x; at_called = y }; verdict = Clean })
+  judged_ends past brought x y were both at_x at_y =
+      record { found = record { both = both; past = were }; judged = each }
+    where
+      each : (side : Side) → FindsNothingMore (at side (record { at_caller = x; at_called = y }))
+      each Caller = at_x
+      each Called = at_y
+
+  begins_judged : (past : List (AtBoth EndReportValue)) (brought : AtBoth Belongings) → All FoundWereSent past →
+      IsJudged (session_begins k setup past brought)
+  begins_judged past brought were =
+      judged_ends past brought (first_end k setup brought Caller) (first_end k setup brought Called) were both refl refl
+    where
+      both : BothFound (first_end k setup brought Caller).end (first_end k setup brought Called).end
+      both = record {
+        near = record { packets = []; places = tt; passed = refl };
+        far = record { packets = []; places = tt; passed = refl };
+      }
+
+  -- ---- what happens to a run that is not fooled
+
+  nothing_at : (run : Run C) → run.verdict ≡ Clean → IsJudged run → (side : Side) → FindsNothingMore (end_at side run)
+  nothing_at run clean j = subst (λ v. JudgedBy v run) clean j.judged
+
+  -- its ends become these
+  become : (run : Run C) (x y : Hearer (LineEnd C)) → run.verdict ≡ Clean → IsJudged run → BothFound x.end y.end →
+      FindsNothingMore x → FindsNothingMore y →
+      IsJudged (record { past = run.past; brought = run.brought; ends = record { at_caller = x; at_called = y }; verdict = run.verdict })
+  become run x y clean j both at_x at_y =
+      let there = judged_ends run.past run.brought x y j.found.past both at_x at_y in
+      record { found = record { both = both; past = j.found.past }; judged = subst (λ v. JudgedBy v after) (sym clean) there.judged }
+    where
+      after : Run C
+      after = record { past = run.past; brought = run.brought; ends = record { at_caller = x; at_called = y }; verdict = run.verdict }
+
+  line_judged : (side : Side) (change : List ℕ → List ℕ) (run : Run C) → run.verdict ≡ Clean → IsJudged run →
+      IsJudged (with_line_to side change run)
+  line_judged Caller change run clean j =
+      become run run.ends.at_caller (changed_line change run.ends.at_called) clean j
+      (turned (changed_line change run.ends.at_called).end run.ends.at_caller.end
+      (near_line change run.ends.at_called run.ends.at_caller.end (turned run.ends.at_caller.end run.ends.at_called.end j.found.both)))
+      (nothing_at run clean j Caller) (nothing_at run clean j Called)
+  line_judged Called change run clean j =
+      become run (changed_line change run.ends.at_caller) run.ends.at_called clean j
+      (near_line change run.ends.at_caller run.ends.at_called.end j.found.both)
+      (nothing_at run clean j Caller) (nothing_at run clean j Called)
+
+  call_judged : (side : Side) (event : EndEvent) (run : Run C) → UsesNoBytes event → run.verdict ≡ Clean → IsJudged run →
+      IsJudged (calls k setup side event run)
+  call_judged Caller event run uses clean j =
+      let p = player k setup run Caller in
+      become run (called_with p event run.ends.at_caller) run.ends.at_called clean j
+      (does_found p event run.ends.at_caller.end run.ends.at_called.end j.found.both)
+      (call_finds_nothing p event run.ends.at_caller uses (nothing_at run clean j Caller)) (nothing_at run clean j Called)
+  call_judged Called event run uses clean j =
+      let p = player k setup run Called in
+      let e = run.ends.at_caller.end in
+      let f = run.ends.at_called.end in
+      become run run.ends.at_caller (called_with p event run.ends.at_called) clean j
+      (turned (does p event f) e (does_found p event f e (turned e f j.found.both)))
+      (nothing_at run clean j Caller) (call_finds_nothing p event run.ends.at_called uses (nothing_at run clean j Called))
+
+  -- a piece has come
+  came_to_caller : (number n : ℕ) (run : Run C) → run.verdict ≡ Clean → IsJudged run → (came : Came (LineEnd C)) →
+      CameSo laws place_is (player k setup run Caller) run.ends.at_called.end came →
+      IsJudged (after_hearing number Caller came (with_line_to Caller (drop n) run))
+  came_to_caller number n run clean j (all_taken h) so =
+      let there = run.ends.at_called in
+      become run h (changed_line (drop n) there) clean j
+      (turned (changed_line (drop n) there).end h.end (near_line (drop n) there h.end (turned h.end there.end so.0)))
+      so.1 (nothing_at run clean j Called)
+  came_to_caller number n run clean j (stopped h) so =
+      let there = run.ends.at_called in
+      record {
+        found = record {
+          both = turned (changed_line (drop n) there).end h.end (near_line (drop n) there h.end (turned h.end there.end so.0));
+          past = j.found.past;
+        };
+        judged = (
+          record { packet = so.1.packet; behind = so.1.behind; next = so.1.next; no_place = so.1.no_place },
+          nothing_at run clean j Called,
+        );
+      }
+
+  came_to_called : (number n : ℕ) (run : Run C) → run.verdict ≡ Clean → IsJudged run → (came : Came (LineEnd C)) →
+      CameSo laws place_is (player k setup run Called) run.ends.at_caller.end came →
+      IsJudged (after_hearing number Called came (with_line_to Called (drop n) run))
+  came_to_called number n run clean j (all_taken h) so =
+      let there = run.ends.at_caller in
+      become run (changed_line (drop n) there) h clean j
+      (near_line (drop n) there h.end (turned h.end there.end so.0))
+      (nothing_at run clean j Caller) so.1
+  came_to_called number n run clean j (stopped h) so =
+      let there = run.ends.at_caller in
+      record {
+        found = record { both = near_line (drop n) there h.end (turned h.end there.end so.0); past = j.found.past };
+        judged = (
+          record { packet = so.1.packet; behind = so.1.behind; next = so.1.next; no_place = so.1.no_place },
+          nothing_at run clean j Caller,
+        );
+      }
+
+  pass_judged : (number : ℕ) (side : Side) (n : ℕ) (run : Run C) → run.verdict ≡ Clean → IsJudged run →
+      IsJudged (after_event k setup number (Pass side n) run)
+  pass_judged number Caller n run clean j =
+      came_to_caller number n run clean j (hears_next k setup Caller n run)
+      (came_piece laws place_is (player k setup run Caller) run.ends.at_called.end (take n run.ends.at_called.end.line)
+      run.ends.at_caller j.found.both)
+  pass_judged number Called n run clean j =
+      came_to_called number n run clean j (hears_next k setup Called n run)
+      (came_piece laws place_is (player k setup run Called) run.ends.at_caller.end (take n run.ends.at_caller.end.line)
+      run.ends.at_called (turned run.ends.at_caller.end run.ends.at_called.end j.found.both))
+
+  again_judged : (run : Run C) → IsJudged run → IsJudged (calls_again k setup run)
+  again_judged run j =
+      let e = run.ends.at_caller.end in
+      let f = run.ends.at_called.end in
+      let e' = does (player k setup run Caller) line_lost e in
+      let f' = does (player k setup run Called) line_lost f in
+      let first = does_found (player k setup run Caller) line_lost e f j.found.both in
+      let both = turned f' e' (does_found (player k setup run Called) line_lost f e' (turned e' f first)) in
+      begins_judged (run.past ++ told ∷ []) (at_each (λ side. renewed (has_now k setup run side)))
+      (All-push FoundWereSent run.past told j.found.past (session_found e' f' both))
+    where
+      told : AtBoth EndReportValue
+      told = at_each (λ side. report_of_end (hung_up k setup run side).end)
+
+  event_judged : (number : ℕ) (event : Event) (run : Run C) → run.verdict ≡ Clean → IsJudged run →
+      IsJudged (after_event k setup number event run)
+  event_judged number (Pass side n) run clean j = pass_judged number side n run clean j
+  event_judged number (Drop side n) run clean j = line_judged side (drop n) run clean j
+  event_judged number (Flip side mask) run clean j = line_judged side (flipped mask) run clean j
+  event_judged number (Insert side byte) run clean j = line_judged side (λ line. byte ∷ line) run clean j
+  event_judged number (Timeout side) run clean j = call_judged side time_ran_out run tt clean j
+  event_judged number (HangUp side) run clean j = call_judged side line_lost run tt clean j
+  event_judged number Call run clean j = again_judged run j
+
+  -- ---- all events
+
+  judged_unless : (verdict : LineVerdict) (more : Run C → Run C) (run : Run C) → run.verdict ≡ verdict → IsJudged run →
+      (run.verdict ≡ Clean → IsJudged (more run)) → IsJudged (unless_fooled verdict more run)
+  judged_unless Clean more run is j later = later is
+  judged_unless (Fooled number side) more run is j later = j
+
+  all_judged : (number : ℕ) (events : List Event) (run : Run C) → IsJudged run → IsJudged (goes_through k setup number events run)
+  all_judged number [] run j = j
+  all_judged number (event ∷ events) run j =
+      judged_unless run.verdict (λ before. goes_through k setup (suc number) events (after_event k setup number event before)) run refl j
+      (λ clean. all_judged (suc number) events (after_event k setup number event run) (event_judged number event run clean j))
+
+  pub run_judged : (events : List Event) → IsJudged (run_of k setup events)
+  run_judged events =
+      all_judged 0 events (first_run k setup)
+      (begins_judged [] (at_each (λ side. renewed (at side setup).belongings)) (All-nil FoundWereSent))
+
+  -- ---- for readers
+
+  pub found_were_sent : (events : List Event) → All FoundWereSent (report_of k setup (run_of k setup events)).sessions
+  found_were_sent events =
+      let run = run_of k setup events in
+      let j = run_judged events in
+      All-push FoundWereSent run.past (present run) j.found.past
+      (session_found run.ends.at_caller.end run.ends.at_called.end j.found.both)
+
+  pub nothing_left : (events : List Event) → (run_of k setup events).verdict ≡ Clean → (side : Side) →
+      FindsNothingMore (end_at side (run_of k setup events))
+  nothing_left events clean side = nothing_at (run_of k setup events) clean (run_judged events) side
+
+  finds_unsent : (run : Run C) (side : Side) → BothFound run.ends.at_caller.end run.ends.at_called.end →
+      IsUnsent (end_at side run) (end_at (other side) run).end → FindsUnsent run side
+  finds_unsent run Caller both unsent = record {
+    found = both.near.packets;
+    are_found = both.near.places;
+    packet = unsent.packet;
+    behind = unsent.behind;
+    next = unsent.next;
+    not_sent = (none_left place_is both.near.packets run.ends.at_called.end.log.packets run.ends.at_caller.end.log.arrivals
+        unsent.packet both.near.places).0
+        (ap (place_of unsent.packet run.ends.at_called.end.log.packets) (sym both.near.passed) ∙ unsent.no_place);
+  }
+  finds_unsent run Called both unsent = record {
+    found = both.far.packets;
+    are_found = both.far.places;
+    packet = unsent.packet;
+    behind = unsent.behind;
+    next = unsent.next;
+    not_sent = (none_left place_is both.far.packets run.ends.at_caller.end.log.packets run.ends.at_called.end.log.arrivals
+        unsent.packet both.far.places).0
+        (ap (place_of unsent.packet run.ends.at_caller.end.log.packets) (sym both.far.passed) ∙ unsent.no_place);
+  }
+
+  pub unsent_when_fooled : (events : List Event) (number : ℕ) (side : Side) → (run_of k setup events).verdict ≡ Fooled number side →
+      FindsUnsent (run_of k setup events) side
+  unsent_when_fooled events number side is =
+      let j = run_judged events in
+      finds_unsent (run_of k setup events) side j.found.both (subst (λ v. JudgedBy v (run_of k setup events)) is j.judged).0
+
+  -- nothing is found where a packet is
+  both_found : (h : Hearer (LineEnd C)) (p : PacketValue) (behind : List ℕ) → FindsNothingMore h →
+      finding h.end.state.stage h.held ≡ finds_packet p h.held behind → ⊥
+  both_found h p behind none some =
+      let e : finds_nothing h.held ≡ finds_packet p h.held behind = sym none ∙ some in cc
+
+  same_side : (number : ℕ) (side s : Side) (run : Run C) → FindsUnsent run side →
+      JudgedBy (Fooled number s) run → Fooled number s ≡ Fooled number side
+  same_side number Caller Caller run unsent judged = refl
+  same_side number Called Called run unsent judged = refl
+  same_side number Caller Called run unsent judged =
+      absurd (both_found run.ends.at_caller unsent.packet unsent.behind judged.1 unsent.next)
+  same_side number Called Caller run unsent judged =
+      absurd (both_found run.ends.at_called unsent.packet unsent.behind judged.1 unsent.next)
+
+  fooled_so : (v : LineVerdict) (side : Side) (run : Run C) → FindsUnsent run side → JudgedBy v run →
+      (number : ℕ) × (v ≡ Fooled number side)
+  fooled_so Clean side run unsent judged =
+      absurd (both_found (end_at side run) unsent.packet unsent.behind (judged side) unsent.next)
+  fooled_so (Fooled number s) side run unsent judged = (number, same_side number side s run unsent judged)
+
+  pub fooled_by_unsent : (events : List Event) (side : Side) → FindsUnsent (run_of k setup events) side →
+      (number : ℕ) × ((run_of k setup events).verdict ≡ Fooled number side)
+  fooled_by_unsent events side unsent =
+      fooled_so (run_of k setup events).verdict side (run_of k setup events) unsent (run_judged events).judged
+
+  -- ---- the event at which a run stops
+
+  when_clean : (number : ℕ) (event : Event) (events : List Event) (run : Run C) → run.verdict ≡ Clean →
+      goes_through k setup number (event ∷ events) run
+      ≡ goes_through k setup (suc number) events (after_event k setup number event run)
+  when_clean number event events run clean =
+      ap (λ v. unless_fooled v (λ before. goes_through k setup (suc number) events (after_event k setup number event before)) run) clean
+
+  when_fooled : (number at_number : ℕ) (side : Side) (events : List Event) (run : Run C) → run.verdict ≡ Fooled at_number side →
+      goes_through k setup number events run ≡ run
+  when_fooled number at_number side [] run fooled = refl
+  when_fooled number at_number side (event ∷ events) run fooled =
+      ap (λ v. unless_fooled v (λ before. goes_through k setup (suc number) events (after_event k setup number event before)) run) fooled
+
+  -- only bytes that come stop it
+  record StoppedBy (number : ℕ) (event : Event) (at_number : ℕ) (side : Side) : Type 0 where
+    bytes : ℕ
+    event_is : event ≡ Pass side bytes
+    number_is : number ≡ at_number
+
+  came_stopped : (number : ℕ) (s : Side) (n : ℕ) (came : Came (LineEnd C)) (run : Run C) (at_number : ℕ) (side : Side) →
+      run.verdict ≡ Clean → (after_hearing number s came run).verdict ≡ Fooled at_number side →
+      StoppedBy number (Pass s n) at_number side
+  came_stopped number s n (all_taken h) run at_number side clean fooled =
+      absurd (let e : Clean ≡ Fooled at_number side = sym clean ∙ fooled in cc)
+  came_stopped number s n (stopped h) run at_number side clean fooled = record {
+    bytes = n;
+    event_is = ap (λ z. Pass z n) (ap side_of fooled);
+    number_is = ap number_of fooled;
+  }
+    where
+      side_of : LineVerdict → Side
+      side_of (Fooled m z) = z
+      side_of Clean = s
+
+      number_of : LineVerdict → ℕ
+      number_of (Fooled m z) = m
+      number_of Clean = number
+
+  not_stopped : (number : ℕ) (event : Event) (run : Run C) (at_number : ℕ) (side : Side) → run.verdict ≡ Clean →
+      run.verdict ≡ Fooled at_number side → StoppedBy number event at_number side
+  not_stopped number event run at_number side clean fooled =
+      absurd (let e : Clean ≡ Fooled at_number side = sym clean ∙ fooled in cc)
+
+  event_stopped : (number : ℕ) (event : Event) (run : Run C) (at_number : ℕ) (side : Side) → run.verdict ≡ Clean →
+      (after_event k setup number event run).verdict ≡ Fooled at_number side → StoppedBy number event at_number side
+  event_stopped number (Pass s n) run at_number side clean fooled =
+      came_stopped number s n (hears_next k setup s n run) (with_line_to s (drop n) run) at_number side clean fooled
+  event_stopped number (Drop s n) run at_number side clean fooled = not_stopped number (Drop s n) run at_number side clean fooled
+  event_stopped number (Flip s mask) run at_number side clean fooled = not_stopped number (Flip s mask) run at_number side clean fooled
+  event_stopped number (Insert s byte) run at_number side clean fooled = not_stopped number (Insert s byte) run at_number side clean fooled
+  event_stopped number (Timeout s) run at_number side clean fooled = not_stopped number (Timeout s) run at_number side clean fooled
+  event_stopped number (HangUp s) run at_number side clean fooled = not_stopped number (HangUp s) run at_number side clean fooled
+  event_stopped number Call run at_number side clean fooled = absurd cc
+
+  -- behind so many of these events
+  record StoppedBehind (number : ℕ) (events : List Event) (run : Run C) (at_number : ℕ) (side : Side) : Type 0 where
+    before : ℕ
+    number_is : number + before ≡ at_number
+    bytes : ℕ
+    event : slice_get events before ≡ Some (Pass side bytes)
+    clean_before : (goes_through k setup number (take before events) run).verdict ≡ Clean
+    nothing_behind : goes_through k setup number events run ≡ goes_through k setup number (take (suc before) events) run
+
+  stopped_behind : (number : ℕ) (events : List Event) (run : Run C) (at_number : ℕ) (side : Side) → run.verdict ≡ Clean →
+      (goes_through k setup number events run).verdict ≡ Fooled at_number side →
+      StoppedBehind number events run at_number side
+  stopped_behind number [] run at_number side clean fooled =
+      absurd (let e : Clean ≡ Fooled at_number side = sym clean ∙ fooled in cc)
+  stopped_behind number (event ∷ events) run at_number side clean fooled =
+      by run'.verdict refl (stopped_behind (suc number) events run' at_number side)
+    where
+      run' : Run C
+      run' = after_event k setup number event run
+
+      fooled' : (goes_through k setup (suc number) events run').verdict ≡ Fooled at_number side
+      fooled' = ap (λ (r : Run C). r.verdict) (sym (when_clean number event events run clean)) ∙ fooled
+
+      by : (v : LineVerdict) → run'.verdict ≡ v →
+          (run'.verdict ≡ Clean → (goes_through k setup (suc number) events run').verdict ≡ Fooled at_number side →
+          StoppedBehind (suc number) events run' at_number side) →
+          StoppedBehind number (event ∷ events) run at_number side
+      by Clean is more = let later = more is fooled' in record {
+        before = suc later.before;
+        number_is = omega (arith, later.number_is);
+        bytes = later.bytes;
+        event = later.event;
+        clean_before = ap (λ (r : Run C). r.verdict) (when_clean number event (take later.before events) run clean) ∙ later.clean_before;
+        nothing_behind = when_clean number event events run clean ∙ later.nothing_behind
+            ∙ sym (when_clean number event (take (suc later.before) events) run clean);
+      }
+      by (Fooled m z) is more =
+          let stays = when_fooled (suc number) m z events run' is in
+          let here = event_stopped number event run at_number side clean (ap (λ (r : Run C). r.verdict) (sym stays) ∙ fooled') in
+          record {
+            before = 0;
+            number_is = omega (arith, here.number_is);
+            bytes = here.bytes;
+            event = ap Some here.event_is;
+            clean_before = clean;
+            nothing_behind = when_clean number event events run clean ∙ stays ∙ sym (when_clean number event [] run clean);
+          }
+
+  pub stopped_at : (events : List Event) (number : ℕ) (side : Side) → (run_of k setup events).verdict ≡ Fooled number side →
+      StoppedAt k setup events number side
+  stopped_at events number side fooled =
+      let s = stopped_behind 0 events (first_run k setup) number side refl fooled in
+      subst (λ n. StoppedAt k setup events n side) (let e : s.before ≡ number = omega (arith, s.number_is) in e) (record {
+        bytes = s.bytes;
+        event = s.event;
+        clean_before = s.clean_before;
+        nothing_behind = s.nothing_behind;
+      })

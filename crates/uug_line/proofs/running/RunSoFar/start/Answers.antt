@@ -1,0 +1,27 @@
+use Rattle.std.proofs.Common.{List, ap, refl}
+use Rattle.uug_link.specs.Announced.{announced}
+use Rattle.uug_session.specs.Engine.{all_ahead}
+use Rattle.uug_session.specs.MemoryHoldings.{held_by}
+use Rattle.uug_session.specs.Turns.{caller, called}
+use Rattle.uug_line.specs.Live.{parts_of}
+use Rattle.uug_line.specs.RunParts.{RunParts}
+use Rattle.uug_line.specs.Setup.{setup_of}
+use Rattle.uug_line.specs.Shown.{session_shown}
+use Rattle.uug_line.proofs.RunLemmas.{begun_as, sessions_none, starts_as}
+use Rattle.uug_line.proofs.running.RunSoFar.start.Goals as goal
+
+pub returns : goal.returns
+returns g c =
+    let setup = c.args.setup in
+    let first = c.place_of-caller_place in
+    let next = c.place_of-called_place in
+    let first_parts = parts_of c.in_ok-start_caller.field-0 in
+    let next_parts = parts_of c.in_ok-start_called.field-0 in
+    starts_as (setup_of setup) (held_by setup.caller.spool) (held_by setup.called.spool) _
+    (sessions_none c.new.result.items c.new.ensures.items) refl refl refl refl
+    (begun_as caller first.result.me first.result.peer setup.caller.name setup.called.name (announced first.result.announce) (announced setup.caller.announce)
+    (all_ahead setup.caller.queue) (held_by setup.caller.spool) first_parts first.ensures.me first.ensures.peer (ap announced first.ensures.announce)
+    c.in_ok-start_caller.ensures)
+    (begun_as called next.result.me next.result.peer setup.called.name setup.caller.name (announced next.result.announce) (announced setup.called.announce)
+    (all_ahead setup.called.queue) (held_by setup.called.spool) next_parts next.ensures.me next.ensures.peer (ap announced next.ensures.announce)
+    c.in_ok-start_called.ensures)

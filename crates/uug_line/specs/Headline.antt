@@ -1,0 +1,87 @@
+-- The headline, said of a report: what holds of it for every two ends, whatever happens on the line between them (this
+-- project's profile).
+use Rattle.std.specs.Prelude.{◌≡◌, ℕ, ◌≤◌, List, ◌++◌, length, drop, All}
+use Rattle.uug_link.specs.OnTheLine.{Reads}
+use Rattle.uug_link.specs.State.{State}
+use Rattle.uug_link.specs.TwoLinks.{End}
+use Rattle.uug_link.specs.WindowMachine.{IsReached, Machine}
+use Rattle.uug_session.specs.declared.job.Job.{Job}
+use Rattle.uug_session.specs.Holdings.{Kept}
+use Rattle.uug_session.specs.OwnEntries.{HasOwnEntries}
+use Rattle.uug_session.specs.TwoEnds.{IsFrontOf}
+use Rattle.uug_line.specs.declared.side.Side.{Side}
+use Rattle.uug_line.specs.declared.side.Side.TheVariants.{Caller, Called}
+use Rattle.uug_line.specs.Belongings.{SetupValue}
+use Rattle.uug_line.specs.Report.{EndReportValue}
+use Rattle.uug_line.specs.Sides.{other, AtBoth, at}
+use Rattle.uug_line.specs.World.{ReportValue}
+
+-- ---- in a session
+
+-- what each end has taken are the first messages that the other has sent
+abbrev pub TookFronts : AtBoth EndReportValue → Type 0
+TookFronts session = (side : Side) → IsFrontOf (at side session).taken (at (other side) session).sent
+
+-- no end ever had more unacknowledged packets than the other announced
+abbrev pub KeptToWindows : SetupValue → AtBoth EndReportValue → Type 0
+KeptToWindows setup session = (side : Side) → (at side session).most ≤ (at (other side) setup).own.window
+
+-- ---- in a session, packet by packet
+
+-- an end's link as it is told of, in this state, which has found or gone past so many of the other end's packets
+abbrev pub link_end : EndReportValue → (link : State) → (passed : ℕ) → End
+link_end told link passed =
+    record { link = link; sent = told.sent; taken = told.taken; emitted = told.packets; passed = passed }
+
+-- The session has run as the window machine, INIT and CLOSE packets left aside: with its numbers and acknowledgements on the
+-- line as their digits modulo eight.
+pub record RanAsMachine (setup : SetupValue) (session : AtBoth EndReportValue) : Type 0 where
+  pub caller_link : State
+  pub caller_passed : ℕ
+  pub called_link : State
+  pub called_passed : ℕ
+  pub machine : Machine
+  pub reached : IsReached (at Called setup).own.window (at Caller setup).own.window machine
+  pub out : Reads (link_end session.at_caller caller_link caller_passed) (link_end session.at_called called_link called_passed)
+      machine.out
+  pub back : Reads (link_end session.at_called called_link called_passed) (link_end session.at_caller caller_link caller_passed)
+      machine.back
+
+-- ---- in all sessions of a report
+
+abbrev pub AllTookFronts : ReportValue → Type 0
+AllTookFronts report = All TookFronts report.sessions
+
+abbrev pub AllKeptToWindows : SetupValue → ReportValue → Type 0
+AllKeptToWindows setup report = All (KeptToWindows setup) report.sessions
+
+abbrev pub AllRanAsMachine : SetupValue → ReportValue → Type 0
+AllRanAsMachine setup report = All (RanAsMachine setup) report.sessions
+
+-- ---- since the set-up
+
+-- what stands behind the elements that a list had before
+abbrev pub since : {A : Type 0} → (before now : List A) → List A
+since before now = drop (length before) now
+
+-- the jobs that the end on the side has struck since the set-up, and the files that it has stored since then
+abbrev pub struck_since : SetupValue → ReportValue → Side → List Job
+struck_since setup report side =
+    since (at side setup).belongings.lists.struck (at side report.belongings).lists.struck
+
+abbrev pub stored_since : SetupValue → ReportValue → Side → List Kept
+stored_since setup report side = since (at side setup).belongings.kept (at side report.belongings).kept
+
+-- what was struck and stored before stays in front
+pub record StaysInFront (setup : SetupValue) (report : ReportValue) (side : Side) : Type 0 where
+  pub struck : (at side report.belongings).lists.struck
+      ≡ (at side setup).belongings.lists.struck ++ struck_since setup report side
+  pub stored : (at side report.belongings).kept ≡ (at side setup).belongings.kept ++ stored_since setup report side
+
+-- Each job struck since the set-up whose file came from the end on the side, the giver, has an entry of its own among
+-- those stored at the other end since then: its target, and the mode and bytes that the giver's spool has. As this holds
+-- after all events, it holds after each: a job is struck only after its file was stored.
+abbrev pub StruckWereStored : SetupValue → ReportValue → (giver : Side) → Type 0
+StruckWereStored setup report giver =
+    HasOwnEntries (at giver setup).holdings (struck_since setup report giver) (struck_since setup report (other giver))
+    (stored_since setup report (other giver))

@@ -1,0 +1,84 @@
+-- What is needed of the laws that stand below a run, for its proofs.
+use Rattle.std.specs.Prelude.{◌≡◌, ◌≢◌, ℕ, ◌≤◌, List, [], ◌++◌, length, map, slice_get, All, MatchOption, Ok, Some}
+use Rattle.uug_link.specs.Announced.{Announced, announced}
+use Rattle.uug_link.specs.Arrivals.{IsPlace, place_of}
+use Rattle.uug_link.specs.declared.announce.Announce.{Announce}
+use Rattle.uug_link.specs.Entries.{EntryValue}
+use Rattle.uug_link.specs.InRange.{IsAnnouncement}
+use Rattle.uug_packet.specs.Decoded.{decoded}
+use Rattle.uug_packet.specs.Packet.{PacketValue}
+use Rattle.uug_packet.specs.Spelling.{IsSpelling, canonical}
+use Rattle.uug_packet.specs.WellFormed.{IsWellFormed}
+use Rattle.uug_session.specs.EndStep.{EndEvent, EndState, Identity, begins_session, end_step, line_lost, time_ran_out, unmoved}
+use Rattle.uug_session.specs.Engine.{BeginsSession, Does, EngineState, bare, end_of, hung_up, stage_late, with_stage}
+use Rattle.uug_session.specs.Finding.{FindingLaws}
+use Rattle.uug_session.specs.Holdings.{Holdings, Kept}
+use Rattle.uug_session.specs.InRange.{CanBeWritten, IsEndInRange, MayFind}
+use Rattle.uug_session.specs.Jobs.{Lists}
+use Rattle.uug_session.specs.Node.{effect_of}
+use Rattle.uug_session.specs.Talk.{Talk, end_keeper, unopened}
+use Rattle.uug_session.specs.Talking.{talking_has_parted}
+use Rattle.uug_session.specs.TextsFound.{FindsText}
+use Rattle.uug_session.specs.TextsHeld.{ShowsText, TextsHeld, search_text, shown_text, text_stands}
+use Rattle.uug_session.specs.Turns.{Side}
+
+-- what is written of a well-formed packet is read
+abbrev pub ReadsWritten : Type 0
+ReadsWritten = (p : PacketValue) → IsWellFormed p → decoded (canonical p) ≡ Ok (p, length (canonical p))
+
+-- what an end emits can be written, and so it stays
+abbrev pub StaysInRange : Type 0
+StaysInRange = record {
+  first : (id : Identity) (own : Announced) (talk : Talk) → IsAnnouncement own
+      → IsEndInRange id.side (begins_session id own talk).state × All CanBeWritten (begins_session id own talk).emitted;
+  stays : (side : Side) (h : Holdings) (id : Identity) (event : EndEvent) (e : EndState Talk) → IsEndInRange id.side e → MayFind event
+      → IsEndInRange id.side (end_step (end_keeper side h) id event e).state;
+  emitted : (side : Side) (h : Holdings) (id : Identity) (event : EndEvent) (e : EndState Talk) → IsEndInRange id.side e → MayFind event
+      → All CanBeWritten (end_step (end_keeper side h) id event e).emitted;
+}
+
+-- what is told of a call without the spool is the end's step beside it
+abbrev pub CallsAreSteps : Type 0
+CallsAreSteps = record {
+  late : (h : Holdings) (kept : List Kept) (before after : EngineState)
+      → Does (stage_late before.identity (talking_has_parted before.talking) before.stage before.link before.talking) (bare after) before after
+      → Does (effect_of h kept time_ran_out before) (end_of h kept after) before after;
+  lost : (h : Holdings) (kept : List Kept) (e : EngineState)
+      → effect_of h kept line_lost e ≡ unmoved (end_of h kept (with_stage (hung_up (talking_has_parted e.talking) e.stage) e));
+  begins : (h : Holdings) (kept : List Kept) (id : Identity) (own : Announced) (l : Lists) (entries : List EntryValue)
+      (after : EngineState) → BeginsSession id own l entries after → end_of h kept after ≡ (begins_session id own (unopened l kept)).state;
+}
+
+-- a packet, spelled so, is read
+abbrev pub ReadsSpelled : Type 0
+ReadsSpelled = (p : PacketValue) (w rest : List ℕ) → IsSpelling p w → decoded (w ++ rest) ≡ Ok (p, length w)
+
+-- a text that is shown is the one that stands first
+abbrev pub ShownIs : Type 0
+ShownIs = (text : List ℕ) (held : TextsHeld) → ShowsText text held → text ≡ shown_text held
+
+abbrev pub SearchStands : Type 0
+SearchStands = (stream text others : List ℕ) → search_text stream ≡ text_stands text others → FindsText stream text others
+
+-- the laws of packets and texts that are used here
+pub record SearchLaws : Type 0 where
+  pub reads : ReadsSpelled
+  pub shown_is : ShownIs
+  pub stands : SearchStands
+
+-- the place that is computed is the least one, and none only where there is none
+abbrev pub PlaceIs : Type 0
+PlaceIs = (p : PacketValue) (emitted : List PacketValue) (passed : ℕ) →
+    MatchOption (place_of p emitted passed)
+    ((i : ℕ) → passed ≤ i → slice_get emitted i ≢ Some p) (λ i. IsPlace p emitted passed i)
+
+-- what is needed of what stands below
+pub record LineLaws : Type 0 where
+  pub search : SearchLaws
+  pub reads : ReadsWritten
+  pub in_range : StaysInRange
+  pub spelled : (p : PacketValue) (w : List ℕ) → IsSpelling p w → IsWellFormed p
+  pub places : PlaceIs
+  pub findings : FindingLaws
+  pub steps : CallsAreSteps
+  pub announces : (a : Announce) → IsAnnouncement (announced a)

@@ -1,0 +1,17 @@
+-- What the program's set-up of two ends says.
+use Rattle.uug_link.specs.Announced.{announced}
+use Rattle.uug_session.specs.MemoryHoldings.{held_by, holdings_of}
+use Rattle.uug_line.specs.declared.setup.EndSetup.{EndSetup}
+use Rattle.uug_line.specs.declared.setup.Setup.{Setup}
+use Rattle.uug_line.specs.Belongings.{EndSetupValue, SetupValue}
+
+abbrev pub end_setup_of : {A : Type 0} → EndSetup A → EndSetupValue
+end_setup_of e = record {
+  name = e.name;
+  own = announced e.announce;
+  holdings = holdings_of (held_by e.spool);
+  belongings = record { lists = e.queue; kept = (held_by e.spool).stored };
+}
+
+abbrev pub setup_of : {A : Type 0} → Setup A → SetupValue
+setup_of s = record { at_caller = end_setup_of s.caller; at_called = end_setup_of s.called }

@@ -1,0 +1,18 @@
+-- What the types of a program's set-up say of it (this project's profile).
+use Rattle.std.specs.Prelude.{All}
+use Rattle.uug_link.specs.Terms.{IsWindow}
+use Rattle.uug_session.specs.Holdings.{AreModes}
+use Rattle.uug_session.specs.Jobs.{pending}
+use Rattle.uug_session.specs.Party.{HasNames}
+use Rattle.uug_line.specs.declared.side.Side.{Side}
+use Rattle.uug_line.specs.Belongings.{EndSetupValue, SetupValue}
+use Rattle.uug_line.specs.Sides.{at}
+
+-- it announces a window, its files have modes, and its pending jobs names
+pub record IsSoundEnd (e : EndSetupValue) : Type 0 where
+  pub window : IsWindow e.own.window
+  pub modes : AreModes e.holdings
+  pub names : All HasNames (pending e.belongings.lists)
+
+abbrev pub IsSoundSetup : SetupValue → Type 0
+IsSoundSetup setup = (side : Side) → IsSoundEnd (at side setup)

@@ -1,0 +1,156 @@
+ghost use Rattle.std.specs.Prelude.{◌≡◌, ◌<◌, [], ◌∷◌, ◌++◌, length, MatchOption, OnOk, None, Some};
+ghost use Rattle.uug_line.specs.Jottings.{arrived_at, jotted, message_in, no_jottings, packet_jotted, saying, taking_from, sending_from, told_by, with_most};
+ghost use Rattle.uug_line.specs.Shown.{end_shown, lists_in};
+ghost use Rattle.uug_link.specs.Entries.{shown_entry};
+
+use crate::report::EndReport;
+use std::alloc::{AllocError, Allocator};
+use uug_link::{Entry, Outbox};
+use uug_packet::{Packet, decode};
+use uug_session::Phase;
+
+/// What is written down of an end's session.
+#[derive(Drop)]
+pub(crate) struct Journal<A: Allocator> {
+    pub(crate) sent: Vec<Vec<u8, A>, A>,
+    pub(crate) taken: Vec<Vec<u8, A>, A>,
+    /// As they are spelled.
+    pub(crate) packets: Vec<Vec<u8, A>, A>,
+    pub(crate) arrivals: Vec<usize, A>,
+    /// How many of the other end's packets were found or gone past.
+    pub(crate) passed: usize,
+    pub(crate) most: usize,
+}
+
+impl<A: Allocator + Copy> Journal<A> {
+    /// Nothing is written down yet.
+    pub(crate) fn new(alloc: A) -> Self
+        ensures { jotted result ≡ no_jottings }
+    {
+        Journal {
+            sent: Vec::new(alloc),
+            taken: Vec::new(alloc),
+            packets: Vec::new(alloc),
+            arrivals: Vec::new(alloc),
+            passed: 0,
+            most: 0,
+        }
+    }
+
+    /// What the end did, which has come so far.
+    pub(crate) fn into_report(self, phase: Phase) -> EndReport<A>
+        ensures { end_shown result ≡ told_by (jotted self) phase }
+    {
+        EndReport {
+            sent: self.sent,
+            taken: self.taken,
+            packets: self.packets,
+            arrivals: self.arrivals,
+            most: self.most,
+            phase,
+        }
+    }
+
+    /// The other end's packet at this place, which is spelled so, was found, and its message taken or not.
+    pub(crate) fn add_found(
+        &mut self,
+        alloc: A,
+        packet: &[u8],
+        place: usize,
+        took: bool,
+    ) -> Result<(), AllocError>
+        requires { place < usize.MAX }
+        ensures { OnOk result (jotted self.new ≡ packet_jotted packet.now place (jotted self.old) took) }
+    {
+        self.add_arrival(place)?;
+        if took {
+            self.add_taken(alloc, packet)?;
+        }
+        Ok(())
+    }
+
+    fn add_arrival(&mut self, place: usize) -> Result<(), AllocError>
+        requires { place < usize.MAX }
+        ensures { OnOk result (jotted self.new ≡ arrived_at place (jotted self.old)) }
+    {
+        self.arrivals.push(place)?;
+        self.passed = place + 1;
+        Ok(())
+    }
+
+    /// The message of the packet that is spelled so was taken.
+    fn add_taken(&mut self, alloc: A, packet: &[u8]) -> Result<(), AllocError>
+        ensures { OnOk result (jotted self.new ≡ taking_from packet.now (jotted self.old)) }
+    {
+        let message = message_in(packet).unwrap_or(&[]);
+        push_bytes(&mut self.taken, alloc, message)
+    }
+
+    /// A call emitted this, and left so many packets unacknowledged.
+    pub(crate) fn add_emitted(
+        &mut self,
+        alloc: A,
+        outbox: &Outbox<A>,
+        unacked: usize,
+    ) -> Result<(), AllocError>
+        ensures { OnOk result (jotted self.new ≡ with_most unacked (saying outbox.now.entries (jotted self.old))) }
+    {
+        self.add_entries(alloc, outbox)?;
+        self.most = self.most.max(unacked);
+        Ok(())
+    }
+
+    fn add_entries(&mut self, alloc: A, outbox: &Outbox<A>) -> Result<(), AllocError>
+        ensures { OnOk result (jotted self.new ≡ saying outbox.now.entries (jotted self.old)) }
+    {
+        for i in 0..outbox.len() {
+            self.add_entry(alloc, outbox.entry(i))?;
+        }
+        Ok(())
+    }
+
+    fn add_entry(&mut self, alloc: A, entry: Entry<'_>) -> Result<(), AllocError>
+        ensures { OnOk result (jotted self.new ≡ saying (shown_entry entry.entry ∷ []) (jotted self.old)) }
+    {
+        let Entry::Packet { bytes, first } = entry else {
+            return Ok(());
+        };
+        if first {
+            self.add_sent(alloc, bytes)?;
+        }
+        push_bytes(&mut self.packets, alloc, bytes)
+    }
+
+    /// The packet that is spelled so goes out for the first time. Only a data packet has a message.
+    fn add_sent(&mut self, alloc: A, packet: &[u8]) -> Result<(), AllocError>
+        ensures { OnOk result (jotted self.new ≡ sending_from packet.now (jotted self.old)) }
+    {
+        match message_in(packet) {
+            Some(message) => push_bytes(&mut self.sent, alloc, message),
+            None => Ok(()),
+        }
+    }
+}
+
+/// The message of the data packet that is spelled so.
+fn message_in(packet: &[u8]) -> Option<&[u8]>
+    ensures { MatchOption result (message_in packet.now ≡ None) (λ message. message_in packet.now ≡ Some message.now) }
+{
+    match decode(packet) {
+        Ok((Packet::Carry { message, .. }, _)) => Some(message),
+        _ => None,
+    }
+}
+
+/// Appends a copy of these bytes.
+fn push_bytes<A: Allocator + Copy>(
+    lists: &mut Vec<Vec<u8, A>, A>,
+    alloc: A,
+    bytes: &[u8],
+) -> Result<(), AllocError>
+    ensures { OnOk result (lists_in lists.new.items ≡ lists_in lists.old.items ++ bytes.now ∷ []) }
+{
+    let copy = bytes.to_vec(alloc)?;
+    lists.push(copy)?;
+    Ok(())
+}

@@ -1,0 +1,196 @@
+ghost use Rattle.std.specs.Prelude.{◌≡◌, ◌<◌, [], IfOk, OnOk};
+ghost use Rattle.uug_link.specs.Announced.{Announced};
+ghost use Rattle.uug_link.specs.InRange.{IsAnnouncement};
+ghost use Rattle.uug_line.specs.Jottings.{jotted, packet_jotted};
+ghost use Rattle.uug_line.specs.Live.{AreWritten, BeginsAgain, HasBegun, HasRoom, HearsPiece, IsCalled, IsNoted, IsOrdered, IsTakenUp, TakesItems, TakesNext, parts_of, told_of};
+ghost use Rattle.uug_line.specs.Shown.{end_shown, lists_in};
+ghost use Rattle.uug_session.specs.Engine.{BeginsSession, IsEnded};
+ghost use Rattle.uug_session.specs.Jobs.{Lists};
+ghost use Rattle.uug_session.specs.MemoryHoldings.{held_by};
+ghost use Rattle.uug_session.specs.Sessions.{HoldsNothing};
+ghost use Rattle.uug_session.specs.Node.{item_size, node_of};
+ghost use Rattle.uug_session.specs.EndStep.{Identity, line_lost, time_ran_out};
+
+use crate::journal::Journal;
+use crate::line::Line;
+use crate::line_laws::line_laws;
+use crate::report::EndReport;
+use crate::sighting::{Sighting, sight};
+use std::alloc::{AllocError, Allocator};
+use std::mem;
+use uug_session::{MemorySpool, Node};
+
+/// An end of a session on a line, and what is written down of it.
+#[derive(Drop)]
+pub(crate) struct LiveEnd<A: Allocator + Copy> {
+    pub(crate) node: Node<MemorySpool<A>, A>,
+    pub(crate) journal: Journal<A>,
+    /// What it has emitted and what is on its way to the other end.
+    pub(crate) line: Line<A>,
+}
+
+/// Whether an end takes up more.
+#[derive(Clone, Copy)]
+pub(crate) enum Taking {
+    /// An item was taken up.
+    Goes,
+    /// Nothing is whole that is held.
+    Waits,
+    /// What was found is a packet that was not sent, and is not taken up.
+    Stops,
+}
+
+impl<A: Allocator + Copy> LiveEnd<A> {
+    /// The end's first session has begun.
+    pub(crate) fn start(alloc: A, node: Node<MemorySpool<A>, A>) -> Result<Self, AllocError>
+        ensures { IfOk result (λ end. (id : Identity) (own : Announced) (l : Lists) → IsAnnouncement own
+            → BeginsSession id own l [] (node_of node).engine → HoldsNothing (node_of node)
+            → HasBegun id own l (held_by node.spool) (parts_of end)) }
+    {
+        line_laws();
+        let mut end = LiveEnd {
+            node,
+            journal: Journal::new(alloc),
+            line: Line::new(alloc),
+        };
+        end.note_call(alloc)?;
+        Ok(end)
+    }
+
+    /// Writes down what a call of the end has emitted, which goes on the line at once.
+    fn note_call(&mut self, alloc: A) -> Result<(), AllocError>
+        ensures { OnOk result (IsNoted (parts_of self.old) (parts_of self.new)) }
+    {
+        let unacked = self.node.unacked();
+        let outbox = self.node.outbox();
+        self.journal.add_emitted(alloc, outbox, unacked)?;
+        self.line.append(outbox.bytes())?;
+        self.node.clear_outbox();
+        Ok(())
+    }
+
+    /// Nothing has come for some time.
+    pub(crate) fn time_out(&mut self, alloc: A) -> Result<(), AllocError>
+        requires ordered { IsOrdered (parts_of self.old) }
+        requires room { HasRoom (parts_of self.old) }
+        ensures { OnOk result (IsCalled time_ran_out (parts_of self.old) (parts_of self.new)) }
+    {
+        line_laws();
+        self.node.on_timeout()?;
+        self.note_call(alloc)?;
+        Ok(())
+    }
+
+    /// The line is gone.
+    pub(crate) fn hang_up(&mut self, alloc: A) -> Result<(), AllocError>
+        requires ordered { IsOrdered (parts_of self.old) }
+        requires room { HasRoom (parts_of self.old) }
+        ensures { OnOk result (IsCalled line_lost (parts_of self.old) (parts_of self.new)) }
+    {
+        line_laws();
+        self.node.hang_up();
+        self.note_call(alloc)?;
+        Ok(())
+    }
+
+    /// The next session begins, with nothing on the line. The answer is what the end did in the last one, which is over.
+    pub(crate) fn call_again(&mut self, alloc: A) -> Result<EndReport<A>, AllocError>
+        requires ended { IsEnded (node_of self.old.node).engine.stage }
+        requires ordered { IsOrdered (parts_of self.old) }
+        ensures begun { OnOk result (BeginsAgain (parts_of self.old) (parts_of self.new)) }
+        ensures report { IfOk result (λ report. end_shown report ≡ told_of (parts_of self.old)) }
+    {
+        line_laws();
+        let phase = self.node.phase();
+        self.node.call_again()?;
+        let journal = mem::replace(&mut self.journal, Journal::new(alloc));
+        self.line.clear();
+        self.note_call(alloc)?;
+        Ok(journal.into_report(phase))
+    }
+
+    /// A piece comes to the end, which takes up what is whole in it. The answer is false where it finds a packet that is not
+    /// among those that the other end has emitted; then the end stands before it.
+    pub(crate) fn hear(
+        &mut self,
+        alloc: A,
+        piece: &[u8],
+        others: &[Vec<u8, A>],
+    ) -> Result<bool, AllocError>
+        requires ordered { IsOrdered (parts_of self.old) }
+        requires room { HasRoom (parts_of self.old) }
+        requires written { AreWritten (lists_in others.now) }
+        ensures { IfOk result (λ all_sent. HearsPiece all_sent (lists_in others.now) piece.now (parts_of self.old) (parts_of self.new)) }
+    {
+        line_laws();
+        let mut rest = piece;
+        loop {
+            let count = self.node.offer(rest);
+            rest = &rest[count..];
+            if !self.take_all(alloc, others)? {
+                return Ok(false);
+            }
+            if rest.is_empty() {
+                return Ok(true);
+            }
+        }
+    }
+
+    /// Takes up what is whole in the bytes held, one item after the other.
+    fn take_all(&mut self, alloc: A, others: &[Vec<u8, A>]) -> Result<bool, AllocError>
+        requires ordered { IsOrdered (parts_of self.old) }
+        requires written { AreWritten (lists_in others.now) }
+        ensures { IfOk result (λ all_sent. TakesItems all_sent (lists_in others.now) (parts_of self.old) (parts_of self.new)) }
+    {
+        loop {
+            match self.take_next(alloc, others)? {
+                Taking::Goes => {}
+                Taking::Waits => return Ok(true),
+                Taking::Stops => return Ok(false),
+            }
+        }
+    }
+
+    /// Takes up the next item, if one is whole.
+    fn take_next(&mut self, alloc: A, others: &[Vec<u8, A>]) -> Result<Taking, AllocError>
+        requires ordered { IsOrdered (parts_of self.old) }
+        requires written { AreWritten (lists_in others.now) }
+        ensures { IfOk result (λ taking. TakesNext taking (lists_in others.now) (parts_of self.old) (parts_of self.new)) }
+    {
+        line_laws();
+        match sight(&mut self.node, others, self.journal.passed) {
+            Sighting::Nothing => Ok(Taking::Waits),
+            Sighting::Unsent => Ok(Taking::Stops),
+            Sighting::Other => {
+                self.take_other(alloc)?;
+                Ok(Taking::Goes)
+            }
+            Sighting::At(place) => {
+                self.take_packet(alloc, others[place].as_slice(), place)?;
+                Ok(Taking::Goes)
+            }
+        }
+    }
+
+    /// Takes up the text or the broken packet that is shown.
+    fn take_other(&mut self, alloc: A) -> Result<(), AllocError>
+        requires { 0 < item_size (node_of self.old.node) }
+        ensures { OnOk result (IsTakenUp (λ took. jotted self.old.journal) (parts_of self.old) (parts_of self.new)) }
+    {
+        self.node.take_found()?;
+        self.note_call(alloc)?;
+        Ok(())
+    }
+
+    /// Takes up the packet that is shown, which is spelled so and stands at that place among those of the other end.
+    fn take_packet(&mut self, alloc: A, packet: &[u8], place: usize) -> Result<(), AllocError>
+        requires shown { 0 < item_size (node_of self.old.node) }
+        requires place { place < usize.MAX }
+        ensures { OnOk result (IsTakenUp (packet_jotted packet.now place (jotted self.old.journal)) (parts_of self.old) (parts_of self.new)) }
+    {
+        let took = self.node.take_found()?;
+        self.journal.add_found(alloc, packet, place, took)?;
+        self.note_call(alloc)?;
+        Ok(())
+    }
+}

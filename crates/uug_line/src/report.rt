@@ -1,0 +1,87 @@
+ghost use Rattle.std.specs.Prelude.{◌≡◌, map};
+ghost use Rattle.uug_line.specs.Shown.{owned_by, session_shown};
+
+use crate::verdict::LineVerdict;
+use std::alloc::Allocator;
+use std::marker::Model;
+use uug_session::{MemorySpool, Node, Phase};
+
+/// What an end did in a session.
+#[derive(Drop)]
+pub struct EndReport<A: Allocator> {
+    /// The messages that it sent, in the order of their first sending.
+    pub sent: Vec<Vec<u8, A>, A>,
+    /// The messages that it took, in order.
+    pub taken: Vec<Vec<u8, A>, A>,
+    /// All packets that it emitted, as they are spelled.
+    pub packets: Vec<Vec<u8, A>, A>,
+    /// The places of the packets that it found, among those that the other end emitted.
+    pub arrivals: Vec<usize, A>,
+    /// The most packets that were unacknowledged after any call.
+    pub most: usize,
+    /// How far it came.
+    pub phase: Phase,
+}
+
+/// What the two ends did in a session.
+#[derive(Drop)]
+pub struct SessionReport<A: Allocator> {
+    /// The end that called.
+    pub caller: EndReport<A>,
+    /// The end that was called.
+    pub called: EndReport<A>,
+}
+
+/// What a run tells. It is made by `run` alone. A clause sees what is told of the sessions, what the ends have, and the
+/// verdict.
+#[derive(Drop)]
+pub struct Report<A: Allocator + Copy> {
+    pub(crate) sessions: Vec<SessionReport<A>, A>,
+    pub(crate) caller: Node<MemorySpool<A>, A>,
+    pub(crate) called: Node<MemorySpool<A>, A>,
+    pub(crate) verdict: LineVerdict,
+}
+
+impl<A: Allocator + Copy> Model for Report<A> {
+    ghost use Rattle.std.specs.Prelude.{map};
+    ghost use Rattle.uug_line.specs.Shown.{owned_by, session_shown};
+    ghost use Rattle.uug_line.specs.Spelled.{SpelledReport};
+
+    ghost Value = { SpelledReport };
+
+    ghost view = { λ r. record {
+      sessions = map session_shown r.sessions.items;
+      belongings = record { at_caller = owned_by r.caller; at_called = owned_by r.called };
+      verdict = r.verdict;
+    } };
+}
+
+impl<A: Allocator + Copy> Report<A> {
+    /// The sessions in order, the present one last.
+    pub fn sessions(&self) -> &[SessionReport<A>]
+        ensures { map session_shown result.now ≡ self.now.sessions }
+    {
+        self.sessions.as_slice()
+    }
+
+    /// The end that calls, as it stands.
+    pub fn caller(&self) -> &Node<MemorySpool<A>, A>
+        ensures { owned_by result.now ≡ self.now.belongings.at_caller }
+    {
+        &self.caller
+    }
+
+    /// The end that is called, as it stands.
+    pub fn called(&self) -> &Node<MemorySpool<A>, A>
+        ensures { owned_by result.now ≡ self.now.belongings.at_called }
+    {
+        &self.called
+    }
+
+    /// Whether each packet that was found had been sent.
+    pub fn verdict(&self) -> LineVerdict
+        ensures { result ≡ self.now.verdict }
+    {
+        self.verdict
+    }
+}

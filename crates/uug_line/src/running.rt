@@ -1,0 +1,296 @@
+ghost use Rattle.std.specs.Prelude.{◌≡◌, ◌∷◌, [], ◌++◌, IfOk, OnOk, take, drop, map};
+ghost use Rattle.uug_link.specs.Announced.{announced};
+ghost use Rattle.uug_session.specs.Engine.{all_ahead};
+ghost use Rattle.uug_session.specs.EndStep.{line_lost, time_ran_out};
+ghost use Rattle.uug_session.specs.MemoryHoldings.{held_by};
+ghost use Rattle.uug_session.specs.Side.{side_of};
+ghost use Rattle.uug_session.specs.Turns.{caller, called};
+ghost use Rattle.uug_session.specs.Talk.{Talk};
+ghost use Rattle.uug_line.specs.Belongings.{SetupValue};
+ghost use Rattle.uug_line.specs.Live.{AreWritten, HasBegun, HasRoom, HearsPiece, IsCalled, IsOrdered, parts_of};
+ghost use Rattle.uug_line.specs.Run.{Run, first_run, flipped, goes_through};
+ghost use Rattle.uug_line.specs.RunKeeper.{by_themselves};
+ghost use Rattle.uug_line.specs.RunParts.{CallsAgain, ChangesLine, EndsAs, Happens, HappensAt, IsSteady, Passes, StandsAs, hearing_side, run_parts, told_in_all, with_line};
+ghost use Rattle.uug_line.specs.Setup.{setup_of};
+ghost use Rattle.uug_line.specs.Shown.{lists_in};
+ghost use Rattle.uug_line.specs.Sides.{other};
+ghost use Rattle.uug_line.specs.Spelled.{spelled};
+ghost use Rattle.uug_line.specs.Headline.{AllKeptToWindows, AllRanAsMachine, AllTookFronts, StaysInFront, StruckWereStored};
+ghost use Rattle.uug_line.specs.World.{report_of_ends, report_of_world};
+ghost use Rattle.uug_line.specs.declared.side.Side.{Side};
+
+use crate::event::Event;
+use crate::fault::RunFault;
+use crate::line_laws::line_laws;
+use crate::live_end::LiveEnd;
+use crate::report::{Report, SessionReport};
+use crate::setup::{EndSetup, Setup};
+use crate::side::Side;
+use crate::soundness::look_at_setup;
+use crate::verdict::LineVerdict;
+use crate::world_laws::{a_run_is_the_world, the_headline};
+use std::alloc::{AllocError, Allocator};
+use uug_session::{Node, Place};
+
+/// How a run stands.
+#[derive(Drop)]
+pub(crate) struct RunSoFar<A: Allocator + Copy> {
+    /// The sessions that are over.
+    pub(crate) past: Vec<SessionReport<A>, A>,
+    pub(crate) caller: LiveEnd<A>,
+    pub(crate) called: LiveEnd<A>,
+}
+
+/// Sends these events over a line between two ends that are set up so, and tells what they did. The first session starts
+/// with the run. It stops where an end finds a packet that the other end has not sent, before the end takes it up.
+pub fn run<A: Allocator + Copy>(
+    alloc: A,
+    setup: Setup<A>,
+    events: &[Event],
+) -> Result<Report<A>, RunFault>
+    // It is what the two ends do, neither of which knows the other's jobs, and what somebody tells who knows both.
+    ensures ends { IfOk result (λ report. report ≡ spelled (report_of_ends (setup_of setup) events.now)) }
+    ensures world { IfOk result (λ report. report ≡ spelled (report_of_world (setup_of setup) events.now)) }
+    // In every session each end has taken the first messages that the other has sent.
+    ensures front { OnOk result (AllTookFronts (report_of_ends (setup_of setup) events.now)) }
+    // Each struck job has an entry of its own in what was stored, with its exact bytes.
+    ensures stored { OnOk result ((giver : Side) → StruckWereStored (setup_of setup) (report_of_ends (setup_of setup) events.now) giver) }
+    ensures earlier { OnOk result ((side : Side) → StaysInFront (setup_of setup) (report_of_ends (setup_of setup) events.now) side) }
+    // No end ever had more unacknowledged packets than the other announced.
+    ensures window { OnOk result (AllKeptToWindows (setup_of setup) (report_of_ends (setup_of setup) events.now)) }
+    // Each session has run as the window machine.
+    ensures machine { OnOk result (AllRanAsMachine (setup_of setup) (report_of_ends (setup_of setup) events.now)) }
+{
+    look_at_setup(&setup);
+    a_run_is_the_world();
+    the_headline();
+    let mut run = RunSoFar::start(alloc, setup)?;
+    let verdict = run.go_through(alloc, events)?;
+    let report = run.into_report(verdict)?;
+    Ok(report)
+}
+
+impl<A: Allocator + Copy> RunSoFar<A> {
+    fn start(alloc: A, setup: Setup<A>) -> Result<Self, AllocError>
+        ensures { IfOk result (λ run. StandsAs (setup_of setup) (first_run by_themselves (setup_of setup)) (run_parts run)) }
+    {
+        line_laws();
+        let Setup { caller, called } = setup;
+        let caller_place = place_of(&caller, &called);
+        let called_place = place_of(&called, &caller);
+        Ok(RunSoFar {
+            past: Vec::new(alloc),
+            caller: start_caller(alloc, caller_place, caller)?,
+            called: start_called(alloc, called_place, called)?,
+        })
+    }
+
+    /// The events, one after the other, up to one at which a packet is found that was not sent.
+    fn go_through(&mut self, alloc: A, events: &[Event]) -> Result<LineVerdict, AllocError>
+        requires { IsSteady (run_parts self.old) }
+        ensures { IfOk result (λ verdict. (setup : SetupValue) (run : Run Talk) → StandsAs setup run (run_parts self.old)
+            → EndsAs (goes_through by_themselves setup 0 events.now run) verdict (run_parts self.new)) }
+    {
+        for (number, event) in events.iter().enumerate() {
+            if !self.happens(alloc, *event)? {
+                return Ok(LineVerdict::Fooled {
+                    event: number,
+                    side: hearing_side(*event),
+                });
+            }
+        }
+        Ok(LineVerdict::Clean)
+    }
+
+    /// The event happens. The answer is false where an end has found a packet that was not sent.
+    fn happens(&mut self, alloc: A, event: Event) -> Result<bool, AllocError>
+        requires { IsSteady (run_parts self.old) }
+        ensures { IfOk result (λ all_sent. Happens event all_sent (run_parts self.old) (run_parts self.new)) }
+    {
+        match event {
+            Event::Pass { side, n } => return self.pass(alloc, side, n as usize),
+            Event::Drop { side, n } => self.lose(side, n as usize),
+            Event::Flip { side, mask } => self.flip(side, mask),
+            Event::Insert { side, byte } => self.insert(side, byte)?,
+            Event::Timeout { side } => self.time_out(alloc, side)?,
+            Event::HangUp { side } => self.hang_up(alloc, side)?,
+            Event::Call => self.call_again(alloc)?,
+        }
+        Ok(true)
+    }
+
+    /// The next bytes come to the side as one piece.
+    fn pass(&mut self, alloc: A, side: Side, n: usize) -> Result<bool, AllocError>
+        requires { IsSteady (run_parts self.old) }
+        ensures { IfOk result (λ all_sent. Passes side n all_sent (run_parts self.old) (run_parts self.new)) }
+    {
+        match side {
+            Side::Caller => deliver(alloc, &mut self.caller, &mut self.called, n),
+            Side::Called => deliver(alloc, &mut self.called, &mut self.caller, n),
+        }
+    }
+
+    /// The next bytes to the side are lost.
+    fn lose(&mut self, side: Side, n: usize)
+        ensures { HappensAt (other side) (ChangesLine (drop n)) (run_parts self.old) (run_parts self.new) }
+    {
+        match side {
+            Side::Caller => self.called.line.pass(n),
+            Side::Called => self.caller.line.pass(n),
+        }
+    }
+
+    /// The next byte to the side is changed.
+    fn flip(&mut self, side: Side, mask: u8)
+        ensures { HappensAt (other side) (ChangesLine (flipped mask)) (run_parts self.old) (run_parts self.new) }
+    {
+        match side {
+            Side::Caller => self.called.line.flip(mask),
+            Side::Called => self.caller.line.flip(mask),
+        }
+    }
+
+    /// A byte is put in front of the next one to the side.
+    fn insert(&mut self, side: Side, byte: u8) -> Result<(), AllocError>
+        ensures { OnOk result (HappensAt (other side) (ChangesLine (λ line. byte ∷ line)) (run_parts self.old) (run_parts self.new)) }
+    {
+        match side {
+            Side::Caller => self.called.line.insert(byte),
+            Side::Called => self.caller.line.insert(byte),
+        }
+    }
+
+    /// Nothing has come to the side for some time.
+    fn time_out(&mut self, alloc: A, side: Side) -> Result<(), AllocError>
+        requires { IsSteady (run_parts self.old) }
+        ensures { OnOk result (HappensAt side (IsCalled time_ran_out) (run_parts self.old) (run_parts self.new)) }
+    {
+        match side {
+            Side::Caller => self.caller.time_out(alloc),
+            Side::Called => self.called.time_out(alloc),
+        }
+    }
+
+    /// The line is gone for the side.
+    fn hang_up(&mut self, alloc: A, side: Side) -> Result<(), AllocError>
+        requires { IsSteady (run_parts self.old) }
+        ensures { OnOk result (HappensAt side (IsCalled line_lost) (run_parts self.old) (run_parts self.new)) }
+    {
+        match side {
+            Side::Caller => self.caller.hang_up(alloc),
+            Side::Called => self.called.hang_up(alloc),
+        }
+    }
+
+    /// Both ends hang up, what is on the line is lost, and a new session begins.
+    fn call_again(&mut self, alloc: A) -> Result<(), AllocError>
+        requires { IsSteady (run_parts self.old) }
+        ensures { OnOk result (CallsAgain (run_parts self.old) (run_parts self.new)) }
+    {
+        self.caller.hang_up(alloc)?;
+        self.called.hang_up(alloc)?;
+        let caller = self.caller.call_again(alloc)?;
+        let called = self.called.call_again(alloc)?;
+        self.past.push(SessionReport { caller, called })?;
+        Ok(())
+    }
+
+    /// What is told of it.
+    fn into_report(self, verdict: LineVerdict) -> Result<Report<A>, AllocError>
+        ensures { IfOk result (λ report. report ≡ told_in_all (run_parts self) verdict) }
+    {
+        let RunSoFar {
+            mut past,
+            caller,
+            called,
+        } = self;
+        let caller_phase = caller.node.phase();
+        let called_phase = called.node.phase();
+        past.push(SessionReport {
+            caller: caller.journal.into_report(caller_phase),
+            called: called.journal.into_report(called_phase),
+        })?;
+        Ok(Report {
+            sessions: past,
+            caller: caller.node,
+            called: called.node,
+            verdict,
+        })
+    }
+}
+
+/// The side that hears, where one does in the event.
+fn hearing_side(event: Event) -> Side
+    ensures { result ≡ hearing_side event }
+{
+    match event {
+        Event::Pass { side, .. } => side,
+        _ => Side::Caller,
+    }
+}
+
+/// Where the one end stands, which expects the other.
+fn place_of<A: Allocator>(one: &EndSetup<A>, other: &EndSetup<A>) -> Place
+    ensures me { result.me ≡ one.now.name }
+    ensures peer { result.peer ≡ other.now.name }
+    ensures announce { result.announce ≡ one.now.announce }
+{
+    Place {
+        me: one.name,
+        peer: other.name,
+        announce: one.announce,
+    }
+}
+
+fn start_caller<A: Allocator + Copy>(
+    alloc: A,
+    place: Place,
+    setup: EndSetup<A>,
+) -> Result<LiveEnd<A>, AllocError>
+    ensures { IfOk result (λ end. HasBegun (record { side = caller; me = place.me; peer = place.peer }) (announced place.announce)
+        (all_ahead setup.queue) (held_by setup.spool) (parts_of end)) }
+{
+    line_laws();
+    let Ok(node) = Node::caller(alloc, place, setup.queue, setup.spool) else {
+        return Err(AllocError);
+    };
+    let end = LiveEnd::start(alloc, node)?;
+    Ok(end)
+}
+
+fn start_called<A: Allocator + Copy>(
+    alloc: A,
+    place: Place,
+    setup: EndSetup<A>,
+) -> Result<LiveEnd<A>, AllocError>
+    ensures { IfOk result (λ end. HasBegun (record { side = called; me = place.me; peer = place.peer }) (announced place.announce)
+        (all_ahead setup.queue) (held_by setup.spool) (parts_of end)) }
+{
+    line_laws();
+    let Ok(node) = Node::called(alloc, place, setup.queue, setup.spool) else {
+        return Err(AllocError);
+    };
+    let end = LiveEnd::start(alloc, node)?;
+    Ok(end)
+}
+
+/// The next bytes that one end has emitted come to the other as one piece. The answer is false where that one finds a packet
+/// that was not sent.
+fn deliver<A: Allocator + Copy>(
+    alloc: A,
+    hearer: &mut LiveEnd<A>,
+    speaker: &mut LiveEnd<A>,
+    n: usize,
+) -> Result<bool, AllocError>
+    requires ordered { IsOrdered (parts_of hearer.old) }
+    requires room { HasRoom (parts_of hearer.old) }
+    requires written { AreWritten (parts_of speaker.old).jottings.packets }
+    ensures heard { IfOk result (λ all_sent. HearsPiece all_sent (parts_of speaker.old).jottings.packets
+        (take n (parts_of speaker.old).line) (parts_of hearer.old) (parts_of hearer.new)) }
+    ensures line { OnOk result (parts_of speaker.new ≡ with_line (drop n) (parts_of speaker.old)) }
+{
+    let piece = speaker.line.next(n);
+    let all_sent = hearer.hear(alloc, piece, speaker.journal.packets.as_slice())?;
+    speaker.line.pass(n);
+    Ok(all_sent)
+}

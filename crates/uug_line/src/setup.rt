@@ -1,0 +1,26 @@
+use std::alloc::Allocator;
+use uug_link::Announce;
+use uug_session::{MemorySpool, Queue};
+use uug_talk::Name;
+
+/// What an end is set up with.
+#[derive(Drop)]
+pub struct EndSetup<A: Allocator> {
+    /// What the end is called.
+    pub name: Name,
+    /// What the other end shall use.
+    pub announce: Announce,
+    /// Its jobs.
+    pub queue: Queue<A>,
+    /// Its files.
+    pub spool: MemorySpool<A>,
+}
+
+/// The two ends of a line, each of which expects the other by its name.
+#[derive(Drop)]
+pub struct Setup<A: Allocator> {
+    /// The end that calls.
+    pub caller: EndSetup<A>,
+    /// The end that is called.
+    pub called: EndSetup<A>,
+}

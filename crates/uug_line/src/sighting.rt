@@ -1,0 +1,78 @@
+ghost use Rattle.std.specs.Prelude.{◌≡◌, ◌<◌, ◌↔◌, length, slice_get, IsTrue, MatchOption, Some};
+ghost use Rattle.uug_line.specs.Shown.{lists_in};
+ghost use Rattle.uug_line.specs.Sightings.{ItemIsWritable, Sights, SightsNext, StandsAt, StandsNowhere};
+ghost use Rattle.uug_reader.specs.declared.reader.TheConstants.{READER_SIZE};
+ghost use Rattle.uug_session.specs.Node.{held_bytes, item_size, node_of, searched, shown_item};
+
+use arrayvec::ArrayVec;
+use std::alloc::Allocator;
+use uug_packet::encode;
+use uug_packet::laws::packets_are_well_formed;
+use uug_session::{Item, MemorySpool, Node};
+
+/// What an end has found next in the bytes that came to it.
+#[derive(Clone, Copy)]
+pub(crate) enum Sighting {
+    /// Nothing that is whole.
+    Nothing,
+    /// A text, or a broken packet.
+    Other,
+    /// The other end's packet at this place.
+    At(usize),
+    /// A packet that was not sent, or not so often.
+    Unsent,
+}
+
+/// Looks for the next item. A packet has its place among those that the other end has emitted, behind those that are
+/// passed.
+pub(crate) fn sight<A: Allocator + Copy>(
+    node: &mut Node<MemorySpool<A>, A>,
+    others: &[Vec<u8, A>],
+    passed: usize,
+) -> Sighting
+    ensures found { node_of node.new ≡ searched (node_of node.old) }
+    ensures spool { node.new.spool ≡ node.old.spool }
+    ensures room { item_size (node_of node.new) ≡ 0 → length (held_bytes (node_of node.new)) < READER_SIZE }
+    ensures next { SightsNext (node_of node.new) (lists_in others.now) passed result }
+{
+    packets_are_well_formed();
+    match node.next_found() {
+        None => Sighting::Nothing,
+        Some(item) => sighting_of(&item, others, passed),
+    }
+}
+
+fn sighting_of<A: Allocator>(item: &Item<'_>, others: &[Vec<u8, A>], passed: usize) -> Sighting
+    requires { ItemIsWritable (shown_item item.now) }
+    ensures { Sights (shown_item item.now) (lists_in others.now) passed result }
+{
+    let Item::Packet(packet) = item else {
+        return Sighting::Other;
+    };
+    let mut bytes = ArrayVec::new();
+    encode(packet, &mut bytes);
+    match place_of(bytes.as_slice(), others, passed) {
+        Some(place) => Sighting::At(place),
+        None => Sighting::Unsent,
+    }
+}
+
+/// The first place, behind those that are passed, at which these bytes stand.
+fn place_of<A: Allocator>(bytes: &[u8], others: &[Vec<u8, A>], passed: usize) -> Option<usize>
+    ensures { MatchOption result (StandsNowhere bytes.now (lists_in others.now) passed)
+        (λ place. StandsAt bytes.now (lists_in others.now) passed place) }
+{
+    for i in passed..others.len() {
+        if stands_at(bytes, others, i) {
+            return Some(i);
+        }
+    }
+    None
+}
+
+fn stands_at<A: Allocator>(bytes: &[u8], others: &[Vec<u8, A>], i: usize) -> bool
+    requires { i < length others.now }
+    ensures { IsTrue result ↔ (slice_get (lists_in others.now) i ≡ Some bytes.now) }
+{
+    others[i].as_slice() == bytes
+}

@@ -1,0 +1,137 @@
+//! Laws of a run, for every two ends and whatever happens on the line between them: a run is the world, the headline, and
+//! where a run stops. The functions do nothing.
+ghost use Rattle.std.specs.Prelude.{◌≡◌, ◌↔◌, ℕ, List, All};
+ghost use Rattle.uug_packet.specs.Bytes.{AreBytes};
+ghost use Rattle.uug_line.specs.declared.event.Event.{Event};
+ghost use Rattle.uug_line.specs.declared.side.Side.{Side};
+ghost use Rattle.uug_line.specs.declared.verdict.LineVerdict.TheVariants.{Clean, Fooled};
+ghost use Rattle.uug_line.specs.Belongings.{SetupValue};
+ghost use Rattle.uug_line.specs.Delivered.{HasHeardAt, HasScanned, came_in};
+ghost use Rattle.uug_line.specs.Fooled.{FindsNothingMore, FindsUnsent, FoundWereSent, StoppedAt};
+ghost use Rattle.uug_line.specs.Headline.{AllKeptToWindows, AllRanAsMachine, AllTookFronts, StaysInFront, StruckWereStored};
+ghost use Rattle.uug_line.specs.LowerLaws.{Laws};
+ghost use Rattle.uug_line.specs.Run.{end_at};
+ghost use Rattle.uug_line.specs.RunKeeper.{by_numbers, by_themselves};
+ghost use Rattle.uug_line.specs.SessionLaws.{SessionLaws};
+ghost use Rattle.uug_line.specs.Sides.{at};
+ghost use Rattle.uug_line.specs.SoundSetup.{IsSoundSetup};
+ghost use Rattle.uug_line.specs.World.{counted, report_of_ends, report_of_world, run_of_ends, world};
+
+use uug_link::laws::{
+    arrivals, runs_of_two_links, two_links_run_as_the_machine, what_a_link_answers,
+};
+use uug_reader::laws::{found_in_steps, search_finds_the_first};
+use uug_session::arriving_laws::{bytes_are_left, what_is_found_stays};
+use uug_session::conversation_laws::jobs_are_in_one_list;
+use uug_session::end_laws::{earlier_jobs_change_nothing, own_messages_fit};
+use uug_session::laws::two_ends_are_told_by_four_numbers;
+use uug_session::stored_laws::{
+    nothing_is_struck_at_first, own_entries_have_places, own_entries_of_sessions,
+    struck_jobs_have_own_entries,
+};
+use uug_session::text_laws::texts_are_taken_in_order;
+use uug_session::told_laws::{an_end_is_told_by_two_numbers, an_end_keeps_what_it_brought};
+
+/// The laws of links and of an end's conversation, for the proofs here.
+fn laws_below()
+    ensures { Laws }
+{
+    what_a_link_answers();
+    two_links_run_as_the_machine();
+    runs_of_two_links();
+    arrivals();
+    two_ends_are_told_by_four_numbers();
+    own_messages_fit();
+    earlier_jobs_change_nothing();
+    an_end_keeps_what_it_brought();
+    an_end_is_told_by_two_numbers();
+}
+
+/// The laws of whole sessions, for the proofs here.
+fn session_laws()
+    ensures { SessionLaws }
+{
+    two_links_run_as_the_machine();
+    struck_jobs_have_own_entries();
+    own_entries_of_sessions();
+    own_entries_have_places();
+    nothing_is_struck_at_first();
+    jobs_are_in_one_list();
+}
+
+/// Two ends, neither of which knows the other's jobs, do on every line what the world says: told by how many messages of
+/// the whole conversation each has sent and taken, their run is the world's, and so is its report.
+pub fn a_run_is_the_world()
+    ensures run { (setup : SetupValue) (events : List Event) → IsSoundSetup setup
+        → counted (run_of_ends setup events) ≡ world setup events }
+    ensures report { (setup : SetupValue) (events : List Event) → IsSoundSetup setup
+        → report_of_ends setup events ≡ report_of_world setup events }
+{
+    laws_below();
+    session_laws();
+}
+
+/// The headline: in every session each end has taken a front of the messages that the other sent, and no end ever has more
+/// unacknowledged packets than the other announced; a job is struck only after its exact bytes were stored.
+pub fn the_headline()
+    ensures front { (setup : SetupValue) (events : List Event) → IsSoundSetup setup
+        → AllTookFronts (report_of_ends setup events) }
+    ensures window { (setup : SetupValue) (events : List Event) → IsSoundSetup setup
+        → AllKeptToWindows setup (report_of_ends setup events) }
+    ensures stored { (setup : SetupValue) (events : List Event) → IsSoundSetup setup
+        → (giver : Side) → StruckWereStored setup (report_of_ends setup events) giver }
+    // What was struck and stored before the run stays in front.
+    ensures earlier { (setup : SetupValue) (events : List Event) → IsSoundSetup setup
+        → (side : Side) → StaysInFront setup (report_of_ends setup events) side }
+    // Packet by packet, each session is one of the window machine.
+    ensures machine { (setup : SetupValue) (events : List Event) → IsSoundSetup setup
+        → AllRanAsMachine setup (report_of_ends setup events) }
+{
+    laws_below();
+    session_laws();
+}
+
+/// A run stops exactly where an end finds a packet that was not sent to it: one that, with those found before it in the
+/// session, is not among the packets that the other end emitted, in this order and none more often.
+pub fn a_run_stops_at_what_was_not_sent()
+    // All packets that were taken up were sent.
+    ensures sent { (setup : SetupValue) (events : List Event) → All FoundWereSent (report_of_ends setup events).sessions }
+    // A run that did not stop found no others in the bytes that came.
+    ensures clean { (setup : SetupValue) (events : List Event) → (run_of_ends setup events).verdict ≡ Clean
+        → (side : Side) → FindsNothingMore (end_at side (run_of_ends setup events)) }
+    // The verdict names the side that has found one, and the first event with which one did.
+    ensures fooled { (setup : SetupValue) (events : List Event) (side : Side)
+        → ((number : ℕ) × ((run_of_ends setup events).verdict ≡ Fooled number side))
+        ↔ FindsUnsent (run_of_ends setup events) side }
+    ensures stopped { (setup : SetupValue) (events : List Event) (number : ℕ) (side : Side)
+        → (run_of_ends setup events).verdict ≡ Fooled number side → StoppedAt by_themselves setup events number side }
+{
+    arrivals();
+    what_is_found_stays();
+}
+
+/// In whatever pieces bytes come to an end, in each session, what it finds in them is what stands in all of them: the texts
+/// of its greeting, and then, from the first byte behind the last of these on, the items of the link. The packets that have
+/// places among those of the other end are the packets among these items, and no others. A session that is over was the
+/// present one behind fewer events.
+pub fn an_end_finds_what_came()
+    ensures heard { (setup : SetupValue) (events : List Event) (side : Side)
+        → AreBytes (at side (came_in by_themselves setup events))
+        → HasHeardAt (at side (came_in by_themselves setup events)) (run_of_ends setup events) side }
+    // Where the run did not stop, an end on its link has found the whole scan of them.
+    ensures scanned { (setup : SetupValue) (events : List Event) (side : Side)
+        → AreBytes (at side (came_in by_themselves setup events)) → (run_of_ends setup events).verdict ≡ Clean
+        → (heard : HasHeardAt (at side (came_in by_themselves setup events)) (run_of_ends setup events) side)
+        → HasScanned (at side (came_in by_themselves setup events)) (run_of_ends setup events) side heard }
+    // So it is in the world.
+    ensures world { (setup : SetupValue) (events : List Event) (side : Side)
+        → AreBytes (at side (came_in by_numbers setup events))
+        → HasHeardAt (at side (came_in by_numbers setup events)) (world setup events) side }
+{
+    arrivals();
+    what_is_found_stays();
+    texts_are_taken_in_order();
+    bytes_are_left();
+    found_in_steps();
+    search_finds_the_first();
+}

@@ -1,0 +1,207 @@
+//! Sessions as tables, and the two players that follow them: one of two ends that hand each other their bytes, and one of
+//! an end over whose line a script speaks. The clauses say that an end does what the definitions say. These tests catch a
+//! call that answers want of memory where none was refused, a refused call that can't be made again, and a rule that the
+//! definitions state wrongly: above each test stands which.
+
+mod answers;
+mod faulty;
+mod greetings;
+mod hostile;
+mod line;
+mod script;
+mod sessions;
+
+use std::alloc::Allocator;
+use std::process::Abort;
+use std::test::Fail;
+use uug_link::Announce;
+use uug_session::{End, Job, MemorySpool, Node, NotMade, Phase, Place, Queue, Spool, Stored};
+use uug_talk::Name;
+
+/// An end whose files are in memory.
+type MemoryNode<A> = Node<MemorySpool<A>, A>;
+
+/// The end `a` that calls `b`, or the end `b` that is called by it.
+#[derive(Clone, Copy)]
+enum Side {
+    Caller,
+    Called,
+}
+
+/// A job of the user `u`: the file's names where it is and where it goes.
+#[derive(Clone, Copy)]
+enum Task<'a> {
+    Send(&'a [u8], &'a [u8]),
+    Request(&'a [u8], &'a [u8]),
+}
+
+/// What an end has before its first session.
+#[derive(Clone, Copy)]
+enum Given<'a> {
+    /// A file of this name and of mode 0644, with these bytes.
+    File(&'a [u8], &'a [u8]),
+    Deny(&'a [u8]),
+    Later(&'a [u8]),
+    Immovable(&'a [u8]),
+    Job(Task<'a>),
+}
+
+/// What an end has when all is over, each kind in order.
+#[derive(Clone, Copy)]
+enum Left<'a> {
+    Pending(Task<'a>),
+    Struck(Task<'a>),
+    Failed(Task<'a>),
+    /// A file that it stored under this name and of mode 0644, with these bytes.
+    Stored(&'a [u8], &'a [u8]),
+}
+
+const NO_WORK: &[Given<'static>] = &[];
+
+const NOTHING: &[Left<'static>] = &[];
+
+/// Sends `x` as `y`.
+const SEND: Task<'static> = Task::Send(b"x", b"y");
+
+/// What the end has that does so, the file being empty.
+const SENDER: &[Given<'static>] = &[Given::File(b"x", b""), Given::Job(SEND)];
+
+fn name(text: &[u8]) -> Result<Name, Fail> {
+    Ok(Name::new(text)?)
+}
+
+fn job(task: Task<'_>) -> Result<Job, Fail> {
+    let user = name(b"u")?;
+    Ok(match task {
+        Task::Send(source, target) => Job::Send {
+            source: name(source)?,
+            target: name(target)?,
+            user,
+            temp: None,
+        },
+        Task::Request(source, target) => Job::Request {
+            source: name(source)?,
+            target: name(target)?,
+            user,
+        },
+    })
+}
+
+/// Where an end of window 2 stands.
+fn place(side: Side, size: usize) -> Result<Place, Fail> {
+    let (a, b) = (name(b"a")?, name(b"b")?);
+    let (me, peer) = match side {
+        Side::Caller => (a, b),
+        Side::Called => (b, a),
+    };
+    let announce = Announce::new(2, size)?;
+    Ok(Place { me, peer, announce })
+}
+
+fn give<A: Allocator + Copy>(
+    queue: &mut Queue<A>,
+    spool: &mut MemorySpool<A>,
+    one: Given<'_>,
+) -> Result<(), Fail> {
+    match one {
+        Given::File(file, bytes) => spool.add_file(name(file)?, 0o644, bytes)?,
+        Given::Deny(file) => spool.deny(name(file)?)?,
+        Given::Later(file) => spool.later(name(file)?)?,
+        Given::Immovable(file) => spool.immovable(name(file)?)?,
+        Given::Job(task) => queue.add(job(task)?)?,
+    }
+    Ok(())
+}
+
+fn stock<A: Allocator + Copy>(
+    alloc: A,
+    given: &[Given<'_>],
+) -> Result<(Queue<A>, MemorySpool<A>), Fail> {
+    let mut queue = Queue::new(alloc);
+    let mut spool = MemorySpool::new(alloc);
+    for one in given {
+        give(&mut queue, &mut spool, *one)?;
+    }
+    Ok((queue, spool))
+}
+
+fn make<S: Spool, A: Allocator + Copy>(
+    alloc: A,
+    side: Side,
+    place: Place,
+    queue: Queue<A>,
+    spool: S,
+) -> Result<Node<S, A>, NotMade<S, A>> {
+    match side {
+        Side::Caller => Node::caller(alloc, place, queue, spool),
+        Side::Called => Node::called(alloc, place, queue, spool),
+    }
+}
+
+fn end<A: Allocator + Copy>(
+    alloc: A,
+    side: Side,
+    size: usize,
+    given: &[Given<'_>],
+) -> Result<MemoryNode<A>, Fail> {
+    let place = place(side, size)?;
+    let (queue, spool) = stock(alloc, given)?;
+    let node = make(alloc, side, place, queue, spool);
+    Ok(node.ok().ok_or("an end")?)
+}
+
+/// The session has ended so, and just this is left.
+fn assert_ended<S: Spool, A: Allocator + Copy>(
+    rt: &impl Abort,
+    node: &Node<S, A>,
+    stored: &[Stored<A>],
+    how: End,
+    left: &[Left<'_>],
+) -> Result<(), Fail> {
+    assert_eq!(rt; node.phase(), Phase::Ended(how));
+    assert_lists(rt, node.queue(), stored, left)
+}
+
+/// The lists hold just what is left.
+fn assert_lists<A: Allocator>(
+    rt: &impl Abort,
+    queue: &Queue<A>,
+    stored: &[Stored<A>],
+    left: &[Left<'_>],
+) -> Result<(), Fail> {
+    let mut pending = queue.pending().iter();
+    let mut struck = queue.struck().iter();
+    let mut failed = queue.failed().iter();
+    let mut stored = stored.iter();
+    for one in left {
+        match one {
+            Left::Pending(task) => assert_job(rt, pending.next(), *task)?,
+            Left::Struck(task) => assert_job(rt, struck.next(), *task)?,
+            Left::Failed(task) => assert_job(rt, failed.next(), *task)?,
+            Left::Stored(target, bytes) => assert_file(rt, stored.next(), target, bytes)?,
+        }
+    }
+    assert!(rt; pending.next().is_none());
+    assert!(rt; struck.next().is_none());
+    assert!(rt; failed.next().is_none());
+    assert!(rt; stored.next().is_none());
+    Ok(())
+}
+
+fn assert_job(rt: &impl Abort, found: Option<&Job>, task: Task<'_>) -> Result<(), Fail> {
+    let found = found.ok_or("a job")?;
+    assert_eq!(rt; *found, job(task)?);
+    Ok(())
+}
+
+fn assert_file<A: Allocator>(
+    rt: &impl Abort,
+    found: Option<&Stored<A>>,
+    target: &[u8],
+    bytes: &[u8],
+) -> Result<(), Fail> {
+    let found = found.ok_or("a file")?;
+    assert_eq!(rt; (found.name, found.mode), (name(target)?, 0o644));
+    assert_eq!(rt; found.bytes.as_slice(), bytes);
+    Ok(())
+}

@@ -1,0 +1,121 @@
+//! A device that fails once.
+
+ghost use Rattle.std.specs.Prelude.{[], map};
+ghost use Rattle.uug_session.specs.MemoryHoldings.{holdings_of, kept_of, no_holdings};
+ghost use Rattle.uug_session.specs.StoredModes.{modes_in_range};
+
+use super::line::{Event, Line};
+use super::script::Wire::{Close, Rr};
+use super::script::assert_says;
+use super::{Left, MemoryNode, NOTHING, SEND, SENDER, Side, assert_ended, end, place};
+use std::alloc::{Allocator, Global};
+use std::process::Abort;
+use std::test::Fail;
+use uug_session::{End, FileView, KeepFault, Node, Queue, Spool, Stored, Verdict};
+use uug_talk::Name;
+
+/// A spool with no file to give, that takes every file. Its device fails at the first.
+#[derive(Drop)]
+struct FaultySpool<A: Allocator> {
+    stored: Vec<Stored<A>, A>,
+    faults: u64,
+    alloc: A,
+}
+
+impl<A: Allocator + Copy> FaultySpool<A> {
+    fn new(alloc: A) -> Self {
+        FaultySpool {
+            stored: Vec::new(alloc),
+            faults: 0,
+            alloc,
+        }
+    }
+}
+
+impl<A: Allocator + Copy> Spool for FaultySpool<A> {
+    ghost holdings = { λ s. holdings_of no_holdings };
+
+    ghost kept = { λ s. map kept_of s.stored.items };
+
+    ghost faults = { λ s. s.faults };
+
+    fn may_keep(&self, _name: &Name) -> Verdict {
+        Verdict::Yes
+    }
+
+    fn fetch(&self, _name: &Name) -> Option<FileView<'_>> {
+        None
+    }
+
+    fn keep(&mut self, name: &Name, mode: u16, bytes: &[u8]) -> Result<(), KeepFault> {
+        if self.faults == 0 {
+            self.faults = 1;
+            return Err(KeepFault::Device);
+        }
+        let Ok(bytes) = bytes.to_vec(self.alloc) else {
+            return Err(KeepFault::Memory);
+        };
+        let file = Stored {
+            name: *name,
+            mode,
+            bytes,
+        };
+        match self.stored.push(file) {
+            Ok(()) => Ok(()),
+            Err(_) => Err(KeepFault::Memory),
+        }
+    }
+
+    fn faults(&self) -> u64 {
+        self.faults
+    }
+
+    ghost modes = { λ s. modes_in_range {A = Unit {0}} [] };
+}
+
+type FaultyNode = Node<FaultySpool<Global>, Global>;
+
+fn called(alloc: Global) -> Result<FaultyNode, Fail> {
+    let place = place(Side::Called, 32)?;
+    let spool = FaultySpool::new(alloc);
+    let node = Node::called(alloc, place, Queue::new(alloc), spool);
+    Ok(node.ok().ok_or("an end")?)
+}
+
+/// The device fails at the file's end; the ends call again, and it does not.
+fn recover(
+    rt: &impl Abort,
+    log: Global,
+    caller: &mut MemoryNode<Global>,
+    called: &mut FaultyNode,
+) -> Result<(), Fail> {
+    let mut line = Line::new(log, usize::MAX);
+    line.play(&[Event::Flow(6), Event::ToCalled], caller, called)?;
+    assert_says(rt, log, called, &[Rr(2), Close])?;
+    let files = called.spool().stored.as_slice();
+    assert_ended(rt, called, files, End::SpoolFault, NOTHING)?;
+    line.play(&[Event::ToCaller, Event::LostToCalled], caller, called)?;
+    let pending = [Left::Pending(SEND)];
+    assert_ended(rt, caller, &[], End::PeerClosed, &pending)?;
+    line.play(&[Event::Call, Event::Flow(20)], caller, called)?;
+    assert_ended(rt, caller, &[], End::Done, &[Left::Struck(SEND)])?;
+    let files = called.spool().stored.as_slice();
+    let stored = [Left::Stored(b"y", b"")];
+    assert_ended(rt, called, files, End::Done, &stored)
+}
+
+fn recover_from(
+    rt: &impl Abort,
+    alloc: Global,
+    caller: &mut MemoryNode<Global>,
+) -> Result<(), Fail> {
+    let mut called = called(alloc)?;
+    recover(rt, alloc, caller, &mut called)
+}
+
+// a fault after which the job is gone, or is not offered again; a file that is stored all the same
+#[test]
+fn recovers_from_a_fault_of_the_device(rt: HostRuntime) -> Result<(), Fail> {
+    let mut caller = end(rt.alloc(), Side::Caller, 32, SENDER)?;
+    recover_from(&rt, rt.alloc(), &mut caller)
+}

@@ -1,0 +1,144 @@
+//! A line between two ends.
+
+use std::alloc::{Allocator, Global};
+use std::test::Fail;
+use uug_session::{Node, Spool};
+
+/// What happens to two ends.
+#[derive(Clone, Copy)]
+pub(super) enum Event {
+    /// So many times, all that the caller has emitted comes to the called end, and then the other way round.
+    Flow(u8),
+    ToCalled,
+    ToCaller,
+    LostToCalled,
+    TimeoutOfCaller,
+    /// The line is gone for both ends, and each begins a session.
+    Call,
+}
+
+/// A line, which hands bytes over in pieces of at most so many. A call that is refused memory is made once more.
+#[derive(Drop)]
+pub(super) struct Line {
+    pub(super) piece: usize,
+    /// All that has gone out on it.
+    pub(super) said: Vec<u8, Global>,
+    pub(super) refused: Refused,
+}
+
+/// How many calls of each kind were refused memory.
+#[derive(Clone, Copy, Default)]
+pub(super) struct Refused {
+    pub(super) items: usize,
+    pub(super) timeouts: usize,
+    pub(super) calls: usize,
+}
+
+impl Line {
+    pub(super) fn new(alloc: Global, piece: usize) -> Self {
+        Line {
+            piece,
+            said: Vec::new(alloc),
+            refused: Refused::default(),
+        }
+    }
+
+    pub(super) fn play<S: Spool, T: Spool, A: Allocator + Copy>(
+        &mut self,
+        events: &[Event],
+        caller: &mut Node<S, A>,
+        called: &mut Node<T, A>,
+    ) -> Result<(), Fail> {
+        for event in events {
+            match event {
+                Event::Flow(times) => self.flow(*times, caller, called)?,
+                Event::ToCalled => self.carry(caller, called)?,
+                Event::ToCaller => self.carry(called, caller)?,
+                Event::LostToCalled => self.lose(caller)?,
+                Event::TimeoutOfCaller => self.time_out(caller)?,
+                Event::Call => {
+                    self.call_again(caller)?;
+                    self.call_again(called)?;
+                }
+            }
+        }
+        Ok(())
+    }
+
+    fn flow<S: Spool, T: Spool, A: Allocator + Copy>(
+        &mut self,
+        times: u8,
+        caller: &mut Node<S, A>,
+        called: &mut Node<T, A>,
+    ) -> Result<(), Fail> {
+        for _ in 0..times {
+            self.carry(caller, called)?;
+            self.carry(called, caller)?;
+        }
+        Ok(())
+    }
+
+    /// All that one end has emitted comes to the other.
+    fn carry<S: Spool, T: Spool, A: Allocator + Copy>(
+        &mut self,
+        from: &mut Node<S, A>,
+        to: &mut Node<T, A>,
+    ) -> Result<(), Fail> {
+        self.bring(from.outbox().bytes(), to)?;
+        self.lose(from)
+    }
+
+    /// All that an end has emitted is taken away.
+    fn lose<S: Spool, A: Allocator + Copy>(&mut self, from: &mut Node<S, A>) -> Result<(), Fail> {
+        self.said.extend_from_slice(from.outbox().bytes())?;
+        from.clear_outbox();
+        Ok(())
+    }
+
+    /// The end takes up all of these bytes.
+    pub(super) fn bring<S: Spool, A: Allocator + Copy>(
+        &mut self,
+        bytes: &[u8],
+        to: &mut Node<S, A>,
+    ) -> Result<(), Fail> {
+        let mut rest = bytes;
+        for _ in 0..2_000_000 {
+            let used = to.offer(&rest[..rest.len().min(self.piece)]);
+            rest = &rest[used..];
+            if to.next_found().is_some() {
+                if to.take_found().is_err() {
+                    self.refused.items = self.refused.items.saturating_add(1);
+                    to.take_found()?;
+                }
+            } else if rest.is_empty() {
+                return Ok(());
+            }
+        }
+        Err("an end of the items".into())
+    }
+
+    /// Nothing has come for some time.
+    pub(super) fn time_out<S: Spool, A: Allocator + Copy>(
+        &mut self,
+        node: &mut Node<S, A>,
+    ) -> Result<(), Fail> {
+        if node.on_timeout().is_err() {
+            self.refused.timeouts = self.refused.timeouts.saturating_add(1);
+            node.on_timeout()?;
+        }
+        Ok(())
+    }
+
+    /// The line is gone, and a session begins.
+    pub(super) fn call_again<S: Spool, A: Allocator + Copy>(
+        &mut self,
+        node: &mut Node<S, A>,
+    ) -> Result<(), Fail> {
+        node.hang_up();
+        if node.call_again().is_err() {
+            self.refused.calls = self.refused.calls.saturating_add(1);
+            node.call_again()?;
+        }
+        Ok(())
+    }
+}

@@ -1,0 +1,244 @@
+//! Sessions of two ends.
+
+use super::line::{Event, Line};
+use super::{
+    Given, Left, MemoryNode, NO_WORK, NOTHING, SEND, SENDER, Side, Task, assert_ended, make, place,
+    stock,
+};
+use std::alloc::{Allocator, Global};
+use std::process::Abort;
+use std::test::Fail;
+use uug_refusal::Refusing;
+use uug_session::{End, NotMade};
+
+type HeapNode<'a> = MemoryNode<&'a Refusing<Global>>;
+
+/// What the caller and the called end have, what happens, and what they then have.
+#[derive(Clone, Copy)]
+struct Session<'a> {
+    caller_has: &'a [Given<'a>],
+    called_has: &'a [Given<'a>],
+    events: &'a [Event],
+    caller_left: &'a [Left<'a>],
+    called_left: &'a [Left<'a>],
+}
+
+impl Session<'_> {
+    fn play<A: Allocator + Copy>(
+        &self,
+        rt: &impl Abort,
+        line: &mut Line,
+        caller: &mut MemoryNode<A>,
+        called: &mut MemoryNode<A>,
+    ) -> Result<(), Fail> {
+        line.play(self.events, caller, called)?;
+        let (left, right) = (caller.spool().stored(), called.spool().stored());
+        assert_ended(rt, caller, left, End::Done, self.caller_left)?;
+        assert_ended(rt, called, right, End::Done, self.called_left)
+    }
+}
+
+const REQUEST: Task<'static> = Task::Request(b"q", b"y");
+
+const SEND_BACK: Task<'static> = Task::Send(b"x", b"z");
+
+/// An image of a packet, and more than a message of zeros.
+const LONG: &[u8] =
+    b"\x10\x09\x89\xaa\x21\x0b0123456789abcdefghijklmnop\0\0\0\0\0\0\0\0\0\0\0\0\0\0\0\0\0\0\0\0\0\0\0\0\0\0\0\0\0\0\0\0\0\0-+-";
+
+const SESSIONS: &[Session<'static>] = &[
+    Session {
+        caller_has: SENDER,
+        called_has: NO_WORK,
+        events: &[Event::Flow(20)],
+        caller_left: &[Left::Struck(SEND)],
+        called_left: &[Left::Stored(b"y", b"")],
+    },
+    // the roles are exchanged
+    Session {
+        caller_has: NO_WORK,
+        called_has: SENDER,
+        events: &[Event::Flow(20)],
+        caller_left: &[Left::Stored(b"y", b"")],
+        called_left: &[Left::Struck(SEND)],
+    },
+    Session {
+        caller_has: SENDER,
+        called_has: &[Given::Deny(b"y")],
+        events: &[Event::Flow(20)],
+        caller_left: &[Left::Failed(SEND)],
+        called_left: NOTHING,
+    },
+    Session {
+        caller_has: SENDER,
+        called_has: &[Given::Later(b"y")],
+        events: &[Event::Flow(20)],
+        caller_left: &[Left::Pending(SEND)],
+        called_left: NOTHING,
+    },
+    Session {
+        caller_has: SENDER,
+        called_has: &[Given::Immovable(b"y")],
+        events: &[Event::Flow(20)],
+        caller_left: &[Left::Failed(SEND)],
+        called_left: NOTHING,
+    },
+    // there is no file to be given
+    Session {
+        caller_has: &[Given::Job(REQUEST)],
+        called_has: NO_WORK,
+        events: &[Event::Flow(20)],
+        caller_left: &[Left::Failed(REQUEST)],
+        called_left: NOTHING,
+    },
+    Session {
+        caller_has: &[Given::Job(REQUEST)],
+        called_has: &[Given::File(b"q", b"")],
+        events: &[Event::Flow(20)],
+        caller_left: &[Left::Struck(REQUEST), Left::Stored(b"y", b"")],
+        called_left: NOTHING,
+    },
+    // INITA goes out twice, and the command is lost
+    Session {
+        caller_has: SENDER,
+        called_has: NO_WORK,
+        events: &[
+            Event::Flow(2),
+            Event::TimeoutOfCaller,
+            Event::Flow(3),
+            Event::LostToCalled,
+            Event::TimeoutOfCaller,
+            Event::Flow(20),
+        ],
+        caller_left: &[Left::Struck(SEND)],
+        called_left: &[Left::Stored(b"y", b"")],
+    },
+    // files of several messages go both ways, at the second call; the third has no job
+    Session {
+        caller_has: &[
+            Given::File(b"x", LONG),
+            Given::Job(SEND),
+            Given::Job(REQUEST),
+        ],
+        called_has: &[
+            Given::File(b"q", b"an answer"),
+            Given::File(b"x", LONG),
+            Given::Job(SEND_BACK),
+        ],
+        events: &[Event::Call, Event::Flow(30), Event::Call, Event::Flow(20)],
+        caller_left: &[
+            Left::Struck(SEND),
+            Left::Struck(REQUEST),
+            Left::Stored(b"y", b"an answer"),
+            Left::Stored(b"z", LONG),
+        ],
+        called_left: &[Left::Struck(SEND_BACK), Left::Stored(b"y", LONG)],
+    },
+];
+
+/// An end whose nth request for memory is refused. It is made again of all that was given back.
+fn insist<'a>(
+    heap: &'a Refusing<Global>,
+    side: Side,
+    given: &[Given<'_>],
+    nth: u64,
+) -> Result<HeapNode<'a>, Fail> {
+    let place = place(side, 32)?;
+    heap.refuse(0);
+    let (queue, spool) = stock(heap, given)?;
+    heap.refuse(nth);
+    match make(heap, side, place, queue, spool) {
+        Ok(node) => Ok(node),
+        Err(
+            NotMade {
+                place,
+                queue,
+                spool,
+            },
+        ) => Ok(make(heap, side, place, queue, spool).ok().ok_or("an end")?),
+    }
+}
+
+/// Plays the session, in which the nth request for memory of each end, and then of both, is refused. Whether there was
+/// such a request of both.
+fn follow(
+    rt: &impl Abort,
+    heap: &Refusing<Global>,
+    session: &Session<'_>,
+    line: &mut Line,
+    nth: u64,
+) -> Result<bool, Fail> {
+    let mut caller = insist(heap, Side::Caller, session.caller_has, nth)?;
+    follow_from(rt, heap, session, line, nth, &mut caller)
+}
+
+fn follow_from<'a>(
+    rt: &impl Abort,
+    heap: &'a Refusing<Global>,
+    session: &Session<'_>,
+    line: &mut Line,
+    nth: u64,
+    caller: &mut HeapNode<'a>,
+) -> Result<bool, Fail> {
+    let mut called = insist(heap, Side::Called, session.called_has, nth)?;
+    heap.refuse(nth);
+    session.play(rt, line, caller, &mut called)?;
+    Ok(heap.was_refused())
+}
+
+/// Plays the session with bytes handed over whole and in pieces.
+fn follow_in_pieces(rt: &impl Abort, alloc: Global, session: &Session<'_>) -> Result<(), Fail> {
+    let heap = Refusing::new(alloc, 0);
+    let mut whole = Line::new(alloc, usize::MAX);
+    follow(rt, &heap, session, &mut whole, 0)?;
+    for piece in [1, 7] {
+        let mut line = Line::new(alloc, piece);
+        follow(rt, &heap, session, &mut line, 0)?;
+        assert_eq!(rt; line.said.as_slice(), whole.said.as_slice());
+    }
+    Ok(())
+}
+
+// an end that loses what comes in pieces, or says more for it; one that never begins, or that does not come to an end
+#[test]
+fn hands_over_in_any_pieces(rt: HostRuntime) -> Result<(), Fail> {
+    for session in SESSIONS {
+        follow_in_pieces(&rt, rt.alloc(), session)?;
+    }
+    Ok(())
+}
+
+/// Plays the session with no request for memory refused, and then with each in turn.
+fn refuse_each(
+    rt: &impl Abort,
+    alloc: Global,
+    session: &Session<'_>,
+    line: &mut Line,
+) -> Result<(), Fail> {
+    let heap = Refusing::new(alloc, 0);
+    let mut whole = Line::new(alloc, usize::MAX);
+    follow(rt, &heap, session, &mut whole, 0)?;
+    for nth in 1..1000 {
+        line.said.clear();
+        let is_refused = follow(rt, &heap, session, line, nth)?;
+        assert_eq!(rt; line.said.as_slice(), whole.said.as_slice());
+        if !is_refused {
+            return Ok(());
+        }
+    }
+    Err("an end of the requests".into())
+}
+
+// a call that answers want of memory where none was refused; a refused call that leaves something behind, or that can't be
+// made again
+#[test]
+fn makes_refused_calls_good(rt: HostRuntime) -> Result<(), Fail> {
+    let mut line = Line::new(rt.alloc(), usize::MAX);
+    for session in SESSIONS {
+        refuse_each(&rt, rt.alloc(), session, &mut line)?;
+    }
+    assert!(rt; line.refused.items > 0);
+    assert!(rt; line.refused.timeouts > 0);
+    assert!(rt; line.refused.calls > 0);
+    Ok(())
+}

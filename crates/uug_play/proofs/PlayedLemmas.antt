@@ -1,0 +1,52 @@
+-- What is shown of a report, and of a script that was played.
+use Rattle.std.proofs.Common.{◌≡◌, ℕ, List, [], ◌++◌, map, Ok, ap, ◌∙◌}
+use Rattle.uug_line.specs.declared.event.Event.{Event}
+use Rattle.uug_line.specs.declared.verdict.LineVerdict.{LineVerdict}
+use Rattle.uug_line.specs.Belongings.{Belongings}
+use Rattle.uug_line.specs.Sides.{AtBoth}
+use Rattle.uug_line.specs.Spelled.{SpelledEnd, SpelledReport, spelled}
+use Rattle.uug_line.specs.World.{report_of_world}
+use Rattle.uug_script.specs.declared.report.SessionNumbers.{SessionNumbers}
+use Rattle.uug_script.specs.ReportText.{EndResult, RunResult, report_text}
+use Rattle.uug_script.specs.Script.{ScriptSays}
+use Rattle.uug_script.specs.ScriptOf.{script_of}
+use Rattle.uug_play.specs.Numbers.{session_numbers, end_result, result_of, status_of_result}
+use Rattle.uug_play.specs.Played.{setup_said, IsPlayed}
+
+abbrev pub result_by : List SessionNumbers → EndResult → EndResult → LineVerdict → RunResult
+result_by sessions caller called verdict =
+    record { sessions = sessions; caller = caller; called = called; verdict = verdict }
+
+-- each part of what is shown comes from the report
+pub result_is : (report : SpelledReport) (sessions : List SessionNumbers) (told : List (AtBoth SpelledEnd))
+    (caller called : EndResult) (caller_has called_has : Belongings) (verdict : LineVerdict) →
+    sessions ≡ map session_numbers told → told ≡ report.sessions →
+    caller ≡ end_result caller_has → caller_has ≡ report.belongings.at_caller →
+    called ≡ end_result called_has → called_has ≡ report.belongings.at_called →
+    verdict ≡ report.verdict →
+    result_by sessions caller called verdict ≡ result_of report
+result_is report sessions told caller called caller_has called_has verdict s t p b q d v =
+    ap (λ x. result_by x caller called verdict) (s ∙ ap (map session_numbers) t)
+    ∙ ap (λ x. result_by (map session_numbers report.sessions) x called verdict) (p ∙ ap end_result b)
+    ∙ ap (λ x. result_by (map session_numbers report.sessions) (end_result report.belongings.at_caller) x verdict) (q ∙ ap end_result d)
+    ∙ ap (λ x. result_by (map session_numbers report.sessions) (end_result report.belongings.at_caller)
+    (end_result report.belongings.at_called) x) v
+
+-- the text of a report, where nothing stood before
+pub text_is : (before after : List ℕ) (result other : RunResult) → before ≡ [] → after ≡ before ++ report_text result →
+    result ≡ other → after ≡ report_text other
+text_is before after result other none added same = added ∙ ap (λ t. t ++ report_text result) none ∙ ap report_text same
+
+-- the run is of the set-up and the events that the script says
+pub plays : (script text : List ℕ) (status : ℕ) (says : ScriptSays) (events : List Event) (report : SpelledReport) →
+    script_of script ≡ Ok says → events ≡ says.events → report ≡ spelled (report_of_world (setup_said says) events) →
+    text ≡ report_text (result_of report) → status ≡ status_of_result (result_of report) →
+    IsPlayed script text status
+plays script text status says events report script_is events_are report_is t s =
+    let same = report_is ∙ ap (λ e. spelled (report_of_world (setup_said says) e)) events_are in
+    record {
+      says = says;
+      script_is = script_is;
+      text_is = t ∙ ap (λ r. report_text (result_of r)) same;
+      status_is = s ∙ ap (λ r. status_of_result (result_of r)) same;
+    }

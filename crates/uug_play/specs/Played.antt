@@ -1,0 +1,56 @@
+-- What is played from a text (this project's profile).
+use Rattle.std.specs.Prelude.{◌≡◌, ℕ, List, Option, Ok, Err, ⊤}
+use Rattle.uug_session.specs.MemoryHoldings.{holdings_of}
+use Rattle.uug_tool.specs.Streams.{Appends}
+use Rattle.uug_tool.specs.declared.fault.ToolFault.{ToolFault}
+use Rattle.uug_tool.specs.declared.fault.ToolFault.TheVariants as faults
+use Rattle.uug_line.specs.Belongings.{EndSetupValue, SetupValue}
+use Rattle.uug_line.specs.Spelled.{spelled}
+use Rattle.uug_line.specs.World.{report_of_world}
+use Rattle.uug_script.specs.ReportText.{RunResult, report_text}
+use Rattle.uug_script.specs.Script.{EndSays, ScriptSays}
+use Rattle.uug_script.specs.ScriptOf.{script_of}
+use Rattle.uug_play.specs.Numbers.{result_of, status_of_result}
+
+-- an end as the script sets it up
+abbrev pub end_setup_said : EndSays → EndSetupValue
+end_setup_said e = record {
+  name = e.name;
+  own = e.announced;
+  holdings = holdings_of e.held;
+  belongings = record { lists = e.queue; kept = e.held.stored };
+}
+
+abbrev pub setup_said : ScriptSays → SetupValue
+setup_said s = record { at_caller = end_setup_said s.caller; at_called = end_setup_said s.called }
+
+-- what the two ends that the script sets up do under its events, as somebody tells who knows both
+abbrev pub result_said : ScriptSays → RunResult
+result_said s = result_of (spelled (report_of_world (setup_said s) s.events))
+
+-- the text is a script, and this the text and the status of the report of what it says
+pub record IsPlayed (script text : List ℕ) (status : ℕ) : Type 0 where
+  pub says : ScriptSays
+  pub script_is : script_of script ≡ Ok says
+  pub text_is : text ≡ report_text (result_said says)
+  pub status_is : status ≡ status_of_result (result_said says)
+
+-- the report of what the script says was appended, where the output tells what was written
+abbrev pub AppendsReport : (script : List ℕ) → (status : ℕ) → Option (List ℕ) → Option (List ℕ) → Type 0
+AppendsReport script status before after =
+    (text : List ℕ) × IsPlayed script text status × Appends text before after
+
+-- want of memory is left open
+abbrev pub IsScriptFault : (script : List ℕ) → ToolFault → Type 0
+IsScriptFault script (faults.Script n) = script_of script ≡ Err n
+IsScriptFault script faults.Memory = ⊤
+IsScriptFault script _ = ⊥
+
+-- the faults of playing: those of its devices, a bad script, and memory
+abbrev pub IsPlayFault : ToolFault → Type 0
+IsPlayFault faults.Read = ⊤
+IsPlayFault faults.Write = ⊤
+IsPlayFault faults.Memory = ⊤
+IsPlayFault (faults.Script line) = ⊤
+IsPlayFault faults.Device = ⊤
+IsPlayFault _ = ⊥

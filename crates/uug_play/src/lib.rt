@@ -1,0 +1,12 @@
+//! Sessions played from a script: two ends over a noisy line, and the report of what they did.
+#![tactic(auto)]
+
+mod play;
+mod played;
+#[cfg(test)]
+mod tests;
+mod whole;
+
+pub use play::{play_stream, play_within};
+pub use played::{Played, play_script};
+pub use whole::read_whole;

@@ -1,0 +1,126 @@
+//! A script that was played: its report as a text, and the status.
+ghost use Rattle.std.specs.Prelude.{◌≡◌, IfOk, IfErr, map, string_bytes};
+ghost use Rattle.uug_line.specs.Shown.{session_shown, owned_by};
+ghost use Rattle.uug_line.specs.Shown as told;
+ghost use Rattle.uug_script.specs.ReportShown.{end_shown};
+ghost use Rattle.uug_script.specs.ReportText.{report_text};
+ghost use Rattle.uug_play.specs.Numbers.{end_numbers, session_numbers, end_result, result_of, status_of_result, status_by, last_session, is_done};
+ghost use Rattle.uug_play.specs.Played.{IsPlayed, IsScriptFault};
+
+use std::alloc::{AllocError, Allocator};
+use uug_line::{EndReport, LineVerdict, Report, SessionReport, run};
+use uug_script::{
+    EndNumbers, ScriptFault, SessionNumbers, ShownEnd, ShownReport, add_report, read_script,
+};
+use uug_session::{End, MemorySpool, Node, Phase};
+use uug_tool::ToolFault;
+
+/// What a script came to.
+#[derive(Drop)]
+pub struct Played<A: Allocator> {
+    /// The text of the report.
+    pub text: String<A>,
+    /// The status that the program ends with.
+    pub status: u8,
+}
+
+/// The numbers of an end in a session.
+fn end_numbers<A: Allocator>(end: &EndReport<A>) -> EndNumbers
+    ensures { result ≡ end_numbers (told.end_shown end.now) }
+{
+    EndNumbers {
+        sent: end.sent.len(),
+        taken: end.taken.len(),
+        most: end.most,
+        phase: end.phase,
+    }
+}
+
+/// The numbers of each session.
+fn session_numbers<A: Allocator>(
+    alloc: A,
+    sessions: &[SessionReport<A>],
+) -> Result<Vec<SessionNumbers, A>, AllocError>
+    ensures { IfOk result (λ numbers. numbers.items ≡ map session_numbers (map session_shown sessions.now)) }
+{
+    let mut numbers = Vec::new(alloc);
+    for session in sessions {
+        numbers.push(SessionNumbers {
+            caller: end_numbers(&session.caller),
+            called: end_numbers(&session.called),
+        })?;
+    }
+    Ok(numbers)
+}
+
+/// What became of the jobs of an end, and what it stored.
+fn shown_end<A: Allocator + Copy>(node: &Node<MemorySpool<A>, A>) -> ShownEnd<'_, A>
+    ensures { end_shown result ≡ end_result (owned_by node.now) }
+{
+    let queue = node.queue();
+    ShownEnd {
+        pending: queue.pending().len(),
+        struck: queue.struck().len(),
+        failed: queue.failed().len(),
+        stored: node.spool().stored(),
+    }
+}
+
+fn is_done(phase: Phase) -> bool
+    ensures { result ≡ is_done phase }
+{
+    match phase {
+        Phase::Ended(End::Done) => true,
+        _ => false,
+    }
+}
+
+/// 5 where an end was fooled; else 0 where the last session is done at both ends, and 1 where it is not.
+fn status(sessions: &[SessionNumbers], verdict: LineVerdict) -> u8
+    ensures { result ≡ status_by verdict (last_session sessions.now) }
+{
+    match verdict {
+        LineVerdict::Fooled { .. } => 5,
+        LineVerdict::Clean => match sessions.last() {
+            Some(last) if is_done(last.caller.phase) && is_done(last.called.phase) => 0,
+            _ => 1,
+        },
+    }
+}
+
+/// The text of a report, and the status.
+fn shown<A: Allocator + Copy>(alloc: A, report: &Report<A>) -> Result<Played<A>, AllocError>
+    ensures text { IfOk result (λ played. string_bytes played.text ≡ report_text (result_of report.now)) }
+    ensures status { IfOk result (λ played. played.status ≡ status_of_result (result_of report.now)) }
+{
+    let sessions = session_numbers(alloc, report.sessions())?;
+    let shown = ShownReport {
+        sessions: &sessions,
+        caller: shown_end(report.caller()),
+        called: shown_end(report.called()),
+        verdict: report.verdict(),
+    };
+    let mut text = String::new(alloc);
+    add_report(alloc, &mut text, &shown)?;
+    let status = status(&sessions, report.verdict());
+    Ok(Played { text, status })
+}
+
+/// Plays a script.
+pub fn play_script<A: Allocator + Copy>(alloc: A, text: &[u8]) -> Result<Played<A>, ToolFault>
+    ensures played { IfOk result (λ played. IsPlayed text.now (string_bytes played.text) played.status) }
+    ensures fault { IfErr result (IsScriptFault text.now) }
+{
+    let script = match read_script(alloc, text) {
+        Ok(script) => script,
+        Err(ScriptFault::Bad(line)) => return Err(ToolFault::Script(line)),
+        Err(ScriptFault::Memory) => return Err(ToolFault::Memory),
+    };
+    let Ok(report) = run(alloc, script.setup, script.events.as_slice()) else {
+        return Err(ToolFault::Memory);
+    };
+    match shown(alloc, &report) {
+        Ok(played) => Ok(played),
+        Err(_) => Err(ToolFault::Memory),
+    }
+}

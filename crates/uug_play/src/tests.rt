@@ -1,0 +1,17 @@
+//! What no clause says: scripts and reports from outside, want of memory, failing streams, and noisy lines.
+
+mod memory;
+mod noisy_lines;
+mod reports;
+mod streams;
+
+/// The caller sends a file, and the line breaks after the called end has stored it and before the caller knows.
+const BROKEN_OFF: &str = "caller a 2 32\ncalled b 2 32\nfile caller x 0644 -\nsend caller x y u\n\
+    flow 6\npass called 1000\nhangup called\ncall\nflow 20\n";
+
+/// What is reported of that.
+const SENT_TWICE: &str = "session 1\ncaller sent 2 taken 1 most 1 hungup\n\
+    called sent 2 taken 2 most 1 hungup\n\
+    session 2\ncaller sent 4 taken 3 most 1 done\ncalled sent 3 taken 4 most 1 done\n\
+    caller pending 0 struck 1 failed 0\ncalled pending 0 struck 0 failed 0\n\
+    called stored y 0644 -\ncalled stored y 0644 -\nverdict clean\n";

@@ -1,0 +1,182 @@
+//! What an end may count on over any line, checked on reports of noisy lines.
+ghost use Rattle.std.specs.Prelude.{◌<◌};
+
+use std::alloc::Global;
+use std::test::Fail;
+use uug_line::{EndReport, Event, Report, Side, run};
+use uug_script::read_script;
+use uug_session::{FileView, Job, MemorySpool, Node, Spool, Stored};
+use uug_talk::Name;
+
+/// How many lists of events there are.
+const LISTS: u32 = 100;
+
+/// How many events are in each.
+const EVENTS: u32 = 240;
+
+const WINDOWS: [u8; 3] = [1, 2, 7];
+
+const SIZES: [usize; 2] = [32, 64];
+
+/// The files and jobs of both ends. Each job has a target of its own.
+const JOBS: &str = "file caller x 0600 -\n\
+    file caller y 0644 000102030405060708090a0b0c0d0e0f101112131415161718191a1b1c1d1e1f\
+    202122232425262728292a2b2c2d2e2f303132333435363738393a3b3c3d3e3f\
+    404142434445464748494a4b4c4d4e4f505152535455565758595a5b5c5d5e5f60616263\n\
+    file called p 0755 10096faa3bf7100900\n\
+    send caller x first u\nsend caller y second u\nrequest caller p third u\nsend caller y fourth u\n\
+    immovable called fourth\nsend called p fifth u\nrequest called y sixth u\n";
+
+/// Numbers without a plain order, which are always the same from the same start.
+#[derive(Drop)]
+struct Numbers {
+    state: u32,
+}
+
+impl Numbers {
+    /// The next one, below this bound.
+    fn below(&mut self, bound: u32) -> u32
+        requires { 0 < bound }
+        ensures { result < bound }
+    {
+        self.state = self.state.wrapping_mul(1_103_515_245).wrapping_add(12_345);
+        (self.state >> 16) % bound
+    }
+
+    fn byte(&mut self) -> u8 {
+        self.below(256) as u8
+    }
+
+    /// Mostly bytes that come, among them losses, damage, waiting and breaks.
+    fn event(&mut self) -> Event {
+        let side = if self.below(2) == 0 {
+            Side::Caller
+        } else {
+            Side::Called
+        };
+        match self.below(60) {
+            0 | 1 => Event::Call,
+            2 => Event::HangUp { side },
+            3 | 4 => Event::Drop {
+                side,
+                n: self.below(60),
+            },
+            5 | 6 => Event::Flip {
+                side,
+                mask: self.byte(),
+            },
+            7 => Event::Insert {
+                side,
+                byte: self.byte(),
+            },
+            8 | 9 | 10 | 11 => Event::Timeout { side },
+            12 | 13 | 14 | 15 => Event::Pass {
+                side,
+                n: self.below(50),
+            },
+            _ => Event::Pass { side, n: 1000 },
+        }
+    }
+}
+
+/// The events of the list of this number.
+fn events_of_list(alloc: Global, list: u32) -> Result<Vec<Event>, Fail> {
+    let mut numbers = Numbers { state: list };
+    let mut events = Vec::new(alloc);
+    for _ in 0..EVENTS {
+        events.push(numbers.event())?;
+    }
+    Ok(events)
+}
+
+/// The windows that the ends announce in the list of this number.
+fn windows_of_list(list: usize) -> (u8, u8) {
+    (WINDOWS[list % 3], WINDOWS[list / 3 % 3])
+}
+
+/// The report of the list of this number.
+fn report_of_list(alloc: Global, list: u32) -> Result<Report<Global>, Fail> {
+    let (caller, called) = windows_of_list(list as usize);
+    let (small, large) = (SIZES[list as usize % 2], SIZES[list as usize / 2 % 2]);
+    let mut text = String::new(alloc);
+    write!(
+        text,
+        "caller a {caller} {small}\ncalled b {called} {large}\n{JOBS}"
+    )?;
+    let script = read_script(alloc, text.as_bytes())?;
+    let events = events_of_list(alloc, list)?;
+    Ok(run(alloc, script.setup, events.as_slice())?)
+}
+
+fn is_front(front: &[Vec<u8>], whole: &[Vec<u8>]) -> bool {
+    front.len() <= whole.len()
+        && front
+            .iter()
+            .zip(whole)
+            .all(|(ours, theirs)| ours.as_slice() == theirs.as_slice())
+}
+
+/// Whether an end took what the other sent, in order, and never had more on its way than the other had announced.
+fn is_right(end: &EndReport<Global>, other: &EndReport<Global>, announced: u8) -> bool {
+    is_front(end.taken.as_slice(), other.sent.as_slice()) && end.most <= announced as usize
+}
+
+fn has_entry(stored: &[Stored<Global>], name: &Name, file: Option<FileView<'_>>) -> bool {
+    let Some(file) = file else {
+        return false;
+    };
+    stored.iter().any(|entry| {
+        entry.name.as_bytes() == name.as_bytes()
+            && entry.mode == file.mode
+            && entry.bytes.as_slice() == file.bytes
+    })
+}
+
+type End = Node<MemorySpool<Global>, Global>;
+
+/// Whether the file of each job that is done was stored, under the job's own target.
+fn is_stored(end: &End, other: &End) -> bool {
+    end.queue().struck().iter().all(|job| match job {
+        Job::Send { source, target, .. } => {
+            has_entry(other.spool().stored(), target, end.spool().fetch(source))
+        }
+        Job::Request { source, target, .. } => {
+            has_entry(end.spool().stored(), target, other.spool().fetch(source))
+        }
+    })
+}
+
+#[test]
+fn keeps_its_promises_on_noisy_lines(rt: HostRuntime) -> Result<(), Fail> {
+    let mut struck = 0usize;
+    for list in 0..LISTS {
+        let report = report_of_list(rt.alloc(), list)?;
+        let (caller, called) = windows_of_list(list as usize);
+        for session in report.sessions() {
+            assert!(rt;
+                is_right(&session.caller, &session.called, called),
+                "caller of {list}"
+            );
+            assert!(rt;
+                is_right(&session.called, &session.caller, caller),
+                "called of {list}"
+            );
+        }
+        assert!(rt;
+            is_stored(report.caller(), report.called()),
+            "jobs of {list}"
+        );
+        assert!(rt;
+            is_stored(report.called(), report.caller()),
+            "jobs of {list}"
+        );
+        struck = report
+            .caller()
+            .queue()
+            .struck()
+            .len()
+            .saturating_add(struck);
+    }
+    assert!(rt; struck >= LISTS as usize, "little was done: {struck} jobs");
+    Ok(())
+}

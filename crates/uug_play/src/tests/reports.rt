@@ -1,0 +1,137 @@
+//! What is played of whole scripts. What this catches beyond the clauses: a wrong definition of the sessions, and a player
+//! that always answers want of memory.
+
+use crate::play::play_stream;
+use crate::tests::{BROKEN_OFF, SENT_TWICE};
+use std::test::Fail;
+use uug_tool::{MemoryInput, MemoryOutput, ToolFault};
+
+/// The report of a session in which the caller sends an empty file.
+const SENT: &str =
+    "session 1\ncaller sent 4 taken 3 most 1 done\ncalled sent 3 taken 4 most 1 done\n\
+    caller pending 0 struck 1 failed 0\ncalled pending 0 struck 0 failed 0\n\
+    called stored y 0644 -\nverdict clean\n";
+
+/// The report of a session in which the caller's one job is given up after the first answer.
+const GIVEN_UP: &str =
+    "session 1\ncaller sent 3 taken 2 most 1 done\ncalled sent 2 taken 3 most 1 done\n\
+    caller pending 0 struck 0 failed 1\ncalled pending 0 struck 0 failed 0\nverdict clean\n";
+
+/// Scripts, the reports of what they say, and the statuses.
+const SCRIPTS: [(&str, &str, u8); 12] = [
+    (
+        "caller a 2 32\ncalled b 2 32\nfile caller x 0644 -\nsend caller x y u\nflow 20\n",
+        SENT,
+        0,
+    ),
+    (BROKEN_OFF, SENT_TWICE, 0),
+    // the header of the file's packet is lost, and in its field an image of RR 5 is found
+    (
+        "caller a 2 32\ncalled b 2 32\nfile caller x 0644 100985aa2503\nsend caller x y u\n\
+         flow 5\npass called 1000\npass caller 1000\npass called 6\ndrop called 6\npass called 1000\n",
+        "session 1\ncaller sent 3 taken 1 most 2 talking\ncalled sent 1 taken 1 most 1 talking\n\
+         caller pending 1 struck 0 failed 0\ncalled pending 0 struck 0 failed 0\n\
+         verdict fooled 14 called\n",
+        5,
+    ),
+    // the roles are exchanged
+    (
+        "caller a 2 32\ncalled b 2 32\nfile called x 0644 -\nsend called x y u\nflow 20\n",
+        "session 1\ncaller sent 4 taken 5 most 1 done\ncalled sent 5 taken 4 most 2 done\n\
+         caller pending 0 struck 0 failed 0\ncalled pending 0 struck 1 failed 0\n\
+         caller stored y 0644 -\nverdict clean\n",
+        0,
+    ),
+    (
+        "caller a 2 32\ncalled b 2 32\nfile caller x 0644 -\nsend caller x y u\ndeny called y\nflow 20\n",
+        GIVEN_UP,
+        0,
+    ),
+    (
+        "caller a 2 32\ncalled b 2 32\nfile caller x 0644 -\nsend caller x y u\nlater called y\nflow 20\n",
+        "session 1\ncaller sent 3 taken 2 most 1 done\ncalled sent 2 taken 3 most 1 done\n\
+         caller pending 1 struck 0 failed 0\ncalled pending 0 struck 0 failed 0\nverdict clean\n",
+        0,
+    ),
+    (
+        "caller a 2 32\ncalled b 2 32\nfile caller x 0644 -\nsend caller x y u\nimmovable called y\nflow 20\n",
+        "session 1\ncaller sent 4 taken 3 most 1 done\ncalled sent 3 taken 4 most 1 done\n\
+         caller pending 0 struck 0 failed 1\ncalled pending 0 struck 0 failed 0\nverdict clean\n",
+        0,
+    ),
+    (
+        "caller a 2 32\ncalled b 2 32\nfile caller x 0644 -\nrequest caller q y u\nflow 20\n",
+        GIVEN_UP,
+        0,
+    ),
+    (
+        "caller a 2 32\ncalled b 2 32\nfile called q 0644 -\nrequest caller q y u\nflow 20\n",
+        "session 1\ncaller sent 4 taken 3 most 2 done\ncalled sent 3 taken 4 most 2 done\n\
+         caller pending 0 struck 1 failed 0\ncalled pending 0 struck 0 failed 0\n\
+         caller stored y 0644 -\nverdict clean\n",
+        0,
+    ),
+    // a packet is damaged, and goes out again
+    (
+        "caller a 2 32\ncalled b 2 32\nfile caller x 0644 -\nsend caller x y u\n\
+         flow 5\nflip called 01\nflow 1\ntimeout caller\nflow 20\n",
+        SENT,
+        0,
+    ),
+    // nothing comes to any end
+    (
+        "caller a 2 32\ncalled b 2 32\n",
+        "session 1\ncaller sent 0 taken 0 most 0 hail\ncalled sent 0 taken 0 most 0 hail\n\
+         caller pending 0 struck 0 failed 0\ncalled pending 0 struck 0 failed 0\nverdict clean\n",
+        1,
+    ),
+    (
+        "caller a 2 32\ncalled b 2 32\ntimeout caller\ntimeout caller\ntimeout caller\ntimeout caller\n\
+         timeout caller\ntimeout caller\ntimeout caller\ntimeout caller\n",
+        "session 1\ncaller sent 0 taken 0 most 0 gaveup\ncalled sent 0 taken 0 most 0 hail\n\
+         caller pending 0 struck 0 failed 0\ncalled pending 0 struck 0 failed 0\nverdict clean\n",
+        1,
+    ),
+];
+
+#[test]
+fn reports_what_was_played(rt: HostRuntime) {
+    for (script, report, status) in SCRIPTS {
+        let mut output = MemoryOutput::new(rt.alloc());
+        let mut input = MemoryInput::new(script.as_bytes());
+        let result = play_stream(rt.alloc(), &mut input, &mut output);
+        assert_eq!(rt; result, Ok(status));
+        assert_eq!(rt; output.bytes(), report.as_bytes());
+        assert_eq!(rt; input.bytes().len(), 0);
+    }
+}
+
+/// As many jobs of the caller as lines.
+fn with_jobs(script: &mut String, jobs: usize) -> Result<(), Fail> {
+    for _ in 0..jobs {
+        script.push_str("send caller x y u\n")?;
+    }
+    Ok(())
+}
+
+// The first line of a script, how many jobs are behind it, and the bad line.
+#[test]
+fn writes_nothing_of_a_bad_script(rt: HostRuntime) -> Result<(), Fail> {
+    for (lines, jobs, bad) in [
+        ("", 0, 1),
+        ("caller a 2 32\ncalled b 8 32\n", 0, 2),
+        ("caller a 2 32\ncalled b 2 32\n", 65, 67),
+    ] {
+        let mut script = String::from_str(rt.alloc(), lines)?;
+        with_jobs(&mut script, jobs)?;
+        let mut output = MemoryOutput::new(rt.alloc());
+        let result = play_stream(
+            rt.alloc(),
+            &mut MemoryInput::new(script.as_bytes()),
+            &mut output,
+        );
+        assert_eq!(rt; result, Err(ToolFault::Script(bad)));
+        assert_eq!(rt; output.bytes().len(), 0);
+    }
+    Ok(())
+}

@@ -1,0 +1,147 @@
+//! Inputs that give little at a time, and streams that fail.
+ghost use Rattle.std.specs.Prelude.{None};
+
+use crate::play::{play_stream, play_within};
+use crate::tests::{BROKEN_OFF, SENT_TWICE};
+use crate::whole::read_whole;
+use std::process::Abort;
+use std::test::Fail;
+use uug_tool::{Input, MemoryInput, MemoryOutput, Output, ReadFailed, ToolFault, WriteFailed};
+
+/// Gives at most so many bytes at a time, in at most so many reads, and then fails.
+#[derive(Drop)]
+struct SlowInput<'a> {
+    bytes: &'a [u8],
+    most: usize,
+    reads: u32,
+    faults: u64,
+}
+
+impl Input for SlowInput<'_> {
+    ghost to_come = { λ _. None };
+
+    ghost fault_count = { λ input. input.faults };
+
+    fn read(&mut self, buffer: &mut [u8]) -> Result<usize, ReadFailed> {
+        if self.reads == 0 {
+            self.faults = self.faults.saturating_add(1);
+            return Err(ReadFailed);
+        }
+        self.reads -= 1;
+        let count = self.bytes.len().min(buffer.len()).min(self.most);
+        let (front, rest) = self.bytes.split_at(count);
+        buffer[..count].copy_from_slice(front);
+        self.bytes = rest;
+        Ok(count)
+    }
+
+    fn faults(&self) -> u64 {
+        self.faults
+    }
+}
+
+/// Takes at most so many bytes at a time, in at most so many writes, and then fails.
+#[derive(Drop)]
+struct SlowOutput {
+    most: usize,
+    writes: u32,
+    faults: u64,
+}
+
+impl Output for SlowOutput {
+    ghost written = { λ _. None };
+
+    ghost fault_count = { λ output. output.faults };
+
+    fn write(&mut self, piece: &[u8]) -> Result<usize, WriteFailed> {
+        if self.writes == 0 || self.most == 0 {
+            self.faults = self.faults.saturating_add(1);
+            return Err(WriteFailed::Device);
+        }
+        self.writes -= 1;
+        Ok(piece.len().min(self.most))
+    }
+
+    fn faults(&self) -> u64 {
+        self.faults
+    }
+}
+
+/// An input of the script that fails after so many reads.
+fn script_in_reads(most: usize, reads: u32) -> SlowInput<'static> {
+    SlowInput {
+        bytes: BROKEN_OFF.as_bytes(),
+        most,
+        reads,
+        faults: 0,
+    }
+}
+
+#[test]
+fn plays_what_comes_byte_by_byte(rt: HostRuntime) {
+    let mut output = MemoryOutput::new(rt.alloc());
+    let result = play_stream(rt.alloc(), &mut script_in_reads(1, 1000), &mut output);
+    assert_eq!(rt; result, Ok(0));
+    assert_eq!(rt; output.bytes(), SENT_TWICE.as_bytes());
+}
+
+/// Lets each read fail in turn. How many reads it takes.
+fn reads_of_a_player(rt: &(impl Abort + AllocGlobal)) -> Result<u32, Fail> {
+    for reads in 0..100 {
+        let mut output = MemoryOutput::new(rt.alloc());
+        let mut input = script_in_reads(10, reads);
+        let result = play_stream(rt.alloc(), &mut input, &mut output);
+        if input.faults() == 0 {
+            assert_eq!(rt; result, Ok(0));
+            return Ok(reads);
+        }
+        assert_eq!(rt; result, Err(ToolFault::Read));
+        assert_eq!(rt; output.bytes().len(), 0);
+    }
+    Err("a player that is never done".into())
+}
+
+/// Lets each write fail in turn. How many writes it takes.
+fn writes_of_a_player(rt: &(impl Abort + AllocGlobal)) -> Result<u32, Fail> {
+    for writes in 0..100 {
+        let mut input = MemoryInput::new(BROKEN_OFF.as_bytes());
+        let mut output = SlowOutput {
+            most: 10,
+            writes,
+            faults: 0,
+        };
+        let result = play_stream(rt.alloc(), &mut input, &mut output);
+        if output.faults() == 0 {
+            assert_eq!(rt; result, Ok(0));
+            return Ok(writes);
+        }
+        assert_eq!(rt; result, Err(ToolFault::Write));
+    }
+    Err("a player that is never done".into())
+}
+
+// The script has 118 bytes and the report 290, ten at a time; one read finds the end.
+#[test]
+fn says_which_stream_failed(rt: HostRuntime) -> Result<(), Fail> {
+    assert_eq!(rt; BROKEN_OFF.len(), 118);
+    assert_eq!(rt; SENT_TWICE.len(), 290);
+    assert_eq!(rt; reads_of_a_player(&rt)?, 13);
+    assert_eq!(rt; writes_of_a_player(&rt)?, 29);
+    Ok(())
+}
+
+// The read that finds the end counts among those that an input may take.
+#[test]
+fn stops_at_the_limit_of_reads(rt: HostRuntime) -> Result<(), Fail> {
+    for (limit, result) in [(12, Err(ToolFault::Device)), (13, Ok(0))] {
+        let mut output = MemoryOutput::new(rt.alloc());
+        let mut input = script_in_reads(10, 100);
+        assert_eq!(rt;
+            play_within(rt.alloc(), &mut input, &mut output, limit),
+            result
+        );
+    }
+    let bytes = read_whole(rt.alloc(), &mut script_in_reads(10, 100), 13)?;
+    assert_eq!(rt; bytes.as_slice(), BROKEN_OFF.as_bytes());
+    Ok(())
+}

@@ -1,0 +1,35 @@
+//! The whole of an input.
+ghost use Rattle.std.specs.Prelude.{◌≡◌, ◌<◌, ◌≤◌, ◌*◌, Err, IfErr, IfOk, IfSome, length};
+ghost use Rattle.uug_play.specs.Whole.{BringsAll, IsReadingFault};
+ghost use Rattle.uug_tool.specs.Streams.{CountsFault};
+ghost use Rattle.uug_tool.specs.declared.fault.ToolFault.TheVariants.{Device as device, Read as read};
+ghost use Rattle.uug_tool.specs.declared.scan.TheConstants.{PIECE_SIZE};
+
+use std::alloc::Allocator;
+use uug_tool::{Input, PIECE_SIZE, ToolFault};
+
+/// Reads an input to its end, in at most so many reads, the one that finds the end among them; an input that takes more
+/// is a device's fault.
+pub fn read_whole<A: Allocator, I: Input>(
+    alloc: A,
+    input: &mut I,
+    limit: u32,
+) -> Result<Vec<u8, A>, ToolFault>
+    ensures whole { IfOk result (λ bytes. BringsAll bytes.items (I.to_come input.old) (I.to_come input.new)) }
+    ensures within { IfOk result (λ bytes. length bytes.items < limit * PIECE_SIZE) }
+    ensures read { result ≡ Err read → CountsFault (I.fault_count input.old) (I.fault_count input.new) }
+    ensures device { result ≡ Err device → IfSome (I.to_come input.old) (λ bytes. limit ≤ length bytes) }
+    ensures no_other { IfErr result IsReadingFault }
+    ensures grows { I.fault_count input.old ≤ I.fault_count input.new }
+{
+    let mut bytes = Vec::new(alloc);
+    let mut piece = [0; PIECE_SIZE];
+    for _ in 0..limit {
+        let count = input.read(&mut piece)?;
+        if count == 0 {
+            return Ok(bytes);
+        }
+        bytes.extend_from_slice(&piece[..count])?;
+    }
+    Err(ToolFault::Device)
+}

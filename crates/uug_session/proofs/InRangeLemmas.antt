@@ -1,0 +1,492 @@
+-- Each step of an end that is in range leaves it so, and what it emits can be written.
+use Rattle.std.proofs.Common.{◌≡◌, ◌⊎◌, ◌&&◌, ℕ, zero, suc, ◌≤◌, nat_lt, if◌then◌else◌, Bool, true, false, List, [], ◌∷◌, ◌++◌, length, map, All, Option, Some, None, inl, inr, refl, sym, subst, ◌∙◌}
+use Rattle.std.specs.Bool.{⊤}
+use Rattle.std.proofs.lemmas.List.Elements.{All-nil, All-cons, All-head, All-tail, All-append}
+use Rattle.uug_link.specs.declared.limits.TheConstants.{WINDOW_MAX}
+use Rattle.uug_link.specs.declared.phase.Phase.{Phase}
+use Rattle.uug_link.specs.declared.phase.Phase.TheVariants as phases
+use Rattle.uug_link.specs.Announced.{Announced}
+use Rattle.uug_link.specs.InRange.{IsAnnouncement, IsInRange, MayMeet, AreWellFormed}
+use Rattle.uug_link.specs.Outcomes.{IsComing, MayAnswer, MovesPhase}
+use Rattle.uug_link.specs.State.{State, IsStarting, IsUp, caller_state, called_state, is_halted}
+use Rattle.uug_link.specs.Step.{Effect, Emission, Event, OutcomeValue, nothing, up, taken, closed, gave_up, halted, answers_halted, on_event, step, to_begin, packet_found, bad_found, timed_out, to_send, to_close}
+use Rattle.uug_link.specs.Terms.{size_of_code}
+use Rattle.uug_packet.specs.Packet.{PacketValue}
+use Rattle.uug_packet.specs.WellFormed.{IsWellFormed}
+use Rattle.uug_session.specs.declared.end.End.{End}
+use Rattle.uug_session.specs.declared.end.End.TheVariants as ends
+use Rattle.uug_session.specs.declared.greeting.Greeted.{Greeted}
+use Rattle.uug_session.specs.declared.greeting.Greeted.TheVariants.{GoesOn, LinkBegins, Ended}
+use Rattle.uug_session.specs.declared.greeting.Greeting.{Greeting}
+use Rattle.uug_session.specs.EndStep.{Stage, hailing, linked, ended, EndState, Emitted, says_text, sends_packet, EndEffect, Identity, Sending, packets, leave, ends_so, is_up, has_room, sending_nothing, sends_next, sends_by, sends_up_to, sends, closes_by, speaks_by, goes_on, goes_on_with, then_closes, talks_by, takes_by, behind_link, message_of, packet_came, bad_came, late_link, begins_link, greeted_so, EndEvent, text_found, long_text_found, packet_found_whole, broken_found, time_ran_out, line_lost, unmoved, hailing_step, linked_step, stage_step, end_step, begins_session, first_link, how_it_ends}
+use Rattle.uug_session.specs.Greeting.{GreetingStep, first_texts, long_text_came, text_came, timed_out as greeting_timed_out}
+use Rattle.uug_session.specs.Holdings.{Holdings}
+use Rattle.uug_session.specs.InRange.{BeginsFresh, CanBeWritten, HasSize, IsEndInRange, MayFind}
+use Rattle.uug_session.specs.Keeper.{Keeper}
+use Rattle.uug_session.specs.Machine as machine
+use Rattle.uug_session.specs.Talk.{Talk, behind_first, end_keeper, first_of, opened_with, replied, taking, with_first_sent}
+use Rattle.uug_session.specs.Turns.{Side, caller, called, Said, all_messages, said_messages}
+use Rattle.uug_session.proofs.FitLemmas.{MessagesFit, said_fit}
+
+abbrev Fits : ℕ → List ℕ → Type 0
+Fits size message = length message ≤ size
+
+-- what is needed of links
+pub record LinkLaws : Type 0 where
+  pub first : (own : Announced) → IsAnnouncement own → IsInRange (caller_state own) × IsInRange (called_state own)
+  pub stays : (s : State) (e : Event) → IsInRange s → MayMeet s e → IsInRange (step s e).state
+  pub emitted : (s : State) (e : Event) → IsInRange s → MayMeet s e → AreWellFormed (step s e).emitted
+  pub answers : (s : State) (e : Event) → MayAnswer (step s e).outcome e
+  pub phases : (s : State) (e : Event) → IsComing e → MovesPhase (step s e).outcome s.phase (step s e).state.phase
+  pub size_stays : (s : State) (e : Event) → IsUp s → (step s e).state.size_code ≡ s.size_code
+
+-- ---- what waits is no longer than the size
+
+all_fit : MessagesFit → (size : ℕ) (says : List Said) → All (Fits size) (all_messages size says)
+all_fit f size [] = All-nil (Fits size)
+all_fit f size (said ∷ more) =
+    All-append (Fits size) (said_messages size said) (all_messages size more) (said_fit f size said) (all_fit f size more)
+
+has_size_opened : MessagesFit → (side : Side) (h : Holdings) (size : ℕ) (talk : Talk)
+    → HasSize size (opened_with side h size talk)
+has_size_opened f side h size talk =
+    record { is = refl; fit = all_fit f size (machine.opening side h talk.machine.lists).says }
+
+has_size_replied : MessagesFit → (size own : ℕ) (talk : Talk) (reply : machine.Reply) → talk.size ≡ own → own ≡ size
+    → All (Fits size) talk.waiting → HasSize size (replied own talk.waiting talk.kept reply)
+has_size_replied f size own talk reply is same fit = record {
+  is = same;
+  fit = All-append (Fits size) talk.waiting (all_messages own reply.says) fit
+      (subst (λ (n : ℕ). All (Fits size) (all_messages n reply.says)) (sym same) (all_fit f size reply.says));
+}
+
+has_size_taking : MessagesFit → (h : Holdings) (message : List ℕ) (size : ℕ) (talk : Talk)
+    → HasSize size talk → HasSize size (taking h message talk)
+has_size_taking f h message size talk s =
+    has_size_replied f size talk.size talk (machine.step h talk.machine message) refl s.is s.fit
+
+first_fits : (size : ℕ) (waiting : List (List ℕ)) (message : List ℕ) → All (Fits size) waiting
+    → first_of waiting ≡ Some message → Fits size message
+first_fits size [] message fit e = absurd cc
+first_fits size (first ∷ more) message fit e =
+    let same : first ≡ message = cc in
+    subst (Fits size) same (All-head (Fits size) first more fit)
+
+rest_fit : (size : ℕ) (waiting : List (List ℕ)) → All (Fits size) waiting → All (Fits size) (behind_first waiting)
+rest_fit size [] fit = fit
+rest_fit size (first ∷ more) fit = All-tail (Fits size) first more fit
+
+-- ---- links
+
+-- the size stays where a link sends or closes, whatever it is
+size_if : (b : Bool) (s : State) (x : Effect) → x.state.size_code ≡ s.size_code
+    → (if b then answers_halted s else x).state.size_code ≡ s.size_code
+size_if true s x e = refl
+size_if false s x e = e
+
+sent_size : (s : State) (message : List ℕ) → (step s (to_send message)).state.size_code ≡ s.size_code
+sent_size s message = size_if (is_halted s.phase) s (on_event (to_send message) s) refl
+
+-- a link that closes, or has ended, is not up
+abbrev IsDown : Phase → Type 0
+IsDown phases.Up = ⊥
+IsDown _ = ⊤
+
+down : (s : State) → IsDown s.phase → IsUp s → ⊥
+down s h is_up = subst IsDown is_up h
+
+down_if : (phase : Phase) (s : State) (x : Effect) → s.phase ≡ phase → IsDown x.state.phase
+    → IsDown (if is_halted phase then answers_halted s else x).state.phase
+down_if phases.Halted s x is h = subst IsDown (sym is) tt
+down_if phases.Fresh s x is h = h
+down_if phases.AwaitsInitA s x is h = h
+down_if phases.AwaitsInitB s x is h = h
+down_if phases.AwaitsInitC s x is h = h
+down_if phases.Up s x is h = h
+down_if phases.Closing s x is h = h
+
+closed_down : (s : State) → IsDown (step s to_close).state.phase
+closed_down s = down_if s.phase s (on_event to_close s) refl tt
+
+begun_down : (s : State) → IsDown (step s to_begin).state.phase
+begun_down s = down_if s.phase s (on_event to_begin s) refl tt
+
+starting_down : (phase : Phase) → IsStarting phase → IsDown phase
+starting_down phases.Fresh h = tt
+starting_down phases.AwaitsInitA h = tt
+starting_down phases.AwaitsInitB h = tt
+starting_down phases.AwaitsInitC h = tt
+starting_down phases.Up h = h
+starting_down phases.Closing h = tt
+starting_down phases.Halted h = tt
+
+up_is_up : (phase : Phase) → is_up phase ≡ true → phase ≡ phases.Up
+up_is_up phases.Up e = refl
+up_is_up phases.Fresh e = absurd cc
+up_is_up phases.AwaitsInitA e = absurd cc
+up_is_up phases.AwaitsInitB e = absurd cc
+up_is_up phases.AwaitsInitC e = absurd cc
+up_is_up phases.Closing e = absurd cc
+up_is_up phases.Halted e = absurd cc
+
+-- room is on a link that is up
+room_if : (phase : Phase) (below : Bool) → (if is_up phase then below else false) ≡ true → is_up phase ≡ true
+room_if phases.Up below e = refl
+room_if phases.Fresh below e = e
+room_if phases.AwaitsInitA below e = e
+room_if phases.AwaitsInitB below e = e
+room_if phases.AwaitsInitC below e = e
+room_if phases.Closing below e = e
+room_if phases.Halted below e = e
+
+room_is_up : (s : State) → has_room s ≡ true → IsUp s
+room_is_up s e = up_is_up s.phase (room_if s.phase (nat_lt (length s.unacked) s.window) e)
+
+-- ---- what goes out
+
+-- the abbreviation of a list of them
+abbrev AllCan : List Emitted → Type 0
+AllCan emitted = All CanBeWritten emitted
+
+packets_can : (es : List Emission) → AreWellFormed es → AllCan (packets es)
+packets_can [] h = All-nil CanBeWritten
+packets_can (e ∷ es) h =
+    All-cons CanBeWritten (sends_packet e) (packets es) (All-head (λ (x : Emission). IsWellFormed x.packet) e es h)
+    (packets_can es (All-tail (λ (x : Emission). IsWellFormed x.packet) e es h))
+
+texts_can : (texts : List (List ℕ)) → AllCan (map says_text texts)
+texts_can [] = All-nil CanBeWritten
+texts_can (text ∷ texts) = All-cons CanBeWritten (says_text text) (map says_text texts) tt (texts_can texts)
+
+joined_emissions : (es more : List Emission) → AreWellFormed es → AreWellFormed more → AreWellFormed (es ++ more)
+joined_emissions es more h k = All-append (λ (x : Emission). IsWellFormed x.packet) es more h k
+
+leave_can : (has_parted : Bool) (side : Side) → AllCan (leave has_parted side)
+leave_can true side = All-cons CanBeWritten _ [] tt (All-nil CanBeWritten)
+leave_can false side = All-nil CanBeWritten
+
+-- ---- an end, whatever the side on which it stands
+
+-- what the conversation keeps to, by its link
+abbrev Suits : State → Talk → Type 0
+Suits s talk = IsUp s → HasSize (size_of_code s.size_code) talk
+
+-- the link is up only where it was, under the same size
+suits_later : (s t : State) (talk : Talk) → Suits s talk → (IsUp t → IsUp s) → t.size_code ≡ s.size_code → Suits t talk
+suits_later s t talk h was same is_up =
+    subst (λ (code : ℕ). HasSize (size_of_code code) talk) (sym same) (h (was is_up))
+
+suits_down : (s : State) (talk : Talk) → IsDown s.phase → Suits s talk
+suits_down s talk h is_up = absurd (down s h is_up)
+
+record IsFine (side : Side) (x : EndEffect Talk) : Type 0 where
+  state : IsEndInRange side x.state
+  emitted : AllCan x.emitted
+
+-- behind the greeting the side does not matter
+fresh_linked : (side : Side) (s : State) → BeginsFresh side linked s
+fresh_linked caller s = tt
+fresh_linked called s = tt
+
+fresh_ended : (side : Side) (how : End) (s : State) → BeginsFresh side (ended how) s
+fresh_ended caller how s = tt
+fresh_ended called how s = tt
+
+-- ---- sends
+
+record FineSending (x : Sending Talk) : Type 0 where
+  link : IsInRange x.link
+  talk : Suits x.link x.keeper
+  emissions : AreWellFormed x.emissions
+
+none_out : AreWellFormed []
+none_out = All-nil (λ (x : Emission). IsWellFormed x.packet)
+
+sends_none : (s : State) (talk : Talk) → IsInRange s → Suits s talk → FineSending (sending_nothing s talk)
+sends_none s talk range suits = record { link = range; talk = suits; emissions = none_out }
+
+module _ (laws : LinkLaws) (f : MessagesFit) (on : Side) (h : Holdings) where
+  abbrev k : Keeper Talk
+  k = end_keeper on h
+
+  -- what is sent by more
+  abbrev SendsFine : (State → Talk → Sending Talk) → Type 0
+  SendsFine more = (s : State) (talk : Talk) → IsInRange s → Suits s talk → FineSending (more s talk)
+
+  next_fine : (more : State → Talk → Sending Talk) (o : Option (List ℕ)) (s : State) (talk : Talk) → SendsFine more
+      → first_of talk.waiting ≡ o → IsUp s → IsInRange s → HasSize (size_of_code s.size_code) talk
+      → FineSending (sends_next more k o s talk)
+  next_fine more None s talk fine e is_up range size = sends_none s talk range (λ again. size)
+  next_fine more (Some message) s talk fine e is_up range size =
+      let may : MayMeet s (to_send message) = (is_up, first_fits (size_of_code s.size_code) talk.waiting message size.fit e) in
+      let left : HasSize (size_of_code s.size_code) (with_first_sent talk) =
+      record { is = size.is; fit = rest_fit (size_of_code s.size_code) talk.waiting size.fit } in
+      let after = fine (step s (to_send message)).state (with_first_sent talk) (laws.stays s (to_send message) range may)
+      (suits_later s (step s (to_send message)).state (with_first_sent talk) (λ again. left) (λ again. is_up) (sent_size s message)) in
+      record {
+        link = after.link;
+        talk = after.talk;
+        emissions = joined_emissions (step s (to_send message)).emitted _ (laws.emitted s (to_send message) range may) after.emissions;
+      }
+
+  room_fine : (more : State → Talk → Sending Talk) (room : Bool) (s : State) (talk : Talk) → SendsFine more → has_room s ≡ room
+      → IsInRange s → Suits s talk → FineSending (sends_by room more k s talk)
+  room_fine more false s talk fine e range suits = sends_none s talk range suits
+  room_fine more true s talk fine e range suits =
+      let is_up : IsUp s = room_is_up s e in
+      next_fine more (first_of talk.waiting) s talk fine refl is_up range (suits is_up)
+
+  sends_fine : (n : ℕ) → SendsFine (sends_up_to n k)
+  sends_fine zero s talk range suits = sends_none s talk range suits
+  sends_fine (suc n) s talk range suits = room_fine (sends_up_to n k) (has_room s) s talk (sends_fine n) refl range suits
+
+  closes_fine : (over : Bool) (x : Sending Talk) → FineSending x → FineSending (closes_by over x)
+  closes_fine false x fine = fine
+  closes_fine true x fine = record {
+    link = laws.stays x.link to_close fine.link tt;
+    talk = suits_down (step x.link to_close).state x.keeper (closed_down x.link);
+    emissions = joined_emissions x.emissions (step x.link to_close).emitted fine.emissions (laws.emitted x.link to_close fine.link tt);
+  }
+
+  speaks_fine : (b : Bool) → SendsFine (speaks_by b k)
+  speaks_fine false s talk range suits = sends_none s talk range suits
+  speaks_fine true s talk range suits =
+      closes_fine (k.is_over (sends k s talk).keeper) (sends k s talk) (sends_fine WINDOW_MAX s talk range suits)
+
+  -- ---- behind the link's answer
+
+  goes_on_with_fine : (side : Side) (took : Bool) (es : List Emission) (x : Sending Talk) → AreWellFormed es → FineSending x
+      → IsFine side (goes_on_with took es x)
+  goes_on_with_fine side took es x out fine = record {
+    state = record { link = fine.link; fresh = fresh_linked side x.link; talk = fine.talk };
+    emitted = packets_can (es ++ x.emissions) (joined_emissions es x.emissions out fine.emissions);
+  }
+
+  -- a link's effect that is in range
+  record FineEffect (e : Effect) : Type 0 where
+    state : IsInRange e.state
+    emitted : AreWellFormed e.emitted
+
+  goes_on_fine : (side : Side) (took : Bool) (e : Effect) (talk : Talk) → FineEffect e → Suits e.state talk
+      → IsFine side (goes_on k took e talk)
+  goes_on_fine side took e talk fine suits =
+      goes_on_with_fine side took e.emitted (speaks_by (is_up e.state.phase) k e.state talk) fine.emitted
+      (speaks_fine (is_up e.state.phase) e.state talk fine.state suits)
+
+  ends_fine : (id : Identity) (has_parted : Bool) (how : End) (e : Effect) (talk : Talk) (took : Bool) → FineEffect e
+      → IsDown e.state.phase → IsFine id.side (ends_so id has_parted how e talk took)
+  ends_fine id has_parted how e talk took fine is_down = record {
+    state = record {
+      link = fine.state;
+      fresh = fresh_ended id.side (how_it_ends has_parted how) e.state;
+      talk = suits_down e.state talk is_down;
+    };
+    emitted = All-append CanBeWritten (packets e.emitted) (leave has_parted id.side) (packets_can e.emitted fine.emitted)
+        (leave_can has_parted id.side);
+  }
+
+  closed_fine : (e : Effect) → FineEffect e → FineEffect (then_closes e)
+  closed_fine e fine = record {
+    state = laws.stays e.state to_close fine.state tt;
+    emitted = joined_emissions e.emitted (step e.state to_close).emitted fine.emitted (laws.emitted e.state to_close fine.state tt);
+  }
+
+  talks_fine : (bad : Bool) (id : Identity) (e : Effect) (before after : Talk) → FineEffect e → Suits e.state after
+      → IsFine id.side (talks_by bad k id e before after)
+  talks_fine true id e before after fine suits =
+      ends_fine id (k.has_parted before) ends.BadTalk (then_closes e) after true (closed_fine e fine) (closed_down e.state)
+  talks_fine false id e before after fine suits = goes_on_fine id.side true e after fine suits
+
+  takes_fine : (device_failed : Bool) (id : Identity) (e : Effect) (message : List ℕ) (talk : Talk) → FineEffect e
+      → Suits e.state talk → IsFine id.side (takes_by device_failed k id e message talk)
+  takes_fine true id e message talk fine suits =
+      ends_fine id (k.has_parted talk) ends.SpoolFault (then_closes e) talk true (closed_fine e fine) (closed_down e.state)
+  takes_fine false id e message talk fine suits =
+      talks_fine (k.is_bad (taking h message talk)) id e talk (taking h message talk) fine
+      (λ is_up. has_size_taking f h message (size_of_code e.state.size_code) talk (suits is_up))
+
+  -- what a link did on an event
+  record FineAnswer (s : State) (o : OutcomeValue) (e : Effect) : Type 0 where
+    effect : FineEffect e
+    phases : MovesPhase o s.phase e.state.phase
+    size_stays : IsUp s → e.state.size_code ≡ s.size_code
+
+  suits_moved : (s : State) (e : Effect) (talk : Talk) → Suits s talk → (IsUp e.state → IsUp s)
+      → (IsUp s → e.state.size_code ≡ s.size_code) → Suits e.state talk
+  suits_moved s e talk suits was same is_up =
+      subst (λ (code : ℕ). HasSize (size_of_code code) talk) (sym (same (was is_up))) (suits (was is_up))
+
+  halted_down : (after : Phase) → after ≡ phases.Halted → IsDown after
+  halted_down after e = subst IsDown (sym e) tt
+
+  -- where nothing is answered, a link that is up was so
+  was_up : (before after : Phase) → ((after ≡ before) ⊎ (IsStarting before × IsStarting after)) → after ≡ phases.Up
+      → before ≡ phases.Up
+  was_up before after (inl same) is_up = sym same ∙ is_up
+  was_up before after (inr starting) is_up = absurd (subst IsDown is_up (starting_down after starting.1))
+
+  behind_fine : (id : Identity) (device_failed : Bool) (o : OutcomeValue) (s : State) (e : Effect) (message : List ℕ) (talk : Talk)
+      → FineAnswer s o e → Suits s talk → IsFine id.side (behind_link k id device_failed o e message talk)
+  behind_fine id device_failed nothing s e message talk a suits =
+      goes_on_fine id.side false e talk a.effect
+      (suits_moved s e talk suits (was_up s.phase e.state.phase a.phases.1) a.size_stays)
+  behind_fine id device_failed up s e message talk a suits =
+      goes_on_fine id.side false e (opened_with on h (size_of_code e.state.size_code) talk) a.effect
+      (λ is_up. has_size_opened f on h (size_of_code e.state.size_code) talk)
+  behind_fine id device_failed taken s e message talk a suits =
+      takes_fine (device_failed && k.asks_spool message talk) id e message talk a.effect
+      (suits_moved s e talk suits (λ is_up. a.phases.0) a.size_stays)
+  behind_fine id device_failed closed s e message talk a suits =
+      ends_fine id (k.has_parted talk) ends.PeerClosed e talk false a.effect (halted_down e.state.phase a.phases.1)
+  behind_fine id device_failed gave_up s e message talk a suits =
+      ends_fine id (k.has_parted talk) ends.GaveUp e talk false a.effect (halted_down e.state.phase a.phases.1)
+  behind_fine id device_failed halted s e message talk a suits =
+      goes_on_fine id.side false e talk a.effect (suits_down e.state talk (halted_down e.state.phase a.phases.1))
+
+  -- ---- the events of the link
+
+  effect_fine : (s : State) (event : Event) → IsInRange s → MayMeet s event → FineEffect (step s event)
+  effect_fine s event range may = record { state = laws.stays s event range may; emitted = laws.emitted s event range may }
+
+  answer_fine : (s : State) (event : Event) → IsComing event → IsInRange s → MayMeet s event
+      → FineAnswer s (step s event).outcome (step s event)
+  answer_fine s event comes range may = record {
+    effect = effect_fine s event range may;
+    phases = laws.phases s event comes;
+    size_stays = laws.size_stays s event;
+  }
+
+  packet_fine : (id : Identity) (device_failed : Bool) (p : PacketValue) (s : State) (talk : Talk) → IsWellFormed p
+      → IsInRange s → Suits s talk → IsFine id.side (packet_came k id device_failed p s talk)
+  packet_fine id device_failed p s talk whole range suits =
+      behind_fine id device_failed (step s (packet_found p)).outcome s (step s (packet_found p)) (message_of p) talk
+      (answer_fine s (packet_found p) tt range whole) suits
+
+  bad_fine : (id : Identity) (s : State) (talk : Talk) → IsInRange s → Suits s talk → IsFine id.side (bad_came k id s talk)
+  bad_fine id s talk range suits =
+      behind_fine id false (step s bad_found).outcome s (step s bad_found) [] talk (answer_fine s bad_found tt range tt) suits
+
+  stays_fine : (side : Side) (e : Effect) (talk : Talk) → FineEffect e → Suits e.state talk
+      → IsFine side (goes_on_with false e.emitted (sending_nothing e.state talk))
+  stays_fine side e talk fine suits =
+      goes_on_with_fine side false e.emitted (sending_nothing e.state talk) fine.emitted (sends_none e.state talk fine.state suits)
+
+  late_fine : (id : Identity) (has_parted : Bool) (o : OutcomeValue) (s : State) (e : Effect) (talk : Talk) → MayAnswer o timed_out
+      → FineAnswer s o e → Suits s talk → IsFine id.side (late_link id has_parted o e talk)
+  late_fine id has_parted nothing s e talk may a suits =
+      stays_fine id.side e talk a.effect
+      (suits_moved s e talk suits (was_up s.phase e.state.phase a.phases.1) a.size_stays)
+  late_fine id has_parted up s e talk may a suits = absurd may
+  late_fine id has_parted taken s e talk may a suits = absurd may
+  late_fine id has_parted closed s e talk may a suits = absurd may
+  late_fine id has_parted gave_up s e talk may a suits =
+      ends_fine id has_parted ends.GaveUp e talk false a.effect (halted_down e.state.phase a.phases.1)
+  late_fine id has_parted halted s e talk may a suits =
+      stays_fine id.side e talk a.effect (suits_down e.state talk (halted_down e.state.phase a.phases.1))
+
+  -- ---- the greeting
+
+  begun_fine : (side : Side) (g : Greeting) (s : State) (talk : Talk) (said : List Emitted) → AllCan said → IsInRange s
+      → BeginsFresh side (hailing g) s → Suits s talk → IsFine side (begins_link side s talk said)
+  begun_fine caller g s talk said out range fresh suits = record {
+    state = record {
+      link = laws.stays s to_begin range fresh;
+      fresh = tt;
+      talk = suits_down (step s to_begin).state talk (begun_down s);
+    };
+    emitted = All-append CanBeWritten said (packets (step s to_begin).emitted) out
+        (packets_can (step s to_begin).emitted (laws.emitted s to_begin range fresh));
+  }
+  begun_fine called g s talk said out range fresh suits =
+      record { state = record { link = range; fresh = tt; talk = suits }; emitted = out }
+
+  still_fresh : (side : Side) (g next : Greeting) (s : State) → BeginsFresh side (hailing g) s → BeginsFresh side (hailing next) s
+  still_fresh caller g next s fresh = fresh
+  still_fresh called g next s fresh = tt
+
+  greeted_fine : (id : Identity) (g : Greeting) (greeted : Greeted) (said : List Emitted) (s : State) (talk : Talk) → AllCan said
+      → IsInRange s → BeginsFresh id.side (hailing g) s → Suits s talk → IsFine id.side (greeted_so id greeted said s talk)
+  greeted_fine id g (GoesOn next) said s talk out range fresh suits = record {
+    state = record { link = range; fresh = still_fresh id.side g next s fresh; talk = suits };
+    emitted = out;
+  }
+  greeted_fine id g LinkBegins said s talk out range fresh suits = begun_fine id.side g s talk said out range fresh suits
+  greeted_fine id g (Ended how) said s talk out range fresh suits =
+      record { state = record { link = range; fresh = fresh_ended id.side how s; talk = suits }; emitted = out }
+
+  unmoved_fine : (side : Side) (e : EndState Talk) → IsEndInRange side e → IsFine side (unmoved e)
+  unmoved_fine side e r = record { state = r; emitted = All-nil CanBeWritten }
+
+  -- ---- the step
+
+  hailing_fine : (id : Identity) (g : Greeting) (event : EndEvent) (e : EndState Talk) → e.stage ≡ hailing g
+      → IsEndInRange id.side e → IsFine id.side (hailing_step id g event e)
+  hailing_fine id g (text_found text) e is r =
+      let came : GreetingStep = text_came id.me id.peer g text in
+      greeted_fine id g came.greeted (map says_text came.says) e.link e.keeper (texts_can came.says) r.link
+      (subst (λ (stage : Stage). BeginsFresh id.side stage e.link) is r.fresh) r.talk
+  hailing_fine id g long_text_found e is r =
+      greeted_fine id g long_text_came.greeted (map says_text long_text_came.says) e.link e.keeper (texts_can long_text_came.says) r.link
+      (subst (λ (stage : Stage). BeginsFresh id.side stage e.link) is r.fresh) r.talk
+  hailing_fine id g time_ran_out e is r =
+      let came : GreetingStep = greeting_timed_out g in
+      greeted_fine id g came.greeted (map says_text came.says) e.link e.keeper (texts_can came.says) r.link
+      (subst (λ (stage : Stage). BeginsFresh id.side stage e.link) is r.fresh) r.talk
+  hailing_fine id g line_lost e is r =
+      greeted_fine id g (Ended ends.HungUp) [] e.link e.keeper (All-nil CanBeWritten) r.link
+      (subst (λ (stage : Stage). BeginsFresh id.side stage e.link) is r.fresh) r.talk
+  hailing_fine id g (packet_found_whole device_failed p) e is r = unmoved_fine id.side e r
+  hailing_fine id g broken_found e is r = unmoved_fine id.side e r
+
+  linked_fine : (id : Identity) (event : EndEvent) (e : EndState Talk) → MayFind event → IsEndInRange id.side e
+      → IsFine id.side (linked_step k id event e)
+  linked_fine id (packet_found_whole device_failed p) e may r = packet_fine id device_failed p e.link e.keeper may r.link r.talk
+  linked_fine id broken_found e may r = bad_fine id e.link e.keeper r.link r.talk
+  linked_fine id time_ran_out e may r =
+      late_fine id (k.has_parted e.keeper) (step e.link timed_out).outcome e.link (step e.link timed_out) e.keeper
+      (laws.answers e.link timed_out) (answer_fine e.link timed_out tt r.link tt) r.talk
+  linked_fine id line_lost e may r = record {
+    state = record { link = r.link; fresh = fresh_ended id.side (how_it_ends (k.has_parted e.keeper) ends.HungUp) e.link; talk = r.talk };
+    emitted = All-nil CanBeWritten;
+  }
+  linked_fine id (text_found text) e may r = unmoved_fine id.side e r
+  linked_fine id long_text_found e may r = unmoved_fine id.side e r
+
+  stage_fine : (id : Identity) (stage : Stage) (event : EndEvent) (e : EndState Talk) → e.stage ≡ stage → MayFind event
+      → IsEndInRange id.side e → IsFine id.side (stage_step k id stage event e)
+  stage_fine id (hailing g) event e is may r = hailing_fine id g event e is r
+  stage_fine id linked event e is may r = linked_fine id event e may r
+  stage_fine id (ended how) event e is may r = unmoved_fine id.side e r
+
+  pub end_stays : (id : Identity) (event : EndEvent) (e : EndState Talk) → IsEndInRange id.side e → MayFind event
+      → IsEndInRange id.side (end_step k id event e).state
+  end_stays id event e r may = (stage_fine id e.stage event e refl may r).state
+
+  pub end_emits : (id : Identity) (event : EndEvent) (e : EndState Talk) → IsEndInRange id.side e → MayFind event
+      → All CanBeWritten (end_step k id event e).emitted
+  end_emits id event e r may = (stage_fine id e.stage event e refl may r).emitted
+
+-- ---- a session begins
+
+first_in_range : LinkLaws → (side : Side) (own : Announced) → IsAnnouncement own → IsInRange (first_link side own)
+first_in_range laws caller own h = (laws.first own h).0
+first_in_range laws called own h = (laws.first own h).1
+
+first_fresh : (side : Side) (own : Announced) (g : Greeting) → BeginsFresh side (hailing g) (first_link side own)
+first_fresh caller own g = refl
+first_fresh called own g = tt
+
+first_down : (side : Side) (own : Announced) → IsDown (first_link side own).phase
+first_down caller own = tt
+first_down called own = tt
+
+pub end_begins : LinkLaws → (id : Identity) (own : Announced) (talk : Talk) → IsAnnouncement own
+    → IsEndInRange id.side (begins_session id own talk).state
+end_begins laws id own talk h = record {
+  link = first_in_range laws id.side own h;
+  fresh = first_fresh id.side own _;
+  talk = suits_down (first_link id.side own) talk (first_down id.side own);
+}
+
+pub first_words_can : (id : Identity) (own : Announced) (talk : Talk) → All CanBeWritten (begins_session id own talk).emitted
+first_words_can id own talk = texts_can (first_texts id.side id.me)

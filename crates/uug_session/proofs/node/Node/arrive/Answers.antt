@@ -1,0 +1,74 @@
+use Rattle.std.proofs.Common.{◌≡◌, ◌+◌, ◌-◌, ◌<◌, ◌≤◌, ap, arith, drop, length, length-drop, length-take, refl, subst, sym, take, ◌∙◌}
+use Rattle.std.proofs.lemmas.List.{take_all}
+use Rattle.uug_session.specs.Engine.{HasFailed}
+use Rattle.uug_session.specs.Node.{node_of}
+use Rattle.uug_session.specs.NodeArriving.{GoesOn}
+use Rattle.uug_session.proofs.CourseLemmas.{stays, takes_further}
+use Rattle.uug_session.proofs.NodeSearchLemmas.{accepted_most, offers_more, takes_all_of}
+use Rattle.uug_session.proofs.node.Node.arrive.Goals as goal
+
+pub loop-self-init : goal.loop-self-init
+loop-self-init g c = record {
+  same = refl;
+  used = omega arith;
+  goes_on = stays (g.S.Spool.holdings c.args.self.now.spool) (g.S.Spool.kept c.args.self.now.spool) _ (node_of c.args.self.now);
+  holdings = refl;
+  count = omega arith;
+}
+
+pub returns-in_default-clause-unfinished : goal.returns-in_default-clause-unfinished
+returns-in_default-clause-unfinished g c =
+    let old = c.args.self.now in
+    let at = c.loop-self.self in
+    let new = c.take_all_found.new.self in
+    takes_further (g.S.Spool.holdings old.spool) (g.S.Spool.holdings at.spool) (g.S.Spool.kept old.spool) (g.S.Spool.kept at.spool) (g.S.Spool.kept new.spool)
+    18446744073709551615 (g.S.Spool.faults old.spool) (g.S.Spool.faults at.spool) (g.S.Spool.faults new.spool) (take c.loop-self.used c.args.piece.now) (node_of old) (node_of at) (node_of new)
+    c.loop-self.invariant.holdings c.loop-self.invariant.count c.take_all_found.ensures.count c.loop-self.invariant.goes_on c.take_all_found.ensures.goes_on
+
+pub returns-then-used-piece-clause-taken : goal.returns-then-used-piece-clause-taken
+returns-then-used-piece-clause-taken g c =
+    let old = c.args.self.now in
+    let at = c.loop-self.self in
+    let new = c.take_all_found.new.self in
+    let piece = c.args.piece.now in
+    let whole : take c.loop-self.used piece ≡ piece = take_all c.loop-self.used piece (omega (arith, c.if-used-piece.true)) in
+    takes_all_of c.item_laws.ensures (g.S.Spool.holdings old.spool) (g.S.Spool.kept old.spool) (g.S.Spool.kept new.spool) _ piece (node_of old) (node_of new)
+    (subst (λ bytes. GoesOn (g.S.Spool.holdings old.spool) (g.S.Spool.kept old.spool) (g.S.Spool.kept new.spool)
+    (HasFailed 18446744073709551615 (g.S.Spool.faults old.spool) (g.S.Spool.faults new.spool)) bytes (node_of old) (node_of new)) whole
+    (takes_further (g.S.Spool.holdings old.spool) (g.S.Spool.holdings at.spool) (g.S.Spool.kept old.spool) (g.S.Spool.kept at.spool) (g.S.Spool.kept new.spool)
+    18446744073709551615 (g.S.Spool.faults old.spool) (g.S.Spool.faults at.spool) (g.S.Spool.faults new.spool) (take c.loop-self.used piece) (node_of old) (node_of at) (node_of new)
+    c.loop-self.invariant.holdings c.loop-self.invariant.count c.take_all_found.ensures.count c.loop-self.invariant.goes_on c.take_all_found.ensures.goes_on))
+    c.in-Ok.ensures.rest
+
+pub loop-self-smaller : goal.loop-self-smaller
+loop-self-smaller g c =
+    let piece = c.args.piece.now in
+    let rest = take (length piece - c.loop-self.used) (drop c.loop-self.used piece) in
+    let left : 0 < length rest = omega (arith, c.loop-self.invariant.used, c.if-used-piece.false, length-drop c.loop-self.used piece, length-take (length piece - c.loop-self.used) (drop c.loop-self.used piece)) in
+    let some = c.in-Ok.ensures.room rest left in
+    omega (arith, some, c.offer-used.ensures.count, c.loop-self.invariant.used, c.if-used-piece.false)
+
+pub loop-self-preserved : goal.loop-self-preserved
+loop-self-preserved g c =
+    let old = c.args.self.now in
+    let at = c.loop-self.self in
+    let found = c.take_all_found.new.self in
+    let new = c.offer-used.new.self in
+    let piece = c.args.piece.now in
+    let rest = take (length piece - c.loop-self.used) (drop c.loop-self.used piece) in
+    let most = accepted_most (node_of found) rest in
+    let taken = takes_further (g.S.Spool.holdings old.spool) (g.S.Spool.holdings at.spool) (g.S.Spool.kept old.spool) (g.S.Spool.kept at.spool) (g.S.Spool.kept found.spool)
+    18446744073709551615 (g.S.Spool.faults old.spool) (g.S.Spool.faults at.spool) (g.S.Spool.faults found.spool) (take c.loop-self.used piece) (node_of old) (node_of at) (node_of found)
+    c.loop-self.invariant.holdings c.loop-self.invariant.count c.take_all_found.ensures.count c.loop-self.invariant.goes_on c.take_all_found.ensures.goes_on in
+    let offered = offers_more c.item_laws.ensures (g.S.Spool.holdings old.spool) (g.S.Spool.kept old.spool) (g.S.Spool.kept found.spool)
+    (HasFailed 18446744073709551615 (g.S.Spool.faults old.spool) (g.S.Spool.faults found.spool)) piece c.loop-self.used c.offer-used.result (node_of old) (node_of found) (node_of new)
+    taken c.offer-used.ensures.bytes in
+    record {
+      same = refl;
+      used = omega (arith, most, c.offer-used.ensures.count, c.loop-self.invariant.used, length-drop c.loop-self.used piece, length-take (length piece - c.loop-self.used) (drop c.loop-self.used piece));
+      goes_on = subst (λ s. GoesOn (g.S.Spool.holdings old.spool) (g.S.Spool.kept old.spool) (g.S.Spool.kept s)
+          (HasFailed 18446744073709551615 (g.S.Spool.faults old.spool) (g.S.Spool.faults s)) (take (c.loop-self.used + c.offer-used.result) piece) (node_of old) (node_of new))
+          (sym c.offer-used.ensures.spool) offered;
+      holdings = ap (g.S.Spool.holdings) c.offer-used.ensures.spool ∙ c.take_all_found.ensures.holdings ∙ c.loop-self.invariant.holdings;
+      count = subst (λ s. g.S.Spool.faults old.spool ≤ g.S.Spool.faults s) (sym c.offer-used.ensures.spool) (omega (arith, c.loop-self.invariant.count, c.take_all_found.ensures.count));
+    }

@@ -1,0 +1,42 @@
+use Rattle.std.proofs.Common.{[], arith, refl, ◌∙◌}
+use Rattle.uug_session.specs.Node.{node_of}
+use Rattle.uug_session.proofs.CourseLemmas.{goes_further, stays}
+use Rattle.uug_session.proofs.node.Node.take_all_found.Goals as goal
+
+pub loop-init : goal.loop-init
+loop-init g c = record {
+  goes_on = stays (g.S.Spool.holdings c.args.self.now.spool) (g.S.Spool.kept c.args.self.now.spool) _ (node_of c.args.self.now);
+  holdings = refl;
+  count = omega arith;
+}
+
+pub returns-in_err-take_next-clause-goes_on : goal.returns-in_err-take_next-clause-goes_on
+returns-in_err-take_next-clause-goes_on g c =
+    let old = c.args.self.now in
+    let at = c.loop.self in
+    let new = c.take_next.new.self in
+    goes_further (g.S.Spool.holdings old.spool) (g.S.Spool.holdings at.spool) (g.S.Spool.kept old.spool) (g.S.Spool.kept at.spool) (g.S.Spool.kept new.spool)
+    18446744073709551615 (g.S.Spool.faults old.spool) (g.S.Spool.faults at.spool) (g.S.Spool.faults new.spool) [] [] (node_of old) (node_of at) (node_of new)
+    c.loop.invariant.holdings c.loop.invariant.count c.take_next.ensures.count c.loop.invariant.goes_on c.take_next.ensures.goes_on
+
+pub loop-preserved : goal.loop-preserved
+loop-preserved g c =
+    let old = c.args.self.now in
+    let at = c.loop.self in
+    let new = c.take_next.new.self in
+    record {
+      goes_on = goes_further (g.S.Spool.holdings old.spool) (g.S.Spool.holdings at.spool) (g.S.Spool.kept old.spool) (g.S.Spool.kept at.spool) (g.S.Spool.kept new.spool)
+          18446744073709551615 (g.S.Spool.faults old.spool) (g.S.Spool.faults at.spool) (g.S.Spool.faults new.spool) [] [] (node_of old) (node_of at) (node_of new)
+          c.loop.invariant.holdings c.loop.invariant.count c.take_next.ensures.count c.loop.invariant.goes_on c.take_next.ensures.goes_on;
+      holdings = c.take_next.ensures.holdings ∙ c.loop.invariant.holdings;
+      count = omega (arith, c.loop.invariant.count, c.take_next.ensures.count);
+    }
+
+pub returns-clause-goes_on : goal.returns-clause-goes_on
+returns-clause-goes_on g c =
+    let old = c.args.self.now in
+    let at = c.loop.self in
+    let new = c.take_next.new.self in
+    goes_further (g.S.Spool.holdings old.spool) (g.S.Spool.holdings at.spool) (g.S.Spool.kept old.spool) (g.S.Spool.kept at.spool) (g.S.Spool.kept new.spool)
+    18446744073709551615 (g.S.Spool.faults old.spool) (g.S.Spool.faults at.spool) (g.S.Spool.faults new.spool) [] [] (node_of old) (node_of at) (node_of new)
+    c.loop.invariant.holdings c.loop.invariant.count c.take_next.ensures.count c.loop.invariant.goes_on c.take_next.ensures.goes_on

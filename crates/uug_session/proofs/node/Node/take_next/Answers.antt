@@ -1,0 +1,49 @@
+use Rattle.std.proofs.Common.{ap, subst, ◌<◌, [], length}
+use Rattle.uug_session.specs.Engine.{HasFailed}
+use Rattle.uug_session.specs.Node.{IsAsBefore, TakesShown, held_bytes, node_of}
+use Rattle.uug_session.specs.NodeArriving.{GoesOn}
+use Rattle.uug_session.proofs.NodeItemLemmas.{none_shown, refuses_next, rests_behind, searches_to, takes_next}
+use Rattle.uug_session.proofs.node.Node.take_next.Goals as goal
+
+pub returns-then-is_none-clause-goes_on : goal.returns-then-is_none-clause-goes_on
+returns-then-is_none-clause-goes_on g c =
+    let old = c.args.self.now in
+    searches_to c.item_laws.ensures (g.S.Spool.holdings old.spool) (g.S.Spool.kept old.spool) (g.S.Spool.kept c.search.new.self.spool) _
+    (node_of old) (node_of c.search.new.self) c.search.ensures.found (ap (g.S.Spool.kept) c.search.ensures.spool)
+
+pub returns-then-is_none-clause-rest : goal.returns-then-is_none-clause-rest
+returns-then-is_none-clause-rest g c =
+    let old = c.args.self.now in
+    λ is. rests_behind c.item_laws.ensures (g.S.Spool.holdings old.spool) (node_of old) (node_of c.search.new.self) c.search.ensures.found
+    (none_shown c.showing.result _ _ c.if-is_none.ensures c.showing.ensures)
+
+pub returns-in_err-take_found-clause-goes_on : goal.returns-in_err-take_found-clause-goes_on
+returns-in_err-take_found-clause-goes_on g c =
+    let old = c.args.self.now in
+    let found = c.search.new.self in
+    let new = c.take_found.new.self in
+    refuses_next c.item_laws.ensures (g.S.Spool.holdings old.spool) (g.S.Spool.kept old.spool) (g.S.Spool.kept new.spool) _
+    (node_of old) (node_of found) (node_of new) c.search.ensures.found
+    (subst (λ s. IsAsBefore (g.S.Spool.holdings s) (g.S.Spool.kept s) (g.S.Spool.kept new.spool) (node_of found) (node_of new))
+    c.search.ensures.spool c.in_err-take_found.ensures.err)
+
+takes : (g : _) (c : goal.In_ok-take_found g)
+    → GoesOn (g.S.Spool.holdings c.args.self.now.spool) (g.S.Spool.kept c.args.self.now.spool) (g.S.Spool.kept c.take_found.new.self.spool)
+    (HasFailed 18446744073709551615 (g.S.Spool.faults c.args.self.now.spool) (g.S.Spool.faults c.take_found.new.self.spool))
+    [] (node_of c.args.self.now) (node_of c.take_found.new.self)
+    × (length (held_bytes (node_of c.take_found.new.self)) < length (held_bytes (node_of c.args.self.now)))
+takes g c =
+    let old = c.args.self.now in
+    let found = c.search.new.self in
+    let new = c.take_found.new.self in
+    takes_next c.item_laws.ensures (g.S.Spool.holdings old.spool) (g.S.Spool.kept old.spool) (g.S.Spool.kept new.spool) _
+    (node_of old) (node_of found) (node_of new) c.in_ok-take_found.field-0 c.search.ensures.found
+    (subst (λ s. TakesShown (g.S.Spool.holdings s) (g.S.Spool.kept s) (g.S.Spool.kept new.spool)
+    (HasFailed 18446744073709551615 (g.S.Spool.faults s) (g.S.Spool.faults new.spool)) (node_of found) (node_of new) c.in_ok-take_found.field-0)
+    c.search.ensures.spool c.in_ok-take_found.ensures.taken)
+
+pub returns-clause-goes_on : goal.returns-clause-goes_on
+returns-clause-goes_on g c = (takes g c).0
+
+pub returns-clause-fewer : goal.returns-clause-fewer
+returns-clause-fewer g c = λ is. (takes g c).1

@@ -1,0 +1,17 @@
+-- How far an end is, as the program says it (this project's profile).
+use Rattle.uug_link.specs.declared.phase.Phase.{Phase as LinkPhase}
+use Rattle.uug_link.specs.declared.phase.Phase.TheVariants as link_phases
+use Rattle.uug_session.specs.declared.phase.Phase.{Phase}
+use Rattle.uug_session.specs.declared.phase.Phase.TheVariants as phases
+use Rattle.uug_session.specs.EndStep.{Stage, hailing, linked, ended}
+
+abbrev pub phase_of_link : LinkPhase → Phase
+phase_of_link link_phases.Up = phases.Talking
+phase_of_link link_phases.Closing = phases.Closing
+phase_of_link _ = phases.Starting
+
+-- how far an end is, by its session and its link
+abbrev pub phase_at : Stage → LinkPhase → Phase
+phase_at (hailing greeting) p = phases.Hail
+phase_at linked p = phase_of_link p
+phase_at (ended how) p = phases.Ended how

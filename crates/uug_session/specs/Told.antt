@@ -1,0 +1,23 @@
+-- How an end in a session is told by two numbers, whatever it has brought from earlier ones (this project's profile).
+use Rattle.std.specs.Prelude.{ℕ, true, List, ◌++◌, length}
+use Rattle.uug_session.specs.declared.job.Job.{Job}
+use Rattle.uug_session.specs.Count.{Count}
+use Rattle.uug_session.specs.EarlierJobs.{state_behind}
+use Rattle.uug_session.specs.Holdings.{Kept}
+use Rattle.uug_session.specs.Talk.{Talk}
+use Rattle.uug_session.specs.TwoEnds.{Talker}
+
+-- what it keeps once its link is up, where these jobs were struck and failed and these files kept before, and its messages
+-- have this size
+abbrev pub talk_behind : (struck failed : List Job) → (kept : List Kept) → (size : ℕ) → Talker → Talk
+talk_behind struck failed kept size t = record {
+  opened = true;
+  machine = state_behind struck failed t.state;
+  size = size;
+  waiting = t.waiting;
+  kept = kept ++ t.kept;
+}
+
+-- how many messages it has sent and taken since then
+abbrev pub count_of_talker : Talker → Count
+count_of_talker t = record { opened = true; sent = length t.sent; taken = length t.taken }

@@ -1,0 +1,85 @@
+//! A node takes up the bytes that come to it.
+ghost use Rattle.std.specs.Prelude.{◌≡◌, ◌<◌, ◌≤◌, [], length, take, true, false, IfErr, OnErr, OnOk, Ok};
+ghost use Rattle.uug_session.specs.Engine.{HasFailed};
+ghost use Rattle.uug_session.specs.Node.{HasRoom, held_bytes, item_size, node_of};
+ghost use Rattle.uug_session.specs.NodeArriving.{GoesOn, IsAtRest, TakesAll};
+
+use crate::arriving_laws::item_laws;
+use crate::node::Node;
+use crate::spool::Spool;
+use std::alloc::{AllocError, Allocator};
+use thiserror::Error;
+
+/// There was no memory to take up all of a piece.
+#[derive(Clone, Copy, Debug, PartialEq, Eq, Error)]
+#[error("out of memory behind {used} bytes of the piece")]
+pub struct Unfinished {
+    /// How many bytes of the piece were taken. Those behind them are to be handed in again.
+    pub used: usize,
+}
+
+impl<S: Spool, A: Allocator + Copy> Node<S, A> {
+    /// Takes up the item that stands first in the bytes held, and says whether there was one. Without memory for that it
+    /// is still there.
+    fn take_next(&mut self) -> Result<bool, AllocError>
+        ensures goes_on { GoesOn (S.holdings self.old.spool) (S.kept self.old.spool) (S.kept self.new.spool)
+            (HasFailed u64.MAX (S.faults self.old.spool) (S.faults self.new.spool)) [] (node_of self.old) (node_of self.new) }
+        ensures fewer { result ≡ Ok true → length (held_bytes (node_of self.new)) < length (held_bytes (node_of self.old)) }
+        ensures rest { result ≡ Ok false → IsAtRest (node_of self.new) }
+        ensures room { result ≡ Ok false → HasRoom (node_of self.new) }
+        ensures shown { OnErr result (0 < item_size (node_of self.new)) }
+        ensures holdings { S.holdings self.new.spool ≡ S.holdings self.old.spool }
+        ensures count { S.faults self.old.spool ≤ S.faults self.new.spool }
+    {
+        item_laws();
+        self.search();
+        if self.showing().is_none() {
+            return Ok(false);
+        }
+        self.take_found()?;
+        Ok(true)
+    }
+
+    /// Takes up all that is found in the bytes held, one item after the other. Without memory for an item it is still
+    /// there, and those in front of it were taken up.
+    fn take_all_found(&mut self) -> Result<(), AllocError>
+        ensures goes_on { GoesOn (S.holdings self.old.spool) (S.kept self.old.spool) (S.kept self.new.spool)
+            (HasFailed u64.MAX (S.faults self.old.spool) (S.faults self.new.spool)) [] (node_of self.old) (node_of self.new) }
+        ensures rest { OnOk result (IsAtRest (node_of self.new)) }
+        ensures room { OnOk result (HasRoom (node_of self.new)) }
+        ensures shown { OnErr result (0 < item_size (node_of self.new)) }
+        ensures holdings { S.holdings self.new.spool ≡ S.holdings self.old.spool }
+        ensures count { S.faults self.old.spool ≤ S.faults self.new.spool }
+    {
+        while self.take_next()? {}
+        Ok(())
+    }
+
+    /// Takes a whole piece of the bytes that come: as many of them as fit, all that is found then, and so on up to its
+    /// end. Without memory for an item, that item is still there, and those in front of it were taken up; nothing is lost
+    /// where the bytes from `used` on are then handed in again.
+    pub fn arrive(&mut self, piece: &[u8]) -> Result<(), Unfinished>
+        ensures taken { OnOk result (TakesAll (S.holdings self.old.spool) (S.kept self.old.spool) (S.kept self.new.spool)
+            (HasFailed u64.MAX (S.faults self.old.spool) (S.faults self.new.spool)) piece.now (node_of self.old) (node_of self.new)) }
+        ensures used { IfErr result (λ unfinished. unfinished.used ≤ length piece.now) }
+        ensures unfinished { IfErr result (λ unfinished.
+            GoesOn (S.holdings self.old.spool) (S.kept self.old.spool) (S.kept self.new.spool)
+            (HasFailed u64.MAX (S.faults self.old.spool) (S.faults self.new.spool))
+            (take unfinished.used piece.now) (node_of self.old) (node_of self.new)) }
+        ensures shown { OnErr result (0 < item_size (node_of self.new)) }
+        ensures holdings { S.holdings self.new.spool ≡ S.holdings self.old.spool }
+        ensures count { S.faults self.old.spool ≤ S.faults self.new.spool }
+    {
+        item_laws();
+        let mut used = 0;
+        loop {
+            let Ok(()) = self.take_all_found() else {
+                return Err(Unfinished { used });
+            };
+            if used == piece.len() {
+                return Ok(());
+            }
+            used += self.offer(&piece[used..]);
+        }
+    }
+}

@@ -1,0 +1,25 @@
+//! Laws of a node's calls. The functions do nothing.
+ghost use Rattle.std.specs.Prelude.{◌≡◌, ◌++◌, List, map};
+ghost use Rattle.uug_link.specs.Announced.{Announced};
+ghost use Rattle.uug_link.specs.Entries.{EntryValue};
+ghost use Rattle.uug_session.specs.Engine.{BeginsSession, Does, EngineState, bare, end_of, entry_of, hung_up, stage_late, with_stage};
+ghost use Rattle.uug_session.specs.EndStep.{Identity, begins_session, line_lost, time_ran_out, unmoved};
+ghost use Rattle.uug_session.specs.Holdings.{Holdings, Kept};
+ghost use Rattle.uug_session.specs.Jobs.{Lists};
+ghost use Rattle.uug_session.specs.Node.{effect_of};
+ghost use Rattle.uug_session.specs.Talk.{unopened};
+ghost use Rattle.uug_session.specs.Talking.{talking_has_parted};
+
+/// What is told of a call without the spool is the end's step beside it.
+pub fn calls_are_steps()
+    ensures late { (h : Holdings) (kept : List Kept) (before after : EngineState)
+        → Does (stage_late before.identity (talking_has_parted before.talking) before.stage before.link before.talking)
+        (bare after) before after
+        → Does (effect_of h kept time_ran_out before) (end_of h kept after) before after }
+    ensures lost { (h : Holdings) (kept : List Kept) (e : EngineState)
+        → effect_of h kept line_lost e
+        ≡ unmoved (end_of h kept (with_stage (hung_up (talking_has_parted e.talking) e.stage) e)) }
+    ensures begins { (h : Holdings) (kept : List Kept) (id : Identity) (own : Announced) (l : Lists) (entries : List EntryValue)
+        (after : EngineState) → BeginsSession id own l entries after
+        → end_of h kept after ≡ (begins_session id own (unopened l kept)).state }
+{}

@@ -1,0 +1,133 @@
+//! Links from their first packet to their end.
+
+use super::{Answer, Call, NOTHING, Row, SILENCE, Wire, announce, assert_holds, follow};
+use std::alloc::{AllocError, Global};
+use std::process::Abort;
+use std::test::Fail;
+use uug_link::{Announce, BadAnnounce, Link, LinkFault, Outbox, Outcome};
+use uug_refusal::Refusing;
+
+const UP: Answer = Ok(Outcome::Up);
+
+const TAKEN: Answer = Ok(Outcome::Taken);
+
+const CLOSED: Answer = Ok(Outcome::Closed);
+
+const HALTED: Answer = Err(LinkFault::Halted);
+
+#[test]
+fn announces_windows_and_sizes(rt: HostRuntime) -> Result<(), Fail> {
+    assert_eq!(rt; Announce::new(0, 48), Err(BadAnnounce::BadWindow));
+    assert_eq!(rt; Announce::new(7, 48), Err(BadAnnounce::BadSize));
+    let greatest = announce(7, 4096)?;
+    assert_eq!(rt; (greatest.window(), greatest.size()), (7, 4096));
+    Ok(())
+}
+
+/// A caller that has begun comes up. The other end's INITC tells a smaller window than its INITA.
+const COMES_UP: &[Row<'static>] = &[
+    (Call::Hear(Wire::InitA(7)), &[Wire::InitB(0)], NOTHING, 0),
+    (Call::Hear(Wire::InitB(1)), &[Wire::InitC(3)], NOTHING, 0),
+    (Call::Hear(Wire::InitC(3)), SILENCE, UP, 0),
+];
+
+/// A whole window goes out.
+const FILLS: &[Row<'static>] = &[
+    (Call::Send(b"a"), &[Wire::Data(1, 0, b"a")], NOTHING, 1),
+    (Call::Send(b"b"), &[Wire::Data(2, 0, b"b")], NOTHING, 2),
+    (Call::Send(b"c"), &[Wire::Data(3, 0, b"c")], NOTHING, 3),
+];
+
+/// Packets are asked for again, one and several; one is taken; what is left is repeated; the link closes.
+const GOES_ON: &[Row<'static>] = &[
+    (
+        Call::Hear(Wire::Srj(3)),
+        &[Wire::Data(3, 0, b"c")],
+        NOTHING,
+        3,
+    ),
+    (
+        Call::Hear(Wire::Rj(1)),
+        &[Wire::Data(2, 0, b"b"), Wire::Data(3, 0, b"c")],
+        NOTHING,
+        2,
+    ),
+    (Call::Hear(Wire::Data(1, 2, b"x")), &[Wire::Rr(1)], TAKEN, 1),
+    (Call::Timeout, &[Wire::Data(3, 1, b"c")], NOTHING, 1),
+    (Call::Bad, &[Wire::Rj(1)], NOTHING, 1),
+    (Call::Bad, SILENCE, NOTHING, 1),
+    (Call::Hear(Wire::Rr(3)), SILENCE, NOTHING, 0),
+    (Call::Send(b"d"), &[Wire::Data(4, 1, b"d")], NOTHING, 1),
+    (Call::Shut, &[Wire::Close], NOTHING, 1),
+];
+
+const CLOSES: &[Row<'static>] = &[
+    (Call::Timeout, &[Wire::Close], NOTHING, 1),
+    (Call::Hear(Wire::Close), SILENCE, CLOSED, 1),
+    (Call::Hear(Wire::Close), SILENCE, HALTED, 1),
+];
+
+/// A called end comes up and is closed by the other.
+const IS_CALLED: &[Row<'static>] = &[
+    (Call::Hear(Wire::InitA(3)), &[Wire::InitA(2)], NOTHING, 0),
+    (Call::Hear(Wire::InitB(1)), &[Wire::InitB(0)], NOTHING, 0),
+    (Call::Hear(Wire::InitC(3)), &[Wire::InitC(2)], UP, 0),
+    (Call::Hear(Wire::Close), &[Wire::Close], CLOSED, 0),
+    (Call::Bad, SILENCE, HALTED, 0),
+];
+
+/// The last timeouts of a caller of which nothing is heard.
+const GIVES_UP: &[Row<'static>] = &[
+    (Call::Timeout, &[Wire::Close], Err(LinkFault::GaveUp), 0),
+    (Call::Timeout, SILENCE, HALTED, 0),
+];
+
+/// A caller's link that has begun, each request for memory refused once.
+fn begun(rt: &impl Abort, alloc: Global, own: Announce) -> Result<Link, AllocError> {
+    let heap = Refusing::new(alloc, 1);
+    let mut out = Outbox::new(&heap);
+    let mut link = Link::caller(own);
+    assert!(rt; link.begin(&mut out).is_err());
+    heap.refuse(2);
+    assert!(rt; link.begin(&mut out).is_err());
+    heap.refuse(3);
+    link.begin(&mut out)?;
+    assert_holds(rt, &out, &[Wire::InitA(3)], false);
+    Ok(link)
+}
+
+/// The link is up, with that window and size.
+fn assert_up(rt: &impl Abort, link: &Link, window: usize, size: usize) {
+    assert!(rt; link.is_up());
+    assert_eq!(rt; (link.window(), link.size()), (window, size));
+}
+
+#[test]
+fn a_caller_sends_and_closes(rt: HostRuntime) -> Result<(), Fail> {
+    let mut link = begun(&rt, rt.alloc(), announce(3, 32)?)?;
+    follow(&rt, rt.alloc(), &mut link, COMES_UP);
+    assert_up(&rt, &link, 3, 64);
+    follow(&rt, rt.alloc(), &mut link, FILLS);
+    assert!(rt; !link.room());
+    follow(&rt, rt.alloc(), &mut link, GOES_ON);
+    assert!(rt; link.is_closing());
+    follow(&rt, rt.alloc(), &mut link, CLOSES);
+    Ok(())
+}
+
+#[test]
+fn a_called_end_is_closed(rt: HostRuntime) -> Result<(), Fail> {
+    let mut link = Link::called(announce(2, 32)?);
+    follow(&rt, rt.alloc(), &mut link, IS_CALLED);
+    Ok(())
+}
+
+// a timeout that is counted though memory was refused
+#[test]
+fn a_caller_gives_up(rt: HostRuntime) -> Result<(), Fail> {
+    let mut link = begun(&rt, rt.alloc(), announce(3, 32)?)?;
+    let row: Row<'_> = (Call::Timeout, &[Wire::InitA(3)], NOTHING, 0);
+    follow(&rt, rt.alloc(), &mut link, &[row; 7]);
+    follow(&rt, rt.alloc(), &mut link, GIVES_UP);
+    Ok(())
+}

@@ -1,0 +1,73 @@
+//! The calls of `uug_packet`: each once, and the texts of its refusals.
+
+use arrayvec::ArrayVec;
+use std::alloc::AllocError;
+use uug_packet::{NoPacket, Packet, Seq, check, decode, encode, field_size, message_start};
+
+/// The number of a packet: all that are written here are below eight.
+pub fn number(value: u8) -> Seq {
+    match Seq::new(value % 8) {
+        Some(number) => number,
+        None => unreachable!(),
+    }
+}
+
+#[test]
+fn counts_and_checks(rt: HostRuntime) {
+    assert_eq!(rt; number(7).next().value(), 0);
+    assert_eq!(rt; number(1).ahead_of(number(6)), 3);
+    assert_eq!(rt; check(&[0x41, 0x42]), 0x0046);
+    assert_eq!(rt; field_size(1), 32);
+}
+
+#[test]
+fn writes_and_reads_packets(rt: HostRuntime) {
+    let packet = Packet::Carry {
+        seq: number(2),
+        ack: number(1),
+        k: 1,
+        message: &[],
+    };
+    let front = [0x10, 0x01, 0x9a, 0x0e, 0xd1, 0x44, 0x20];
+    let mut out = ArrayVec::new();
+    encode(&packet, &mut out);
+    assert_eq!(rt; &out[..7], front.as_slice());
+    assert_eq!(rt; message_start(&out), 7);
+    assert_eq!(rt; decode(&out), Ok((packet, 38)));
+}
+
+#[test]
+fn refuses_packets(rt: HostRuntime) -> Result<(), AllocError> {
+    let mut no_missing_byte = [0; 38];
+    no_missing_byte[..6].copy_from_slice(&[0x10, 0x01, 0xcd, 0x39, 0xc8, 0x3d]);
+    let rows: [(&[u8], NoPacket, &str); 7] = [
+        (
+            &[0x10, 0x0a, 0, 0, 0],
+            NoPacket::Short,
+            "more bytes are needed",
+        ),
+        (&[0x11], NoPacket::BadStart, "no packet begins here"),
+        (&[0x10, 0x0a, 0, 0, 0, 0], NoPacket::BadK, "bad size code"),
+        (
+            &[0x10, 0x09, 0xaa, 0xaa, 0, 0x08],
+            NoPacket::BadXor,
+            "bad header check",
+        ),
+        (
+            &[0x10, 0x09, 0, 0, 0, 0x09],
+            NoPacket::BadKind,
+            "bad control byte",
+        ),
+        (
+            &[0x10, 0x09, 0x6e, 0xaa, 0x3b, 0xf6],
+            NoPacket::BadSum,
+            "bad checksum",
+        ),
+        (&no_missing_byte, NoPacket::BadLength, "bad length"),
+    ];
+    for (bytes, fault, text) in rows {
+        assert_eq!(rt; decode(bytes), Err(fault));
+        assert_eq!(rt; format!(in rt.alloc(); "{fault}")?.as_str(), text);
+    }
+    Ok(())
+}

@@ -1,0 +1,87 @@
+//! What no clause says of a reader: that it does its work on bytes from outside, and want of memory.
+
+use crate::packets::number;
+use std::alloc::{AllocError, Allocator};
+use std::process::Abort;
+use uug_packet::{Control, Packet};
+use uug_reader::{Found, READER_SIZE, Reader};
+use uug_refusal::Refusing;
+
+/// Two bytes of noise, INITA 3, and the front of RR 1.
+const FRONT: [u8; 10] = [0x10, 0x11, 0x10, 0x09, 0x6f, 0xaa, 0x3b, 0xf7, 0x10, 0x09];
+
+/// The rest of it, and the header of a data packet: number 1, acknowledging 0, and 32 zeros as the message.
+const HEADER: [u8; 10] = [0x89, 0xaa, 0x21, 0x0b, 0x10, 0x01, 0x0d, 0x3a, 0x88, 0xbe];
+
+/// A data packet whose checksum is one too high, and in its field what reads as RR 1.
+const BROKEN_FRONT: [u8; 12] = [
+    0x10, 0x01, 0x96, 0x6a, 0x88, 0x75, 0x10, 0x09, 0x89, 0xaa, 0x21, 0x0b,
+];
+
+/// Pushes a piece, and drops what is then found: just these items. So many bytes wait then.
+fn take_piece<A: Allocator>(
+    rt: &impl Abort,
+    reader: &mut Reader<A>,
+    piece: &[u8],
+    items: &[Found<'_>],
+    waiting: usize,
+) {
+    assert_eq!(rt; reader.push(piece), piece.len());
+    for item in items {
+        assert_eq!(rt; reader.find(), Some(*item));
+        assert_eq!(rt; reader.showing(), Some(*item), "shown again");
+        assert!(rt; reader.search());
+        reader.drop_found();
+    }
+    assert_eq!(rt; reader.find(), None);
+    assert_eq!(rt; reader.waiting(), waiting);
+}
+
+#[test]
+fn finds_what_comes_in_pieces(rt: HostRuntime) -> Result<(), AllocError> {
+    let ready = Found::Packet(Packet::Control(Control::Rr(number(1))));
+    let zeros = Packet::Carry {
+        seq: number(1),
+        ack: number(0),
+        k: 1,
+        message: &[0; 32],
+    };
+    let none: &[Found<'_>] = &[];
+    let rows: [(&[u8], &[Found<'_>], usize); 6] = [
+        (
+            &FRONT,
+            &[Found::Packet(Packet::Control(Control::InitA(number(3))))],
+            2,
+        ),
+        (&HEADER, &[ready], 6),
+        (&[0; 31], none, 37),
+        (&[0], &[Found::Packet(zeros)], 0),
+        (&BROKEN_FRONT, none, 12),
+        (&[0; 26], &[Found::Bad, ready], 0),
+    ];
+    let mut reader = Reader::new(rt.alloc())?;
+    for (piece, items, waiting) in rows {
+        take_piece(&rt, &mut reader, piece, items, waiting);
+    }
+    Ok(())
+}
+
+/// As many bytes are accepted as there is room for, and those that are noise give room again.
+fn fill<A: Allocator>(rt: &impl Abort, reader: &mut Reader<A>) {
+    assert_eq!(rt; reader.push(&[0x10; READER_SIZE]), READER_SIZE);
+    assert_eq!(rt; reader.push(&[0x10]), 0);
+    assert_eq!(rt; reader.find(), None);
+    assert_eq!(rt; reader.push(&[0x10; READER_SIZE]), READER_SIZE - 5);
+    reader.clear();
+    assert_eq!(rt; reader.waiting(), 0);
+}
+
+// a reader that takes memory for more than itself
+#[test]
+fn is_full_at_the_longest_packet(rt: HostRuntime) -> Result<(), AllocError> {
+    let heap = Refusing::new(rt.alloc(), 1);
+    assert!(rt; Reader::new(&heap).is_err());
+    fill(&rt, &mut Reader::new(&heap)?);
+    assert_eq!(rt; heap.requests(), 2, "the one refused, and the other");
+    Ok(())
+}

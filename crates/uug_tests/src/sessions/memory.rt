@@ -1,0 +1,114 @@
+//! Each request for memory of each call, refused in turn. What this catches beyond the clauses: a call that answers want
+//! of memory where none was refused, or that cannot be made again.
+
+use super::{name, send_job};
+use std::alloc::{Allocator, Global};
+use std::test::Fail;
+use uug_link::{ENTRIES_MAX, Outbox};
+use uug_refusal::Refusing;
+use uug_session::{AwaitedText, Greeting, MemorySpool, Queue, Spool, Verdict};
+use uug_talk::Name;
+
+/// A call that takes memory.
+#[derive(Clone, Copy, Debug)]
+enum Call<'a> {
+    Add,
+    AddFile,
+    Keep,
+    Deny,
+    Later,
+    Immovable,
+    Reserve,
+    AddText,
+    SayName,
+    Hear(AwaitedText, &'a [u8]),
+}
+
+#[derive(Drop)]
+struct Stores<A: Allocator> {
+    queue: Queue<A>,
+    spool: MemorySpool<A>,
+    out: Outbox<A>,
+}
+
+impl<A: Allocator + Copy> Stores<A> {
+    fn new(alloc: A) -> Self {
+        Stores {
+            queue: Queue::new(alloc),
+            spool: MemorySpool::new(alloc),
+            out: Outbox::new(alloc),
+        }
+    }
+
+    /// Makes the call. Whether it was done.
+    fn make(&mut self, call: Call<'_>, x: &Name) -> bool {
+        match call {
+            Call::Add => self.queue.add(send_job(*x)).is_ok(),
+            Call::AddFile => self.spool.add_file(*x, 0o644, b"abc").is_ok(),
+            Call::Keep => self.spool.keep(x, 0o644, b"abc").is_ok(),
+            Call::Deny => self.spool.deny(*x).is_ok(),
+            Call::Later => self.spool.later(*x).is_ok(),
+            Call::Immovable => self.spool.immovable(*x).is_ok(),
+            Call::Reserve => self.out.reserve(ENTRIES_MAX).is_ok(),
+            Call::AddText => self.out.add_text(b"abc").is_ok(),
+            Call::SayName => Greeting::called(x, &mut self.out).is_ok(),
+            Call::Hear(awaited, text) => {
+                let greeting = Greeting {
+                    awaited,
+                    timeouts: 0,
+                };
+                greeting.on_text(x, x, text, &mut self.out).is_ok()
+            }
+        }
+    }
+
+    /// No job, file or text is there, and a file of the name is taken.
+    fn is_empty(&self, x: &Name) -> bool {
+        self.queue.pending().is_empty()
+            && self.spool.stored().is_empty()
+            && self.spool.fetch(x).is_none()
+            && self.spool.may_keep(x) == Verdict::Yes
+            && self.out.bytes().is_empty()
+    }
+}
+
+/// Refuses the nth request of the call, if there is one. Whether one was refused, and whether all is well: the refused
+/// call leaves nothing behind, and is done when it is made again; one that is not refused is done.
+fn refuse(heap: &Refusing<Global>, call: Call<'_>, x: &Name, nth: u64) -> (bool, bool) {
+    let mut stores = Stores::new(heap);
+    heap.refuse(nth);
+    let is_done = stores.make(call, x);
+    if !heap.was_refused() {
+        return (false, is_done);
+    }
+    (true, !is_done && stores.is_empty(x) && stores.make(call, x))
+}
+
+#[test]
+fn makes_refused_calls_good(rt: HostRuntime) -> Result<(), Fail> {
+    let x = name(b"x")?;
+    let calls = [
+        (Call::Add, 3),
+        (Call::AddFile, 2),
+        (Call::Keep, 2),
+        (Call::Deny, 1),
+        (Call::Later, 1),
+        (Call::Immovable, 1),
+        (Call::Reserve, 2),
+        (Call::AddText, 2),
+        (Call::SayName, 2),
+        (Call::Hear(AwaitedText::CalledName, b"Shere"), 2),
+        (Call::Hear(AwaitedText::CallerName, b"Sa"), 2),
+        (Call::Hear(AwaitedText::CallerName, b"Sz"), 2),
+        (Call::Hear(AwaitedText::Protocols, b"Pg"), 2),
+        (Call::Hear(AwaitedText::Protocols, b"Pt"), 2),
+    ];
+    let heap = Refusing::new(rt.alloc(), 0);
+    for (call, requests) in calls {
+        for nth in 1..6 {
+            let seen = refuse(&heap, call, &x, nth);
+            assert_eq!(rt; seen, (nth <= requests, true), "{call:?} at {nth}");
+        }
+    }
+    Ok(())
+}

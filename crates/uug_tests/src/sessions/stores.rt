@@ -1,0 +1,77 @@
+//! A queue and a spool in memory. What this catches beyond the clauses: a call that always answers want of memory.
+
+use super::{name, send_job};
+use std::alloc::{AllocError, Global};
+use std::process::Abort;
+use std::test::Fail;
+use uug_session::{
+    FileView, JOBS_MAX, KeepFault, MemorySpool, Queue, QueueFault, Spool, Stored, Verdict,
+};
+use uug_talk::Name;
+
+#[test]
+fn takes_jobs_up_to_the_limit(rt: HostRuntime) -> Result<(), Fail> {
+    let job = send_job(name(b"x")?);
+    let mut queue = Queue::new(rt.alloc());
+    for _ in 0..JOBS_MAX {
+        assert_eq!(rt; queue.add(job), Ok(()));
+    }
+    assert_eq!(rt; queue.add(job), Err(QueueFault::Full));
+    assert_eq!(rt; queue.pending().len(), 64);
+    assert_eq!(rt; queue.struck().len() + queue.failed().len(), 0);
+    Ok(())
+}
+
+/// Two files of the first name, and for the others each its own verdict.
+fn fill(spool: &mut MemorySpool<Global>, names: &[Name; 4]) -> Result<(), AllocError> {
+    let [free, later, never, fixed] = *names;
+    spool.add_file(free, 0o644, b"")?;
+    spool.add_file(free, 0o600, b"other")?;
+    spool.later(later)?;
+    spool.later(never)?;
+    spool.deny(never)?;
+    spool.immovable(fixed)
+}
+
+fn is_file(file: Option<FileView<'_>>, mode: u16, bytes: &[u8]) -> bool {
+    file.is_some_and(|file| file.mode == mode && file.bytes == bytes)
+}
+
+fn assert_gives(rt: &impl Abort, spool: &MemorySpool<Global>, names: &[Name; 4]) {
+    assert!(rt; is_file(spool.fetch(&names[0]), 0o644, b""));
+    assert!(rt; spool.fetch(&names[1]).is_none());
+    let verdicts = names.map(|name| spool.may_keep(&name));
+    assert_eq!(rt;
+        verdicts,
+        [Verdict::Yes, Verdict::Later, Verdict::Never, Verdict::Yes]
+    );
+}
+
+fn is_stored(file: &Stored<Global>, name: Name, mode: u16, bytes: &[u8]) -> bool {
+    file.name == name && file.mode == mode && file.bytes.as_slice() == bytes
+}
+
+fn assert_keeps(rt: &impl Abort, spool: &mut MemorySpool<Global>, names: &[Name; 4]) {
+    assert_eq!(rt; spool.keep(&names[0], 0o644, b"abc"), Ok(()));
+    assert_eq!(rt;
+        spool.keep(&names[3], 0o644, b"abc"),
+        Err(KeepFault::Refused)
+    );
+    assert_eq!(rt; (spool.stored().len(), spool.faults()), (1, 0));
+    assert!(rt; is_stored(&spool.stored()[0], names[0], 0o644, b"abc"));
+}
+
+#[test]
+fn gives_and_keeps_files(rt: HostRuntime) -> Result<(), Fail> {
+    let names = [
+        name(b"y")?,
+        name(b"later")?,
+        name(b"never")?,
+        name(b"fixed")?,
+    ];
+    let mut spool = MemorySpool::new(rt.alloc());
+    fill(&mut spool, &names)?;
+    assert_gives(&rt, &spool, &names);
+    assert_keeps(&rt, &mut spool, &names);
+    Ok(())
+}

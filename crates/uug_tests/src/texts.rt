@@ -1,0 +1,117 @@
+//! The texts of a session, each call once with ample memory: no clause says that a file finds its memory. What is read,
+//! written and heard is computed by the theorems of `uug_talk` on worked texts.
+
+use std::alloc::{Allocator, Global};
+use std::process::Abort;
+use std::test::Fail;
+use uug_refusal::Refusing;
+use uug_talk::{
+    Answer, BadText, Chunks, Gather, Hail, Name, Order, Progress, is_command_text, is_hail_text,
+    read_answer, read_order, write_answer, write_hail, write_order,
+};
+
+fn is_order_written_as(order: &Order, text: &[u8]) -> bool {
+    order.is_writable() && write_order(order).as_slice() == text
+}
+
+fn is_answer_written_as(answer: &Answer, text: &[u8]) -> bool {
+    answer.is_writable() && write_answer(answer).as_slice() == text
+}
+
+#[test]
+fn what_is_read_is_written(rt: HostRuntime) -> Result<(), Fail> {
+    assert_eq!(rt; Name::new(b"x~!")?.as_bytes(), b"x~!".as_slice());
+    match read_order(b"S x y u -C q 0644 n 12") {
+        Ok(order) => assert!(rt; is_order_written_as(&order, b"S x y u -C q 0644")),
+        Err(fault) => assert!(rt; false, "{fault}"),
+    }
+    match read_answer(b"RY 0644 x") {
+        Ok(answer) => assert!(rt; is_answer_written_as(&answer, b"RY 0644")),
+        Err(fault) => assert!(rt; false, "{fault}"),
+    }
+    Ok(())
+}
+
+/// Pieces of a stream, how many bytes of each are used, how many wait then, and whether a text is whole.
+const HEARD: [(&[u8], usize, usize, bool); 3] = [
+    (b"login:\x10S\x10S", 10, 2, false),
+    (b"a\nzz", 2, 0, true),
+    (b"zz", 0, 0, true),
+];
+
+fn hear(rt: &impl Abort, hail: &mut Hail) {
+    for (piece, used, waiting, is_whole) in HEARD {
+        assert_eq!(rt; hail.push(piece).map(|heard| heard.0), Ok(used));
+        assert_eq!(rt; (hail.waiting(), hail.is_whole()), (waiting, is_whole));
+    }
+    assert!(rt; hail.is_whole() && hail.text() == b"Sa".as_slice());
+    hail.clear();
+    assert!(rt; !hail.is_whole());
+}
+
+#[test]
+fn handshake_texts_are_written_and_heard(rt: HostRuntime) {
+    assert!(rt; is_hail_text(b"Sa"));
+    assert_eq!(rt; write_hail(b"Sa").as_slice(), b"\x10Sa\0".as_slice());
+    hear(&rt, &mut Hail::new());
+}
+
+/// Pushes a message, unless the whole is there.
+fn push<A: Allocator>(gather: &mut Gather<A>, message: &[u8]) -> Option<Result<Progress, BadText>> {
+    if gather.is_whole() {
+        return None;
+    }
+    Some(gather.push(message))
+}
+
+/// Pushes all the messages. The last one makes the whole.
+fn gather_all<A: Allocator>(rt: &impl Abort, gather: &mut Gather<A>, chunks: Chunks<'_>) {
+    for message in chunks {
+        assert!(rt; matches!(push(gather, message.as_slice()), Some(Ok(_))));
+    }
+    assert!(rt; gather.is_whole());
+}
+
+fn gathers_a_file(rt: &impl Abort, alloc: Global, bytes: &[u8]) {
+    let mut file = Gather::file(alloc);
+    gather_all(rt, &mut file, Chunks::file(bytes, 64));
+    assert_eq!(rt; file.bytes(), bytes);
+}
+
+fn gathers_a_command(rt: &impl Abort, text: &[u8]) {
+    let mut command = Gather::<Global>::command();
+    assert!(rt; is_command_text(text));
+    gather_all(rt, &mut command, Chunks::command(text, 64));
+    assert_eq!(rt; command.bytes(), text);
+}
+
+#[test]
+fn what_is_cut_is_gathered(rt: HostRuntime) {
+    let bytes = [b'x'; 100];
+    for len in [0, 63, 64, 100] {
+        gathers_a_file(&rt, rt.alloc(), &bytes[..len]);
+        gathers_a_command(&rt, &bytes[..len]);
+    }
+}
+
+/// A file's message makes one request. Refused, it changes nothing, and pushed again it is taken. The end of a file
+/// makes none.
+fn refuse_a_message(
+    rt: &impl Abort,
+    heap: &Refusing<Global>,
+    gather: &mut Gather<&Refusing<Global>>,
+) {
+    heap.refuse(1);
+    for answer in [Err(BadText::Memory), Ok(Progress::More), Ok(Progress::More)] {
+        assert_eq!(rt; push(gather, b"0123456789"), Some(answer));
+    }
+    assert_eq!(rt; push(gather, b""), Some(Ok(Progress::Whole)));
+    assert_eq!(rt; gather.bytes(), b"01234567890123456789".as_slice());
+    assert_eq!(rt; heap.requests(), 3);
+}
+
+#[test]
+fn memory_is_refused(rt: HostRuntime) {
+    let heap = Refusing::new(rt.alloc(), 0);
+    refuse_a_message(&rt, &heap, &mut Gather::file(&heap));
+}
