@@ -35,7 +35,7 @@ use Rattle.uug_line.specs.Shown.{end_shown, session_shown}
 use Rattle.uug_line.specs.Sides.{AtBoth, at, at_each, other, with_at}
 use Rattle.uug_line.specs.Spelled.{SpelledEnd, SpelledReport, spelled, spelled_end, spelled_session}
 use Rattle.uug_line.specs.Taking.{line_taker}
-use Rattle.uug_line.specs.World.{report_of}
+use Rattle.uug_line.specs.World.{report_of, report_of_ends, report_of_world, run_of_ends}
 
 -- ---- who an end is
 
@@ -505,6 +505,16 @@ told_as setup run verdict r ends =
       verdict = x;
     } in
     ap by_sessions sessions ∙ ap by_caller ends.caller ∙ ap by_called ends.called ∙ ap by_verdict ends.verdict_is
+
+-- a run that ends so is what the two ends do, and what the world tells
+pub told_by_ends : (setup : SetupValue) (events : List Event) (verdict : LineVerdict) (r : RunParts)
+    → EndsAs (run_of_ends setup events) verdict r → told_in_all r verdict ≡ spelled (report_of_ends setup events)
+told_by_ends setup events verdict r ends = sym (told_as setup (run_of_ends setup events) verdict r ends)
+
+pub told_by_world : (setup : SetupValue) (events : List Event) (verdict : LineVerdict) (r : RunParts)
+    → EndsAs (run_of_ends setup events) verdict r → report_of_ends setup events ≡ report_of_world setup events
+    → told_in_all r verdict ≡ spelled (report_of_world setup events)
+told_by_world setup events verdict r ends same = told_by_ends setup events verdict r ends ∙ ap spelled same
 
 -- ---- the first session
 

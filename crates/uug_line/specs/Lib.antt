@@ -4,6 +4,7 @@ pub mod Fooled
 pub mod Headline
 pub mod LineEnd
 pub mod LowerLaws
+pub mod OfSomeRun
 pub mod Report
 pub mod Run
 pub mod RunKeeper

@@ -6,9 +6,10 @@ use Rattle.uug_session.specs.MemoryHoldings.{held_by}
 use Rattle.uug_session.specs.Node.{node_of}
 use Rattle.uug_line.specs.declared.report.EndReport.{EndReport}
 use Rattle.uug_line.specs.declared.report.SessionReport.{SessionReport}
+use Rattle.uug_line.specs.declared.verdict.LineVerdict.{LineVerdict}
 use Rattle.uug_line.specs.Belongings.{Belongings}
 use Rattle.uug_line.specs.Sides.{AtBoth}
-use Rattle.uug_line.specs.Spelled.{SpelledEnd}
+use Rattle.uug_line.specs.Spelled.{SpelledEnd, SpelledReport}
 
 abbrev pub lists_in : {A : Type 0} → List (Vec ℕ A) → List (List ℕ)
 lists_in vectors = map (λ v. v.items) vectors
@@ -31,4 +32,13 @@ abbrev pub owned_by : {A : Type 0} → Node (MemorySpool A) A → Belongings
 owned_by node = record {
   lists = (node_of node).engine.talking.machine.lists;
   kept = (held_by node.spool).stored;
+}
+
+-- a report of these sessions, with the ends as they stand then
+abbrev pub report_shown : {A : Type 0} → List (SessionReport A) → (caller called : Node (MemorySpool A) A) → LineVerdict →
+    SpelledReport
+report_shown sessions caller called verdict = record {
+  sessions = map session_shown sessions;
+  belongings = record { at_caller = owned_by caller; at_called = owned_by called };
+  verdict = verdict;
 }

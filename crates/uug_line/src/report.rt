@@ -1,4 +1,5 @@
 ghost use Rattle.std.specs.Prelude.{◌≡◌, map};
+ghost use Rattle.uug_line.specs.OfSomeRun.{IsOfSomeRun};
 ghost use Rattle.uug_line.specs.Shown.{owned_by, session_shown};
 
 use crate::verdict::LineVerdict;
@@ -32,8 +33,9 @@ pub struct SessionReport<A: Allocator> {
     pub called: EndReport<A>,
 }
 
-/// What a run tells. It is made by `run` alone. A clause sees what is told of the sessions, what the ends have, and the
-/// verdict.
+/// What a run tells. Whoever made it, a report is what the world tells of some two ends and some events: its type keeps
+/// that, and `sessions` hands it on. So `world_laws::the_headline`, which is of all two ends and events, holds of each
+/// report. A clause sees what is told of the sessions, what the ends have, and the verdict.
 #[derive(Drop)]
 pub struct Report<A: Allocator + Copy> {
     pub(crate) sessions: Vec<SessionReport<A>, A>,
@@ -43,23 +45,22 @@ pub struct Report<A: Allocator + Copy> {
 }
 
 impl<A: Allocator + Copy> Model for Report<A> {
-    ghost use Rattle.std.specs.Prelude.{map};
-    ghost use Rattle.uug_line.specs.Shown.{owned_by, session_shown};
+    ghost use Rattle.uug_line.specs.OfSomeRun.{IsOfSomeRun};
+    ghost use Rattle.uug_line.specs.Shown.{report_shown};
     ghost use Rattle.uug_line.specs.Spelled.{SpelledReport};
 
     ghost Value = { SpelledReport };
 
-    ghost view = { λ r. record {
-      sessions = map session_shown r.sessions.items;
-      belongings = record { at_caller = owned_by r.caller; at_called = owned_by r.called };
-      verdict = r.verdict;
-    } };
+    ghost view = { λ r. report_shown r.sessions.items r.caller r.called r.verdict };
+
+    ghost invariant = { λ r. IsOfSomeRun (report_shown r.sessions.items r.caller r.called r.verdict) };
 }
 
 impl<A: Allocator + Copy> Report<A> {
     /// The sessions in order, the present one last.
     pub fn sessions(&self) -> &[SessionReport<A>]
-        ensures { map session_shown result.now ≡ self.now.sessions }
+        ensures sessions { map session_shown result.now ≡ self.now.sessions }
+        ensures of_a_run { IsOfSomeRun self.now }
     {
         self.sessions.as_slice()
     }

@@ -8,6 +8,7 @@ ghost use Rattle.uug_session.specs.Turns.{caller, called};
 ghost use Rattle.uug_session.specs.Talk.{Talk};
 ghost use Rattle.uug_line.specs.Belongings.{SetupValue};
 ghost use Rattle.uug_line.specs.Live.{AreWritten, HasBegun, HasRoom, HearsPiece, IsCalled, IsOrdered, parts_of};
+ghost use Rattle.uug_line.specs.OfSomeRun.{IsOfSomeRun};
 ghost use Rattle.uug_line.specs.Run.{Run, first_run, flipped, goes_through};
 ghost use Rattle.uug_line.specs.RunKeeper.{by_themselves};
 ghost use Rattle.uug_line.specs.RunParts.{CallsAgain, ChangesLine, EndsAs, Happens, HappensAt, IsSteady, Passes, StandsAs, hearing_side, run_parts, told_in_all, with_line};
@@ -197,6 +198,7 @@ impl<A: Allocator + Copy> RunSoFar<A> {
 
     /// What is told of it.
     fn into_report(self, verdict: LineVerdict) -> Result<Report<A>, AllocError>
+        requires { IsOfSomeRun (told_in_all (run_parts self) verdict) }
         ensures { IfOk result (λ report. report ≡ told_in_all (run_parts self) verdict) }
     {
         let RunSoFar {

@@ -9,5 +9,5 @@ returns-clause-text g c =
     text_is _ _ _ _ c.new-text.ensures.bytes c.in_ok-add_report.ensures
     (result_is c.args.report.now _ (map session_shown c.sessions.result.now) (end_shown c.shown_end.result)
     (end_shown c.shown_end-2.result) (owned_by c.caller.result.now) (owned_by c.called.result.now) c.verdict.result
-    (c.deref.ensures.value ∙ c.in_ok-sessions.ensures) c.sessions.ensures c.shown_end.ensures c.caller.ensures c.shown_end-2.ensures
+    (c.deref.ensures.value ∙ c.in_ok-sessions.ensures) c.sessions.ensures.sessions c.shown_end.ensures c.caller.ensures c.shown_end-2.ensures
     c.called.ensures c.verdict.ensures)

@@ -1,0 +1,14 @@
+-- Which reports a program can have (this project's profile).
+use Rattle.std.specs.Prelude.{◌≡◌, List}
+use Rattle.uug_line.specs.declared.event.Event.{Event}
+use Rattle.uug_line.specs.Belongings.{SetupValue}
+use Rattle.uug_line.specs.SoundSetup.{IsSoundSetup}
+use Rattle.uug_line.specs.Spelled.{SpelledReport, spelled}
+use Rattle.uug_line.specs.World.{report_of_world}
+
+-- for some two ends and some events, the world tells this report
+pub record IsOfSomeRun (report : SpelledReport) : Type 0 where
+  pub setup : SetupValue
+  pub events : List Event
+  pub sound : IsSoundSetup setup
+  pub told : report ≡ spelled (report_of_world setup events)
