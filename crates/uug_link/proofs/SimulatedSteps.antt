@@ -8,6 +8,7 @@ use Rattle.uug_link.specs.OnTheLine.{is_of_window, of_window, AreWritten}
 use Rattle.uug_link.specs.State.{State, KnowsWindow, KnowsSize, HasRoom, is_halted}
 use Rattle.uug_link.specs.Step.{Effect, Event, to_begin, packet_found, bad_found, timed_out, to_send, to_close, taken as taken_up, answers, ignored, quiet, moved, halt, on_init_a, on_init_b, on_init_c, on_close, on_rr, on_rj, on_srj, on_data, on_number, is_expected, on_bad, acknowledged, struck, distance, repeated, on_packet, on_event, answers_halted, last_received, outstanding, next_number, data_packet}
 use Rattle.uug_link.specs.TwoLinks.{End, gone_past, packets_of, with_effect, moved_by, MayCall}
+use Rattle.uug_link.specs.WindowBounds.{CountsInOrder}
 use Rattle.uug_link.specs.WindowMachine.{Machine, Flying, data_at, acknowledgement, ack_of, Always, EachAck, EachNumber, IsReached, arrives, sends, on_out, on_back, after_move, taken_with}
 use Rattle.uug_link.specs.declared.limits.TheConstants.{TIMEOUTS_MAX}
 use Rattle.uug_link.specs.declared.phase.Phase.{Phase}
@@ -22,7 +23,7 @@ use Rattle.uug_packet.specs.Packet.{PacketValue, control, carry, close, rj, srj,
 -- ---- the machine's law, and what it says of the packet that arrives
 
 pub record WindowLaw : Type 0 where
-  pub counts : Always (λ d o. (d.acked ≤ d.taken) × (d.taken ≤ length d.sent) × (length d.sent ≤ d.acked + d.window))
+  pub counts : Always (λ d o. CountsInOrder d)
   pub number_digits : Always (λ d o. EachNumber (λ n. n % 8 ≡ d.taken % 8 → n ≡ d.taken) d.flight)
   pub ack_digits : Always (λ d o. EachAck (λ a. a ≡ o.acked + (a % 8 + 8 - o.acked % 8) % 8) d.flight)
 

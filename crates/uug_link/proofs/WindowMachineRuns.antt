@@ -1,8 +1,8 @@
 -- The runs of the window machine, and what holds after each.
 use Rattle.std.proofs.Common.{◌≡◌, ℕ, ◌+◌, ◌-◌, ◌%◌, ◌<◌, ◌≤◌, List, [], ◌∷◌, ◌++◌, length, map, refl, ap, sym, ◌∙◌, subst, arith}
 use Rattle.uug_link.specs.Terms.{IsWindow}
-use Rattle.uug_link.specs.WindowMachine.{Direction, Machine, start, turned, Move, on_out, on_back, Allows, after_move, AllAllowed, after, IsReached, Always, EachNumber, EachAck, Rise}
-use Rattle.uug_link.specs.declared.limits.TheConstants.{WINDOW_MAX}
+use Rattle.uug_link.specs.WindowBounds.{AcksRise, CountsInOrder, IsNear, NumbersNear}
+use Rattle.uug_link.specs.WindowMachine.{Direction, Machine, start, turned, Move, on_out, on_back, Allows, after_move, AllAllowed, after, IsReached, Always, EachNumber, EachAck}
 use Rattle.uug_link.proofs.WindowMachineLemmas.{EachNumber-map, EachNumber-both, EachAck-map, EachAck-between, IsSafe, IsSafe-empty, BothSafe, BothSafe-after_move}
 
 -- ---- a run goes on
@@ -82,15 +82,11 @@ always P from w v m h k run =
     let safe : BothSafe m = BothSafe-reached w v m h k run in
     (from m.out m.back safe.0 safe.1, from m.back m.out safe.1 safe.0)
 
-pub always_counts : Always (λ d o. (d.acked ≤ d.taken) × (d.taken ≤ length d.sent) × (length d.sent ≤ d.acked + d.window))
-always_counts = always (λ d o. (d.acked ≤ d.taken) × (d.taken ≤ length d.sent) × (length d.sent ≤ d.acked + d.window))
-    (λ d o h k. (h.counts.acked_taken, h.counts.taken_sent, h.counts.sent_acked))
+pub always_counts : Always (λ d o. CountsInOrder d)
+always_counts =
+    always (λ d o. CountsInOrder d) (λ d o h k. (h.counts.acked_taken, h.counts.taken_sent, h.counts.sent_acked))
 
--- a packet's number, and where it can lie
-abbrev IsNear : Direction → ℕ → Type 0
-IsNear d n = (n < length d.sent) × (n < d.taken + WINDOW_MAX) × (d.taken ≤ n + WINDOW_MAX)
-
-numbers_near : (d : Direction) (acked taken : ℕ) → IsSafe d acked taken → EachNumber (λ n. IsNear d n) d.flight
+numbers_near : (d : Direction) (acked taken : ℕ) → IsSafe d acked taken → NumbersNear d
 numbers_near d acked taken h =
     EachNumber-map (λ n. (n < length d.sent) × (d.taken ≤ n + d.window)) (λ n. IsNear d n)
     (λ n x. (
@@ -101,12 +97,11 @@ numbers_near d acked taken h =
     d.flight
     (EachNumber-both (λ n. n < length d.sent) (λ n. d.taken ≤ n + d.window) d.flight h.packets.below h.packets.near)
 
-pub always_numbers : Always (λ d o. EachNumber (λ n. IsNear d n) d.flight)
-always_numbers =
-    always (λ d o. EachNumber (λ n. IsNear d n) d.flight) (λ d o h k. numbers_near d o.acked o.taken h)
+pub always_numbers : Always (λ d o. NumbersNear d)
+always_numbers = always (λ d o. NumbersNear d) (λ d o h k. numbers_near d o.acked o.taken h)
 
-pub always_acks : Always (λ d o. Rise o.acked d.flight o.taken)
-always_acks = always (λ d o. Rise o.acked d.flight o.taken) (λ d o h k. h.acks)
+pub always_acks : Always (λ d o. AcksRise d o)
+always_acks = always (λ d o. AcksRise d o) (λ d o h k. h.acks)
 
 number_told : (n r : ℕ) → n < r + 7 → r ≤ n + 7 → n % 8 ≡ r % 8 → n ≡ r
 number_told n r h k e = omega (arith, h, k, e)

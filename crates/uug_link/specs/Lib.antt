@@ -9,6 +9,7 @@ pub mod Outcomes
 pub mod Follows
 pub mod Strays
 pub mod WindowMachine
+pub mod WindowBounds
 pub mod TwoLinks
 pub mod Arrivals
 pub mod OnTheLine

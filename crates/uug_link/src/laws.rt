@@ -10,7 +10,8 @@ ghost use Rattle.uug_link.specs.Step.{Event, answers_halted, packet_found, step,
 ghost use Rattle.uug_link.specs.Strays.{HasNumbers, StandsBehind, acknowledgement};
 ghost use Rattle.uug_link.specs.Terms.{IsWindow};
 ghost use Rattle.uug_link.specs.TwoLinks.{AllMayHappen, AlwaysOfTwo, End, Ends, Happening, IsFirst, IsFrontOf, IsRun, MayOccur, Occurrence, after_happenings, after_occurrence, first_ends, seen_from_far};
-ghost use Rattle.uug_link.specs.WindowMachine.{Always, EachAck, EachNumber, IsReached, Machine, Rise};
+ghost use Rattle.uug_link.specs.WindowBounds.{AcksRise, CountsInOrder, NumbersNear};
+ghost use Rattle.uug_link.specs.WindowMachine.{Always, EachAck, EachNumber, IsReached, Machine};
 ghost use Rattle.uug_link.specs.declared.announce.Announce.{Announce};
 ghost use Rattle.uug_link.specs.declared.limits.TheConstants.{ENTRIES_MAX, MESSAGE_MAX, SIZE_CODES, SIZE_MIN, TIMEOUTS_MAX, UNACKED_MAX, WINDOW_MAX};
 ghost use Rattle.uug_link.specs.declared.phase.Phase.TheVariants.{AwaitsInitA, Closing, Halted, Up};
@@ -85,13 +86,11 @@ pub fn what_a_link_emits_can_be_written()
 /// to seven more, eight numbers with eight digits.
 pub fn the_window_is_safe()
     // What counts as acknowledged was taken, what was taken was sent, and no more is sent than the window allows.
-    ensures counts { Always (λ d o.
-        (d.acked ≤ d.taken) × (d.taken ≤ length d.sent) × (length d.sent ≤ d.acked + d.window)) }
+    ensures counts { Always (λ d o. CountsInOrder d) }
     // The data packets in flight were sent, and are from seven before the one that is expected to six after it.
-    ensures numbers { Always (λ d o. EachNumber (λ n.
-        (n < length d.sent) × (n < d.taken + WINDOW_MAX) × (d.taken ≤ n + WINDOW_MAX)) d.flight) }
+    ensures numbers { Always (λ d o. NumbersNear d) }
     // The acknowledgements in flight never fall, and lie from what counts as acknowledged to what was taken.
-    ensures acks { Always (λ d o. Rise o.acked d.flight o.taken) }
+    ensures acks { Always (λ d o. AcksRise d o) }
     // So a data packet with the digit of the expected one is that one, and the digit of an acknowledgement gives the
     // number: as far ahead of what counts as acknowledged as the digits are apart.
     ensures number_digits { Always (λ d o. EachNumber (λ n. n % 8 ≡ d.taken % 8 → n ≡ d.taken) d.flight) }
