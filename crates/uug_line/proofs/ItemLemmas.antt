@@ -1,42 +1,39 @@
 -- What taking up an item comes to.
-use Rattle.std.proofs.Common.{◌≡◌, ◌⊎◌, inl, inr, ℕ, ◌+◌, ◌<◌, ◌≤◌, max, Bool, true, false, ◌&&◌, List, [], ◌∷◌, ◌++◌, map, length, drop, take, get_or, slice_get, Vec, Option, Some, None, MatchOption, Ok, ap, sym, subst, ◌∙◌, refl, arith}
+use Rattle.std.proofs.Common.{◌≡◌, ◌⊎◌, inl, inr, ℕ, ◌<◌, ◌≤◌, max, Bool, true, false, ◌&&◌, List, [], ◌++◌, map, length, drop, take, get_or, slice_get, Vec, Option, Some, ap, sym, subst, ◌∙◌, refl, arith}
 use Rattle.std.proofs.lemmas.List.{append-nil, length-map}
 use Rattle.std.proofs.lemmas.Option.{slice_get-map, slice_get_read, slice_get_within}
 use Rattle.std.specs.Option.{option_map}
 use Rattle.std.specs.Bool.{⊤}
-use Rattle.uug_link.specs.Arrivals.{place_of}
 use Rattle.uug_link.specs.InRange.{IsAnnouncement}
 use Rattle.uug_link.specs.State.{State}
 use Rattle.uug_link.specs.Step.{Effect, OutcomeValue, nothing, up, taken, closed, gave_up, halted, step, bad_found, packet_found}
 use Rattle.uug_packet.specs.Packet.{PacketValue}
-use Rattle.uug_packet.specs.Spelling.{IsSpelling, canonical}
+use Rattle.uug_packet.specs.Spelling.{canonical}
 use Rattle.uug_packet.specs.WellFormed.{IsWellFormed}
-use Rattle.uug_reader.specs.declared.reader.TheConstants.{READER_SIZE}
 use Rattle.uug_reader.specs.Reading.{Reading}
-use Rattle.uug_session.specs.Arriving.{Came, Hearer, Taker, all_taken, held_in, holds, stopped, takes_all, takes_if, takes_up}
-use Rattle.uug_session.specs.declared.end.End.{End}
+use Rattle.uug_session.specs.Arriving.{Came, Hearer, all_taken, held_in, holds, stopped, takes_all, takes_if, takes_up}
 use Rattle.uug_session.specs.declared.end.End.TheVariants as ends
 use Rattle.uug_session.specs.declared.greeting.Greeting.{Greeting}
-use Rattle.uug_session.specs.EndStep.{EndEffect, EndEvent, EndState, Identity, Stage, hailing, linked, ended, bad_came, behind_link, broken_found, end_step, goes_on, long_text_found, message_of, packet_came, packet_found_whole, takes_by, talks_by, text_found, stage_step}
-use Rattle.uug_session.specs.Engine.{Does, EngineState, HasFailed, end_of, with_stage}
-use Rattle.uug_session.specs.Finding.{Finding, FindingLaws, LeavesFewer, finding, finds, finds_nothing}
+use Rattle.uug_session.specs.EndStep.{EndEffect, EndEvent, EndState, Identity, Stage, hailing, linked, ended, behind_link, end_step, long_text_found, message_of, packet_found_whole, takes_by, talks_by, stage_step}
+use Rattle.uug_session.specs.Engine.{Does, EngineState, HasFailed, end_of}
+use Rattle.uug_session.specs.Finding.{Finding, LeavesFewer, finding}
 use Rattle.uug_session.specs.Holdings.{Holdings, Kept}
 use Rattle.uug_session.specs.InRange.{IsEndInRange, MayFind}
 use Rattle.uug_session.specs.Keeper.{Keeper}
 use Rattle.uug_session.specs.MemoryHoldings.{MemoryHoldings, holdings_of}
-use Rattle.uug_session.specs.Node.{ItemValue, IsLeft, NodeState, ShowsItem, TakesItem, TakesShown, bad_item, bytes_at, effect_of, event_of, held_bytes, item_size, packet_item, searched, shown_size_at, text_item}
-use Rattle.uug_session.specs.Talk.{Talk, end_keeper}
+use Rattle.uug_session.specs.Node.{ItemValue, IsLeft, NodeState, ShowsItem, TakesItem, bad_item, bytes_at, effect_of, event_of, held_bytes, item_size, packet_item, searched, shown_size_at, text_item}
+use Rattle.uug_session.specs.ShownItems.{ItemFound, NothingFound, finding_of, is_too_long, waits}
+use Rattle.uug_session.specs.Talk.{Talk}
 use Rattle.uug_session.specs.TextsHeld.{TextsHeld}
-use Rattle.uug_session.proofs.ArrivingLemmas.{held_fewer, takes_first}
 use Rattle.uug_line.specs.declared.sighting.Sighting.TheVariants.{Other, At, Unsent}
 use Rattle.uug_line.specs.Jottings.{Jottings, log_of, packet_in, packet_jotted}
-use Rattle.uug_line.specs.LineEnd.{LineEnd, Log, Player, after_call, does, found_at, took}
+use Rattle.uug_line.specs.LineEnd.{LineEnd, Log, after_call, took}
 use Rattle.uug_line.specs.LineLaws.{LineLaws}
-use Rattle.uug_line.specs.Live.{AreWritten, HasRoom, IsNoted, IsOrdered, IsStopped, IsTakenUp, Parts, TakesAll, TakesOne, hearer_of, line_end_of, player_of, standing_of, state_of, taker_of}
+use Rattle.uug_line.specs.Live.{AreWritten, HasRoom, IsOrdered, IsStopped, IsTakenUp, Parts, TakesAll, TakesOne, hearer_of, line_end_of, player_of, standing_of, state_of, taker_of}
 use Rattle.uug_line.specs.Shown.{lists_in}
 use Rattle.uug_line.specs.Sightings.{Sights, SightsShown, StandsAt, StandsNowhere}
 use Rattle.uug_line.specs.Taking.{takes_sent}
-use Rattle.uug_line.proofs.ShownItemLemmas.{ItemFound, NothingFound, finding_of, is_too_long, item_found, nothing_found, one_item, waits}
+use Rattle.uug_line.proofs.FoundLemmas.{held_fewer}
 use Rattle.uug_line.proofs.SpokenLemmas.{Calls, steps_so}
 use Rattle.uug_line.proofs.TakenLemmas.{no_place_found, packet_logged, place_found}
 
@@ -168,11 +165,11 @@ item_taken laws old new item found ordered shows keeps taken_up =
     let n = searched old.node in
     let h = holdings_of old.spool in
     let kept = old.spool.stored in
-    let f : ItemFound item old.node n = item_found laws.search old.node item shows in
+    let f : ItemFound item old.node n = laws.search.shown old.node item shows in
     let failure = HasFailed 18446744073709551615 0 0 in
     let takes : TakesItem h kept taken_up.called.spool.stored failure item n taken_up.called.node taken_up.took =
     of_item h kept taken_up.called.spool.stored failure item taken_up.shown.0 n taken_up.called.node taken_up.took
-    (one_item laws.search old.node taken_up.shown.0 item taken_up.shown.1 shows) taken_up.shown.2 in
+    (laws.search.one old.node taken_up.shown.0 item taken_up.shown.1 shows) taken_up.shown.2 in
     let well : takes.device_failed ≡ false = not_failed takes.device_failed takes.device in
     let of_failed : Bool → EndEffect Talk = λ b. effect_of h kept (event_of b item) n.engine in
     let effect = of_failed false in
@@ -235,7 +232,7 @@ one_so laws others item log old new shows taken_so takes =
     let t = taker_of others old in
     let from = held_bytes n in
     let behind = drop (item_size n) (held_bytes n) in
-    let f : ItemFound item old.node n = item_found laws.search old.node item shows in
+    let f : ItemFound item old.node n = laws.search.shown old.node item shows in
     let e = effect_at (event_of false item) old in
     let by_held : List ℕ → Hearer (LineEnd Talk) = λ x. record { held = x; end = line_end_of old } in
     let by_held_after : List ℕ → Hearer (LineEnd Talk) = λ x. record { held = x; end = line_end_of new } in
@@ -246,7 +243,7 @@ one_so laws others item log old new shows taken_so takes =
     (subst (λ (x : Finding). LeavesFewer x (held_bytes old.node)) f.finding (laws.findings.fewer old.node.engine.stage (held_bytes old.node))) in
     record {
       same = ap (λ (x : Hearer (LineEnd Talk)). takes_all t x) (ap by_held (holds_itself old.node.engine.stage old.node))
-          ∙ takes_first laws.findings (LineEnd Talk) t (held_bytes old.node) (line_end_of old)
+          ∙ laws.takes.first t (held_bytes old.node) (line_end_of old)
           ∙ ap (λ (x : Finding). takes_up (takes_all t) t x (line_end_of old)) f.finding
           ∙ takes ∙ ap (takes_all t) (sym after);
       ordered = taken_so.ordered;
@@ -350,7 +347,7 @@ first_of_all : LineLaws → (others : List (List ℕ)) (old : Parts)
 first_of_all laws others old =
     let t = taker_of others old in
     ap (λ (x : List ℕ). takes_all t (with_bytes x old)) (holds_itself old.node.engine.stage old.node)
-    ∙ takes_first laws.findings (LineEnd Talk) t (held_bytes old.node) (line_end_of old)
+    ∙ laws.takes.first t (held_bytes old.node) (line_end_of old)
 
 sought_held : (old : Parts) → (searched old.node).engine ≡ old.node.engine
     → hearer_of (sought old) ≡ record { held = held_in old.node.engine.stage (held_bytes (searched old.node)); end = line_end_of old }
@@ -369,7 +366,7 @@ stopped_so laws others old ordered written sights =
     let t = taker_of others old in
     let none = unsent_packet sights.0 others old.jottings.passed sights.2 in
     let p = none.0 in
-    let f : ItemFound (packet_item p) old.node n = item_found laws.search old.node (packet_item p) (shown_packet n sights.0 p none.1 sights.1) in
+    let f : ItemFound (packet_item p) old.node n = laws.search.shown old.node (packet_item p) (shown_packet n sights.0 p none.1 sights.1) in
     let from = held_bytes n in
     let behind = drop (item_size n) (held_bytes n) in
     let by_place : Option ℕ → Came (LineEnd Talk) =
@@ -486,7 +483,7 @@ nothing_so_by laws others old ordered room (is_too_long g behind at found_so eng
 
 pub nothing_so : LineLaws → (others : List (List ℕ)) (old : Parts) → IsOrdered old → item_size (searched old.node) ≡ 0 → HasRoom (sought old)
     → TakesAll others old (sought old)
-nothing_so laws others old ordered none room = nothing_so_by laws others old ordered room (nothing_found old.node none)
+nothing_so laws others old ordered none room = nothing_so_by laws others old ordered room (laws.search.none old.node none)
 
 -- ---- the parts behind a search
 

@@ -4,7 +4,6 @@ mod CleanLineFacts
 mod EndCallLemmas
 mod FactSetups
 mod FoundLemmas
-mod ShownItemLemmas
 mod HeardLemmas
 mod Hearing
 mod Invariant

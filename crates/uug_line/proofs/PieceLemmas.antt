@@ -1,6 +1,6 @@
 -- A piece that comes to an end of the program in parts is taken up whole.
-use Rattle.std.proofs.Common.{◌≡◌, ℕ, ◌-◌, ◌<◌, ◌≤◌, min, Bool, true, false, List, [], ◌∷◌, ◌++◌, length, map, take, drop, ap, sym, subst, ◌∙◌, refl, arith, length-drop}
-use Rattle.std.proofs.lemmas.List.{append-nil, take-append-drop, take_all}
+use Rattle.std.proofs.Common.{◌≡◌, ℕ, ◌<◌, List, ◌++◌, length, map, take, drop, ap, sym, subst, ◌∙◌, refl, arith, length-drop}
+use Rattle.std.proofs.lemmas.List.{take-append-drop, take_all}
 use Rattle.uug_reader.specs.declared.reader.TheConstants.{READER_SIZE}
 use Rattle.uug_session.specs.Arriving.{Came, Hearer, Taker, all_taken, held_in, holds, stopped, takes_all, takes_piece, then_takes}
 use Rattle.uug_session.specs.EndStep.{Stage, hailing, linked, ended}
@@ -8,11 +8,10 @@ use Rattle.uug_session.specs.Engine.{EngineState}
 use Rattle.uug_session.specs.MemoryHoldings.{MemoryHoldings}
 use Rattle.uug_session.specs.Node.{NodeState, accepted, accepted_at, bytes_at, held_bytes, offered, offered_at}
 use Rattle.uug_session.specs.Talk.{Talk, end_keeper}
-use Rattle.uug_session.proofs.ArrivingLemmas.{in_pieces}
 use Rattle.uug_line.specs.Jottings.{Jottings, packet_in}
 use Rattle.uug_line.specs.LineEnd.{LineEnd}
 use Rattle.uug_line.specs.LineLaws.{LineLaws}
-use Rattle.uug_line.specs.Live.{HasRoom, HearsAll, HearsSome, IsOrdered, IsStopped, Parts, Standing, StillHears, StillTakes, TakesAll, TakesOne, hearer_of, line_end_of, standing_of, taker_of}
+use Rattle.uug_line.specs.Live.{HearsAll, HearsSome, IsOrdered, IsStopped, Parts, Standing, StillHears, StillTakes, TakesAll, TakesOne, hearer_of, line_end_of, standing_of, taker_of}
 use Rattle.uug_line.specs.Taking.{line_taker}
 use Rattle.uug_line.proofs.ItemLemmas.{ordered_with}
 
@@ -98,7 +97,7 @@ part_came : LineLaws → (others : List (List ℕ)) (part rest behind : List ℕ
 part_came laws others part rest behind now came cut is =
     let t = taker_of others now in
     ap (λ (x : List ℕ). takes_piece t x (hearer_of now)) cut
-    ∙ in_pieces laws.findings (LineEnd Talk) t part behind (hearer_of now)
+    ∙ laws.takes.pieces t part behind (hearer_of now)
     ∙ ap (λ (h : Hearer (LineEnd Talk)). then_takes t behind (takes_all t h)) (sym (part_held others part now))
     ∙ ap (λ (x : Taker (LineEnd Talk)). then_takes t behind (takes_all x (hearer_of (with_part part now))))
     (sym (same_taker others now (with_part part now) (part_standing part now)))

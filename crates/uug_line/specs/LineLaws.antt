@@ -1,5 +1,5 @@
 -- What is needed of the laws that stand below a run, for its proofs.
-use Rattle.std.specs.Prelude.{◌≡◌, ◌≢◌, ℕ, ◌≤◌, List, [], ◌++◌, length, map, slice_get, All, MatchOption, Ok, Some}
+use Rattle.std.specs.Prelude.{◌≡◌, ◌≢◌, ℕ, ◌≤◌, List, ◌++◌, length, slice_get, All, MatchOption, Ok, Some}
 use Rattle.uug_link.specs.Announced.{Announced, announced}
 use Rattle.uug_link.specs.Arrivals.{IsPlace, place_of}
 use Rattle.uug_link.specs.declared.announce.Announce.{Announce}
@@ -9,18 +9,19 @@ use Rattle.uug_packet.specs.Decoded.{decoded}
 use Rattle.uug_packet.specs.Packet.{PacketValue}
 use Rattle.uug_packet.specs.Spelling.{IsSpelling, canonical}
 use Rattle.uug_packet.specs.WellFormed.{IsWellFormed}
+use Rattle.uug_session.specs.Arriving.{Hearer, Taker, holds, takes_all, takes_piece, takes_up, then_takes}
 use Rattle.uug_session.specs.EndStep.{EndEvent, EndState, Identity, begins_session, end_step, line_lost, time_ran_out, unmoved}
 use Rattle.uug_session.specs.Engine.{BeginsSession, Does, EngineState, bare, end_of, hung_up, stage_late, with_stage}
-use Rattle.uug_session.specs.Finding.{FindingLaws}
+use Rattle.uug_session.specs.Finding.{FindingLaws, finding}
 use Rattle.uug_session.specs.Holdings.{Holdings, Kept}
 use Rattle.uug_session.specs.InRange.{CanBeWritten, IsEndInRange, MayFind}
 use Rattle.uug_session.specs.Jobs.{Lists}
-use Rattle.uug_session.specs.Node.{effect_of}
+use Rattle.uug_session.specs.Node.{ItemValue, NodeState, effect_of, item_size, searched}
+use Rattle.uug_session.specs.ShownItems.{IsShown, ItemFound, NothingFound}
 use Rattle.uug_session.specs.Talk.{Talk, end_keeper, unopened}
 use Rattle.uug_session.specs.Talking.{talking_has_parted}
-use Rattle.uug_session.specs.TextsFound.{FindsText}
-use Rattle.uug_session.specs.TextsHeld.{ShowsText, TextsHeld, search_text, shown_text, text_stands}
 use Rattle.uug_session.specs.Turns.{Side}
+use Rattle.uug_line.specs.LineEnd.{LineEnd}
 
 -- what is written of a well-formed packet is read
 abbrev pub ReadsWritten : Type 0
@@ -49,22 +50,22 @@ CallsAreSteps = record {
       (after : EngineState) → BeginsSession id own l entries after → end_of h kept after ≡ (begins_session id own (unopened l kept)).state;
 }
 
--- a packet, spelled so, is read
-abbrev pub ReadsSpelled : Type 0
-ReadsSpelled = (p : PacketValue) (w rest : List ℕ) → IsSpelling p w → decoded (w ++ rest) ≡ Ok (p, length w)
+-- what a search shows is what is found next, and it is one item
+abbrev pub SearchShows : Type 0
+SearchShows = record {
+  shown : (n : NodeState) (item : ItemValue) → IsShown item (searched n) → ItemFound item n (searched n);
+  one : (n : NodeState) (item other : ItemValue) → IsShown item (searched n) → IsShown other (searched n) → item ≡ other;
+  none : (n : NodeState) → item_size (searched n) ≡ 0 → NothingFound n (searched n);
+}
 
--- a text that is shown is the one that stands first
-abbrev pub ShownIs : Type 0
-ShownIs = (text : List ℕ) (held : TextsHeld) → ShowsText text held → text ≡ shown_text held
-
-abbrev pub SearchStands : Type 0
-SearchStands = (stream text others : List ℕ) → search_text stream ≡ text_stands text others → FindsText stream text others
-
--- the laws of packets and texts that are used here
-pub record SearchLaws : Type 0 where
-  pub reads : ReadsSpelled
-  pub shown_is : ShownIs
-  pub stands : SearchStands
+-- how an end on a line takes up what came: in any pieces, and one item after the other
+abbrev pub TakesInOrder : Type 0
+TakesInOrder = record {
+  pieces : (t : Taker (LineEnd Talk)) (piece more : List ℕ) (h : Hearer (LineEnd Talk))
+      → takes_piece t (piece ++ more) h ≡ then_takes t more (takes_piece t piece h);
+  first : (t : Taker (LineEnd Talk)) (bytes : List ℕ) (x : LineEnd Talk)
+      → takes_all t (holds t bytes x) ≡ takes_up (takes_all t) t (finding (t.stage_of x) bytes) x;
+}
 
 -- the place that is computed is the least one, and none only where there is none
 abbrev pub PlaceIs : Type 0
@@ -74,11 +75,12 @@ PlaceIs = (p : PacketValue) (emitted : List PacketValue) (passed : ℕ) →
 
 -- what is needed of what stands below
 pub record LineLaws : Type 0 where
-  pub search : SearchLaws
+  pub search : SearchShows
   pub reads : ReadsWritten
   pub in_range : StaysInRange
   pub spelled : (p : PacketValue) (w : List ℕ) → IsSpelling p w → IsWellFormed p
   pub places : PlaceIs
   pub findings : FindingLaws
+  pub takes : TakesInOrder
   pub steps : CallsAreSteps
   pub announces : (a : Announce) → IsAnnouncement (announced a)

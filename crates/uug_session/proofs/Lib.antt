@@ -25,6 +25,7 @@ mod OwnEntryLemmas
 mod ReadBackLemmas
 mod SayableLemmas
 mod SharingLemmas
+mod ShownItemLemmas
 mod StoredLemmas
 mod TalkLaws
 mod TextCallLemmas

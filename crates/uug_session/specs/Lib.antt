@@ -36,6 +36,7 @@ pub mod Runs
 pub mod Says
 pub mod Sessions
 pub mod Sharing
+pub mod ShownItems
 pub mod Side
 pub mod StoredModes
 pub mod Talk

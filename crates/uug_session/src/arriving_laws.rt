@@ -4,17 +4,18 @@ ghost use Rattle.uug_packet.specs.Bytes.{AreBytes};
 ghost use Rattle.uug_reader.specs.Cut.{Item};
 ghost use Rattle.uug_reader.specs.Scan.{Finds};
 ghost use Rattle.uug_talk.specs.StreamTexts.{StandBefore};
-ghost use Rattle.uug_session.specs.Arriving.{Hearer, Taker, takes_all, takes_piece, takes_up_to, then_takes};
+ghost use Rattle.uug_session.specs.Arriving.{Hearer, Taker, holds, takes_all, takes_piece, takes_up, takes_up_to, then_takes};
 ghost use Rattle.uug_session.specs.EndStep.{Stage, linked};
 ghost use Rattle.uug_session.specs.Engine.{HasFailed};
 ghost use Rattle.uug_session.specs.Finding.{LeavesFewer, finding, found_with};
 ghost use Rattle.uug_session.specs.Found.{FindsItems, FindsTexts, Hails};
 ghost use Rattle.uug_session.specs.Holdings.{Holdings, Kept};
 ghost use Rattle.uug_session.specs.ItemLaws.{ItemLaws};
-ghost use Rattle.uug_session.specs.Node.{NodeState};
+ghost use Rattle.uug_session.specs.Node.{ItemValue, NodeState, item_size, searched};
 ghost use Rattle.uug_session.specs.NodeArriving.{GoesOn, TakesAll};
 ghost use Rattle.uug_session.specs.NodeCalls.{Beside, Make, NodeCall, ShowsWhatIsFound, all_offered};
 ghost use Rattle.uug_session.specs.Sessions.{HoldsNothing};
+ghost use Rattle.uug_session.specs.ShownItems.{IsShown, ItemFound, NothingFound};
 ghost use Rattle.uug_session.specs.TextsFound.{Taken};
 
 use crate::text_laws::{a_shown_text_stays, hearing_laws, text_search_finds_the_first};
@@ -40,6 +41,9 @@ pub fn bytes_come_in_any_pieces<X>()
         → takes_piece t (piece ++ more) h ≡ then_takes t more (takes_piece t piece h) }
     // Each item takes a byte, so no more of them are found than bytes are held.
     ensures enough { (t : Taker X) (n : ℕ) (h : Hearer X) → length h.held ≤ n → takes_up_to n t h ≡ takes_all t h }
+    // The item that is found next is taken up first, and then the others.
+    ensures first { (t : Taker X) (bytes : List ℕ) (x : X)
+        → takes_all t (holds t bytes x) ≡ takes_up (takes_all t) t (finding (t.stage_of x) bytes) x }
 {
     what_is_found_stays();
 }
@@ -70,6 +74,17 @@ pub fn calls_take_what_comes()
     ensures shows { (h : Holdings) (most : ℕ) (calls : List NodeCall) (old new : Beside)
         → ShowsWhatIsFound old.node → Make h most calls old new → ShowsWhatIsFound new.node }
     ensures at_first { (n : NodeState) → HoldsNothing n → ShowsWhatIsFound n }
+{
+    item_laws();
+}
+
+/// The item that a node shows behind a search is the one that is found next in the bytes that it held, and it is the only
+/// one. Where it shows none, nothing was whole, or the first text was too long.
+pub fn a_search_shows_what_is_found()
+    ensures shown { (n : NodeState) (item : ItemValue) → IsShown item (searched n) → ItemFound item n (searched n) }
+    ensures one { (n : NodeState) (item other : ItemValue) → IsShown item (searched n) → IsShown other (searched n)
+        → item ≡ other }
+    ensures none { (n : NodeState) → item_size (searched n) ≡ 0 → NothingFound n (searched n) }
 {
     item_laws();
 }

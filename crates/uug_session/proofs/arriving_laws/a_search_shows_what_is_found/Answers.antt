@@ -1,0 +1,11 @@
+use Rattle.uug_session.proofs.ShownItemLemmas.{item_found, nothing_found, one_item}
+use Rattle.uug_session.proofs.arriving_laws.a_search_shows_what_is_found.Goals as goal
+
+pub returns-clause-shown : goal.returns-clause-shown
+returns-clause-shown c = item_found c.item_laws.ensures
+
+pub returns-clause-one : goal.returns-clause-one
+returns-clause-one c = one_item c.item_laws.ensures
+
+pub returns-clause-none : goal.returns-clause-none
+returns-clause-none c = nothing_found
