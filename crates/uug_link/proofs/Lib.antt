@@ -9,11 +9,12 @@ pub mod WindowMachineFacts
 pub mod WindowFacts
 pub mod OnTheLineLemmas
 pub mod SimulationLemmas
+pub mod StrayLemmas
+pub mod PeerLemmas
 pub mod SimulatedSteps
 pub mod TwoLinksRuns
 pub mod TwoLinksFacts
 pub mod ArrivalLemmas
 pub mod OutcomeLemmas
 pub mod TermsLemmas
-pub mod StrayLemmas
 pub mod InRangeLemmas

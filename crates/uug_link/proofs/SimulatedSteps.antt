@@ -1,12 +1,13 @@
 -- Each event of a link: the window machine moves with it.
-use Rattle.std.proofs.Common.{◌≡◌, ℕ, suc, ◌+◌, ◌-◌, ◌%◌, ◌<◌, ◌≤◌, ◌==◌, nat_lt, Bool, true, false, if◌then◌else◌, List, [], ◌∷◌, ◌++◌, length, length-append, length-drop, drop, take, slice_get, Some, refl, ap, sym, subst, ◌∙◌, arith}
+use Rattle.std.proofs.Common.{◌≡◌, ℕ, suc, ◌+◌, ◌-◌, ◌%◌, ◌≤◌, ◌==◌, nat_lt, Bool, true, false, if◌then◌else◌, List, [], ◌∷◌, ◌++◌, length, length-append, length-drop, drop, take, slice_get, Some, refl, ap, sym, subst, ◌∙◌, arith}
 use Rattle.std.proofs.lemmas.Bool.Decides.{nat_tests}
 use Rattle.std.proofs.lemmas.List.{drop-append-le, take-append-le}
 use Rattle.uug_link.specs.Announced.{Announced}
 use Rattle.uug_link.specs.Terms.{IsWindow}
 use Rattle.uug_link.specs.OnTheLine.{is_of_window, of_window, AreWritten}
-use Rattle.uug_link.specs.State.{State, KnowsWindow, KnowsSize, HasRoom, is_halted}
-use Rattle.uug_link.specs.Step.{Effect, Event, to_begin, packet_found, bad_found, timed_out, to_send, to_close, taken as taken_up, answers, ignored, quiet, moved, halt, on_init_a, on_init_b, on_init_c, on_close, on_rr, on_rj, on_srj, on_data, on_number, is_expected, on_bad, acknowledged, struck, distance, repeated, on_packet, on_event, answers_halted, last_received, outstanding, next_number, data_packet}
+use Rattle.uug_link.specs.State.{State, IsUp, KnowsWindow, KnowsSize, HasRoom, is_halted}
+use Rattle.uug_link.specs.Step.{Effect, Event, to_begin, packet_found, bad_found, timed_out, to_send, to_close, taken as taken_up, answers, ignored, quiet, moved, halt, on_init_a, on_init_b, on_init_c, on_close, on_rr, on_rj, on_srj, on_data, on_number, is_expected, on_bad, acknowledged, repeated, on_packet, on_event, answers_halted, last_received, outstanding, next_number, data_packet}
+use Rattle.uug_link.specs.Strays.{acknowledgement as acknowledged_by}
 use Rattle.uug_link.specs.TwoLinks.{End, gone_past, packets_of, with_effect, moved_by, MayCall}
 use Rattle.uug_link.specs.WindowBounds.{CountsInOrder}
 use Rattle.uug_link.specs.WindowMachine.{Machine, Flying, data_at, acknowledgement, ack_of, Always, EachAck, EachNumber, IsReached, arrives, sends, on_out, on_back, after_move, taken_with}
@@ -15,20 +16,22 @@ use Rattle.uug_link.specs.declared.phase.Phase.{Phase}
 use Rattle.uug_link.specs.declared.phase.Phase.TheVariants.{AwaitsInitA, AwaitsInitB, AwaitsInitC, Up, Closing, Halted}
 use Rattle.uug_link.specs.declared.phase.Role.{Role}
 use Rattle.uug_link.specs.declared.phase.Role.TheVariants.{Caller, Called}
-use Rattle.uug_link.proofs.OnTheLineLemmas.{drop_drop, slice_get-last, take_at, of_window-front, of_window-emitted, AreWritten-append, AreWritten-more}
+use Rattle.uug_link.proofs.OnTheLineLemmas.{slice_get-last, take_at, of_window-front, of_window-emitted, AreWritten-append, AreWritten-more}
+use Rattle.uug_link.proofs.PeerLemmas.{PeerLaw, Acked, acked, knows_acked, comes_up}
 use Rattle.uug_link.proofs.SimulationLemmas.{AllSaid-at, AllSaid-append, Knows, Wire, machine, Sim, Next, Keeps, MayEmit, emits_nothing, emits_rr, emits_rj, emits_close, emits_init_a, emits_init_b, emits_init_c, emits_outstanding, last_received_is, emit, hear_beside, arrive}
 use Rattle.uug_link.proofs.WindowMachineRuns.{IsReached-after_move}
 use Rattle.uug_packet.specs.Packet.{PacketValue, control, carry, close, rj, srj, rr, init_c, init_b, init_a}
 
--- ---- the machine's law, and what it says of the packet that arrives
+-- ---- the laws of the machine and of any peer, and what the machine's says of the packet that arrives
 
-pub record WindowLaw : Type 0 where
+pub record LawsBelow : Type 0 where
+  pub peer : PeerLaw
   pub counts : Always (λ d o. CountsInOrder d)
   pub number_digits : Always (λ d o. EachNumber (λ n. n % 8 ≡ d.taken % 8 → n ≡ d.taken) d.flight)
   pub ack_digits : Always (λ d o. EachAck (λ a. a ≡ o.acked + (a % 8 + 8 - o.acked % 8) % 8) d.flight)
 
 -- two ends and the machine, after some run of it
-pub record Running (law : WindowLaw) (a b : Announced) (e f : End) (out back : Wire) : Type 0 where
+pub record Running (law : LawsBelow) (a b : Announced) (e f : End) (out back : Wire) : Type 0 where
   pub window : IsWindow a.window
   pub other : IsWindow b.window
   pub reached : IsReached b.window a.window (machine a b e f out back)
@@ -37,21 +40,24 @@ pub record Running (law : WindowLaw) (a b : Announced) (e f : End) (out back : W
 pub record Front (e : End) (out : Wire) (taken : ℕ) (x : Flying) (xs : List Flying) : Type 0 where
   pub ack : ack_of x ≡ out.acked + (ack_of x % 8 + 8 - out.acked % 8) % 8
   pub ack_sent : ack_of x ≤ length e.sent
+  pub few : length e.sent ≤ out.acked + 7
   pub number : EachNumber (λ n. n % 8 ≡ taken % 8 → n ≡ taken) (x ∷ xs)
 
-front : (law : WindowLaw) (a b : Announced) (e f : End) (out : Wire) (acked taken : ℕ) (x : Flying) (xs : List Flying) →
+front : (law : LawsBelow) (a b : Announced) (e f : End) (out : Wire) (acked taken : ℕ) (x : Flying) (xs : List Flying) →
     Running law a b e f out (record { acked = acked; taken = taken; flight = x ∷ xs }) → Front e out taken x xs
 front law a b e f out acked taken x xs h =
     let m : Machine = machine a b e f out (record { acked = acked; taken = taken; flight = x ∷ xs }) in
     let later = IsReached-after_move b.window a.window m (on_back arrives) h.reached (omega arith) in
     let counts = law.counts b.window a.window (after_move m (on_back arrives)) h.other h.window later in
+    let now = law.counts b.window a.window m h.other h.window h.reached in
     record {
       ack = (law.ack_digits b.window a.window m h.other h.window h.reached).1.0;
       ack_sent = omega (arith, counts.0.0, counts.0.1);
+      few = omega (arith, now.0.2, h.other.1);
       number = (law.number_digits b.window a.window m h.other h.window h.reached).1;
     }
 
-acked_sent : (law : WindowLaw) (a b : Announced) (e f : End) (out back : Wire) → Running law a b e f out back →
+acked_sent : (law : LawsBelow) (a b : Announced) (e f : End) (out back : Wire) → Running law a b e f out back →
     out.acked ≤ length e.sent
 acked_sent law a b e f out back h =
     let counts = law.counts b.window a.window (machine a b e f out back) h.other h.window h.reached in
@@ -126,36 +132,34 @@ heard_init_b a b e f out back y Called AwaitsInitC is h at =
     (emits_init_b a e.sent out.acked back.taken e.link.own.size_code (ap (λ (x : Announced). x.size_code) h.own))
 heard_init_b a b e f out back y _ _ is h at = heard_ignored a b e f out back (control (init_b y)) h at
 
-heard_init_c : (a b : Announced) (e f : End) (out back : Wire) (y : ℕ) (role : Role) (phase : Phase) →
-    e.link.phase ≡ phase → Sim a b e f out back → IsNext e f (control (init_c y)) →
+heard_init_c : (law : PeerLaw) (a b : Announced) (e f : End) (out back : Wire) (y : ℕ) (role : Role) (phase : Phase) →
+    e.link.role ≡ role → e.link.phase ≡ phase → (y == 0) ≡ false → Sim a b e f out back → IsNext e f (control (init_c y)) →
     Heard a b e f out back (control (init_c y)) (on_init_c role phase y e.link)
-heard_init_c a b e f out back y Caller AwaitsInitC is h at =
+heard_init_c law a b e f out back y Caller AwaitsInitC role_is is some h at =
     hear_beside a b e f out back (control (init_c y)) _ [] h at
     (record { unacked = refl; oldest = refl; expected = refl })
     (record {
-      window = λ k. omega (
-        arith,
-        window_stays b e.link AwaitsInitC is tt h.knows,
-        AllSaid-at b f.emitted e.passed (control (init_c y)) h.other_said at,
-      );
+      window = λ k.
+          comes_up law b e.link y Caller AwaitsInitC role_is is refl some
+          (AllSaid-at b f.emitted e.passed (control (init_c y)) h.other_said at)
+          (window_stays b e.link AwaitsInitC is tt h.knows) refl;
       size = λ k. h.knows.size (subst KnowsSize (sym is) tt);
     }) h.own (emits_nothing a e.sent out.acked back.taken)
-heard_init_c a b e f out back y Called AwaitsInitC is h at =
+heard_init_c law a b e f out back y Called AwaitsInitC role_is is some h at =
     hear_beside a b e f out back (control (init_c y)) _ _ h at
     (record { unacked = refl; oldest = refl; expected = refl })
     (record {
-      window = λ k. omega (
-        arith,
-        window_stays b e.link AwaitsInitC is tt h.knows,
-        AllSaid-at b f.emitted e.passed (control (init_c y)) h.other_said at,
-      );
+      window = λ k.
+          comes_up law b e.link y Called AwaitsInitC role_is is refl some
+          (AllSaid-at b f.emitted e.passed (control (init_c y)) h.other_said at)
+          (window_stays b e.link AwaitsInitC is tt h.knows) refl;
       size = λ k. h.knows.size (subst KnowsSize (sym is) tt);
     }) h.own
     (emits_init_c a e.sent out.acked back.taken e.link.own.window (ap (λ (x : Announced). x.window) h.own))
-heard_init_c a b e f out back y Called Up is h at =
+heard_init_c law a b e f out back y Called Up role_is is some h at =
     hear_beside a b e f out back (control (init_c y)) e.link _ h at (same e.link) h.knows h.own
     (emits_init_c a e.sent out.acked back.taken e.link.own.window (ap (λ (x : Announced). x.window) h.own))
-heard_init_c a b e f out back y _ _ is h at = heard_ignored a b e f out back (control (init_c y)) h at
+heard_init_c law a b e f out back y _ _ role_is is some h at = heard_ignored a b e f out back (control (init_c y)) h at
 
 heard_close : (a b : Announced) (e f : End) (out back : Wire) (phase : Phase) → Sim a b e f out back →
     IsNext e f (control close) → Heard a b e f out back (control close) (on_close phase e.link)
@@ -168,94 +172,46 @@ heard_close a b e f out back _ h at =
 
 -- ---- packets of the window, at a link that is up
 
--- the acknowledgement of a message strikes all up to it
-record Acked (s t : State) (sent : List (List ℕ)) (a : ℕ) : Type 0 where
-  unacked : t.unacked ≡ drop a sent
-  oldest : t.oldest ≡ (a + 1) % 8
-  expected : t.expected ≡ s.expected
-  phase : t.phase ≡ s.phase
-  window : t.window ≡ s.window
-  size_code : t.size_code ≡ s.size_code
-  own : t.own ≡ s.own
+-- the packet at the front acknowledges, at a link that is up
+acked_front : (law : LawsBelow) (a b : Announced) (e f : End) (out : Wire) (acked' taken : ℕ) (x : Flying) (xs : List Flying)
+    (p : PacketValue) (y : ℕ) → Running law a b e f out (record { acked = acked'; taken = taken; flight = x ∷ xs }) →
+    Front e out taken x xs → IsUp e.link → acknowledged_by p ≡ Some y → y ≡ ack_of x % 8 →
+    Acked e.link (acknowledged y e.link) e.sent (ack_of x)
+acked_front law a b e f out acked' taken x xs p y h first is says digit =
+    acked law.peer e.link p e.sent out.acked (ack_of x) y
+    (record {
+      is_up = is;
+      says = says;
+      digit = digit;
+      unacked = h.sim.out_half.unacked;
+      oldest = h.sim.out_half.oldest;
+      low = omega (arith, first.ack);
+      high = first.ack_sent;
+      few = first.few;
+    })
 
--- the digits say how far
-count_is : (k a y o : ℕ) → o ≡ (k + 1) % 8 → y ≡ a % 8 → a ≡ k + (a % 8 + 8 - k % 8) % 8 → k + distance o (y + 1) ≡ a
-count_is k a y o h i j = omega (arith, h, i, j)
-
-acked_if : (s : State) (sent : List (List ℕ)) (a : ℕ) (t : Bool) (x y : State) → (t ≡ true → Acked s x sent a) →
-    (t ≡ false → Acked s y sent a) → Acked s (if t then x else y) sent a
-acked_if s sent a true x y h k = h refl
-acked_if s sent a false x y h k = k refl
-
-acked_none : (s : State) (sent : List (List ℕ)) (k a : ℕ) → s.unacked ≡ drop k sent → s.oldest ≡ (k + 1) % 8 → k ≡ a →
-    Acked s s sent a
-acked_none s sent k a unacked oldest stays = record {
-  unacked = unacked ∙ ap (λ (n : ℕ). drop n sent) stays;
-  oldest = oldest ∙ ap (λ (n : ℕ). (n + 1) % 8) stays;
-  expected = refl;
-  phase = refl;
-  window = refl;
-  size_code = refl;
-  own = refl;
-}
-
-acked_some : (s : State) (sent : List (List ℕ)) (k a count : ℕ) → s.unacked ≡ drop k sent → s.oldest ≡ (k + 1) % 8 →
-    k + count ≡ a → Acked s (struck count s) sent a
-acked_some s sent k a count unacked oldest is = record {
-  unacked = ap (λ (l : List (List ℕ)). drop count l) unacked ∙ drop_drop k count sent ∙ ap (λ (n : ℕ). drop n sent) is;
-  oldest = omega (arith, oldest, is);
-  expected = refl;
-  phase = refl;
-  window = refl;
-  size_code = refl;
-  own = refl;
-}
-
--- what is acknowledged was sent
-acked_beyond : (s : State) (sent : List (List ℕ)) (k a count : ℕ) → s.unacked ≡ drop k sent → k + count ≡ a →
-    a ≤ length sent → length s.unacked < count → ⊥
-acked_beyond s sent k a count unacked is low less =
-    omega (arith, less, is, low, ap length unacked, length-drop k sent)
-
-acked : (s : State) (sent : List (List ℕ)) (k a y : ℕ) → s.unacked ≡ drop k sent → s.oldest ≡ (k + 1) % 8 →
-    y ≡ a % 8 → a ≡ k + (a % 8 + 8 - k % 8) % 8 → a ≤ length sent → Acked s (acknowledged y s) sent a
-acked s sent k a y unacked oldest is told low =
-    let count : ℕ = distance s.oldest (y + 1) in
-    let moved_on : k + count ≡ a = count_is k a y s.oldest oldest is told in
-    acked_if s sent a (count == 0) _ _
-    (λ none. acked_none s sent k a unacked oldest (grind (arith, nat_tests, none, moved_on)))
-    (λ some. acked_if s sent a (nat_lt (length s.unacked) count) _ _
-    (λ beyond. absurd (acked_beyond s sent k a count unacked moved_on low (grind (arith, nat_tests, beyond))))
-    (λ fits. acked_some s sent k a count unacked oldest moved_on))
-
-knows_acked : {s t : State} {sent : List (List ℕ)} {a : ℕ} (b : Announced) → Acked s t sent a → Knows b s → Knows b t
-knows_acked b h knows = record {
-  window = λ k. h.window ∙ knows.window (subst KnowsWindow h.phase k);
-  size = λ k. h.size_code ∙ knows.size (subst KnowsSize h.phase k);
-}
-
-heard_rr_up : (law : WindowLaw) (a b : Announced) (e f : End) (out : Wire) (acked' taken : ℕ) (xs : List Flying) (y : ℕ) →
-    Running law a b e f out (record { acked = acked'; taken = taken; flight = xs }) → IsNext e f (control (rr y)) →
+heard_rr_up : (law : LawsBelow) (a b : Announced) (e f : End) (out : Wire) (acked' taken : ℕ) (xs : List Flying) (y : ℕ) →
+    IsUp e.link → Running law a b e f out (record { acked = acked'; taken = taken; flight = xs }) → IsNext e f (control (rr y)) →
     AreWritten f.sent xs (control (rr y) ∷ of_window (drop (suc e.passed) f.emitted)) →
     Heard a b e f out (record { acked = acked'; taken = taken; flight = xs }) (control (rr y)) (quiet (acknowledged y e.link))
-heard_rr_up law a b e f out acked' taken [] y h at written = absurd written
-heard_rr_up law a b e f out acked' taken (data_at n c ∷ xs) y h at written = absurd written.0
-heard_rr_up law a b e f out acked' taken (acknowledgement c ∷ xs) y h at written =
+heard_rr_up law a b e f out acked' taken [] y is h at written = absurd written
+heard_rr_up law a b e f out acked' taken (data_at n c ∷ xs) y is h at written = absurd written.0
+heard_rr_up law a b e f out acked' taken (acknowledgement c ∷ xs) y is h at written =
     let first = front law a b e f out acked' taken (acknowledgement c) xs h in
-    let t = acked e.link e.sent out.acked c y h.sim.out_half.unacked h.sim.out_half.oldest written.0 first.ack first.ack_sent in
+    let t = acked_front law a b e f out acked' taken (acknowledgement c) xs (control (rr y)) y h first is refl written.0 in
     arrive a b e f out acked' taken (acknowledgement c) xs (control (rr y)) (acknowledged y e.link) e.taken [] h.sim at written
     t.unacked t.oldest (t.expected ∙ h.sim.back_half.expected) h.sim.back_half.taken (knows_acked b t h.sim.knows)
     (t.own ∙ h.sim.own) (emits_nothing a e.sent c taken)
 
-heard_rj_up : (law : WindowLaw) (a b : Announced) (e f : End) (out : Wire) (acked' taken : ℕ) (xs : List Flying) (y : ℕ) →
-    Running law a b e f out (record { acked = acked'; taken = taken; flight = xs }) → IsNext e f (control (rj y)) →
+heard_rj_up : (law : LawsBelow) (a b : Announced) (e f : End) (out : Wire) (acked' taken : ℕ) (xs : List Flying) (y : ℕ) →
+    IsUp e.link → Running law a b e f out (record { acked = acked'; taken = taken; flight = xs }) → IsNext e f (control (rj y)) →
     AreWritten f.sent xs (control (rj y) ∷ of_window (drop (suc e.passed) f.emitted)) →
     Heard a b e f out (record { acked = acked'; taken = taken; flight = xs }) (control (rj y)) (on_rj Up y e.link)
-heard_rj_up law a b e f out acked' taken [] y h at written = absurd written
-heard_rj_up law a b e f out acked' taken (data_at n c ∷ xs) y h at written = absurd written.0
-heard_rj_up law a b e f out acked' taken (acknowledgement c ∷ xs) y h at written =
+heard_rj_up law a b e f out acked' taken [] y is h at written = absurd written
+heard_rj_up law a b e f out acked' taken (data_at n c ∷ xs) y is h at written = absurd written.0
+heard_rj_up law a b e f out acked' taken (acknowledgement c ∷ xs) y is h at written =
     let first = front law a b e f out acked' taken (acknowledgement c) xs h in
-    let t = acked e.link e.sent out.acked c y h.sim.out_half.unacked h.sim.out_half.oldest written.0 first.ack first.ack_sent in
+    let t = acked_front law a b e f out acked' taken (acknowledgement c) xs (control (rj y)) y h first is refl written.0 in
     let expected = t.expected ∙ h.sim.back_half.expected in
     arrive a b e f out acked' taken (acknowledgement c) xs (control (rj y)) (acknowledged y e.link) e.taken
     (packets_of (outstanding (acknowledged y e.link))) h.sim at written
@@ -300,7 +256,7 @@ heard_if a b e f out back p true x y h k = h refl
 heard_if a b e f out back p false x y h k = k refl
 
 -- the expected packet is taken, by a link that has taken up its acknowledgement
-number_taken : (law : WindowLaw) (a b : Announced) (e f : End) (out : Wire) (acked' taken n c : ℕ) (xs : List Flying)
+number_taken : (law : LawsBelow) (a b : Announced) (e f : End) (out : Wire) (acked' taken n c : ℕ) (xs : List Flying)
     (seq ack k : ℕ) (message : List ℕ) (s : State) →
     Running law a b e f out (record { acked = acked'; taken = taken; flight = data_at n c ∷ xs }) →
     IsNext e f (carry seq ack k message) →
@@ -324,7 +280,7 @@ number_taken law a b e f out acked' taken n c xs seq ack k message s h at writte
     (t.own ∙ h.sim.own) (emits_rr a e.sent c (taken_with (data_at n c) taken) seq (omega (arith, next, here, written.0.0)))
 
 -- each other is answered with what was taken, by a link that then has these fields
-number_other : (law : WindowLaw) (a b : Announced) (e f : End) (out : Wire) (acked' taken n c : ℕ) (xs : List Flying)
+number_other : (law : LawsBelow) (a b : Announced) (e f : End) (out : Wire) (acked' taken n c : ℕ) (xs : List Flying)
     (seq ack k : ℕ) (message : List ℕ) (s t : State) (ps : List PacketValue) →
     Running law a b e f out (record { acked = acked'; taken = taken; flight = data_at n c ∷ xs }) →
     IsNext e f (carry seq ack k message) →
@@ -343,20 +299,20 @@ number_other law a b e f out acked' taken n c xs seq ack k message s t ps h at w
     (h.sim.back_half.taken ∙ ap (λ (i : ℕ). take i f.sent) (sym stays)) knows (own ∙ acks.own ∙ h.sim.own)
     (subst (λ (i : ℕ). MayEmit a e.sent c i ps) (sym stays) emits)
 
-heard_data_up : (law : WindowLaw) (a b : Announced) (e f : End) (out : Wire) (acked' taken : ℕ) (xs : List Flying)
-    (seq ack k : ℕ) (message : List ℕ) → Running law a b e f out (record { acked = acked'; taken = taken; flight = xs }) →
+heard_data_up : (law : LawsBelow) (a b : Announced) (e f : End) (out : Wire) (acked' taken : ℕ) (xs : List Flying)
+    (seq ack k : ℕ) (message : List ℕ) → IsUp e.link → Running law a b e f out (record { acked = acked'; taken = taken; flight = xs }) →
     IsNext e f (carry seq ack k message) →
     AreWritten f.sent xs (carry seq ack k message ∷ of_window (drop (suc e.passed) f.emitted)) →
     Heard a b e f out (record { acked = acked'; taken = taken; flight = xs }) (carry seq ack k message)
     (on_number seq (acknowledged ack e.link))
-heard_data_up law a b e f out acked' taken [] seq ack k message h at written = absurd written
-heard_data_up law a b e f out acked' taken (acknowledgement c ∷ xs) seq ack k message h at written = absurd written.0
-heard_data_up law a b e f out acked' taken (data_at n c ∷ xs) seq ack k message h at written =
+heard_data_up law a b e f out acked' taken [] seq ack k message is_up h at written = absurd written
+heard_data_up law a b e f out acked' taken (acknowledgement c ∷ xs) seq ack k message is_up h at written = absurd written.0
+heard_data_up law a b e f out acked' taken (data_at n c ∷ xs) seq ack k message is_up h at written =
     let back : Wire = record { acked = acked'; taken = taken; flight = data_at n c ∷ xs } in
     let p : PacketValue = carry seq ack k message in
     let first = front law a b e f out acked' taken (data_at n c) xs h in
     let s : State = acknowledged ack e.link in
-    let t = acked e.link e.sent out.acked c ack h.sim.out_half.unacked h.sim.out_half.oldest written.0.1 first.ack first.ack_sent in
+    let t = acked_front law a b e f out acked' taken (data_at n c) xs p ack h first is_up refl written.0.1 in
     let knows = knows_acked b t h.sim.knows in
     let last : last_received s ≡ taken % 8 = last_received_is s taken (t.expected ∙ h.sim.back_half.expected) in
     heard_if a b e f out back p (is_expected seq s) _ _
@@ -372,43 +328,43 @@ heard_data_up law a b e f out acked' taken (data_at n c ∷ xs) seq ack k messag
 -- ---- a packet is found
 
 -- how the packets of the window in flight begin
-in_front : (law : WindowLaw) (a b : Announced) (e f : End) (out back : Wire) (p : PacketValue) →
+in_front : (law : LawsBelow) (a b : Announced) (e f : End) (out back : Wire) (p : PacketValue) →
     Running law a b e f out back → IsNext e f p → is_of_window p ≡ true →
     AreWritten f.sent back.flight (p ∷ of_window (drop (suc e.passed) f.emitted))
 in_front law a b e f out back p h at is =
     subst (AreWritten f.sent back.flight) (of_window-front e.passed f.emitted p at is) h.sim.back_half.flight
 
-heard_rr : (law : WindowLaw) (a b : Announced) (e f : End) (out back : Wire) (y : ℕ) (phase : Phase) →
-    Running law a b e f out back → IsNext e f (control (rr y)) →
+heard_rr : (law : LawsBelow) (a b : Announced) (e f : End) (out back : Wire) (y : ℕ) (phase : Phase) →
+    e.link.phase ≡ phase → Running law a b e f out back → IsNext e f (control (rr y)) →
     Heard a b e f out back (control (rr y)) (on_rr phase y e.link)
-heard_rr law a b e f out back y Up h at =
-    heard_rr_up law a b e f out back.acked back.taken back.flight y h at (in_front law a b e f out back (control (rr y)) h at refl)
-heard_rr law a b e f out back y _ h at = heard_ignored a b e f out back (control (rr y)) h.sim at
+heard_rr law a b e f out back y Up is h at =
+    heard_rr_up law a b e f out back.acked back.taken back.flight y is h at (in_front law a b e f out back (control (rr y)) h at refl)
+heard_rr law a b e f out back y _ is h at = heard_ignored a b e f out back (control (rr y)) h.sim at
 
-heard_rj : (law : WindowLaw) (a b : Announced) (e f : End) (out back : Wire) (y : ℕ) (phase : Phase) →
-    Running law a b e f out back → IsNext e f (control (rj y)) →
+heard_rj : (law : LawsBelow) (a b : Announced) (e f : End) (out back : Wire) (y : ℕ) (phase : Phase) →
+    e.link.phase ≡ phase → Running law a b e f out back → IsNext e f (control (rj y)) →
     Heard a b e f out back (control (rj y)) (on_rj phase y e.link)
-heard_rj law a b e f out back y Up h at =
-    heard_rj_up law a b e f out back.acked back.taken back.flight y h at (in_front law a b e f out back (control (rj y)) h at refl)
-heard_rj law a b e f out back y _ h at = heard_ignored a b e f out back (control (rj y)) h.sim at
+heard_rj law a b e f out back y Up is h at =
+    heard_rj_up law a b e f out back.acked back.taken back.flight y is h at (in_front law a b e f out back (control (rj y)) h at refl)
+heard_rj law a b e f out back y _ is h at = heard_ignored a b e f out back (control (rj y)) h.sim at
 
-heard_srj : (law : WindowLaw) (a b : Announced) (e f : End) (out back : Wire) (y : ℕ) (phase : Phase) →
+heard_srj : (law : LawsBelow) (a b : Announced) (e f : End) (out back : Wire) (y : ℕ) (phase : Phase) →
     Running law a b e f out back → IsNext e f (control (srj y)) →
     Heard a b e f out back (control (srj y)) (on_srj phase y e.link)
 heard_srj law a b e f out back y Up h at =
     heard_srj_up a b e f out back back.flight y (in_front law a b e f out back (control (srj y)) h at refl)
 heard_srj law a b e f out back y _ h at = heard_ignored a b e f out back (control (srj y)) h.sim at
 
-heard_data : (law : WindowLaw) (a b : Announced) (e f : End) (out back : Wire) (seq ack k : ℕ) (message : List ℕ)
-    (phase : Phase) → Running law a b e f out back → IsNext e f (carry seq ack k message) →
+heard_data : (law : LawsBelow) (a b : Announced) (e f : End) (out back : Wire) (seq ack k : ℕ) (message : List ℕ)
+    (phase : Phase) → e.link.phase ≡ phase → Running law a b e f out back → IsNext e f (carry seq ack k message) →
     Heard a b e f out back (carry seq ack k message) (on_data phase seq ack e.link)
-heard_data law a b e f out back seq ack k message Up h at =
-    heard_data_up law a b e f out back.acked back.taken back.flight seq ack k message h at
+heard_data law a b e f out back seq ack k message Up is h at =
+    heard_data_up law a b e f out back.acked back.taken back.flight seq ack k message is h at
     (in_front law a b e f out back (carry seq ack k message) h at refl)
-heard_data law a b e f out back seq ack k message _ h at =
+heard_data law a b e f out back seq ack k message _ is h at =
     heard_ignored a b e f out back (carry seq ack k message) h.sim at
 
-heard_packet : (law : WindowLaw) (a b : Announced) (e f : End) (out back : Wire) (p : PacketValue) →
+heard_packet : (law : LawsBelow) (a b : Announced) (e f : End) (out back : Wire) (p : PacketValue) →
     Running law a b e f out back → IsNext e f p → Heard a b e f out back p (on_packet p e.link)
 heard_packet law a b e f out back (control close) h at = heard_close a b e f out back e.link.phase h.sim at
 heard_packet law a b e f out back (control (init_a y)) h at =
@@ -417,15 +373,16 @@ heard_packet law a b e f out back (control (init_a y)) h at =
 heard_packet law a b e f out back (control (init_b y)) h at =
     heard_init_b a b e f out back y e.link.role e.link.phase refl h.sim at
 heard_packet law a b e f out back (control (init_c y)) h at =
-    heard_either a b e f out back (control (init_c y)) (y == 0) _ _ (heard_ignored a b e f out back (control (init_c y)) h.sim at)
-    (heard_init_c a b e f out back y e.link.role e.link.phase refl h.sim at)
-heard_packet law a b e f out back (control (rr y)) h at = heard_rr law a b e f out back y e.link.phase h at
-heard_packet law a b e f out back (control (rj y)) h at = heard_rj law a b e f out back y e.link.phase h at
+    heard_if a b e f out back (control (init_c y)) (y == 0) _ _
+    (λ none. heard_ignored a b e f out back (control (init_c y)) h.sim at)
+    (λ some. heard_init_c law.peer a b e f out back y e.link.role e.link.phase refl refl some h.sim at)
+heard_packet law a b e f out back (control (rr y)) h at = heard_rr law a b e f out back y e.link.phase refl h at
+heard_packet law a b e f out back (control (rj y)) h at = heard_rj law a b e f out back y e.link.phase refl h at
 heard_packet law a b e f out back (control (srj y)) h at = heard_srj law a b e f out back y e.link.phase h at
 heard_packet law a b e f out back (carry seq ack k message) h at =
-    heard_data law a b e f out back seq ack k message e.link.phase h at
+    heard_data law a b e f out back seq ack k message e.link.phase refl h at
 
-pub heard : (law : WindowLaw) (a b : Announced) (e f : End) (out back : Wire) (p : PacketValue) →
+pub heard : (law : LawsBelow) (a b : Announced) (e f : End) (out back : Wire) (p : PacketValue) →
     Running law a b e f out back → IsNext e f p → Next a b e f out back (gone_past (moved_by e (packet_found p)))
 heard law a b e f out back p h at =
     heard_either a b e f out back p (is_halted e.link.phase) _ _ (heard_halted a b e f out back p h.sim at)
@@ -494,7 +451,7 @@ emits_repeated a b e f out back _ Up h low =
 emits_repeated a b e f out back _ Closing h low = emits_close a e.sent out.acked back.taken
 emits_repeated a b e f out back _ _ h low = emits_nothing a e.sent out.acked back.taken
 
-times_out : (law : WindowLaw) (a b : Announced) (e f : End) (out back : Wire) → Running law a b e f out back →
+times_out : (law : LawsBelow) (a b : Announced) (e f : End) (out back : Wire) → Running law a b e f out back →
     Next a b e f out back (moved_by e timed_out)
 times_out law a b e f out back h =
     moved_either a b e f out back timed_out (is_halted e.link.phase) _ _ (stays_quiet a b e f out back h.sim)
@@ -509,7 +466,7 @@ times_out law a b e f out back h =
     (emits_close a e.sent out.acked back.taken)))
 
 -- a message is sent, by a link that is up
-sent : (law : WindowLaw) (a b : Announced) (e f : End) (out back : Wire) (message : List ℕ) →
+sent : (law : LawsBelow) (a b : Announced) (e f : End) (out back : Wire) (message : List ℕ) →
     Running law a b e f out back → HasRoom e.link →
     Moved a b e f out back (to_send message) (on_event (to_send message) e.link)
 sent law a b e f out back message h room =
@@ -562,7 +519,7 @@ if_not : (a b : Announced) (e f : End) (out back : Wire) (event : Event) (t : Bo
 if_not a b e f out back event t x y is h =
     subst (λ (z : Bool). Moved a b e f out back event (if z then x else y)) (sym is) h
 
-pub moves_itself : (law : WindowLaw) (a b : Announced) (e f : End) (out back : Wire) (event : Event) →
+pub moves_itself : (law : LawsBelow) (a b : Announced) (e f : End) (out back : Wire) (event : Event) →
     Running law a b e f out back → MayCall e.link event → Next a b e f out back (moved_by e event)
 moves_itself law a b e f out back to_begin h may = begins a b e f out back h.sim
 moves_itself law a b e f out back (packet_found p) h may = absurd may

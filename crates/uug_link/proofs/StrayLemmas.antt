@@ -1,34 +1,38 @@
 -- What an acknowledgement strikes, whoever sends it, and the window with which a link comes up.
-use Rattle.std.proofs.Common.{◌≡◌, ℕ, suc, zero, ◌+◌, ◌-◌, ◌%◌, ◌<◌, ◌≤◌, ◌==◌, min, nat_lt, Bool, true, false, if◌then◌else◌, List, drop, length, Option, Some, None, refl, sym, ap, subst, arith}
+use Rattle.std.proofs.Common.{◌≡◌, ◌⊎◌, ℕ, suc, ◌+◌, ◌-◌, ◌<◌, ◌≤◌, ◌==◌, min, nat_lt, Bool, true, false, if◌then◌else◌, List, drop, length, length-drop, Some, None, inl, inr, refl, sym, ◌∙◌, ap, subst, arith}
 use Rattle.std.proofs.lemmas.Bool.Decides.{nat_tests}
 use Rattle.uug_link.specs.declared.phase.Phase.{Phase}
-use Rattle.uug_link.specs.declared.phase.Phase.TheVariants.{Fresh, AwaitsInitA, AwaitsInitB, AwaitsInitC, Up, Closing, Halted}
+use Rattle.uug_link.specs.declared.phase.Phase.TheVariants.{AwaitsInitA, AwaitsInitB, AwaitsInitC, Up, Closing}
 use Rattle.uug_link.specs.declared.phase.Role.{Role}
 use Rattle.uug_link.specs.declared.phase.Role.TheVariants.{Caller, Called}
 use Rattle.uug_link.specs.State.{State, IsUp, is_halted}
-use Rattle.uug_link.specs.Step.{Effect, OutcomeValue, nothing, up, taken, closed, packet_found, step, answers_halted, on_init_a, on_init_b, on_init_c, on_close, on_rr, on_rj, on_srj, on_data, on_number, is_expected, acknowledged, struck, distance, on_packet, quiet, ignored}
-use Rattle.uug_link.specs.Strays.{HasNumbers, StandsBehind, acknowledgement}
-use Rattle.uug_packet.specs.Packet.{ControlValue, close, rj, srj, rr, init_c, init_b, init_a, PacketValue, control, carry}
+use Rattle.uug_link.specs.Step.{Effect, up, packet_found, step, answers_halted, on_init_a, on_init_b, on_init_c, on_close, on_rr, on_rj, on_srj, on_data, on_number, is_expected, acknowledged, distance, on_packet, next_number}
+use Rattle.uug_link.specs.Strays.{HasNumbers, IsSmallerOf, StandsBehind, acknowledgement}
+use Rattle.uug_packet.specs.Packet.{close, rj, srj, rr, init_c, init_b, init_a, PacketValue, control, carry}
 
 -- ---- an acknowledgement
 
--- what is left of the messages
-abbrev Leaves : List (List ℕ) → State → Type 0
-Leaves left s = s.unacked ≡ left
+-- a fact of the outstanding messages and of the number of the oldest
+abbrev pub Holds : (List (List ℕ) → ℕ → Type 0) → State → Type 0
+Holds P s = P s.unacked s.oldest
 
-leaves_if : (left : List (List ℕ)) (b : Bool) (s t : State) → (b ≡ true → Leaves left s) → (b ≡ false → Leaves left t) →
-    Leaves left (if b then s else t)
-leaves_if left true s t h k = h refl
-leaves_if left false s t h k = k refl
+holds_if : (P : List (List ℕ) → ℕ → Type 0) (b : Bool) (s t : State) → (b ≡ true → Holds P s) → (b ≡ false → Holds P t) →
+    Holds P (if b then s else t)
+holds_if P true s t h k = h refl
+holds_if P false s t h k = k refl
+
+-- these messages are left
+abbrev Leaves : List (List ℕ) → List (List ℕ) → ℕ → Type 0
+Leaves left unacked oldest = unacked ≡ left
 
 acknowledged_strikes : (s : State) (y behind : ℕ) → HasNumbers s → StandsBehind s y behind →
-    Leaves (drop (suc behind) s.unacked) (acknowledged y s)
+    Holds (Leaves (drop (suc behind) s.unacked)) (acknowledged y s)
 acknowledged_strikes s y behind has stands =
     let count : ℕ = distance s.oldest (y + 1) in
     let counts : count ≡ suc behind = omega (arith, has.oldest, has.few, stands.outstanding, stands.number) in
-    leaves_if _ (count == 0) s _
+    holds_if (Leaves (drop (suc behind) s.unacked)) (count == 0) _ _
     (λ none. absurd (no (grind (arith, nat_tests, none, counts))))
-    (λ some. leaves_if _ (nat_lt (length s.unacked) count) s (struck count s)
+    (λ some. holds_if (Leaves (drop (suc behind) s.unacked)) (nat_lt (length s.unacked) count) _ _
     (λ beyond. absurd (no (grind (arith, nat_tests, beyond, counts, stands.outstanding))))
     (λ fits. ap (λ (n : ℕ). drop n s.unacked) counts))
   where
@@ -37,11 +41,11 @@ acknowledged_strikes s y behind has stands =
 
 -- a number of no outstanding packet
 acknowledged_strays : (s : State) (y : ℕ) → HasNumbers s → y < 8 → ((behind : ℕ) → StandsBehind s y behind → ⊥) →
-    Leaves s.unacked (acknowledged y s)
+    Holds (Leaves s.unacked) (acknowledged y s)
 acknowledged_strays s y has small none =
     let count : ℕ = distance s.oldest (y + 1) in
-    leaves_if _ (count == 0) s _ (λ e. refl)
-    (λ some. leaves_if _ (nat_lt (length s.unacked) count) s (struck count s) (λ e. refl)
+    holds_if (Leaves s.unacked) (count == 0) _ _ (λ e. refl)
+    (λ some. holds_if (Leaves s.unacked) (nat_lt (length s.unacked) count) _ _ (λ beyond. refl)
     (λ fits. absurd (none (count - 1) (record {
       outstanding = grind (arith, nat_tests, some, fits);
       number = omega (arith, has.oldest, has.few, small, positive count some);
@@ -50,100 +54,158 @@ acknowledged_strays s y has small none =
     positive : (n : ℕ) → (n == 0) ≡ false → 1 ≤ n
     positive n e = grind (arith, nat_tests, e)
 
+-- the numbers are in their bounds
+abbrev Bounded : List (List ℕ) → ℕ → Type 0
+Bounded unacked oldest = (oldest < 8) × (length unacked < 8)
+
+acknowledged_bounded : (s : State) (y : ℕ) → HasNumbers s → Holds Bounded (acknowledged y s)
+acknowledged_bounded s y has =
+    let count : ℕ = distance s.oldest (y + 1) in
+    holds_if Bounded (count == 0) _ _ (λ e. (has.oldest, has.few))
+    (λ some. holds_if Bounded (nat_lt (length s.unacked) count) _ _ (λ beyond. (has.oldest, has.few))
+    (λ fits. (omega arith, omega (arith, has.few, length-drop count s.unacked))))
+
+-- the next message gets the number that it gets here
+abbrev GoesOn : State → List (List ℕ) → ℕ → Type 0
+GoesOn s unacked oldest = next_number (record s { unacked = unacked; oldest = oldest }) ≡ next_number s
+
+acknowledged_next : (s : State) (y : ℕ) → Holds (GoesOn s) (acknowledged y s)
+acknowledged_next s y =
+    let count : ℕ = distance s.oldest (y + 1) in
+    holds_if (GoesOn s) (count == 0) _ _ (λ e. refl)
+    (λ some. holds_if (GoesOn s) (nat_lt (length s.unacked) count) _ _ (λ beyond. refl)
+    (λ fits. omega (arith, at_most count fits, length-drop count s.unacked)))
+  where
+    at_most : (n : ℕ) → nat_lt (length s.unacked) n ≡ false → n ≤ length s.unacked
+    at_most n e = grind (arith, nat_tests, e)
+
 -- ---- a packet at a link that is up
 
-leaves_effect : (left : List (List ℕ)) (b : Bool) (e f : Effect) → Leaves left e.state → Leaves left f.state →
-    Leaves left (if b then e else f).state
-leaves_effect left true e f h k = h
-leaves_effect left false e f h k = k
+holds_effect : (P : List (List ℕ) → ℕ → Type 0) (b : Bool) (e f : Effect) → Holds P e.state → Holds P f.state →
+    Holds P (if b then e else f).state
+holds_effect P true e f h k = h
+holds_effect P false e f h k = k
 
-leaves_number : (left : List (List ℕ)) (x : ℕ) (s : State) → Leaves left s → Leaves left (on_number x s).state
-leaves_number left x s h =
-    leaves_effect left (is_expected x s) _ _ h (leaves_effect left s.told _ _ h h)
+holds_number : (P : List (List ℕ) → ℕ → Type 0) (x : ℕ) (s : State) → Holds P s → Holds P (on_number x s).state
+holds_number P x s h = holds_effect P (is_expected x s) _ _ h (holds_effect P s.told _ _ h h)
 
 up_step : (s : State) (p : PacketValue) → IsUp s → step s (packet_found p) ≡ on_packet p s
 up_step s p is =
     subst (λ (phase : Phase). (if is_halted phase then answers_halted s else on_packet p s) ≡ on_packet p s) (sym is) refl
 
--- an acknowledgement leaves what it leaves in each packet that carries it
-leaves_packet : (left : List (List ℕ)) (s : State) (p : PacketValue) (y : ℕ) → IsUp s → acknowledgement p ≡ Some y →
-    Leaves left (acknowledged y s) → Leaves left (step s (packet_found p)).state
-leaves_packet left s p y is says h = rw (up_step s p is) (by p says)
+-- an acknowledgement does what it does in each packet that carries it
+pub holds_up : (P : List (List ℕ) → ℕ → Type 0) (s : State) (p : PacketValue) (y : ℕ) → IsUp s →
+    acknowledgement p ≡ Some y → Holds P (acknowledged y s) → Holds P (step s (packet_found p)).state
+holds_up P s p y is says h = rw (up_step s p is) (by p says)
   where
-    told : (z : ℕ) → Some z ≡ Some y → Leaves left (acknowledged z s)
+    told : (z : ℕ) → Some z ≡ Some y → Holds P (acknowledged z s)
     told z e = let same : z ≡ y = cc in rw (same) h
 
-    by : (p : PacketValue) → acknowledgement p ≡ Some y → Leaves left (on_packet p s).state
-    by (control (rr z)) e = subst (λ (phase : Phase). Leaves left (on_rr phase z s).state) (sym is) (told z e)
-    by (control (rj z)) e = subst (λ (phase : Phase). Leaves left (on_rj phase z s).state) (sym is) (told z e)
+    by : (p : PacketValue) → acknowledgement p ≡ Some y → Holds P (on_packet p s).state
+    by (control (rr z)) e = subst (λ (phase : Phase). Holds P (on_rr phase z s).state) (sym is) (told z e)
+    by (control (rj z)) e = subst (λ (phase : Phase). Holds P (on_rj phase z s).state) (sym is) (told z e)
     by (control (srj z)) e = absurd cc
     by (control close) e = absurd cc
     by (control (init_a z)) e = absurd cc
     by (control (init_b z)) e = absurd cc
     by (control (init_c z)) e = absurd cc
     by (carry seq ack k message) e =
-        subst (λ (phase : Phase). Leaves left (on_data phase seq ack s).state) (sym is)
-        (leaves_number left seq (acknowledged ack s) (told ack e))
+        subst (λ (phase : Phase). Holds P (on_data phase seq ack s).state) (sym is)
+        (holds_number P seq (acknowledged ack s) (told ack e))
 
 pub strikes : (s : State) (p : PacketValue) (y behind : ℕ) → IsUp s → HasNumbers s → acknowledgement p ≡ Some y →
     StandsBehind s y behind → (step s (packet_found p)).state.unacked ≡ drop (suc behind) s.unacked
 strikes s p y behind is has says stands =
-    leaves_packet _ s p y is says (acknowledged_strikes s y behind has stands)
+    holds_up (Leaves (drop (suc behind) s.unacked)) s p y is says (acknowledged_strikes s y behind has stands)
 
 pub strays : (s : State) (p : PacketValue) (y : ℕ) → IsUp s → HasNumbers s → y < 8 → acknowledgement p ≡ Some y →
     ((behind : ℕ) → StandsBehind s y behind → ⊥) → (step s (packet_found p)).state.unacked ≡ s.unacked
-strays s p y is has small says none = leaves_packet _ s p y is says (acknowledged_strays s y has small none)
+strays s p y is has small says none =
+    holds_up (Leaves s.unacked) s p y is says (acknowledged_strays s y has small none)
 
--- ---- a packet that acknowledges nothing
+-- ---- a packet at any link
 
-leaves_init_a : (role : Role) (phase : Phase) (y : ℕ) (s : State) → Leaves s.unacked (on_init_a role phase y s).state
-leaves_init_a Caller AwaitsInitA y s = refl
-leaves_init_a Called AwaitsInitA y s = refl
-leaves_init_a Called AwaitsInitB y s = refl
-leaves_init_a _ _ y s = refl
+holds_init_a : (P : List (List ℕ) → ℕ → Type 0) (role : Role) (phase : Phase) (y : ℕ) (s : State) → Holds P s →
+    Holds P (on_init_a role phase y s).state
+holds_init_a P Caller AwaitsInitA y s h = h
+holds_init_a P Called AwaitsInitA y s h = h
+holds_init_a P Called AwaitsInitB y s h = h
+holds_init_a P _ _ y s h = h
 
-leaves_init_b : (role : Role) (phase : Phase) (y : ℕ) (s : State) → Leaves s.unacked (on_init_b role phase y s).state
-leaves_init_b Caller AwaitsInitB y s = refl
-leaves_init_b Called AwaitsInitB y s = refl
-leaves_init_b Called AwaitsInitC y s = refl
-leaves_init_b _ _ y s = refl
+holds_init_b : (P : List (List ℕ) → ℕ → Type 0) (role : Role) (phase : Phase) (y : ℕ) (s : State) → Holds P s →
+    Holds P (on_init_b role phase y s).state
+holds_init_b P Caller AwaitsInitB y s h = h
+holds_init_b P Called AwaitsInitB y s h = h
+holds_init_b P Called AwaitsInitC y s h = h
+holds_init_b P _ _ y s h = h
 
-leaves_init_c : (role : Role) (phase : Phase) (y : ℕ) (s : State) → Leaves s.unacked (on_init_c role phase y s).state
-leaves_init_c Caller AwaitsInitC y s = refl
-leaves_init_c Called AwaitsInitC y s = refl
-leaves_init_c Called Up y s = refl
-leaves_init_c _ _ y s = refl
+holds_init_c : (P : List (List ℕ) → ℕ → Type 0) (role : Role) (phase : Phase) (y : ℕ) (s : State) → Holds P s →
+    Holds P (on_init_c role phase y s).state
+holds_init_c P Caller AwaitsInitC y s h = h
+holds_init_c P Called AwaitsInitC y s h = h
+holds_init_c P Called Up y s h = h
+holds_init_c P _ _ y s h = h
 
-leaves_close : (phase : Phase) (s : State) → Leaves s.unacked (on_close phase s).state
-leaves_close Closing s = refl
-leaves_close _ s = refl
+holds_close : (P : List (List ℕ) → ℕ → Type 0) (phase : Phase) (s : State) → Holds P s → Holds P (on_close phase s).state
+holds_close P Closing s h = h
+holds_close P _ s h = h
 
-leaves_srj : (phase : Phase) (y : ℕ) (s : State) → Leaves s.unacked (on_srj phase y s).state
-leaves_srj Up y s = refl
-leaves_srj _ y s = refl
+holds_srj : (P : List (List ℕ) → ℕ → Type 0) (phase : Phase) (y : ℕ) (s : State) → Holds P s →
+    Holds P (on_srj phase y s).state
+holds_srj P Up y s h = h
+holds_srj P _ y s h = h
 
-leaves_control : (c : ControlValue) (s : State) → acknowledgement (control c) ≡ None →
-    Leaves s.unacked (on_packet (control c) s).state
-leaves_control close s e = leaves_close s.phase s
-leaves_control (init_a y) s e = leaves_effect s.unacked (y == 0) _ _ refl (leaves_init_a s.role s.phase y s)
-leaves_control (init_b y) s e = leaves_init_b s.role s.phase y s
-leaves_control (init_c y) s e = leaves_effect s.unacked (y == 0) _ _ refl (leaves_init_c s.role s.phase y s)
-leaves_control (srj y) s e = leaves_srj s.phase y s
-leaves_control (rr y) s e = absurd cc
-leaves_control (rj y) s e = absurd cc
+holds_rr : (P : List (List ℕ) → ℕ → Type 0) (phase : Phase) (y : ℕ) (s : State) → Holds P s →
+    Holds P (acknowledged y s) → Holds P (on_rr phase y s).state
+holds_rr P Up y s h k = k
+holds_rr P _ y s h k = h
+
+holds_rj : (P : List (List ℕ) → ℕ → Type 0) (phase : Phase) (y : ℕ) (s : State) → Holds P s →
+    Holds P (acknowledged y s) → Holds P (on_rj phase y s).state
+holds_rj P Up y s h k = k
+holds_rj P _ y s h k = h
+
+holds_data : (P : List (List ℕ) → ℕ → Type 0) (phase : Phase) (seq ack : ℕ) (s : State) → Holds P s →
+    Holds P (acknowledged ack s) → Holds P (on_data phase seq ack s).state
+holds_data P Up seq ack s h k = holds_number P seq (acknowledged ack s) k
+holds_data P _ seq ack s h k = h
+
+holds_packet : (P : List (List ℕ) → ℕ → Type 0) (s : State) (p : PacketValue) → Holds P s →
+    ((y : ℕ) → acknowledgement p ≡ Some y → Holds P (acknowledged y s)) → Holds P (on_packet p s).state
+holds_packet P s (control close) h k = holds_close P s.phase s h
+holds_packet P s (control (init_a y)) h k = holds_effect P (y == 0) _ _ h (holds_init_a P s.role s.phase y s h)
+holds_packet P s (control (init_b y)) h k = holds_init_b P s.role s.phase y s h
+holds_packet P s (control (init_c y)) h k = holds_effect P (y == 0) _ _ h (holds_init_c P s.role s.phase y s h)
+holds_packet P s (control (srj y)) h k = holds_srj P s.phase y s h
+holds_packet P s (control (rr y)) h k = holds_rr P s.phase y s h (k y refl)
+holds_packet P s (control (rj y)) h k = holds_rj P s.phase y s h (k y refl)
+holds_packet P s (carry seq ack n message) h k = holds_data P s.phase seq ack s h (k ack refl)
+
+holds_after : (P : List (List ℕ) → ℕ → Type 0) (s : State) (p : PacketValue) → Holds P s →
+    ((y : ℕ) → acknowledgement p ≡ Some y → Holds P (acknowledged y s)) → Holds P (step s (packet_found p)).state
+holds_after P s p h k = holds_effect P (is_halted s.phase) _ _ h (holds_packet P s p h k)
 
 pub no_number : (s : State) (p : PacketValue) → acknowledgement p ≡ None →
     (step s (packet_found p)).state.unacked ≡ s.unacked
-no_number s (control c) e = leaves_effect s.unacked (is_halted s.phase) _ _ refl (leaves_control c s e)
-no_number s (carry seq ack k message) e = absurd cc
+no_number s p e = holds_after (Leaves s.unacked) s p refl (λ y says. absurd (no y (sym e ∙ says)))
+  where
+    no : (y : ℕ) → None ≡ Some y → ⊥
+    no y is = absurd cc
+
+pub numbers : (s : State) (p : PacketValue) → HasNumbers s → HasNumbers (step s (packet_found p)).state
+numbers s p has =
+    let h = holds_after Bounded s p (has.oldest, has.few) (λ y says. acknowledged_bounded s y has) in
+    record { oldest = h.0; few = h.1 }
+
+pub next : (s : State) (p : PacketValue) → next_number (step s (packet_found p)).state ≡ next_number s
+next s p = holds_after (GoesOn s) s p refl (λ y says. acknowledged_next s y)
 
 -- ---- a link comes up
 
 record ComesUp (s : State) (p : PacketValue) (e : Effect) : Type 0 where
   y : ℕ
   packet : p ≡ control (init_c y)
-  told : e.state.window ≤ y
-  before : e.state.window ≤ s.window
+  smaller : IsSmallerOf y s.window e.state.window
 
 -- where the answer is up
 abbrev ComesUpWhere : State → PacketValue → Effect → Type 0
@@ -166,17 +228,16 @@ up_init_b Called AwaitsInitB y s p = λ e. absurd cc
 up_init_b Called AwaitsInitC y s p = λ e. absurd cc
 up_init_b _ _ y s p = λ e. absurd cc
 
-with_smaller : (y : ℕ) (s : State) (e : Effect) → e.state.window ≡ min s.window y → ComesUpWhere s (control (init_c y)) e
-with_smaller y s e is = λ _. record {
-  y = y;
-  packet = refl;
-  told = rw (is) (omega arith);
-  before = rw (is) (omega arith);
-}
+is_smaller : (x y : ℕ) → IsSmallerOf x y (min y x)
+is_smaller x y = (omega arith, omega arith, by (nat_lt x y) refl)
+  where
+    by : (b : Bool) → nat_lt x y ≡ b → (min y x ≡ x) ⊎ (min y x ≡ y)
+    by true e = inl (grind (arith, nat_tests, e))
+    by false e = inr (grind (arith, nat_tests, e))
 
 up_init_c : (role : Role) (phase : Phase) (y : ℕ) (s : State) → ComesUpWhere s (control (init_c y)) (on_init_c role phase y s)
-up_init_c Caller AwaitsInitC y s = with_smaller y s _ refl
-up_init_c Called AwaitsInitC y s = with_smaller y s _ refl
+up_init_c Caller AwaitsInitC y s = λ _. record { y = y; packet = refl; smaller = is_smaller y s.window }
+up_init_c Called AwaitsInitC y s = λ _. record { y = y; packet = refl; smaller = is_smaller y s.window }
 up_init_c Called Up y s = λ e. absurd cc
 up_init_c _ _ y s = λ e. absurd cc
 
@@ -215,8 +276,7 @@ up_packet (control (srj y)) s = up_srj s.phase y s _
 up_packet (carry seq ack k message) s = up_data s.phase seq ack s _
 
 pub window : (s : State) (p : PacketValue) → (step s (packet_found p)).outcome ≡ up →
-    (y : ℕ) × (p ≡ control (init_c y)) × ((step s (packet_found p)).state.window ≤ y)
-    × ((step s (packet_found p)).state.window ≤ s.window)
+    (y : ℕ) × (p ≡ control (init_c y)) × IsSmallerOf y s.window (step s (packet_found p)).state.window
 window s p e =
     let h = up_either s p (is_halted s.phase) _ _ (λ e. absurd cc) (up_packet p s) e in
-    (h.y, h.packet, h.told, h.before)
+    (h.y, h.packet, h.smaller)

@@ -9,7 +9,7 @@ use Rattle.uug_link.specs.State.{State, KnowsWindow, KnowsSize}
 use Rattle.uug_link.specs.TwoLinks.{End, first_end, IsFirst, Happening, moves, misses, hears, MayHappen, after_happening, AllMayHappen, after_happenings, Ends, seen_from_far, first_ends, Occurrence, at_near, at_far, MayOccur, after_occurrence, AllMayOccur, after_occurrences, IsRun, AlwaysOfTwo, IsFrontOf}
 use Rattle.uug_link.specs.WindowMachine.{Machine, IsReached}
 use Rattle.uug_link.proofs.SimulationLemmas.{Wire, machine, direction, Half, Sim-turned, Next, pass}
-use Rattle.uug_link.proofs.SimulatedSteps.{WindowLaw, Running, heard, moves_itself}
+use Rattle.uug_link.proofs.SimulatedSteps.{LawsBelow, Running, heard, moves_itself}
 use Rattle.uug_link.proofs.WindowMachineRuns.{IsReached-start, IsReached-after, IsReached-turned}
 use Rattle.uug_packet.specs.Packet.{control, close}
 
@@ -130,13 +130,13 @@ IsRun-far near far p h = record {
 
 -- ---- the machine runs with the two links
 
-pub record Simulated (law : WindowLaw) (near far : Announced) (p : Ends) : Type 0 where
+pub record Simulated (law : LawsBelow) (near far : Announced) (p : Ends) : Type 0 where
   pub out : Wire
   pub back : Wire
   pub running : Running law near far p.near p.far out back
 
 -- a happening at the near end
-happens : (law : WindowLaw) (a b : Announced) (e f : End) (out back : Wire) (h : Happening) →
+happens : (law : LawsBelow) (a b : Announced) (e f : End) (out back : Wire) (h : Happening) →
     Running law a b e f out back → MayHappen e f h → Next a b e f out back (after_happening e h)
 happens law a b e f out back (moves event) h may = moves_itself law a b e f out back event h may
 happens law a b e f out back misses h may =
@@ -144,7 +144,7 @@ happens law a b e f out back misses h may =
     (slice_get-get_or f.emitted e.passed (control close) may)
 happens law a b e f out back (hears p) h may = heard law a b e f out back p h may
 
-Simulated-near : (law : WindowLaw) (a b : Announced) (p : Ends) (h : Happening) → Simulated law a b p →
+Simulated-near : (law : LawsBelow) (a b : Announced) (p : Ends) (h : Happening) → Simulated law a b p →
     MayHappen p.near p.far h → Simulated law a b (record p { near = after_happening p.near h })
 Simulated-near law a b p h at may =
     let next = happens law a b p.near p.far at.out at.back h at.running may in
@@ -160,7 +160,7 @@ Simulated-near law a b p h at may =
       };
     }
 
-Simulated-far : (law : WindowLaw) (a b : Announced) (p : Ends) → Simulated law a b p → Simulated law b a (seen_from_far p)
+Simulated-far : (law : LawsBelow) (a b : Announced) (p : Ends) → Simulated law a b p → Simulated law b a (seen_from_far p)
 Simulated-far law a b p h = record {
   out = h.back;
   back = h.out;
@@ -172,14 +172,14 @@ Simulated-far law a b p h = record {
   };
 }
 
-Simulated-occurrence : (law : WindowLaw) (a b : Announced) (p : Ends) (o : Occurrence) → Simulated law a b p →
+Simulated-occurrence : (law : LawsBelow) (a b : Announced) (p : Ends) (o : Occurrence) → Simulated law a b p →
     MayOccur p o → Simulated law a b (after_occurrence p o)
 Simulated-occurrence law a b p (at_near h) at may = Simulated-near law a b p h at may
 Simulated-occurrence law a b p (at_far h) at may =
     Simulated-far law b a (record { near = after_happening p.far h; far = p.near })
     (Simulated-near law b a (seen_from_far p) h (Simulated-far law a b p at) may)
 
-Simulated-occurrences : (law : WindowLaw) (a b : Announced) (p : Ends) (os : List Occurrence) → Simulated law a b p →
+Simulated-occurrences : (law : LawsBelow) (a b : Announced) (p : Ends) (os : List Occurrence) → Simulated law a b p →
     AllMayOccur p os → Simulated law a b (after_occurrences p os)
 Simulated-occurrences law a b p [] at may = at
 Simulated-occurrences law a b p (o ∷ os) at may =
@@ -226,7 +226,7 @@ half_first a b s t h k = record {
   flight = tt;
 }
 
-Simulated-first : (law : WindowLaw) (a b : Announced) (s t : State) → IsWindow a.window → IsWindow b.window →
+Simulated-first : (law : LawsBelow) (a b : Announced) (s t : State) → IsWindow a.window → IsWindow b.window →
     Begins a s → Begins b t → Simulated law a b (first_ends s t)
 unfolding idle
 Simulated-first law a b s t wa wb h k = record {
@@ -249,7 +249,7 @@ Simulated-first law a b s t wa wb h k = record {
   };
 }
 
-pub simulated : (law : WindowLaw) (a b : Announced) (p : Ends) → IsWindow a.window → IsWindow b.window → IsRun a b p →
+pub simulated : (law : LawsBelow) (a b : Announced) (p : Ends) → IsWindow a.window → IsWindow b.window → IsRun a b p →
     Simulated law a b p
 simulated law a b p wa wb run =
     subst (λ (q : Ends). Simulated law a b q) run.leads
@@ -270,7 +270,7 @@ reads from to window x h = record {
   flight = h.flight;
 }
 
-pub machine_runs : (law : WindowLaw) (near far : Announced) (p : Ends) → IsWindow near.window → IsWindow far.window →
+pub machine_runs : (law : LawsBelow) (near far : Announced) (p : Ends) → IsWindow near.window → IsWindow far.window →
     IsRun near far p →
     (m : Machine) × IsReached far.window near.window m × Reads p.near p.far m.out × Reads p.far p.near m.back
 machine_runs law near far p w v run =
@@ -282,7 +282,7 @@ machine_runs law near far p w v run =
     )
 
 -- what holds of the near end holds of both
-of_two : (law : WindowLaw) (P : End → End → Announced → Type 0) →
+of_two : (law : LawsBelow) (P : End → End → Announced → Type 0) →
     ((a b : Announced) (e f : End) (out back : Wire) → Running law a b e f out back → P e f b) → AlwaysOfTwo P
 of_two law P from near far p w v run =
     let h = simulated law near far p w v run in
@@ -291,23 +291,23 @@ of_two law P from near far p w v run =
       from far near p.far p.near k.out k.back k.running,
     )
 
-pub fronts : (law : WindowLaw) → AlwaysOfTwo (λ e other announced. IsFrontOf e.taken other.sent)
+pub fronts : (law : LawsBelow) → AlwaysOfTwo (λ e other announced. IsFrontOf e.taken other.sent)
 fronts law = of_two law (λ e other announced. IsFrontOf e.taken other.sent)
     (λ a b e f out back h. (
       drop back.taken f.sent,
       ap (λ (l : List (List ℕ)). l ++ drop back.taken f.sent) h.sim.back_half.taken ∙ take-append-drop back.taken f.sent,
     ))
 
-pub within : (law : WindowLaw) → AlwaysOfTwo (λ e other announced. length e.link.unacked ≤ announced.window)
+pub within : (law : LawsBelow) → AlwaysOfTwo (λ e other announced. length e.link.unacked ≤ announced.window)
 within law = of_two law (λ e other announced. length e.link.unacked ≤ announced.window)
     (λ a b e f out back h.
     let counts = law.counts b.window a.window (machine a b e f out back) h.other h.window h.reached in
     omega (arith, counts.0.2, ap length h.sim.out_half.unacked, length-drop out.acked e.sent))
 
-pub windows : (law : WindowLaw) → AlwaysOfTwo (λ e other announced. KnowsWindow e.link.phase → e.link.window ≡ announced.window)
+pub windows : (law : LawsBelow) → AlwaysOfTwo (λ e other announced. KnowsWindow e.link.phase → e.link.window ≡ announced.window)
 windows law = of_two law (λ e other announced. KnowsWindow e.link.phase → e.link.window ≡ announced.window)
     (λ a b e f out back h. h.sim.knows.window)
 
-pub sizes : (law : WindowLaw) → AlwaysOfTwo (λ e other announced. KnowsSize e.link.phase → e.link.size_code ≡ announced.size_code)
+pub sizes : (law : LawsBelow) → AlwaysOfTwo (λ e other announced. KnowsSize e.link.phase → e.link.size_code ≡ announced.size_code)
 sizes law = of_two law (λ e other announced. KnowsSize e.link.phase → e.link.size_code ≡ announced.size_code)
     (λ a b e f out back h. h.sim.knows.size)

@@ -6,8 +6,8 @@ ghost use Rattle.uug_link.specs.InRange.{AreWellFormed, IsAnnouncement, IsInRang
 ghost use Rattle.uug_link.specs.OnTheLine.{Reads};
 ghost use Rattle.uug_link.specs.Outcomes.{FirstBySend, IsComing, MayAnswer, MovesPhase};
 ghost use Rattle.uug_link.specs.State.{IsFresh, IsUp, KnowsSize, KnowsWindow, State, called_state, caller_state};
-ghost use Rattle.uug_link.specs.Step.{Event, answers_halted, packet_found, step, to_begin, to_close, to_send, up};
-ghost use Rattle.uug_link.specs.Strays.{HasNumbers, StandsBehind, acknowledgement};
+ghost use Rattle.uug_link.specs.Step.{Event, answers_halted, next_number, packet_found, step, to_begin, to_close, to_send, up};
+ghost use Rattle.uug_link.specs.Strays.{HasNumbers, IsSmallerOf, StandsBehind, acknowledgement};
 ghost use Rattle.uug_link.specs.Terms.{IsWindow};
 ghost use Rattle.uug_link.specs.TwoLinks.{AllMayHappen, AlwaysOfTwo, End, Ends, Happening, IsFirst, IsFrontOf, IsRun, MayOccur, Occurrence, after_happenings, after_occurrence, first_ends, seen_from_far};
 ghost use Rattle.uug_link.specs.WindowBounds.{AcksRise, CountsInOrder, NumbersNear};
@@ -61,10 +61,12 @@ pub fn no_peer_leads_a_link_astray()
         → (step s (packet_found p)).state.unacked ≡ s.unacked }
     ensures no_number { (s : State) (p : PacketValue) → acknowledgement p ≡ None
         → (step s (packet_found p)).state.unacked ≡ s.unacked }
-    // A link comes up by INITC, with a window that is at most its own and that of the INITA before it.
+    // No packet moves the numbers out of their bounds, or changes the number that the next message gets.
+    ensures numbers { (s : State) (p : PacketValue) → HasNumbers s → HasNumbers (step s (packet_found p)).state }
+    ensures next { (s : State) (p : PacketValue) → next_number (step s (packet_found p)).state ≡ next_number s }
+    // A link comes up by INITC, with the smaller of that window and of the INITA's before it.
     ensures window { (s : State) (p : PacketValue) → (step s (packet_found p)).outcome ≡ up
-        → (y : ℕ) × (p ≡ control (init_c y)) × ((step s (packet_found p)).state.window ≤ y)
-        × ((step s (packet_found p)).state.window ≤ s.window) }
+        → (y : ℕ) × (p ≡ control (init_c y)) × IsSmallerOf y s.window (step s (packet_found p)).state.window }
 {}
 
 /// Each packet that a link emits can be written, and so is read again as what it is, where the link has made a right
@@ -117,6 +119,7 @@ pub fn two_links_run_as_the_machine()
         KnowsSize e.link.phase → e.link.size_code ≡ announced.size_code) }
 {
     the_window_is_safe();
+    no_peer_leads_a_link_astray();
 }
 
 /// How runs of two links are made: from two first links, by one more occurrence or several at one end; and seen from
