@@ -3,8 +3,6 @@
 
 mod play;
 mod played;
-#[cfg(test)]
-mod tests;
 mod whole;
 
 pub use play::{play_stream, play_within};

@@ -10,8 +10,6 @@ mod lines;
 mod mode;
 mod report;
 mod script;
-#[cfg(test)]
-mod tests;
 
 pub use fault::ScriptFault;
 pub use line::{BYTES_MAX, LINE_MAX, TURNS_MAX};

@@ -10,12 +10,10 @@ mod memory_input;
 mod memory_output;
 mod output;
 mod scan;
-#[cfg(test)]
-mod tests;
 
 pub use fault::ToolFault;
 pub use input::{Input, ReadFailed};
 pub use memory_input::MemoryInput;
 pub use memory_output::MemoryOutput;
 pub use output::{Output, WriteFailed, write_all};
-pub use scan::{PIECE_SIZE, READ_LIMIT, scan_stream};
+pub use scan::{PIECE_SIZE, READ_LIMIT, scan_stream, scan_within};

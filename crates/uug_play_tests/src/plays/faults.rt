@@ -1,71 +1,11 @@
 //! Inputs that give little at a time, and streams that fail.
-ghost use Rattle.std.specs.Prelude.{None};
 
-use crate::play::{play_stream, play_within};
-use crate::tests::{BROKEN_OFF, SENT_TWICE};
-use crate::whole::read_whole;
+use super::{BROKEN_OFF, SENT_TWICE};
+use crate::streams::{SlowInput, SlowOutput};
 use std::process::Abort;
 use std::test::Fail;
-use uug_tool::{Input, MemoryInput, MemoryOutput, Output, ReadFailed, ToolFault, WriteFailed};
-
-/// Gives at most so many bytes at a time, in at most so many reads, and then fails.
-#[derive(Drop)]
-struct SlowInput<'a> {
-    bytes: &'a [u8],
-    most: usize,
-    reads: u32,
-    faults: u64,
-}
-
-impl Input for SlowInput<'_> {
-    ghost to_come = { λ _. None };
-
-    ghost fault_count = { λ input. input.faults };
-
-    fn read(&mut self, buffer: &mut [u8]) -> Result<usize, ReadFailed> {
-        if self.reads == 0 {
-            self.faults = self.faults.saturating_add(1);
-            return Err(ReadFailed);
-        }
-        self.reads -= 1;
-        let count = self.bytes.len().min(buffer.len()).min(self.most);
-        let (front, rest) = self.bytes.split_at(count);
-        buffer[..count].copy_from_slice(front);
-        self.bytes = rest;
-        Ok(count)
-    }
-
-    fn faults(&self) -> u64 {
-        self.faults
-    }
-}
-
-/// Takes at most so many bytes at a time, in at most so many writes, and then fails.
-#[derive(Drop)]
-struct SlowOutput {
-    most: usize,
-    writes: u32,
-    faults: u64,
-}
-
-impl Output for SlowOutput {
-    ghost written = { λ _. None };
-
-    ghost fault_count = { λ output. output.faults };
-
-    fn write(&mut self, piece: &[u8]) -> Result<usize, WriteFailed> {
-        if self.writes == 0 || self.most == 0 {
-            self.faults = self.faults.saturating_add(1);
-            return Err(WriteFailed::Device);
-        }
-        self.writes -= 1;
-        Ok(piece.len().min(self.most))
-    }
-
-    fn faults(&self) -> u64 {
-        self.faults
-    }
-}
+use uug_play::{play_stream, play_within, read_whole};
+use uug_tool::{Input, MemoryInput, MemoryOutput, Output, ToolFault, WriteFailed};
 
 /// An input of the script that fails after so many reads.
 fn script_in_reads(most: usize, reads: u32) -> SlowInput<'static> {
@@ -108,6 +48,7 @@ fn writes_of_a_player(rt: &(impl Abort + AllocGlobal)) -> Result<u32, Fail> {
         let mut output = SlowOutput {
             most: 10,
             writes,
+            refusal: WriteFailed::Device,
             faults: 0,
         };
         let result = play_stream(rt.alloc(), &mut input, &mut output);

@@ -1,9 +1,10 @@
-//! Texts of reports from outside.
+//! Texts of reports from outside, and one without memory.
 
-use crate::report::{EndNumbers, SessionNumbers, ShownEnd, ShownReport, add_report};
 use std::alloc::{Allocator, Global};
 use std::test::Fail;
 use uug_line::{LineVerdict, Side};
+use uug_refusal::Refusing;
+use uug_script::{EndNumbers, SessionNumbers, ShownEnd, ShownReport, add_report};
 use uug_session::{End, MemorySpool, Phase, Spool, Stored};
 use uug_talk::Name;
 
@@ -110,4 +111,13 @@ verdict fooled 14 called
 "
     );
     Ok(())
+}
+
+#[test]
+fn writes_no_report_without_memory(rt: HostRuntime) {
+    let spool = MemorySpool::new(rt.alloc());
+    let report = report_of(&[], &spool, LineVerdict::Clean);
+    let heap = Refusing::new(rt.alloc(), 1);
+    let mut text = String::new(&heap);
+    assert!(rt; add_report(&heap, &mut text, &report).is_err());
 }

@@ -1,9 +1,9 @@
-//! What no clause says: scripts and reports from outside, want of memory, failing streams, and noisy lines.
+//! What no clause says of a player: scripts and reports from outside, want of memory, failing streams, and noisy lines.
 
+mod faults;
 mod memory;
 mod noisy_lines;
 mod reports;
-mod streams;
 
 /// The caller sends a file, and the line breaks after the called end has stored it and before the caller knows.
 const BROKEN_OFF: &str = "caller a 2 32\ncalled b 2 32\nfile caller x 0644 -\nsend caller x y u\n\

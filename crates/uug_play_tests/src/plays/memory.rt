@@ -1,10 +1,10 @@
 //! Each request for memory refused in turn.
 
-use crate::play::play_stream;
-use crate::tests::{BROKEN_OFF, SENT_TWICE};
+use super::{BROKEN_OFF, SENT_TWICE};
 use std::alloc::Global;
 use std::process::Abort;
 use std::test::Fail;
+use uug_play::play_stream;
 use uug_refusal::Refusing;
 use uug_tool::{MemoryInput, MemoryOutput, ToolFault};
 

@@ -1,10 +1,12 @@
-//! Scripts from outside. What this catches beyond the clauses: a rule that is wrong in the definition.
+//! Scripts from outside. What this catches beyond the clauses: a rule that is wrong in the definition, and a reader that
+//! answers want of memory where none was refused.
 
-use crate::fault::ScriptFault;
-use crate::line::{BYTES_MAX, LINE_MAX};
-use crate::script::read_script;
+use std::alloc::Global;
+use std::process::Abort;
 use std::test::Fail;
 use uug_line::{Event, Side};
+use uug_refusal::Refusing;
+use uug_script::{BYTES_MAX, LINE_MAX, ScriptFault, read_script};
 use uug_session::{Job, Spool, Verdict};
 use uug_talk::Name;
 
@@ -196,5 +198,31 @@ fn takes_jobs_up_to_the_limit(rt: HostRuntime) -> Result<(), Fail> {
     text.extend_from_slice(b"request caller x y u\n")?;
     let fault = read_script(rt.alloc(), text.as_slice()).err();
     assert_eq!(rt; fault, Some(ScriptFault::Bad(68)));
+    Ok(())
+}
+
+/// A script with a line of each kind that takes memory.
+const EACH_KIND: &[u8] =
+    b"caller a 2 32\ncalled b 2 32\nfile caller x 0644 00ff\nsend caller x y u\n\
+deny called q\nlater called r\nimmovable called s\nflow 3\ncall\n";
+
+/// Refuses each request of a reader in turn. How many requests it makes.
+fn requests_of_a_reader(rt: &impl Abort, alloc: Global) -> Result<u64, Fail> {
+    for nth in 1..100 {
+        let heap = Refusing::new(alloc, nth);
+        let fault = read_script(&heap, EACH_KIND).err();
+        if !heap.was_refused() {
+            assert_eq!(rt; fault, None);
+            return Ok(nth - 1);
+        }
+        assert_eq!(rt; fault, Some(ScriptFault::Memory));
+    }
+    Err("a reader that is never done".into())
+}
+
+#[test]
+fn passes_on_want_of_memory(rt: HostRuntime) -> Result<(), Fail> {
+    let requests = requests_of_a_reader(&rt, rt.alloc())?;
+    assert!(rt; requests >= 8, "a file, a job, three verdicts and events");
     Ok(())
 }

@@ -1,17 +1,15 @@
-//! What no clause says: streams from outside with their listings, that lines go out before the next read, faults and
-//! the limit in mid-stream, and want of memory.
-ghost use Rattle.std.specs.Prelude.{None};
+//! What no clause says of a scan: streams from outside with their listings, that lines go out before the next read, faults
+//! and the limit in mid-stream, and want of memory.
 
-use crate::fault::ToolFault;
-use crate::input::{Input, ReadFailed};
-use crate::memory_input::MemoryInput;
-use crate::memory_output::MemoryOutput;
-use crate::output::{Output, WriteFailed};
-use crate::scan::{scan_stream, scan_within};
+use crate::streams::{SlowInput, SlowOutput};
 use std::alloc::Global;
 use std::process::Abort;
 use std::test::Fail;
 use uug_refusal::Refusing;
+use uug_tool::{
+    Input, MemoryInput, MemoryOutput, Output, ReadFailed, ToolFault, WriteFailed, scan_stream,
+    scan_within,
+};
 
 /// The packets of a start-up with windows of three and size 64, and of the link behind it.
 const LINK: [u8; 42] = [
@@ -72,61 +70,6 @@ const STREAMS: [(&[u8], usize, &str); 14] = [
     ),
 ];
 
-/// Gives the packet INITA 3 in each read, without end, until it has no reads left and fails.
-#[derive(Drop)]
-struct EndlessInput {
-    reads: u32,
-    faults: u64,
-}
-
-impl Input for EndlessInput {
-    ghost to_come = { λ _. None };
-
-    ghost fault_count = { λ input. input.faults };
-
-    fn read(&mut self, buffer: &mut [u8]) -> Result<usize, ReadFailed> {
-        if self.reads == 0 {
-            self.faults = self.faults.saturating_add(1);
-            return Err(ReadFailed);
-        }
-        self.reads -= 1;
-        let count = buffer.len().min(6);
-        buffer[..count].copy_from_slice(&LINK[..count]);
-        Ok(count)
-    }
-
-    fn faults(&self) -> u64 {
-        self.faults
-    }
-}
-
-/// Refuses after some writes.
-#[derive(Drop)]
-struct FailingOutput {
-    writes: u32,
-    refusal: WriteFailed,
-    faults: u64,
-}
-
-impl Output for FailingOutput {
-    ghost written = { λ _. None };
-
-    ghost fault_count = { λ output. output.faults };
-
-    fn write(&mut self, piece: &[u8]) -> Result<usize, WriteFailed> {
-        if self.writes == 0 {
-            self.faults = self.faults.saturating_add(1);
-            return Err(self.refusal);
-        }
-        self.writes -= 1;
-        Ok(piece.len())
-    }
-
-    fn faults(&self) -> u64 {
-        self.faults
-    }
-}
-
 #[test]
 fn lists_streams(rt: HostRuntime) -> Result<(), Fail> {
     for (front, length, listing) in STREAMS {
@@ -142,15 +85,31 @@ fn lists_streams(rt: HostRuntime) -> Result<(), Fail> {
     Ok(())
 }
 
-// An input without end grants so many reads. With a limit: the answer, how many reads are left, and what has gone out.
+/// An input of the link, a packet a read, that fails after so many reads.
+fn link_in_reads(reads: u32) -> SlowInput<'static> {
+    SlowInput {
+        bytes: &LINK,
+        most: 6,
+        reads,
+        faults: 0,
+    }
+}
+
+// How many reads an input grants, and the limit; the answer, how many reads are left, and what has gone out.
 #[test]
 fn lists_each_read_before_the_next(rt: HostRuntime) {
     for (reads, limit, fault, left, listing) in [
-        (2, 100, ToolFault::Read, 0, "INITA 3\nINITA 3\n"),
-        (100, 3, ToolFault::Device, 97, "INITA 3\nINITA 3\nINITA 3\n"),
+        (2, 100, ToolFault::Read, 0, "INITA 3\nINITB 64\n"),
+        (
+            100,
+            3,
+            ToolFault::Device,
+            97,
+            "INITA 3\nINITB 64\nINITC 3\n",
+        ),
         (0, 100, ToolFault::Read, 0, ""),
     ] {
-        let mut input = EndlessInput { reads, faults: 0 };
+        let mut input = link_in_reads(reads);
         let mut output = MemoryOutput::new(rt.alloc());
         let result = scan_within(rt.alloc(), &mut input, &mut output, limit);
         assert_eq!(rt; result, Err(fault));
@@ -159,25 +118,24 @@ fn lists_each_read_before_the_next(rt: HostRuntime) {
     }
 }
 
+// How many lines an output takes, why it refuses the next, the answer, and how many of 100 reads are left.
 #[test]
 fn stops_at_a_refused_write(rt: HostRuntime) {
-    for (writes, refusal, fault) in [
-        (0, WriteFailed::Device, ToolFault::Write),
-        (2, WriteFailed::Device, ToolFault::Write),
-        (1, WriteFailed::Memory, ToolFault::Memory),
+    for (writes, refusal, fault, left) in [
+        (0, WriteFailed::Device, ToolFault::Write, 99),
+        (2, WriteFailed::Device, ToolFault::Write, 97),
+        (1, WriteFailed::Memory, ToolFault::Memory, 98),
     ] {
-        let mut input = EndlessInput {
-            reads: 100,
-            faults: 0,
-        };
-        let mut output = FailingOutput {
+        let mut input = link_in_reads(100);
+        let mut output = SlowOutput {
+            most: 100,
             writes,
             refusal,
             faults: 0,
         };
         let result = scan_stream(rt.alloc(), &mut input, &mut output);
         assert_eq!(rt; result, Err(fault), "after {writes} writes");
-        assert_eq!(rt; input.reads, 99 - writes, "went on");
+        assert_eq!(rt; input.reads, left, "went on");
     }
 }
 

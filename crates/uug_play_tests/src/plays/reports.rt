@@ -1,9 +1,9 @@
 //! What is played of whole scripts. What this catches beyond the clauses: a wrong definition of the sessions, and a player
 //! that always answers want of memory.
 
-use crate::play::play_stream;
-use crate::tests::{BROKEN_OFF, SENT_TWICE};
+use super::{BROKEN_OFF, SENT_TWICE};
 use std::test::Fail;
+use uug_play::play_stream;
 use uug_tool::{MemoryInput, MemoryOutput, ToolFault};
 
 /// The report of a session in which the caller sends an empty file.

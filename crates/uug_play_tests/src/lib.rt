@@ -1,0 +1,14 @@
+//! Tests of the calls of `uug_tool`, `uug_script` and `uug_play`, and of runs over noisy lines, all in one crate: a crate
+//! with tests of its own is proved once more for them.
+#![tactic(auto)]
+
+#[cfg(test)]
+mod plays;
+#[cfg(test)]
+mod reports;
+#[cfg(test)]
+mod scans;
+#[cfg(test)]
+mod scripts;
+#[cfg(test)]
+mod streams;
