@@ -228,6 +228,8 @@ module _ (setup : SetupValue) (all_steps : (brought : AtBoth Belongings) → IsS
       let m = laws.machine setup.at_caller.own setup.at_called.own
       (record { near = link_end (moment_of e); far = link_end (moment_of f) })
       (sound.window Caller) (sound.window Called) joined.joined.links in
+      let bounds = laws.bounds setup.at_called.own.window setup.at_caller.own.window m.0
+      (sound.window Called) (sound.window Caller) m.1 in
       record {
         caller_link = e.state.link;
         caller_passed = e.log.passed;
@@ -237,6 +239,8 @@ module _ (setup : SetupValue) (all_steps : (brought : AtBoth Belongings) → IsS
         reached = m.1;
         out = m.2;
         back = m.3;
+        out_bounds = bounds.0;
+        back_bounds = bounds.1;
       }
 
   -- a session whose ends are joined is as the headline says

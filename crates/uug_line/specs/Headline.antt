@@ -4,6 +4,7 @@ use Rattle.std.specs.Prelude.{◌≡◌, ℕ, ◌≤◌, List, ◌++◌, length,
 use Rattle.uug_link.specs.OnTheLine.{Reads}
 use Rattle.uug_link.specs.State.{State}
 use Rattle.uug_link.specs.TwoLinks.{End}
+use Rattle.uug_link.specs.WindowBounds.{IsWithinBounds}
 use Rattle.uug_link.specs.WindowMachine.{IsReached, Machine}
 use Rattle.uug_session.specs.declared.job.Job.{Job}
 use Rattle.uug_session.specs.Holdings.{Kept}
@@ -34,7 +35,7 @@ link_end told link passed =
     record { link = link; sent = told.sent; taken = told.taken; emitted = told.packets; passed = passed }
 
 -- The session has run as the window machine, INIT and CLOSE packets left aside: with its numbers and acknowledgements on the
--- line as their digits modulo eight.
+-- line as their digits modulo eight, and each direction within the machine's bounds.
 pub record RanAsMachine (setup : SetupValue) (session : AtBoth EndReportValue) : Type 0 where
   pub caller_link : State
   pub caller_passed : ℕ
@@ -46,6 +47,8 @@ pub record RanAsMachine (setup : SetupValue) (session : AtBoth EndReportValue) :
       machine.out
   pub back : Reads (link_end session.at_called called_link called_passed) (link_end session.at_caller caller_link caller_passed)
       machine.back
+  pub out_bounds : IsWithinBounds machine.out machine.back
+  pub back_bounds : IsWithinBounds machine.back machine.out
 
 -- ---- in all sessions of a report
 

@@ -4,7 +4,8 @@ use Rattle.uug_link.specs.Announced.{Announced}
 use Rattle.uug_link.specs.OnTheLine.{Reads}
 use Rattle.uug_link.specs.Terms.{IsWindow}
 use Rattle.uug_link.specs.TwoLinks.{Ends, IsRun}
-use Rattle.uug_link.specs.WindowMachine.{IsReached, Machine}
+use Rattle.uug_link.specs.WindowBounds.{IsWithinBounds}
+use Rattle.uug_link.specs.WindowMachine.{Always, IsReached, Machine}
 use Rattle.uug_session.specs.declared.job.Job.{Job}
 use Rattle.uug_session.specs.Holdings.{Holdings, Kept}
 use Rattle.uug_session.specs.Jobs.{pending}
@@ -18,6 +19,8 @@ pub record SessionLaws : Type 0 where
   -- two links run as the window machine
   pub machine : (near far : Announced) (ends : Ends) → IsWindow near.window → IsWindow far.window → IsRun near far ends →
       (m : Machine) × IsReached far.window near.window m × Reads ends.near ends.far m.out × Reads ends.far ends.near m.back
+  -- which keeps within its bounds
+  pub bounds : Always (λ d opposite. IsWithinBounds d opposite)
   -- struck jobs have own entries in each end's store
   pub called_store : (a b : Party) (j k : ℕ) →
       j ≤ floor k (conversation_view called a b) → k ≤ floor j (conversation_view caller a b) →

@@ -59,7 +59,7 @@ pub fn run<A: Allocator + Copy>(
     ensures earlier { OnOk result ((side : Side) → StaysInFront (setup_of setup) (report_of_ends (setup_of setup) events.now) side) }
     // No end ever had more unacknowledged packets than the other announced.
     ensures window { OnOk result (AllKeptToWindows (setup_of setup) (report_of_ends (setup_of setup) events.now)) }
-    // Each session has run as the window machine.
+    // Each session has run as the window machine, with its bounds in both directions.
     ensures machine { OnOk result (AllRanAsMachine (setup_of setup) (report_of_ends (setup_of setup) events.now)) }
 {
     look_at_setup(&setup);

@@ -18,7 +18,8 @@ ghost use Rattle.uug_line.specs.SoundSetup.{IsSoundSetup};
 ghost use Rattle.uug_line.specs.World.{counted, report_of_ends, report_of_world, run_of_ends, world};
 
 use uug_link::laws::{
-    arrivals, runs_of_two_links, two_links_run_as_the_machine, what_a_link_answers,
+    arrivals, runs_of_two_links, the_window_is_safe, two_links_run_as_the_machine,
+    what_a_link_answers,
 };
 use uug_reader::laws::{found_in_steps, search_finds_the_first};
 use uug_session::arriving_laws::{bytes_are_left, what_is_found_stays};
@@ -52,6 +53,7 @@ fn session_laws()
     ensures { SessionLaws }
 {
     two_links_run_as_the_machine();
+    the_window_is_safe();
     struck_jobs_have_own_entries();
     own_entries_of_sessions();
     own_entries_have_places();
@@ -83,7 +85,7 @@ pub fn the_headline()
     // What was struck and stored before the run stays in front.
     ensures earlier { (setup : SetupValue) (events : List Event) → IsSoundSetup setup
         → (side : Side) → StaysInFront setup (report_of_ends setup events) side }
-    // Packet by packet, each session is one of the window machine.
+    // Packet by packet, each session is one of the window machine, with its bounds in both directions.
     ensures machine { (setup : SetupValue) (events : List Event) → IsSoundSetup setup
         → AllRanAsMachine setup (report_of_ends setup events) }
 {
