@@ -1,16 +1,16 @@
 -- What the law of any peer says of a link that runs as the window machine does: how far an acknowledgement moves it, and
 -- with which window it comes up.
-use Rattle.std.proofs.Common.{◌≡◌, ◌⊎◌, ℕ, suc, ◌+◌, ◌-◌, ◌%◌, ◌<◌, ◌≤◌, ◌==◌, nat_lt, Bool, true, false, if◌then◌else◌, List, length, length-drop, drop, Some, inl, inr, refl, ap, sym, subst, ◌∙◌, arith}
+use Rattle.std.proofs.Common.{◌≡◌, ◌⊎◌, ℕ, suc, ◌+◌, ◌-◌, ◌%◌, ◌<◌, ◌≤◌, ◌==◌, Bool, true, false, if◌then◌else◌, List, length, length-drop, drop, Some, inl, inr, refl, ap, sym, subst, ◌∙◌, arith}
 use Rattle.std.proofs.lemmas.Bool.Decides.{nat_tests}
 use Rattle.uug_link.specs.Announced.{Announced}
 use Rattle.uug_link.specs.State.{State, IsUp, KnowsWindow, KnowsSize, is_halted}
-use Rattle.uug_link.specs.Step.{Effect, up, packet_found, step, acknowledged, distance, next_number, on_init_c}
+use Rattle.uug_link.specs.Step.{Effect, up, packet_found, step, acknowledged, next_number, on_init_c}
 use Rattle.uug_link.specs.Strays.{HasNumbers, IsSmallerOf, StandsBehind, acknowledgement}
 use Rattle.uug_link.specs.declared.phase.Phase.{Phase}
 use Rattle.uug_link.specs.declared.phase.Role.{Role}
 use Rattle.uug_link.proofs.OnTheLineLemmas.{drop_drop}
 use Rattle.uug_link.proofs.SimulationLemmas.{IsSaid, Knows}
-use Rattle.uug_link.proofs.StrayLemmas.{holds_up}
+use Rattle.uug_link.proofs.StrayLemmas.{Reach, to_none, beyond, within, reach, holds_up}
 use Rattle.uug_packet.specs.Packet.{PacketValue, control, init_c}
 
 pub record PeerLaw : Type 0 where
@@ -90,16 +90,15 @@ record Beside (s t : State) : Type 0 where
   size_code : t.size_code ≡ s.size_code
   own : t.own ≡ s.own
 
-beside_if : (s : State) (t : Bool) (x y : State) → Beside s x → Beside s y → Beside s (if t then x else y)
-beside_if s true x y h k = h
-beside_if s false x y h k = k
-
 beside : (y : ℕ) (s : State) → Beside s (acknowledged y s)
-beside y s = beside_if s (distance s.oldest (y + 1) == 0) _ _ same (beside_if s (nat_lt (length s.unacked) (distance s.oldest (y + 1))) _ _ same
-    (record { expected = refl; phase = refl; window = refl; size_code = refl; own = refl }))
+beside y s = by (reach s y)
   where
-    same : Beside s s
-    same = record { expected = refl; phase = refl; window = refl; size_code = refl; own = refl }
+    by : Reach s y → Beside s (acknowledged y s)
+    by (to_none e) = rw (e) (record { expected = refl; phase = refl; window = refl; size_code = refl; own = refl })
+    by (beyond some less) =
+        rw (some, less) (record { expected = refl; phase = refl; window = refl; size_code = refl; own = refl })
+    by (within some enough) =
+        rw (some, enough) (record { expected = refl; phase = refl; window = refl; size_code = refl; own = refl })
 
 -- the acknowledgement of a message strikes all up to it
 pub record Acked (s t : State) (sent : List (List ℕ)) (a : ℕ) : Type 0 where

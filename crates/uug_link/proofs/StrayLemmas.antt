@@ -16,10 +16,20 @@ use Rattle.uug_packet.specs.Packet.{close, rj, srj, rr, init_c, init_b, init_a, 
 abbrev pub Holds : (List (List ℕ) → ℕ → Type 0) → State → Type 0
 Holds P s = P s.unacked s.oldest
 
-holds_if : (P : List (List ℕ) → ℕ → Type 0) (b : Bool) (s t : State) → (b ≡ true → Holds P s) → (b ≡ false → Holds P t) →
-    Holds P (if b then s else t)
-holds_if P true s t h k = h refl
-holds_if P false s t h k = k refl
+-- how far an acknowledgement reaches: to no message, to one that isn't outstanding, or to one that is
+pub data Reach (s : State) (y : ℕ) : Type 0 where
+  to_none : (distance s.oldest (y + 1) == 0) ≡ true → Reach s y
+  beyond : (distance s.oldest (y + 1) == 0) ≡ false → nat_lt (length s.unacked) (distance s.oldest (y + 1)) ≡ true → Reach s y
+  within : (distance s.oldest (y + 1) == 0) ≡ false → nat_lt (length s.unacked) (distance s.oldest (y + 1)) ≡ false → Reach s y
+
+pub reach : (s : State) (y : ℕ) → Reach s y
+reach s y = by (distance s.oldest (y + 1) == 0) (nat_lt (length s.unacked) (distance s.oldest (y + 1))) refl refl
+  where
+    by : (t u : Bool) → (distance s.oldest (y + 1) == 0) ≡ t → nat_lt (length s.unacked) (distance s.oldest (y + 1)) ≡ u →
+        Reach s y
+    by true u e f = to_none e
+    by false true e f = beyond e f
+    by false false e f = within e f
 
 -- these messages are left
 abbrev Leaves : List (List ℕ) → List (List ℕ) → ℕ → Type 0
@@ -27,57 +37,64 @@ Leaves left unacked oldest = unacked ≡ left
 
 acknowledged_strikes : (s : State) (y behind : ℕ) → HasNumbers s → StandsBehind s y behind →
     Holds (Leaves (drop (suc behind) s.unacked)) (acknowledged y s)
-acknowledged_strikes s y behind has stands =
-    let count : ℕ = distance s.oldest (y + 1) in
-    let counts : count ≡ suc behind = omega (arith, has.oldest, has.few, stands.outstanding, stands.number) in
-    holds_if (Leaves (drop (suc behind) s.unacked)) (count == 0) _ _
-    (λ none. absurd (no (grind (arith, nat_tests, none, counts))))
-    (λ some. holds_if (Leaves (drop (suc behind) s.unacked)) (nat_lt (length s.unacked) count) _ _
-    (λ beyond. absurd (no (grind (arith, nat_tests, beyond, counts, stands.outstanding))))
-    (λ fits. ap (λ (n : ℕ). drop n s.unacked) counts))
+acknowledged_strikes s y behind has stands = by (reach s y)
   where
+    counts : distance s.oldest (y + 1) ≡ suc behind
+    counts = omega (arith, has.oldest, has.few, stands.outstanding, stands.number)
+
     no : ⊥ → ⊥
     no e = e
+
+    by : Reach s y → Holds (Leaves (drop (suc behind) s.unacked)) (acknowledged y s)
+    by (to_none none) = absurd (no (grind (arith, nat_tests, none, counts)))
+    by (beyond some less) = absurd (no (grind (arith, nat_tests, less, counts, stands.outstanding)))
+    by (within some enough) = rw (some, enough) (ap (λ (n : ℕ). drop n s.unacked) counts)
 
 -- a number of no outstanding packet
 acknowledged_strays : (s : State) (y : ℕ) → HasNumbers s → y < 8 → ((behind : ℕ) → StandsBehind s y behind → ⊥) →
     Holds (Leaves s.unacked) (acknowledged y s)
-acknowledged_strays s y has small none =
-    let count : ℕ = distance s.oldest (y + 1) in
-    holds_if (Leaves s.unacked) (count == 0) _ _ (λ e. refl)
-    (λ some. holds_if (Leaves s.unacked) (nat_lt (length s.unacked) count) _ _ (λ beyond. refl)
-    (λ fits. absurd (none (count - 1) (record {
-      outstanding = grind (arith, nat_tests, some, fits);
-      number = omega (arith, has.oldest, has.few, small, positive count some);
-    }))))
+acknowledged_strays s y has small none = by (reach s y)
   where
     positive : (n : ℕ) → (n == 0) ≡ false → 1 ≤ n
     positive n e = grind (arith, nat_tests, e)
+
+    by : Reach s y → Holds (Leaves s.unacked) (acknowledged y s)
+    by (to_none e) = rw (e) refl
+    by (beyond some less) = rw (some, less) refl
+    by (within some enough) = absurd (none (distance s.oldest (y + 1) - 1) (record {
+      outstanding = grind (arith, nat_tests, some, enough);
+      number = omega (arith, has.oldest, has.few, small, positive (distance s.oldest (y + 1)) some);
+    }))
 
 -- the numbers are in their bounds
 abbrev Bounded : List (List ℕ) → ℕ → Type 0
 Bounded unacked oldest = (oldest < 8) × (length unacked < 8)
 
 acknowledged_bounded : (s : State) (y : ℕ) → HasNumbers s → Holds Bounded (acknowledged y s)
-acknowledged_bounded s y has =
-    let count : ℕ = distance s.oldest (y + 1) in
-    holds_if Bounded (count == 0) _ _ (λ e. (has.oldest, has.few))
-    (λ some. holds_if Bounded (nat_lt (length s.unacked) count) _ _ (λ beyond. (has.oldest, has.few))
-    (λ fits. (omega arith, omega (arith, has.few, length-drop count s.unacked))))
+acknowledged_bounded s y has = by (reach s y)
+  where
+    by : Reach s y → Holds Bounded (acknowledged y s)
+    by (to_none e) = rw (e) (has.oldest, has.few)
+    by (beyond some less) = rw (some, less) (has.oldest, has.few)
+    by (within some enough) =
+        rw (some, enough) (omega arith, omega (arith, has.few, length-drop (distance s.oldest (y + 1)) s.unacked))
 
 -- the next message gets the number that it gets here
 abbrev GoesOn : State → List (List ℕ) → ℕ → Type 0
 GoesOn s unacked oldest = next_number (record s { unacked = unacked; oldest = oldest }) ≡ next_number s
 
 acknowledged_next : (s : State) (y : ℕ) → Holds (GoesOn s) (acknowledged y s)
-acknowledged_next s y =
-    let count : ℕ = distance s.oldest (y + 1) in
-    holds_if (GoesOn s) (count == 0) _ _ (λ e. refl)
-    (λ some. holds_if (GoesOn s) (nat_lt (length s.unacked) count) _ _ (λ beyond. refl)
-    (λ fits. omega (arith, at_most count fits, length-drop count s.unacked)))
+acknowledged_next s y = by (reach s y)
   where
     at_most : (n : ℕ) → nat_lt (length s.unacked) n ≡ false → n ≤ length s.unacked
     at_most n e = grind (arith, nat_tests, e)
+
+    by : Reach s y → Holds (GoesOn s) (acknowledged y s)
+    by (to_none e) = rw (e) refl
+    by (beyond some less) = rw (some, less) refl
+    by (within some enough) =
+        let count : ℕ = distance s.oldest (y + 1) in
+        rw (some, enough) (omega (arith, at_most count enough, length-drop count s.unacked))
 
 -- ---- a packet at a link that is up
 
