@@ -49,6 +49,7 @@ pub mod NodeLemmas
 pub mod NodeSearchLemmas
 pub mod PiecesLemmas
 pub mod QueueLemmas
+mod SaidByteLemmas
 pub mod SaidTextLemmas
 pub mod SpeakLemmas
 pub mod TextsHeldLemmas

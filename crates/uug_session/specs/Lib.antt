@@ -13,6 +13,7 @@ pub mod Finding
 pub mod Found
 pub mod Greeting
 pub mod HearingLaws
+pub mod HeldBytes
 pub mod Holdings
 pub mod InRange
 pub mod ItemLaws

@@ -1,9 +1,11 @@
 //! Laws of what a conversation is, in the terms of those who hold it. The functions do nothing.
 ghost use Rattle.std.specs.Prelude.{◌≡◌, ℕ, List, [], ◌∷◌, ◌++◌, All};
+ghost use Rattle.uug_packet.specs.Bytes.{AreBytes};
 ghost use Rattle.uug_session.specs.Alternation.{Alternate, BeginsWithCommand};
 ghost use Rattle.uug_session.specs.Choice.{choice};
 ghost use Rattle.uug_session.specs.Conversation.{conversation};
 ghost use Rattle.uug_session.specs.Entries.{KeepsWell};
+ghost use Rattle.uug_session.specs.HeldBytes.{HoldsBytes};
 ghost use Rattle.uug_session.specs.Holdings.{Holdings};
 ghost use Rattle.uug_session.specs.Jobs.{at_start, pending};
 ghost use Rattle.uug_session.specs.Offers.{commands_of, first_of, hanging_up, hang_up_answers, offered, until_hang_up};
@@ -12,7 +14,7 @@ ghost use Rattle.uug_session.specs.ReadBack.{EachTurn};
 ghost use Rattle.uug_session.specs.Runs.{progress_after};
 ghost use Rattle.uug_session.specs.Sharing.{AreShared};
 ghost use Rattle.uug_session.specs.Turns.{Side, called, caller};
-ghost use Rattle.uug_session.specs.View.{lists_after, party};
+ghost use Rattle.uug_session.specs.View.{conversation_view, lists_after, own_messages, party};
 ghost use Rattle.uug_session.specs.declared.job.Job.{Job};
 ghost use Rattle.uug_talk.specs.declared.order.Order.TheVariants.{HangUp};
 
@@ -55,4 +57,10 @@ pub fn jobs_are_in_one_list()
     // so what holds of all jobs, as that their names are names, holds of all jobs of each list
     ensures names { (jobs pending struck failed : List Job) → AreShared jobs pending struck failed → All HasNames jobs
         → All HasNames pending × All HasNames struck × All HasNames failed }
+{}
+
+/// What the two ends say is bytes, where the names of their jobs are names and their files hold bytes.
+pub fn messages_are_bytes()
+    ensures { (me : Side) (a b : Party) → All HasNames a.jobs → All HasNames b.jobs → HoldsBytes a.holdings
+        → HoldsBytes b.holdings → All AreBytes (own_messages (conversation_view me a b)) }
 {}
