@@ -1,6 +1,10 @@
 mod AgreementLemmas
 mod AnswerLemmas
+mod ByteLemmas
+mod CameLemmas
+mod CarriedLemmas
 mod CleanLineFacts
+mod EmittedByteLemmas
 mod EndCallLemmas
 mod FactSetups
 mod FoundLemmas
@@ -13,6 +17,7 @@ mod Joining
 mod LinkLemmas
 mod MomentLemmas
 mod MoveLemmas
+mod RightPacketLemmas
 mod ItemLemmas
 mod JottingLemmas
 mod NoisyLineFacts

@@ -6,6 +6,7 @@ pub mod LineEnd
 pub mod LowerLaws
 pub mod OfSomeRun
 pub mod Report
+pub mod OfBytes
 pub mod Run
 pub mod RunKeeper
 pub mod SessionLaws

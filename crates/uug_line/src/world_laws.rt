@@ -10,6 +10,7 @@ ghost use Rattle.uug_line.specs.Delivered.{HasHeardAt, HasScanned, came_in};
 ghost use Rattle.uug_line.specs.Fooled.{FindsNothingMore, FindsUnsent, FoundWereSent, StoppedAt};
 ghost use Rattle.uug_line.specs.Headline.{AllKeptToWindows, AllRanAsMachine, AllTookFronts, StaysInFront, StruckWereStored};
 ghost use Rattle.uug_line.specs.LowerLaws.{Laws};
+ghost use Rattle.uug_line.specs.OfBytes.{AreOfBytes, IsSetupOfBytes};
 ghost use Rattle.uug_line.specs.Run.{end_at};
 ghost use Rattle.uug_line.specs.RunKeeper.{by_numbers, by_themselves};
 ghost use Rattle.uug_line.specs.SessionLaws.{SessionLaws};
@@ -19,11 +20,11 @@ ghost use Rattle.uug_line.specs.World.{counted, report_of_ends, report_of_world,
 
 use uug_link::laws::{
     arrivals, runs_of_two_links, the_window_is_safe, two_links_run_as_the_machine,
-    what_a_link_answers,
+    what_a_link_answers, what_a_link_emits_can_be_written,
 };
 use uug_reader::laws::{found_in_steps, search_finds_the_first};
 use uug_session::arriving_laws::{bytes_are_left, what_is_found_stays};
-use uug_session::conversation_laws::jobs_are_in_one_list;
+use uug_session::conversation_laws::{jobs_are_in_one_list, messages_are_bytes};
 use uug_session::end_laws::{earlier_jobs_change_nothing, own_messages_fit};
 use uug_session::laws::two_ends_are_told_by_four_numbers;
 use uug_session::stored_laws::{
@@ -112,20 +113,29 @@ pub fn a_run_stops_at_what_was_not_sent()
     what_is_found_stays();
 }
 
-/// In whatever pieces bytes come to an end, in each session, what it finds in them is what stands in all of them: the texts
-/// of its greeting, and then, from the first byte behind the last of these on, the items of the link. The packets that have
-/// places among those of the other end are the packets among these items, and no others. A session that is over was the
-/// present one behind fewer events.
-pub fn an_end_finds_what_came()
+/// Whatever happens on the line, what comes to an end in a session is bytes, where what the run is given is of bytes, as the
+/// program's types say.
+pub fn what_comes_is_bytes()
+    ensures ends { (setup : SetupValue) (events : List Event) (side : Side) → IsSoundSetup setup → IsSetupOfBytes setup
+        → AreOfBytes events → AreBytes (at side (came_in by_themselves setup events)) }
+    ensures world { (setup : SetupValue) (events : List Event) (side : Side) → IsSoundSetup setup → IsSetupOfBytes setup
+        → AreOfBytes events → AreBytes (at side (came_in by_numbers setup events)) }
+{
+    laws_below();
+    session_laws();
+    what_a_link_emits_can_be_written();
+    messages_are_bytes();
+}
+
+/// What an end finds in bytes that come to it, for the proofs here.
+fn what_is_found_in_bytes()
     ensures heard { (setup : SetupValue) (events : List Event) (side : Side)
         → AreBytes (at side (came_in by_themselves setup events))
         → HasHeardAt (at side (came_in by_themselves setup events)) (run_of_ends setup events) side }
-    // Where the run did not stop, an end on its link has found the whole scan of them.
     ensures scanned { (setup : SetupValue) (events : List Event) (side : Side)
         → AreBytes (at side (came_in by_themselves setup events)) → (run_of_ends setup events).verdict ≡ Clean
         → (heard : HasHeardAt (at side (came_in by_themselves setup events)) (run_of_ends setup events) side)
         → HasScanned (at side (came_in by_themselves setup events)) (run_of_ends setup events) side heard }
-    // So it is in the world.
     ensures world { (setup : SetupValue) (events : List Event) (side : Side)
         → AreBytes (at side (came_in by_numbers setup events))
         → HasHeardAt (at side (came_in by_numbers setup events)) (world setup events) side }
@@ -136,4 +146,25 @@ pub fn an_end_finds_what_came()
     bytes_are_left();
     found_in_steps();
     search_finds_the_first();
+}
+
+/// In whatever pieces bytes come to an end, in each session, what it finds in them is what stands in all of them: the texts
+/// of its greeting, and then, from the first byte behind the last of these on, the items of the link. The packets that have
+/// places among those of the other end are the packets among these items, and no others. A session that is over was the
+/// present one behind fewer events.
+pub fn an_end_finds_what_came()
+    ensures heard { (setup : SetupValue) (events : List Event) (side : Side) → IsSoundSetup setup → IsSetupOfBytes setup
+        → AreOfBytes events
+        → HasHeardAt (at side (came_in by_themselves setup events)) (run_of_ends setup events) side }
+    // Where the run did not stop, an end on its link has found the whole scan of them.
+    ensures scanned { (setup : SetupValue) (events : List Event) (side : Side) → IsSoundSetup setup → IsSetupOfBytes setup
+        → AreOfBytes events → (run_of_ends setup events).verdict ≡ Clean
+        → (heard : HasHeardAt (at side (came_in by_themselves setup events)) (run_of_ends setup events) side)
+        → HasScanned (at side (came_in by_themselves setup events)) (run_of_ends setup events) side heard }
+    // So it is in the world.
+    ensures world { (setup : SetupValue) (events : List Event) (side : Side) → IsSoundSetup setup → IsSetupOfBytes setup
+        → AreOfBytes events → HasHeardAt (at side (came_in by_numbers setup events)) (world setup events) side }
+{
+    what_comes_is_bytes();
+    what_is_found_in_bytes();
 }

@@ -1,0 +1,277 @@
+-- What an end emits is bytes, where its name is and its packets carry bytes.
+use Rattle.std.proofs.Common.{ℕ, Bool, true, false, ◌&&◌, nat_lt, ◌+◌, if◌then◌else◌, List, [], ◌∷◌, ◌++◌, drop, map, codes, All, arith}
+use Rattle.std.specs.Bool.{⊤}
+use Rattle.std.specs.Str.{bytes_eq}
+use Rattle.std.proofs.lemmas.List.Elements.{All-nil, All-cons, All-head, All-tail, All-append, All-replicate}
+use Rattle.uug_link.specs.declared.limits.TheConstants.{TIMEOUTS_MAX}
+use Rattle.uug_link.specs.Step.{Effect, Emission, OutcomeValue, nothing, up, taken, closed, gave_up, halted, bad_found, packet_found, step, timed_out, to_begin}
+use Rattle.uug_link.specs.State.{State}
+use Rattle.uug_link.specs.Terms.{size_of_code}
+use Rattle.uug_packet.specs.Packet.{PacketValue}
+use Rattle.uug_packet.specs.Spelling.{canonical}
+use Rattle.uug_packet.specs.WellFormed.{IsWellFormed}
+use Rattle.uug_session.specs.declared.end.End.TheVariants as ends
+use Rattle.uug_session.specs.declared.greeting.AwaitedText.{AwaitedText}
+use Rattle.uug_session.specs.declared.greeting.AwaitedText.TheVariants.{CalledName, CallerName, Admission, Protocols, Choice}
+use Rattle.uug_session.specs.declared.greeting.Greeted.{Greeted}
+use Rattle.uug_session.specs.declared.greeting.Greeted.TheVariants.{GoesOn, LinkBegins, Ended}
+use Rattle.uug_session.specs.declared.greeting.Greeting.{Greeting}
+use Rattle.uug_session.specs.EndStep.{EndEvent, EndState, Emitted, Identity, Stage, behind_link, begins_link, broken_found, ended, first_words, goes_on as link_goes_on, greeted_so, hailing, hailing_step, is_up, late_link, leave, line_lost, linked, linked_step, long_text_found, message_of, packet_found_whole, packets, says_text, sends_packet, speaks_by, stage_step, takes_by, talks_by, text_found, then_closes, time_ran_out}
+use Rattle.uug_session.specs.Greeting.{GreetingStep, begins_with, called_text, caller_text, came_for, fails, goes_on, begins, name_in_caller_text, offers_g, passes_over, text_came, timed_out as greeting_timed_out}
+use Rattle.uug_session.specs.Keeper.{Keeper}
+use Rattle.uug_session.specs.Says.{written_text}
+use Rattle.uug_session.specs.Turns.{Side, caller, called}
+use Rattle.uug_line.specs.LineEnd.{bytes_in, packets_in}
+use Rattle.uug_line.proofs.ByteLemmas.{AllBytes, CarriesBytes, IsByte, bytewise, canonical_bytes}
+
+-- ---- texts
+
+abbrev TextsOfBytes : List (List ℕ) → Type 0
+TextsOfBytes [] = ⊤
+TextsOfBytes (text ∷ texts) = AllBytes text × TextsOfBytes texts
+
+-- of all that is emitted
+abbrev pub SaysBytes : List Emitted → Type 0
+SaysBytes [] = ⊤
+SaysBytes (says_text text ∷ es) = AllBytes text × SaysBytes es
+SaysBytes (sends_packet e ∷ es) = SaysBytes es
+
+texts_say : (texts : List (List ℕ)) → TextsOfBytes texts → SaysBytes (map says_text texts)
+texts_say [] all = tt
+texts_say (text ∷ texts) all = (all.0, texts_say texts all.1)
+
+packets_say : (emissions : List Emission) → SaysBytes (packets emissions)
+packets_say [] = tt
+packets_say (e ∷ emissions) = packets_say emissions
+
+both_say : (xs ys : List Emitted) → SaysBytes xs → SaysBytes ys → SaysBytes (xs ++ ys)
+both_say [] ys x y = y
+both_say (says_text text ∷ xs) ys x y = (x.0, both_say xs ys x.1 y)
+both_say (sends_packet e ∷ xs) ys x y = both_say xs ys x y
+
+-- ---- on the link
+
+leave_says : (parted : Bool) (side : Side) → SaysBytes (leave parted side)
+leave_says true caller = (All-replicate IsByte 6 79 (omega arith), tt)
+leave_says true called = (All-replicate IsByte 7 79 (omega arith), tt)
+leave_says false side = tt
+
+ends_say : (emissions : List Emission) (parted : Bool) (side : Side) → SaysBytes (packets emissions ++ leave parted side)
+ends_say emissions parted side =
+    both_say (packets emissions) (leave parted side) (packets_say emissions) (leave_says parted side)
+
+module _ {C : Type 0} (k : Keeper C) (id : Identity) where
+  on_says : (took : Bool) (e : Effect) (c : C) → SaysBytes (link_goes_on k took e c).emitted
+  on_says took e c = packets_say (e.emitted ++ (speaks_by (is_up e.state.phase) k e.state c).emissions)
+
+  talk_says : (bad_talk : Bool) (e : Effect) (before after : C) → SaysBytes (talks_by bad_talk k id e before after).emitted
+  talk_says true e before after = ends_say (then_closes e).emitted (k.has_parted before) id.side
+  talk_says false e before after = on_says true e after
+
+  take_says : (failed : Bool) (e : Effect) (message : List ℕ) (c : C) → SaysBytes (takes_by failed k id e message c).emitted
+  take_says true e message c = ends_say (then_closes e).emitted (k.has_parted c) id.side
+  take_says false e message c = talk_says (k.is_bad (k.taking message c)) e c (k.taking message c)
+
+  link_says : (failed : Bool) (o : OutcomeValue) (e : Effect) (message : List ℕ) (c : C)
+      → SaysBytes (behind_link k id failed o e message c).emitted
+  link_says failed nothing e message c = on_says false e c
+  link_says failed up e message c = on_says false e (k.opened (size_of_code e.state.size_code) c)
+  link_says failed taken e message c = take_says (failed && k.asks_spool message c) e message c
+  link_says failed closed e message c = ends_say e.emitted (k.has_parted c) id.side
+  link_says failed gave_up e message c = ends_say e.emitted (k.has_parted c) id.side
+  link_says failed halted e message c = on_says false e c
+
+  late_says : (parted : Bool) (o : OutcomeValue) (e : Effect) (c : C) → SaysBytes (late_link id parted o e c).emitted
+  late_says parted nothing e c = packets_say (e.emitted ++ [])
+  late_says parted up e c = packets_say (e.emitted ++ [])
+  late_says parted taken e c = packets_say (e.emitted ++ [])
+  late_says parted closed e c = packets_say (e.emitted ++ [])
+  late_says parted gave_up e c = ends_say e.emitted parted id.side
+  late_says parted halted e c = packets_say (e.emitted ++ [])
+
+  linked_says : (event : EndEvent) (e : EndState C) → SaysBytes (linked_step k id event e).emitted
+  linked_says (packet_found_whole failed p) e =
+      let effect : Effect = step e.link (packet_found p) in link_says failed effect.outcome effect (message_of p) e.keeper
+  linked_says broken_found e = let effect : Effect = step e.link bad_found in link_says false effect.outcome effect [] e.keeper
+  linked_says time_ran_out e =
+      let effect : Effect = step e.link timed_out in late_says (k.has_parted e.keeper) effect.outcome effect e.keeper
+  linked_says line_lost e = tt
+  linked_says (text_found text) e = tt
+  linked_says long_text_found e = tt
+
+-- ---- in the greeting
+
+abbrev GreetsInBytes : GreetingStep → Type 0
+GreetsInBytes g = TextsOfBytes g.says
+
+either_greets : (b : Bool) (x y : GreetingStep) → GreetsInBytes x → GreetsInBytes y → GreetsInBytes (if b then x else y)
+either_greets true x y s t = s
+either_greets false x y s t = t
+
+caller_says : (me : List ℕ) → AllBytes me → TextsOfBytes (caller_text me ∷ [])
+caller_says me is = (All-append IsByte (codes "S") me (bytewise (codes "S") (omega arith, tt)) is, tt)
+
+called_says : (me : List ℕ) → AllBytes me → TextsOfBytes (called_text me ∷ [])
+called_says me is = (
+  All-append IsByte (codes "Shere=") me
+      (bytewise (codes "Shere=")
+      (omega arith, (omega arith, (omega arith, (omega arith, (omega arith, (omega arith, tt))))))) is,
+  tt,
+)
+
+two_letters : (a b : ℕ) → IsByte a → IsByte b → AllBytes (a ∷ b ∷ [])
+two_letters a b is is_too = bytewise (a ∷ b ∷ []) (is, (is_too, tt))
+
+admitted : TextsOfBytes (codes "ROK" ∷ codes "Pg" ∷ [])
+admitted = (bytewise (codes "ROK") (omega arith, (omega arith, (omega arith, tt))), (two_letters 80 103 (omega arith) (omega arith), tt))
+
+refused : TextsOfBytes (codes "RYou are unknown to me" ∷ [])
+refused = (each, tt)
+  where
+    each : AllBytes (codes "RYou are unknown to me")
+    each = bytewise (codes "RYou are unknown to me") (
+      omega arith,
+      (
+        omega arith,
+        (
+          omega arith,
+          (
+            omega arith,
+            (
+              omega arith,
+              (
+                omega arith,
+                (
+                  omega arith,
+                  (
+                    omega arith,
+                    (
+                      omega arith,
+                      (
+                        omega arith,
+                        (
+                          omega arith,
+                          (
+                            omega arith,
+                            (
+                              omega arith,
+                              (
+                                omega arith,
+                                (
+                                  omega arith,
+                                  (
+                                    omega arith,
+                                    (omega arith, (omega arith, (omega arith, (omega arith, (omega arith, (omega arith, tt)))))),
+                                  ),
+                                ),
+                              ),
+                            ),
+                          ),
+                        ),
+                      ),
+                    ),
+                  ),
+                ),
+              ),
+            ),
+          ),
+        ),
+      ),
+    )
+
+greeting_says : (awaited : AwaitedText) (me peer : List ℕ) (g : Greeting) (text : List ℕ) → AllBytes me
+    → GreetsInBytes (came_for awaited me peer g text)
+greeting_says CalledName me peer g text is =
+    either_greets (bytes_eq text (codes "Shere")) (goes_on (caller_text me ∷ []) Admission)
+    (if begins_with text (codes "Shere=")
+    then (if bytes_eq (drop 6 text) peer then goes_on (caller_text me ∷ []) Admission else fails [] ends.WrongName)
+    else passes_over g)
+    (caller_says me is)
+    (either_greets (begins_with text (codes "Shere="))
+    (if bytes_eq (drop 6 text) peer then goes_on (caller_text me ∷ []) Admission else fails [] ends.WrongName) (passes_over g)
+    (either_greets (bytes_eq (drop 6 text) peer) (goes_on (caller_text me ∷ []) Admission) (fails [] ends.WrongName)
+    (caller_says me is) tt) tt)
+greeting_says CallerName me peer g text is =
+    either_greets (begins_with text (codes "S"))
+    (if bytes_eq (name_in_caller_text text) peer
+    then goes_on (codes "ROK" ∷ codes "Pg" ∷ []) Choice
+    else fails (codes "RYou are unknown to me" ∷ []) ends.Refused)
+    (passes_over g)
+    (either_greets (bytes_eq (name_in_caller_text text) peer) (goes_on (codes "ROK" ∷ codes "Pg" ∷ []) Choice)
+    (fails (codes "RYou are unknown to me" ∷ []) ends.Refused) admitted refused)
+    tt
+greeting_says Admission me peer g text is =
+    either_greets (begins_with text (codes "ROK")) (goes_on [] Protocols)
+    (if begins_with text (codes "R") then fails [] ends.Refused else passes_over g) tt
+    (either_greets (begins_with text (codes "R")) (fails [] ends.Refused) (passes_over g) tt tt)
+greeting_says Protocols me peer g text is =
+    either_greets (begins_with text (codes "P"))
+    (if offers_g text then begins (codes "Ug" ∷ []) else fails (codes "UN" ∷ []) ends.NoProtocol) (passes_over g)
+    (either_greets (offers_g text) (begins (codes "Ug" ∷ [])) (fails (codes "UN" ∷ []) ends.NoProtocol)
+    (two_letters 85 103 (omega arith) (omega arith), tt) (two_letters 85 78 (omega arith) (omega arith), tt)) tt
+greeting_says Choice me peer g text is =
+    either_greets (bytes_eq text (codes "Ug")) (begins [])
+    (if begins_with text (codes "U") then fails [] ends.NoProtocol else passes_over g) tt
+    (either_greets (begins_with text (codes "U")) (fails [] ends.NoProtocol) (passes_over g) tt tt)
+
+late_greets : (g : Greeting) → GreetsInBytes (greeting_timed_out g)
+late_greets g =
+    either_greets (nat_lt (g.timeouts + 1) TIMEOUTS_MAX)
+    (record { says = []; greeted = GoesOn (record { awaited = g.awaited; timeouts = g.timeouts + 1 }) })
+    (fails [] ends.GaveUp) tt tt
+
+begin_says : {C : Type 0} (side : Side) (s : State) (c : C) (said : List Emitted) → SaysBytes said
+    → SaysBytes (begins_link side s c said).emitted
+begin_says caller s c said is = both_say said (packets (step s to_begin).emitted) is (packets_say (step s to_begin).emitted)
+begin_says called s c said is = is
+
+greeted_says : {C : Type 0} (id : Identity) (how : Greeted) (said : List Emitted) (s : State) (c : C) → SaysBytes said
+    → SaysBytes (greeted_so id how said s c).emitted
+greeted_says id (GoesOn g) said s c is = is
+greeted_says id LinkBegins said s c is = begin_says id.side s c said is
+greeted_says id (Ended how) said s c is = is
+
+hail_says : {C : Type 0} (id : Identity) (g : Greeting) (event : EndEvent) (e : EndState C) → AllBytes id.me
+    → SaysBytes (hailing_step id g event e).emitted
+hail_says id g (text_found text) e is =
+    let came : GreetingStep = text_came id.me id.peer g text in
+    greeted_says id came.greeted (map says_text came.says) e.link e.keeper
+    (texts_say came.says (greeting_says g.awaited id.me id.peer g text is))
+hail_says id g long_text_found e is = tt
+hail_says id g time_ran_out e is =
+    let came : GreetingStep = greeting_timed_out g in
+    greeted_says id came.greeted (map says_text came.says) e.link e.keeper (texts_say came.says (late_greets g))
+hail_says id g line_lost e is = tt
+hail_says id g (packet_found_whole failed p) e is = tt
+hail_says id g broken_found e is = tt
+
+-- ---- each step, and the first words
+
+pub step_says : {C : Type 0} (k : Keeper C) (id : Identity) (stage : Stage) (event : EndEvent) (e : EndState C) → AllBytes id.me
+    → SaysBytes (stage_step k id stage event e).emitted
+step_says k id (hailing g) event e is = hail_says id g event e is
+step_says k id linked event e is = linked_says k id event e
+step_says k id (ended how) event e is = tt
+
+pub first_says : (side : Side) (me : List ℕ) → AllBytes me → SaysBytes (first_words side me)
+first_says caller me is = tt
+first_says called me is = texts_say (called_text me ∷ []) (called_says me is)
+
+-- ---- as it goes out
+
+text_bytes : (text : List ℕ) → AllBytes text → AllBytes (written_text text)
+text_bytes text all =
+    All-cons IsByte 16 (text ++ 0 ∷ []) (omega arith) (All-append IsByte text (0 ∷ []) all (bytewise (0 ∷ []) (omega arith, tt)))
+
+-- a packet of bytes
+abbrev pub IsRight : PacketValue → Type 0
+IsRight p = IsWellFormed p × CarriesBytes p
+
+pub emitted_bytes : (es : List Emitted) → SaysBytes es → All IsRight (packets_in es) → AllBytes (bytes_in es)
+emitted_bytes [] says right = All-nil IsByte
+emitted_bytes (says_text text ∷ es) says right =
+    All-append IsByte (written_text text) (bytes_in es) (text_bytes text says.0) (emitted_bytes es says.1 right)
+emitted_bytes (sends_packet e ∷ es) says right =
+    let first : IsRight e.packet = All-head IsRight e.packet (packets_in es) right in
+    All-append IsByte (canonical e.packet) (bytes_in es) (canonical_bytes e.packet first.0 first.1)
+    (emitted_bytes es says (All-tail IsRight e.packet (packets_in es) right))

@@ -1,0 +1,120 @@
+-- All packets of a run are well formed and carry bytes, where the set-up is of bytes; so what comes is bytes.
+use Rattle.std.proofs.Common.{◌≡◌, ℕ, List, length, take, All, sym, subst}
+use Rattle.std.proofs.lemmas.List.Elements.{All-take}
+use Rattle.uug_link.specs.InRange.{IsAnnouncement}
+use Rattle.uug_packet.specs.Bytes.{AreBytes}
+use Rattle.uug_session.specs.Count.{Count}
+use Rattle.uug_session.specs.HeldBytes.{HoldsBytes}
+use Rattle.uug_session.specs.Party.{HasNames, Party}
+use Rattle.uug_session.specs.Talk.{Talk}
+use Rattle.uug_session.specs.Turns.{Side as SessionSide, caller, called}
+use Rattle.uug_session.specs.TwoEnds.{IsTold}
+use Rattle.uug_session.specs.View.{conversation_view, own_messages}
+use Rattle.uug_line.specs.declared.event.Event.{Event}
+use Rattle.uug_line.specs.declared.side.Side.{Side}
+use Rattle.uug_line.specs.declared.side.Side.TheVariants.{Caller, Called}
+use Rattle.uug_line.specs.Belongings.{Belongings, SetupValue, party}
+use Rattle.uug_line.specs.Delivered.{came_in}
+use Rattle.uug_line.specs.LowerLaws.{Laws}
+use Rattle.uug_line.specs.OfBytes.{AreOfBytes, IsSetupOfBytes}
+use Rattle.uug_line.specs.Run.{Run, end_at}
+use Rattle.uug_line.specs.RunKeeper.{by_numbers, by_themselves}
+use Rattle.uug_line.specs.SessionLaws.{SessionLaws}
+use Rattle.uug_line.specs.Sides.{AtBoth, at, other}
+use Rattle.uug_line.specs.SoundSetup.{IsSoundSetup}
+use Rattle.uug_line.specs.World.{counted, run_of_ends, world}
+use Rattle.uug_line.proofs.ByteLemmas.{AllBytes, all_bytes}
+use Rattle.uug_line.proofs.CameLemmas.{comes_bytes}
+use Rattle.uug_line.proofs.CarriedLemmas.{CarriedLaws, IsRightEnd, right_packets, run_right}
+use Rattle.uug_line.proofs.EmittedByteLemmas.{IsRight}
+use Rattle.uug_line.proofs.JoinedSteps.{steps}
+use Rattle.uug_line.proofs.Joining.{IsSoundSession, Joined, Moment, link_end, moment_of}
+use Rattle.uug_line.proofs.Standing.{Goes, run_goes}
+
+-- what the two ends of a session say is bytes
+abbrev pub SaidIsBytes : Type 0
+SaidIsBytes = (me : SessionSide) (a b : Party) → All HasNames a.jobs → All HasNames b.jobs → HoldsBytes a.holdings
+    → HoldsBytes b.holdings → All AreBytes (own_messages (conversation_view me a b))
+
+pub record RightLaws : Type 0 where
+  pub below : Laws
+  pub session : SessionLaws
+  pub carried : CarriedLaws
+  pub said : SaidIsBytes
+
+-- the packets of both ends
+abbrev pub AllRight : {C : Type 0} → Run C → Type 0
+AllRight run = (side : Side) → All IsRight (end_at side run).end.log.packets
+
+module _ (laws : RightLaws) (setup : SetupValue) (of_bytes : IsSetupOfBytes setup) where
+  names_bytes : (side : Side) → AllBytes (at side setup).name
+  names_bytes side = all_bytes (at side setup).name (of_bytes side).name
+
+  announces : IsSoundSetup setup → (side : Side) → IsAnnouncement (at side setup).own
+  announces sound side = record { window = (sound side).window; size_code = (of_bytes side).size_code }
+
+  module _ (brought : AtBoth Belongings) (sound : IsSoundSession setup brought) where
+    said_bytes : (me : SessionSide)
+        → All AreBytes (own_messages (conversation_view me (party setup brought Caller) (party setup brought Called)))
+    said_bytes me =
+        laws.said me (party setup brought Caller) (party setup brought Called) (sound.party Caller).names (sound.party Called).names
+        (of_bytes Caller).files (of_bytes Called).files
+
+    -- the first messages of what an end says
+    front_bytes : (me : SessionSide) (own sent : List (List ℕ))
+        → own ≡ take (length own) (own_messages (conversation_view me (party setup brought Caller) (party setup brought Called)))
+        → own ≡ sent → All AreBytes sent
+    front_bytes me own sent first is =
+        subst (All AreBytes) is
+        (subst (All AreBytes) (sym first)
+        (All-take AreBytes (length own)
+        (own_messages (conversation_view me (party setup brought Caller) (party setup brought Called))) (said_bytes me)))
+
+    both_right : (near far : Moment) → IsSoundSetup setup → Joined setup brought Caller near far
+        → IsRightEnd (link_end near) × IsRightEnd (link_end far)
+    both_right near far setup_sound j =
+        run_right laws.carried setup.at_caller.own setup.at_called.own (sound.window Caller) (sound.window Called)
+        (record { near = link_end near; far = link_end far }) (announces setup_sound Caller) (announces setup_sound Called) j.links
+
+    told : (near far : Moment) (j : Joined setup brought Caller near far) →
+        IsTold caller (party setup brought Caller) (party setup brought Called) j.two.caller_end j.two.called_end
+        × IsTold called (party setup brought Caller) (party setup brought Called) j.two.called_end j.two.caller_end
+    told near far j =
+        laws.below.told (party setup brought Caller) (party setup brought Called) (sound.party Caller) (sound.party Called)
+        j.two j.reached
+
+    near_right : (near far : Moment) → IsSoundSetup setup → Joined setup brought Caller near far → All IsRight near.packets
+    near_right near far setup_sound j =
+        right_packets (link_end near) (both_right near far setup_sound j).0
+        (front_bytes caller j.two.caller_end.sent near.sent (told near far j).0.sent_first j.near_sent)
+
+    far_right : (near far : Moment) → IsSoundSetup setup → Joined setup brought Caller near far → All IsRight far.packets
+    far_right near far setup_sound j =
+        right_packets (link_end far) (both_right near far setup_sound j).1
+        (front_bytes called j.two.called_end.sent far.sent (told near far j).1.sent_first j.far_sent)
+
+  module _ (sound : IsSoundSetup setup) (events : List Event) where
+    goes : Goes setup (run_of_ends setup events) (world setup events)
+    goes = run_goes setup (steps laws.below setup) laws.session sound events
+
+    all_right : AllRight (run_of_ends setup events)
+    all_right Caller =
+        let run : Run Talk = run_of_ends setup events in
+        near_right run.brought goes.stands.sound (moment_of run.ends.at_caller.end) (moment_of run.ends.at_called.end) sound
+        goes.stands.joined.joined
+    all_right Called =
+        let run : Run Talk = run_of_ends setup events in
+        far_right run.brought goes.stands.sound (moment_of run.ends.at_caller.end) (moment_of run.ends.at_called.end) sound
+        goes.stands.joined.joined
+
+    counted_right : AllRight (counted (run_of_ends setup events))
+    counted_right Caller = all_right Caller
+    counted_right Called = all_right Called
+
+    pub ends_bytes : AreOfBytes events → (side : Side) → AreBytes (at side (came_in by_themselves setup events))
+    ends_bytes are side = comes_bytes by_themselves setup names_bytes events side are (all_right (other side))
+
+    pub world_bytes : AreOfBytes events → (side : Side) → AreBytes (at side (came_in by_numbers setup events))
+    world_bytes are side =
+        comes_bytes by_numbers setup names_bytes events side are
+        (subst (λ (r : Run Count). All IsRight (end_at (other side) r).end.log.packets) goes.counted_is (counted_right (other side)))
