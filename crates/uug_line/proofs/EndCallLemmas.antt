@@ -1,8 +1,7 @@
 -- What the calls of an end of the program come to.
-use Rattle.std.proofs.Common.{◌≡◌, ℕ, ◌+◌, ◌<◌, ◌≤◌, Bool, true, false, nat_lt, if◌then◌else◌, List, [], ◌∷◌, ◌++◌, map, length, ap, sym, subst, ◌∙◌, refl, arith}
+use Rattle.std.proofs.Common.{◌≡◌, ℕ, ◌+◌, ◌<◌, Bool, true, false, nat_lt, if◌then◌else◌, List, [], ◌++◌, map, length, ap, sym, subst, ◌∙◌, refl, arith}
 use Rattle.std.proofs.lemmas.List.{append-nil}
 use Rattle.std.proofs.lemmas.List.Elements.{recursion_from_All}
-use Rattle.std.specs.List.{All}
 use Rattle.uug_link.specs.Announced.{Announced}
 use Rattle.uug_link.specs.declared.limits.TheConstants.{TIMEOUTS_MAX}
 use Rattle.uug_link.specs.Entries.{EntryValue}
@@ -11,7 +10,7 @@ use Rattle.uug_link.specs.State.{State}
 use Rattle.uug_link.specs.Step.{Effect, OutcomeValue, nothing, up, taken, closed, gave_up, halted, step, timed_out}
 use Rattle.uug_reader.specs.declared.reader.TheConstants.{READER_SIZE}
 use Rattle.uug_session.specs.Arriving.{Hearer, held_in}
-use Rattle.uug_session.specs.EndStep.{EndEffect, EndEvent, EndState, Identity, Stage, hailing, linked, ended, begins_session, behind_greeting, end_step, late_link, line_lost, stage_step, time_ran_out, unmoved}
+use Rattle.uug_session.specs.EndStep.{EndEffect, EndEvent, Identity, Stage, hailing, linked, ended, begins_session, behind_greeting, end_step, late_link, line_lost, stage_step, time_ran_out, unmoved}
 use Rattle.uug_session.specs.Engine.{BeginsSession, Does, EngineState, all_ahead, bare, end_of, entry_of, hung_up, stage_late, with_stage}
 use Rattle.uug_session.specs.declared.end.End.TheVariants as ends
 use Rattle.uug_session.specs.declared.greeting.Greeted.TheVariants.{GoesOn}
@@ -19,7 +18,7 @@ use Rattle.uug_session.specs.declared.greeting.Greeting.{Greeting}
 use Rattle.uug_session.specs.Greeting.{fails}
 use Rattle.uug_session.specs.Holdings.{Holdings, Kept}
 use Rattle.uug_session.specs.MemoryHoldings.{MemoryHoldings, holdings_of}
-use Rattle.uug_session.specs.InRange.{CanBeWritten, IsEndInRange}
+use Rattle.uug_session.specs.InRange.{CanBeWritten}
 use Rattle.uug_session.specs.Jobs.{Lists}
 use Rattle.uug_session.specs.Keeper.{Keeper}
 use Rattle.uug_session.specs.Node.{NodeState, bytes_at, effect_of, held_bytes}
@@ -29,8 +28,8 @@ use Rattle.uug_session.specs.Talk.{Talk, unopened}
 use Rattle.uug_session.specs.TextsHeld.{TextsHeld}
 use Rattle.uug_session.specs.Talking.{talking_has_parted}
 use Rattle.uug_line.specs.Jottings.{Jottings, log_of, no_jottings}
-use Rattle.uug_line.specs.LineEnd.{LineEnd, after_call, begins, called_with, holding}
-use Rattle.uug_line.specs.Live.{AreWritten, BeginsAgain, HasBegun, HasRoom, HoldsOn, IsCalled, IsNoted, IsOrdered, Parts, Standing, hearer_of, line_end_of, player_of, standing_of, state_of}
+use Rattle.uug_line.specs.LineEnd.{LineEnd, after_call, called_with, holding}
+use Rattle.uug_line.specs.Live.{AreWritten, BeginsAgain, HasBegun, HasRoom, HoldsOn, IsCalled, IsNoted, IsOrdered, Parts, hearer_of, line_end_of, player_of, state_of}
 use Rattle.uug_line.specs.LineLaws.{CallsAreSteps, LineLaws, ReadsWritten, StaysInRange}
 use Rattle.uug_line.proofs.SpokenLemmas.{Calls, does_so, steps_so}
 

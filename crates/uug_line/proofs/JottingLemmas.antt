@@ -1,7 +1,7 @@
 -- What the program writes down of an end, entry by entry, and what that says.
-use Rattle.std.proofs.Common.{◌≡◌, ℕ, zero, suc, ◌+◌, ◌≤◌, Bool, true, false, List, [], ◌∷◌, ◌++◌, map, take, slice_get, Option, Some, None, Ok, max, ap, sym, subst, ◌∙◌, refl, arith}
+use Rattle.std.proofs.Common.{◌≡◌, ℕ, zero, suc, ◌+◌, List, [], ◌∷◌, ◌++◌, take, slice_get, Some, ap, sym, ◌∙◌, refl, arith}
 use Rattle.std.proofs.lemmas.List.{append_assoc}
-use Rattle.uug_link.specs.Entries.{EntryValue, text, packet}
+use Rattle.uug_link.specs.Entries.{EntryValue}
 use Rattle.uug_line.specs.Jottings.{Jottings, saying, message_of_entry, messages_said, packet_of_entry, packets_said}
 
 -- ---- entry by entry

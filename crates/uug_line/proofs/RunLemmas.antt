@@ -2,17 +2,14 @@
 use Rattle.std.proofs.Common.{◌≡◌, ℕ, suc, ◌+◌, ◌<◌, ◌≤◌, Bool, true, false, List, [], ◌∷◌, ◌++◌, length, get_or, map, take, drop, ap, sym, subst, ◌∙◌, refl, arith}
 use Rattle.std.proofs.lemmas.List.{drop_all, drop_more, map-append}
 use Rattle.uug_link.specs.Announced.{Announced}
-use Rattle.uug_packet.specs.Packet.{PacketValue}
 use Rattle.uug_session.specs.Turns.{Side as SessionSide}
 use Rattle.uug_packet.specs.Spelling.{canonical}
-use Rattle.uug_session.specs.Arriving.{Came, Hearer, Taker, all_taken, stopped, takes_piece}
-use Rattle.uug_session.specs.Engine.{all_ahead}
-use Rattle.uug_session.specs.EndStep.{EndEvent, EndState, Identity, Stage, hailing, linked, ended, begins_session, end_step, line_lost, stage_step, time_ran_out}
+use Rattle.uug_session.specs.Arriving.{Came, Hearer, all_taken, stopped, takes_piece}
+use Rattle.uug_session.specs.EndStep.{EndEvent, EndState, Identity, Stage, hailing, linked, ended, begins_session, line_lost, stage_step, time_ran_out}
 use Rattle.uug_session.specs.Holdings.{Holdings, Kept}
-use Rattle.uug_session.specs.Jobs.{Lists, at_start, pending}
+use Rattle.uug_session.specs.Jobs.{Lists}
 use Rattle.uug_session.specs.MemoryHoldings.{MemoryHoldings, holdings_of}
 use Rattle.uug_session.specs.Keeper.{Keeper}
-use Rattle.uug_session.specs.Phases.{phase_at}
 use Rattle.uug_session.specs.Talk.{Talk, end_keeper, unopened}
 use Rattle.uug_line.specs.declared.event.Event.{Event}
 use Rattle.uug_line.specs.declared.event.Event.TheVariants.{Pass, Drop, Flip, Insert, Timeout, HangUp, Call}
@@ -23,16 +20,15 @@ use Rattle.uug_line.specs.declared.side.Side.TheVariants.{Caller, Called}
 use Rattle.uug_line.specs.declared.verdict.LineVerdict.{LineVerdict}
 use Rattle.uug_line.specs.declared.verdict.LineVerdict.TheVariants.{Clean, Fooled}
 use Rattle.uug_line.specs.Belongings.{Belongings, SetupValue, renewed}
-use Rattle.uug_line.specs.Jottings.{Jottings, packet_in, told_by}
+use Rattle.uug_line.specs.Jottings.{packet_in}
 use Rattle.uug_line.specs.LineEnd.{LineEnd, Player, begins, called_with, changed_line}
-use Rattle.uug_line.specs.LineLaws.{LineLaws}
-use Rattle.uug_line.specs.Live.{AreWritten, BeginsAgain, HasBegun, HasRoom, HearsAll, HearsSome, IsCalled, IsOrdered, Parts, Standing, hearer_of, line_end_of, player_of, standing_of, taker_of, told_of}
+use Rattle.uug_line.specs.Live.{AreWritten, BeginsAgain, HasBegun, HasRoom, IsCalled, IsOrdered, Parts, Standing, hearer_of, line_end_of, player_of, standing_of, taker_of, told_of}
 use Rattle.uug_line.specs.Report.{EndReportValue, report_of_end}
-use Rattle.uug_line.specs.Run.{Run, flipped, after_event, after_hearing, calls, end_at, first_run, goes_through, has_now, hears_next, hung_up, player, session_begins, unless_fooled, with_end_at, with_line_to}
+use Rattle.uug_line.specs.Run.{Run, flipped, after_event, after_hearing, calls, end_at, first_run, goes_through, hung_up, player, unless_fooled, with_line_to}
 use Rattle.uug_line.specs.RunKeeper.{by_themselves}
 use Rattle.uug_line.specs.RunParts.{CallsAgain, ChangesLine, EndsAs, Happens, HappensAt, IsSteady, Passes, RunParts, StandsAs, hearing_side, owned_parts, standing_at, told_in_all, with_line}
 use Rattle.uug_line.specs.Shown.{end_shown, session_shown}
-use Rattle.uug_line.specs.Sides.{AtBoth, at, at_each, other, with_at}
+use Rattle.uug_line.specs.Sides.{AtBoth, other}
 use Rattle.uug_line.specs.Spelled.{SpelledEnd, SpelledReport, spelled, spelled_end, spelled_session}
 use Rattle.uug_line.specs.Taking.{line_taker}
 use Rattle.uug_line.specs.World.{report_of, report_of_ends, report_of_world, run_of_ends}

@@ -1,5 +1,5 @@
 -- The place at which a packet's spelling stands is the packet's place.
-use Rattle.std.proofs.Common.{◌≡◌, ◌≢◌, ◌↔◌, ◌⊎◌, inl, inr, ℕ, suc, ◌+◌, ◌<◌, ◌≤◌, Bool, true, false, IsTrue, List, [], ◌∷◌, length, map, get_or, slice_get, Vec, Option, Some, None, MatchOption, Ok, ap, sym, subst, ◌∙◌, refl, arith}
+use Rattle.std.proofs.Common.{◌≡◌, ◌≢◌, ◌↔◌, ◌⊎◌, inl, inr, ℕ, ◌+◌, ◌<◌, ◌≤◌, Bool, IsTrue, List, length, get_or, slice_get, Vec, Option, Some, ap, sym, subst, ◌∙◌, refl, arith}
 use Rattle.std.proofs.lemmas.Bool.{cases_lt}
 use Rattle.std.proofs.lemmas.List.{length-map}
 use Rattle.std.proofs.lemmas.Option.{slice_get-map, slice_get_read, slice_get_within}
@@ -7,7 +7,7 @@ use Rattle.std.proofs.lemmas.Slice.Eq.{bytes_eq-Decides}
 use Rattle.std.specs.Option.{option_map}
 use Rattle.std.specs.Str.{bytes_eq}
 use Rattle.uug_line.specs.Shown.{lists_in}
-use Rattle.uug_line.specs.Sightings.{StandsAt, StandsNowhere}
+use Rattle.uug_line.specs.Sightings.{StandsNowhere}
 
 pub stands_there : {A : Type 0} (bytes : List ℕ) (others : List (Vec ℕ A)) (i : ℕ) (v : Vec ℕ A) (same : Bool) → i < length others
     → v ≡ get_or others i v → same ≡ bytes_eq v.items bytes → IsTrue same ↔ (slice_get (lists_in others) i ≡ Some bytes)

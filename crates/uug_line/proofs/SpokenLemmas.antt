@@ -1,25 +1,22 @@
 -- What an end of the program has noted after a call is what the call says.
-use Rattle.std.proofs.Common.{◌≡◌, ℕ, zero, suc, ◌+◌, ◌≤◌, max, Bool, true, false, List, [], ◌∷◌, ◌++◌, map, length, Option, Some, None, Ok, Result, ap, sym, subst, ◌∙◌, refl, arith}
-use Rattle.std.proofs.lemmas.List.{append_assoc, append-nil, map-append}
+use Rattle.std.proofs.Common.{◌≡◌, ℕ, max, Bool, true, false, List, [], ◌∷◌, ◌++◌, map, length, Option, ap, sym, subst, ◌∙◌, refl, arith}
+use Rattle.std.proofs.lemmas.List.{map-append}
 use Rattle.std.proofs.lemmas.List.Elements.{recursion_from_All}
-use Rattle.std.specs.List.{All, AllByRecursion}
+use Rattle.std.specs.List.{AllByRecursion}
 use Rattle.uug_link.specs.Announced.{Announced}
 use Rattle.uug_link.specs.InRange.{IsAnnouncement}
 use Rattle.uug_link.specs.State.{State}
 use Rattle.uug_link.specs.Entries.{EntryValue, joined}
-use Rattle.uug_link.specs.Step.{Emission}
-use Rattle.uug_packet.specs.declared.decoding.NoPacket.{NoPacket}
-use Rattle.uug_packet.specs.Decoded.{decoded}
 use Rattle.uug_packet.specs.Packet.{PacketValue, control, carry}
 use Rattle.uug_packet.specs.Spelling.{canonical}
 use Rattle.uug_packet.specs.WellFormed.{IsWellFormed}
-use Rattle.uug_session.specs.EndStep.{Emitted, says_text, sends_packet, EndEffect, EndEvent, EndState, Identity, begins_session, end_step}
-use Rattle.uug_session.specs.Engine.{Does, EngineState, end_of, entry_of, with_outbox}
-use Rattle.uug_session.specs.Holdings.{Holdings, Kept}
+use Rattle.uug_session.specs.EndStep.{Emitted, says_text, sends_packet, EndEffect, EndEvent, EndState, Identity, end_step}
+use Rattle.uug_session.specs.Engine.{Does, EngineState, end_of, entry_of}
+use Rattle.uug_session.specs.Holdings.{Holdings}
 use Rattle.uug_session.specs.InRange.{CanBeWritten, IsEndInRange, MayFind}
 use Rattle.uug_session.specs.MemoryHoldings.{MemoryHoldings, holdings_of}
 use Rattle.uug_session.specs.Says.{written_text}
-use Rattle.uug_session.specs.Talk.{Talk, end_keeper}
+use Rattle.uug_session.specs.Talk.{Talk}
 use Rattle.uug_session.specs.Turns.{Side}
 use Rattle.uug_line.specs.Jottings.{Jottings, if_first, log_of, message_if_data, message_in, message_read, messages_said, packet_in, packet_read, packets_said, saying, with_most}
 use Rattle.uug_line.specs.LineLaws.{ReadsWritten, StaysInRange}

@@ -1,14 +1,13 @@
 -- What an end of the program takes up of what came is what the definitions say.
-use Rattle.std.proofs.Common.{◌≡◌, ◌≢◌, ◌⊎◌, inl, inr, ℕ, zero, suc, ◌+◌, ◌<◌, ◌≤◌, max, Bool, true, false, IsTrue, ◌&&◌, List, [], ◌∷◌, ◌++◌, map, length, drop, slice_get, Option, Some, None, MatchOption, Ok, ap, sym, subst, ◌∙◌, refl, arith}
+use Rattle.std.proofs.Common.{◌≡◌, ◌≢◌, ◌⊎◌, inl, inr, ℕ, zero, suc, ◌<◌, ◌≤◌, Bool, true, false, List, [], ◌∷◌, ◌++◌, map, slice_get, Option, Some, None, MatchOption, ap, ◌∙◌, refl, arith}
 use Rattle.std.proofs.lemmas.Bool.{cases_lt}
-use Rattle.std.proofs.lemmas.List.{append-nil}
 use Rattle.std.proofs.lemmas.Option.{slice_get-map}
 use Rattle.std.specs.Option.{option_map}
 use Rattle.uug_link.specs.Arrivals.{IsPlace, place_of}
 use Rattle.uug_packet.specs.Packet.{PacketValue, control, carry}
 use Rattle.uug_packet.specs.Spelling.{canonical}
 use Rattle.uug_packet.specs.WellFormed.{IsWellFormed}
-use Rattle.uug_line.specs.Jottings.{Jottings, arrived_at, log_of, message_if_data, message_in, message_read, or_empty, packet_in, packet_jotted, taking_from}
+use Rattle.uug_line.specs.Jottings.{Jottings, log_of, message_if_data, message_in, message_read, or_empty, packet_in, packet_jotted}
 use Rattle.uug_line.specs.LineEnd.{Log, found_at, took}
 use Rattle.uug_line.specs.Live.{AreWritten}
 use Rattle.uug_line.specs.Sightings.{StandsAt, StandsNowhere}

@@ -7,8 +7,6 @@ use Rattle.uug_link.specs.InRange.{IsAnnouncement}
 use Rattle.uug_packet.specs.Spelling.{canonical}
 use Rattle.uug_packet.specs.WellFormed.{IsWellFormed}
 use Rattle.uug_reader.specs.declared.reader.TheConstants.{READER_SIZE}
-use Rattle.uug_session.specs.declared.memory_spool.MemorySpool.{MemorySpool}
-use Rattle.uug_session.specs.declared.node.Node.{Node}
 use Rattle.uug_session.specs.Arriving.{Hearer, Taker, all_taken, held_in, stopped, takes_all, takes_piece}
 use Rattle.uug_session.specs.EndStep.{EndEffect, EndEvent, EndState, Identity, Stage, begins_session}
 use Rattle.uug_session.specs.Engine.{HasFailed, all_ahead, end_of, with_outbox}

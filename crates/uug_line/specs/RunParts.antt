@@ -1,6 +1,5 @@
 -- How the program's run stands, in the terms of the definitions, and what its events do.
 use Rattle.std.specs.Prelude.{◌≡◌, ℕ, Bool, true, List, [], ◌∷◌, ◌++◌, map, take, drop}
-use Rattle.uug_session.specs.Engine.{all_ahead}
 use Rattle.uug_session.specs.EndStep.{line_lost, time_ran_out}
 use Rattle.uug_line.specs.declared.event.Event.{Event}
 use Rattle.uug_line.specs.declared.event.Event.TheVariants.{Pass, Drop, Flip, Insert, Timeout, HangUp, Call}
@@ -10,7 +9,6 @@ use Rattle.uug_line.specs.declared.side.Side.TheVariants.{Caller, Called}
 use Rattle.uug_line.specs.declared.verdict.LineVerdict.{LineVerdict}
 use Rattle.uug_line.specs.declared.verdict.LineVerdict.TheVariants.{Clean}
 use Rattle.uug_line.specs.Belongings.{Belongings, SetupValue, identity}
-use Rattle.uug_line.specs.LineEnd.{LineEnd}
 use Rattle.uug_line.specs.Live.{AreWritten, BeginsAgain, HasRoom, HearsPiece, IsCalled, IsOrdered, Parts, Standing, hearer_of, line_end_of, parts_of, standing_of, told_of}
 use Rattle.uug_line.specs.Run.{Run, end_at, flipped}
 use Rattle.uug_line.specs.Shown.{session_shown}

@@ -1,5 +1,5 @@
 -- What a script says begins afresh.
-use Rattle.std.proofs.Common.{◌≡◌, ◌==◌, ℕ, Bool, true, false, if◌then◌else◌, List, [], length, Option, Some, None, Result, Ok, Err, IfOk, refl, subst, ◌∙◌, ap}
+use Rattle.std.proofs.Common.{◌≡◌, ◌==◌, ℕ, Bool, true, false, if◌then◌else◌, List, [], length, Option, Some, None, Result, Ok, Err, IfOk, refl, subst}
 use Rattle.uug_session.specs.Jobs.{Lists, at_start, pending, added as job_added}
 use Rattle.uug_session.specs.declared.job.Job.{Job}
 use Rattle.uug_session.specs.declared.queue.TheConstants.{JOBS_MAX}
@@ -9,7 +9,7 @@ use Rattle.uug_script.specs.declared.script.Script.{Script}
 use Rattle.uug_script.specs.Fields.{◌>>=◌}
 use Rattle.uug_script.specs.IsScript.{LinesAdd, no_line, line_more, IsScript, BeginsAfresh, EndBegins}
 use Rattle.uug_script.specs.Meaning.{EndMeaning, place, file, job, deny, later, immovable, LineMeaning, nothing, of_end, event, flow}
-use Rattle.uug_script.specs.Script.{Place, EndSaid, Said, nothing_said, placed, place_at, end_added, added, with_caller, with_called, EndSays, ScriptSays, end_completed, completed}
+use Rattle.uug_script.specs.Script.{Place, EndSaid, Said, nothing_said, placed, place_at, end_added, added, with_caller, with_called, EndSays, ScriptSays, end_completed}
 use Rattle.uug_script.specs.ScriptOf.{script_said}
 use Rattle.uug_script.proofs.WordTableLemmas.{bind_some}
 

@@ -1,4 +1,3 @@
-use Rattle.std.proofs.Common.{[], refl}
 use Rattle.uug_session.specs.MemoryHoldings.{held_by}
 use Rattle.uug_session.specs.Node.{node_of}
 use Rattle.uug_line.specs.Jottings.{jotted}

@@ -1,12 +1,10 @@
-use Rattle.std.proofs.Common.{List, ap, refl}
+use Rattle.std.proofs.Common.{ap, refl}
 use Rattle.uug_link.specs.Announced.{announced}
 use Rattle.uug_session.specs.Engine.{all_ahead}
 use Rattle.uug_session.specs.MemoryHoldings.{held_by}
 use Rattle.uug_session.specs.Turns.{caller, called}
 use Rattle.uug_line.specs.Live.{parts_of}
-use Rattle.uug_line.specs.RunParts.{RunParts}
 use Rattle.uug_line.specs.Setup.{setup_of}
-use Rattle.uug_line.specs.Shown.{session_shown}
 use Rattle.uug_line.proofs.RunLemmas.{begun_as, sessions_none, starts_as}
 use Rattle.uug_line.proofs.running.RunSoFar.start.Goals as goal
 
