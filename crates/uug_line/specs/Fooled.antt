@@ -1,20 +1,22 @@
 -- What the verdict of a run says of it: each packet that an end found was sent to it, or the run stopped at one that was
 -- not (this project's profile).
-use Rattle.std.specs.Prelude.{◌≡◌, ℕ, suc, List, [], ◌∷◌, ◌++◌, take, slice_get, Some}
+use Rattle.std.specs.Prelude.{◌≡◌, ◌↔◌, ℕ, suc, List, [], ◌∷◌, ◌++◌, take, slice_get, Some}
 use Rattle.uug_packet.specs.Packet.{PacketValue}
 use Rattle.uug_session.specs.Arriving.{Hearer}
 use Rattle.uug_session.specs.Finding.{finds_nothing, finds_packet, finding}
 use Rattle.uug_line.specs.declared.event.Event.{Event}
 use Rattle.uug_line.specs.declared.event.Event.TheVariants.{Pass}
 use Rattle.uug_line.specs.declared.side.Side.{Side}
-use Rattle.uug_line.specs.declared.verdict.LineVerdict.TheVariants.{Clean}
+use Rattle.uug_line.specs.declared.verdict.LineVerdict.{LineVerdict}
+use Rattle.uug_line.specs.declared.verdict.LineVerdict.TheVariants.{Clean, Fooled}
 use Rattle.uug_line.specs.Belongings.{SetupValue}
 use Rattle.uug_line.specs.LineEnd.{LineEnd}
 use Rattle.uug_line.specs.Report.{EndReportValue, report_of_end}
 use Rattle.uug_line.specs.Run.{Run, end_at, run_of}
-use Rattle.uug_line.specs.RunKeeper.{RunKeeper}
+use Rattle.uug_line.specs.RunKeeper.{RunKeeper, by_themselves}
 use Rattle.uug_line.specs.Sides.{other, AtBoth, at, at_each}
 use Rattle.uug_line.specs.WereSent.{HavePlaces, WereSent}
+use Rattle.uug_line.specs.World.{run_of_ends}
 
 -- ---- in a session
 
@@ -55,3 +57,9 @@ pub record StoppedAt {C : Type 0} (k : RunKeeper C) (setup : SetupValue) (events
   pub event : slice_get events number ≡ Some (Pass side bytes)
   pub clean_before : (run_of k setup (take number events)).verdict ≡ Clean
   pub nothing_behind : run_of k setup events ≡ run_of k setup (take (suc number) events)
+
+-- The verdict names a side exactly where the end there has found a packet that was not sent, and with it the event at which
+-- the run stopped.
+pub record NamesUnsent (setup : SetupValue) (events : List Event) (verdict : LineVerdict) : Type 0 where
+  pub exactly : (side : Side) → ((number : ℕ) × (verdict ≡ Fooled number side)) ↔ FindsUnsent (run_of_ends setup events) side
+  pub stopped : (number : ℕ) (side : Side) → verdict ≡ Fooled number side → StoppedAt by_themselves setup events number side

@@ -16,6 +16,7 @@ ghost use Rattle.uug_line.specs.Setup.{setup_of};
 ghost use Rattle.uug_line.specs.Shown.{lists_in};
 ghost use Rattle.uug_line.specs.Sides.{other};
 ghost use Rattle.uug_line.specs.Spelled.{spelled};
+ghost use Rattle.uug_line.specs.Fooled.{NamesUnsent};
 ghost use Rattle.uug_line.specs.Headline.{AllKeptToWindows, AllRanAsMachine, AllTookFronts, StaysInFront, StruckWereStored};
 ghost use Rattle.uug_line.specs.World.{report_of_ends, report_of_world};
 ghost use Rattle.uug_line.specs.declared.side.Side.{Side};
@@ -29,7 +30,7 @@ use crate::setup::{EndSetup, Setup};
 use crate::side::Side;
 use crate::soundness::look_at_setup;
 use crate::verdict::LineVerdict;
-use crate::world_laws::{a_run_is_the_world, the_headline};
+use crate::world_laws::{a_run_is_the_world, a_run_stops_at_what_was_not_sent, the_headline};
 use std::alloc::{AllocError, Allocator};
 use uug_session::{Node, Place};
 
@@ -52,6 +53,8 @@ pub fn run<A: Allocator + Copy>(
     // It is what the two ends do, neither of which knows the other's jobs, and what somebody tells who knows both.
     ensures ends { IfOk result (λ report. report ≡ spelled (report_of_ends (setup_of setup) events.now)) }
     ensures world { IfOk result (λ report. report ≡ spelled (report_of_world (setup_of setup) events.now)) }
+    // It is fooled exactly where an end has found a packet that was not sent, and names the first event with which one has.
+    ensures fooled { IfOk result (λ report. NamesUnsent (setup_of setup) events.now report.verdict) }
     // In every session each end has taken the first messages that the other has sent.
     ensures front { OnOk result (AllTookFronts (report_of_ends (setup_of setup) events.now)) }
     // Each struck job has an entry of its own in what was stored, with its exact bytes.
@@ -65,6 +68,7 @@ pub fn run<A: Allocator + Copy>(
     look_at_setup(&setup);
     a_run_is_the_world();
     the_headline();
+    a_run_stops_at_what_was_not_sent();
     let mut run = RunSoFar::start(alloc, setup)?;
     let verdict = run.go_through(alloc, events)?;
     let report = run.into_report(verdict)?;

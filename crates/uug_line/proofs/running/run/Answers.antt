@@ -1,8 +1,11 @@
-use Rattle.std.proofs.Common.{◌∙◌}
+use Rattle.std.proofs.Common.{◌∙◌, ap, subst, sym}
+use Rattle.uug_line.specs.declared.verdict.LineVerdict.{LineVerdict}
+use Rattle.uug_line.specs.Fooled.{NamesUnsent}
 use Rattle.uug_line.specs.Run.{first_run}
 use Rattle.uug_line.specs.RunKeeper.{by_themselves}
 use Rattle.uug_line.specs.RunParts.{run_parts}
 use Rattle.uug_line.specs.Setup.{setup_of}
+use Rattle.uug_line.specs.Spelled.{SpelledReport}
 use Rattle.uug_line.proofs.RunLemmas.{told_by_ends, told_by_world}
 use Rattle.uug_line.proofs.running.run.Goals as goal
 
@@ -27,10 +30,17 @@ returns g c =
     let verdict = c.in_ok-verdict.verdict in
     let parts = run_parts c.go_through.new.self in
     let ended = c.in_ok-verdict.ensures setup (first_run by_themselves setup) c.in_ok-run.ensures in
+    let ends = c.in_ok-report.ensures ∙ told_by_ends setup events verdict parts ended in
     record {
-      ends = c.in_ok-report.ensures ∙ told_by_ends setup events verdict parts ended;
+      ends = ends;
       world = c.in_ok-report.ensures
           ∙ told_by_world setup events verdict parts ended (c.a_run_is_the_world.ensures.report setup events sound);
+      fooled = subst (λ (verdict : LineVerdict). NamesUnsent setup events verdict)
+          (sym (ap (λ (report : SpelledReport). report.verdict) ends))
+          (record {
+            exactly = c.a_run_stops_at_what_was_not_sent.ensures.fooled setup events;
+            stopped = c.a_run_stops_at_what_was_not_sent.ensures.stopped setup events;
+          });
       front = c.the_headline.ensures.front setup events sound;
       stored = c.the_headline.ensures.stored setup events sound;
       earlier = c.the_headline.ensures.earlier setup events sound;
