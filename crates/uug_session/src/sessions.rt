@@ -17,11 +17,14 @@ use crate::side::Side;
 use crate::spool::Spool;
 use crate::texts::Texts;
 use std::alloc::{AllocError, Allocator};
+use std::fmt;
+use thiserror::Error;
 use uug_link::Outbox;
 use uug_reader::Reader;
 
 /// There is no memory for a node. All that was handed in for it is given back as it was.
-#[derive(Drop)]
+#[derive(Drop, Error)]
+#[error("out of memory for a node")]
 pub struct NotMade<S: Spool, A: Allocator> {
     /// Where the end was to stand.
     pub place: Place,
@@ -29,6 +32,15 @@ pub struct NotMade<S: Spool, A: Allocator> {
     pub queue: Queue<A>,
     /// Its files.
     pub spool: S,
+}
+
+impl<S: Spool, A: Allocator> fmt::Debug for NotMade<S, A> {
+    /// Shows where the end was to stand, since neither jobs nor files can be shown.
+    fn fmt<W: fmt::Write>(&self, f: &mut fmt::Formatter<W>) -> fmt::Result {
+        f.debug_struct("NotMade")
+            .field("place", &self.place)
+            .finish_non_exhaustive()
+    }
 }
 
 impl<S: Spool, A: Allocator + Copy> Node<S, A> {
