@@ -14,6 +14,8 @@ pub mod PeerLemmas
 pub mod SimulatedSteps
 pub mod TwoLinksRuns
 pub mod TwoLinksFacts
+pub mod MovesRuns
+pub mod MovesFacts
 pub mod ArrivalLemmas
 pub mod OutcomeLemmas
 pub mod TermsLemmas

@@ -1,16 +1,17 @@
 -- Each event of a link: the window machine moves with it.
-use Rattle.std.proofs.Common.{◌≡◌, ℕ, suc, ◌+◌, ◌-◌, ◌%◌, ◌≤◌, ◌==◌, nat_lt, Bool, true, false, if◌then◌else◌, List, [], ◌∷◌, ◌++◌, length, length-append, length-drop, drop, take, slice_get, Some, refl, ap, sym, subst, ◌∙◌, arith}
+use Rattle.std.proofs.Common.{◌≡◌, ℕ, suc, ◌+◌, ◌-◌, ◌%◌, ◌≤◌, ◌==◌, nat_lt, Bool, true, false, if◌then◌else◌, List, [], ◌∷◌, ◌++◌, length, length-append, length-drop, drop, take, slice_get, Some, refl, ap, sym, subst, ◌∙◌, arith, true≢false}
 use Rattle.std.proofs.lemmas.Bool.Decides.{nat_tests}
 use Rattle.std.proofs.lemmas.List.{drop-append-le, take-append-le}
 use Rattle.uug_link.specs.Announced.{Announced}
 use Rattle.uug_link.specs.Terms.{IsWindow}
-use Rattle.uug_link.specs.OnTheLine.{is_of_window, of_window, AreWritten}
+use Rattle.uug_link.specs.Moves.{found_at, becomes, comes}
+use Rattle.uug_link.specs.OnTheLine.{is_of_window, of_window, IsWritten, AreWritten}
 use Rattle.uug_link.specs.State.{State, IsUp, KnowsWindow, KnowsSize, HasRoom, is_halted}
 use Rattle.uug_link.specs.Step.{Effect, Event, to_begin, packet_found, bad_found, timed_out, to_send, to_close, taken as taken_up, answers, ignored, quiet, moved, halt, on_init_a, on_init_b, on_init_c, on_close, on_rr, on_rj, on_srj, on_data, on_number, is_expected, on_bad, acknowledged, repeated, on_packet, on_event, answers_halted, last_received, outstanding, next_number, data_packet}
 use Rattle.uug_link.specs.Strays.{acknowledgement as acknowledged_by}
-use Rattle.uug_link.specs.TwoLinks.{End, gone_past, packets_of, with_effect, moved_by, MayCall}
+use Rattle.uug_link.specs.TwoLinks.{End, gone_past, hears, packets_of, with_effect, moved_by, MayCall}
 use Rattle.uug_link.specs.WindowBounds.{CountsInOrder}
-use Rattle.uug_link.specs.WindowMachine.{Machine, Flying, data_at, acknowledgement, ack_of, Always, EachAck, EachNumber, IsReached, arrives, sends, on_out, on_back, after_move, taken_with}
+use Rattle.uug_link.specs.WindowMachine.{Machine, Flying, data_at, acknowledgement, ack_of, Always, EachAck, EachNumber, IsReached, Act, arrives, loses, sends, on_back, after_move, taken_with}
 use Rattle.uug_link.specs.declared.limits.TheConstants.{TIMEOUTS_MAX}
 use Rattle.uug_link.specs.declared.phase.Phase.{Phase}
 use Rattle.uug_link.specs.declared.phase.Phase.TheVariants.{AwaitsInitA, AwaitsInitB, AwaitsInitC, Up, Closing, Halted}
@@ -65,8 +66,8 @@ acked_sent law a b e f out back h =
 
 -- ---- packets that leave the numbers
 
-abbrev Heard : (a b : Announced) (e f : End) (out back : Wire) → PacketValue → Effect → Type 0
-Heard a b e f out back p effect = Next a b e f out back (gone_past (with_effect e (packet_found p) effect))
+abbrev Heard : (a b : Announced) (e f : End) (out back : Wire) (came : List Act) → PacketValue → Effect → Type 0
+Heard a b e f out back came p effect = Next a b e f out back came (gone_past (with_effect e (packet_found p) effect))
 
 -- the end's packet stands where the other end's packets are found
 abbrev IsNext : End → End → PacketValue → Type 0
@@ -76,18 +77,18 @@ same : (s : State) → Keeps s s
 same s = record { unacked = refl; oldest = refl; expected = refl }
 
 heard_ignored : (a b : Announced) (e f : End) (out back : Wire) (p : PacketValue) → Sim a b e f out back → IsNext e f p →
-    Heard a b e f out back p (ignored e.link)
+    Heard a b e f out back (becomes loses (Some p)) p (ignored e.link)
 heard_ignored a b e f out back p h at =
     hear_beside a b e f out back p e.link [] h at (same e.link) h.knows h.own (emits_nothing a e.sent out.acked back.taken)
 
 heard_halted : (a b : Announced) (e f : End) (out back : Wire) (p : PacketValue) → Sim a b e f out back → IsNext e f p →
-    Heard a b e f out back p (answers_halted e.link)
+    Heard a b e f out back (becomes loses (Some p)) p (answers_halted e.link)
 heard_halted a b e f out back p h at =
     hear_beside a b e f out back p e.link [] h at (same e.link) h.knows h.own (emits_nothing a e.sent out.acked back.taken)
 
 heard_init_a : (a b : Announced) (e f : End) (out back : Wire) (y : ℕ) (role : Role) (phase : Phase) →
     Sim a b e f out back → IsNext e f (control (init_a y)) →
-    Heard a b e f out back (control (init_a y)) (on_init_a role phase y e.link)
+    Heard a b e f out back [] (control (init_a y)) (on_init_a role phase y e.link)
 heard_init_a a b e f out back y Caller AwaitsInitA h at =
     hear_beside a b e f out back (control (init_a y)) _ _ h at
     (record { unacked = refl; oldest = refl; expected = refl })
@@ -110,7 +111,7 @@ window_stays b s phase is k knows = knows.window (subst KnowsWindow (sym is) k)
 
 heard_init_b : (a b : Announced) (e f : End) (out back : Wire) (y : ℕ) (role : Role) (phase : Phase) →
     e.link.phase ≡ phase → Sim a b e f out back → IsNext e f (control (init_b y)) →
-    Heard a b e f out back (control (init_b y)) (on_init_b role phase y e.link)
+    Heard a b e f out back [] (control (init_b y)) (on_init_b role phase y e.link)
 heard_init_b a b e f out back y Caller AwaitsInitB is h at =
     hear_beside a b e f out back (control (init_b y)) _ _ h at
     (record { unacked = refl; oldest = refl; expected = refl })
@@ -134,7 +135,7 @@ heard_init_b a b e f out back y _ _ is h at = heard_ignored a b e f out back (co
 
 heard_init_c : (law : PeerLaw) (a b : Announced) (e f : End) (out back : Wire) (y : ℕ) (role : Role) (phase : Phase) →
     e.link.role ≡ role → e.link.phase ≡ phase → (y == 0) ≡ false → Sim a b e f out back → IsNext e f (control (init_c y)) →
-    Heard a b e f out back (control (init_c y)) (on_init_c role phase y e.link)
+    Heard a b e f out back [] (control (init_c y)) (on_init_c role phase y e.link)
 heard_init_c law a b e f out back y Caller AwaitsInitC role_is is some h at =
     hear_beside a b e f out back (control (init_c y)) _ [] h at
     (record { unacked = refl; oldest = refl; expected = refl })
@@ -162,7 +163,7 @@ heard_init_c law a b e f out back y Called Up role_is is some h at =
 heard_init_c law a b e f out back y _ _ role_is is some h at = heard_ignored a b e f out back (control (init_c y)) h at
 
 heard_close : (a b : Announced) (e f : End) (out back : Wire) (phase : Phase) → Sim a b e f out back →
-    IsNext e f (control close) → Heard a b e f out back (control close) (on_close phase e.link)
+    IsNext e f (control close) → Heard a b e f out back [] (control close) (on_close phase e.link)
 heard_close a b e f out back Closing h at =
     hear_beside a b e f out back (control close) (halt e.link) [] h at (record { unacked = refl; oldest = refl; expected = refl })
     (record { window = λ k. absurd k; size = λ k. absurd k }) h.own (emits_nothing a e.sent out.acked back.taken)
@@ -193,7 +194,7 @@ acked_front law a b e f out acked' taken x xs p y h first is says digit =
 heard_rr_up : (law : LawsBelow) (a b : Announced) (e f : End) (out : Wire) (acked' taken : ℕ) (xs : List Flying) (y : ℕ) →
     IsUp e.link → Running law a b e f out (record { acked = acked'; taken = taken; flight = xs }) → IsNext e f (control (rr y)) →
     AreWritten f.sent xs (control (rr y) ∷ of_window (drop (suc e.passed) f.emitted)) →
-    Heard a b e f out (record { acked = acked'; taken = taken; flight = xs }) (control (rr y)) (quiet (acknowledged y e.link))
+    Heard a b e f out (record { acked = acked'; taken = taken; flight = xs }) (arrives ∷ []) (control (rr y)) (quiet (acknowledged y e.link))
 heard_rr_up law a b e f out acked' taken [] y is h at written = absurd written
 heard_rr_up law a b e f out acked' taken (data_at n c ∷ xs) y is h at written = absurd written.0
 heard_rr_up law a b e f out acked' taken (acknowledgement c ∷ xs) y is h at written =
@@ -206,7 +207,7 @@ heard_rr_up law a b e f out acked' taken (acknowledgement c ∷ xs) y is h at wr
 heard_rj_up : (law : LawsBelow) (a b : Announced) (e f : End) (out : Wire) (acked' taken : ℕ) (xs : List Flying) (y : ℕ) →
     IsUp e.link → Running law a b e f out (record { acked = acked'; taken = taken; flight = xs }) → IsNext e f (control (rj y)) →
     AreWritten f.sent xs (control (rj y) ∷ of_window (drop (suc e.passed) f.emitted)) →
-    Heard a b e f out (record { acked = acked'; taken = taken; flight = xs }) (control (rj y)) (on_rj Up y e.link)
+    Heard a b e f out (record { acked = acked'; taken = taken; flight = xs }) (arrives ∷ []) (control (rj y)) (on_rj Up y e.link)
 heard_rj_up law a b e f out acked' taken [] y is h at written = absurd written
 heard_rj_up law a b e f out acked' taken (data_at n c ∷ xs) y is h at written = absurd written.0
 heard_rj_up law a b e f out acked' taken (acknowledgement c ∷ xs) y is h at written =
@@ -221,7 +222,7 @@ heard_rj_up law a b e f out acked' taken (acknowledgement c ∷ xs) y is h at wr
 -- no link emits SRJ
 heard_srj_up : (a b : Announced) (e f : End) (out back : Wire) (xs : List Flying) (y : ℕ) →
     AreWritten f.sent xs (control (srj y) ∷ of_window (drop (suc e.passed) f.emitted)) →
-    Heard a b e f out back (control (srj y)) (on_srj Up y e.link)
+    Heard a b e f out back (arrives ∷ []) (control (srj y)) (on_srj Up y e.link)
 heard_srj_up a b e f out back [] y written = absurd written
 heard_srj_up a b e f out back (data_at n c ∷ xs) y written = absurd written.0
 heard_srj_up a b e f out back (acknowledgement c ∷ xs) y written = absurd written.0
@@ -244,16 +245,16 @@ taken_no n c taken differs = by (n == taken) refl
     by true e = absurd (differs (grind (arith, nat_tests, e)))
     by false e = refl
 
-heard_either : (a b : Announced) (e f : End) (out back : Wire) (p : PacketValue) (t : Bool) (x y : Effect) →
-    Heard a b e f out back p x → Heard a b e f out back p y → Heard a b e f out back p (if t then x else y)
-heard_either a b e f out back p true x y h k = h
-heard_either a b e f out back p false x y h k = k
+heard_either : (a b : Announced) (e f : End) (out back : Wire) (came : List Act) (p : PacketValue) (t : Bool) (x y : Effect) →
+    Heard a b e f out back came p x → Heard a b e f out back came p y → Heard a b e f out back came p (if t then x else y)
+heard_either a b e f out back came p true x y h k = h
+heard_either a b e f out back came p false x y h k = k
 
-heard_if : (a b : Announced) (e f : End) (out back : Wire) (p : PacketValue) (t : Bool) (x y : Effect) →
-    (t ≡ true → Heard a b e f out back p x) → (t ≡ false → Heard a b e f out back p y) →
-    Heard a b e f out back p (if t then x else y)
-heard_if a b e f out back p true x y h k = h refl
-heard_if a b e f out back p false x y h k = k refl
+heard_if : (a b : Announced) (e f : End) (out back : Wire) (came : List Act) (p : PacketValue) (t : Bool) (x y : Effect) →
+    (t ≡ true → Heard a b e f out back came p x) → (t ≡ false → Heard a b e f out back came p y) →
+    Heard a b e f out back came p (if t then x else y)
+heard_if a b e f out back came p true x y h k = h refl
+heard_if a b e f out back came p false x y h k = k refl
 
 -- the expected packet is taken, by a link that has taken up its acknowledgement
 number_taken : (law : LawsBelow) (a b : Announced) (e f : End) (out : Wire) (acked' taken n c : ℕ) (xs : List Flying)
@@ -262,7 +263,7 @@ number_taken : (law : LawsBelow) (a b : Announced) (e f : End) (out : Wire) (ack
     IsNext e f (carry seq ack k message) →
     AreWritten f.sent (data_at n c ∷ xs) (carry seq ack k message ∷ of_window (drop (suc e.passed) f.emitted)) →
     Acked e.link s e.sent c → Front e out taken (data_at n c) xs → seq ≡ s.expected →
-    Heard a b e f out (record { acked = acked'; taken = taken; flight = data_at n c ∷ xs }) (carry seq ack k message)
+    Heard a b e f out (record { acked = acked'; taken = taken; flight = data_at n c ∷ xs }) (arrives ∷ []) (carry seq ack k message)
     (answers (record s { expected = (s.expected + 1) % 8; told = false; timeouts = 0 }) (rr seq) taken_up)
 number_taken law a b e f out acked' taken n c xs seq ack k message s h at written t first equal =
     let expected : s.expected ≡ (taken + 1) % 8 = t.expected ∙ h.sim.back_half.expected in
@@ -287,7 +288,7 @@ number_other : (law : LawsBelow) (a b : Announced) (e f : End) (out : Wire) (ack
     AreWritten f.sent (data_at n c ∷ xs) (carry seq ack k message ∷ of_window (drop (suc e.passed) f.emitted)) →
     Acked e.link s e.sent c → Keeps s t → Knows b t → t.own ≡ s.own → (seq ≡ s.expected → ⊥) →
     MayEmit a e.sent c taken ps →
-    Next a b e f out (record { acked = acked'; taken = taken; flight = data_at n c ∷ xs })
+    Next a b e f out (record { acked = acked'; taken = taken; flight = data_at n c ∷ xs }) (arrives ∷ [])
     (record e { link = t; emitted = e.emitted ++ ps; passed = suc e.passed })
 number_other law a b e f out acked' taken n c xs seq ack k message s t ps h at written acks keeps knows own unequal emits =
     let expected : s.expected ≡ (taken + 1) % 8 = acks.expected ∙ h.sim.back_half.expected in
@@ -303,7 +304,7 @@ heard_data_up : (law : LawsBelow) (a b : Announced) (e f : End) (out : Wire) (ac
     (seq ack k : ℕ) (message : List ℕ) → IsUp e.link → Running law a b e f out (record { acked = acked'; taken = taken; flight = xs }) →
     IsNext e f (carry seq ack k message) →
     AreWritten f.sent xs (carry seq ack k message ∷ of_window (drop (suc e.passed) f.emitted)) →
-    Heard a b e f out (record { acked = acked'; taken = taken; flight = xs }) (carry seq ack k message)
+    Heard a b e f out (record { acked = acked'; taken = taken; flight = xs }) (arrives ∷ []) (carry seq ack k message)
     (on_number seq (acknowledged ack e.link))
 heard_data_up law a b e f out acked' taken [] seq ack k message is_up h at written = absurd written
 heard_data_up law a b e f out acked' taken (acknowledgement c ∷ xs) seq ack k message is_up h at written = absurd written.0
@@ -315,10 +316,10 @@ heard_data_up law a b e f out acked' taken (data_at n c ∷ xs) seq ack k messag
     let t = acked_front law a b e f out acked' taken (data_at n c) xs p ack h first is_up refl written.0.1 in
     let knows = knows_acked b t h.sim.knows in
     let last : last_received s ≡ taken % 8 = last_received_is s taken (t.expected ∙ h.sim.back_half.expected) in
-    heard_if a b e f out back p (is_expected seq s) _ _
+    heard_if a b e f out back (arrives ∷ []) p (is_expected seq s) _ _
     (λ is. number_taken law a b e f out acked' taken n c xs seq ack k message s h at written t first
     (grind (arith, nat_tests, is)))
-    (λ is. heard_either a b e f out back p s.told _ _
+    (λ is. heard_either a b e f out back (arrives ∷ []) p s.told _ _
     (number_other law a b e f out acked' taken n c xs seq ack k message s s _ h at written t (same s) knows refl
     (grind (arith, nat_tests, is)) (emits_rr a e.sent c taken (last_received s) last))
     (number_other law a b e f out acked' taken n c xs seq ack k message s (record s { told = true }) _ h at written t
@@ -336,28 +337,28 @@ in_front law a b e f out back p h at is =
 
 heard_rr : (law : LawsBelow) (a b : Announced) (e f : End) (out back : Wire) (y : ℕ) (phase : Phase) →
     e.link.phase ≡ phase → Running law a b e f out back → IsNext e f (control (rr y)) →
-    Heard a b e f out back (control (rr y)) (on_rr phase y e.link)
+    Heard a b e f out back (found_at phase ∷ []) (control (rr y)) (on_rr phase y e.link)
 heard_rr law a b e f out back y Up is h at =
     heard_rr_up law a b e f out back.acked back.taken back.flight y is h at (in_front law a b e f out back (control (rr y)) h at refl)
 heard_rr law a b e f out back y _ is h at = heard_ignored a b e f out back (control (rr y)) h.sim at
 
 heard_rj : (law : LawsBelow) (a b : Announced) (e f : End) (out back : Wire) (y : ℕ) (phase : Phase) →
     e.link.phase ≡ phase → Running law a b e f out back → IsNext e f (control (rj y)) →
-    Heard a b e f out back (control (rj y)) (on_rj phase y e.link)
+    Heard a b e f out back (found_at phase ∷ []) (control (rj y)) (on_rj phase y e.link)
 heard_rj law a b e f out back y Up is h at =
     heard_rj_up law a b e f out back.acked back.taken back.flight y is h at (in_front law a b e f out back (control (rj y)) h at refl)
 heard_rj law a b e f out back y _ is h at = heard_ignored a b e f out back (control (rj y)) h.sim at
 
 heard_srj : (law : LawsBelow) (a b : Announced) (e f : End) (out back : Wire) (y : ℕ) (phase : Phase) →
     Running law a b e f out back → IsNext e f (control (srj y)) →
-    Heard a b e f out back (control (srj y)) (on_srj phase y e.link)
+    Heard a b e f out back (found_at phase ∷ []) (control (srj y)) (on_srj phase y e.link)
 heard_srj law a b e f out back y Up h at =
     heard_srj_up a b e f out back back.flight y (in_front law a b e f out back (control (srj y)) h at refl)
 heard_srj law a b e f out back y _ h at = heard_ignored a b e f out back (control (srj y)) h.sim at
 
 heard_data : (law : LawsBelow) (a b : Announced) (e f : End) (out back : Wire) (seq ack k : ℕ) (message : List ℕ)
     (phase : Phase) → e.link.phase ≡ phase → Running law a b e f out back → IsNext e f (carry seq ack k message) →
-    Heard a b e f out back (carry seq ack k message) (on_data phase seq ack e.link)
+    Heard a b e f out back (found_at phase ∷ []) (carry seq ack k message) (on_data phase seq ack e.link)
 heard_data law a b e f out back seq ack k message Up is h at =
     heard_data_up law a b e f out back.acked back.taken back.flight seq ack k message is h at
     (in_front law a b e f out back (carry seq ack k message) h at refl)
@@ -365,15 +366,16 @@ heard_data law a b e f out back seq ack k message _ is h at =
     heard_ignored a b e f out back (carry seq ack k message) h.sim at
 
 heard_packet : (law : LawsBelow) (a b : Announced) (e f : End) (out back : Wire) (p : PacketValue) →
-    Running law a b e f out back → IsNext e f p → Heard a b e f out back p (on_packet p e.link)
+    Running law a b e f out back → IsNext e f p →
+    Heard a b e f out back (comes e f (hears p)) p (on_packet p e.link)
 heard_packet law a b e f out back (control close) h at = heard_close a b e f out back e.link.phase h.sim at
 heard_packet law a b e f out back (control (init_a y)) h at =
-    heard_either a b e f out back (control (init_a y)) (y == 0) _ _ (heard_ignored a b e f out back (control (init_a y)) h.sim at)
+    heard_either a b e f out back [] (control (init_a y)) (y == 0) _ _ (heard_ignored a b e f out back (control (init_a y)) h.sim at)
     (heard_init_a a b e f out back y e.link.role e.link.phase h.sim at)
 heard_packet law a b e f out back (control (init_b y)) h at =
     heard_init_b a b e f out back y e.link.role e.link.phase refl h.sim at
 heard_packet law a b e f out back (control (init_c y)) h at =
-    heard_if a b e f out back (control (init_c y)) (y == 0) _ _
+    heard_if a b e f out back [] (control (init_c y)) (y == 0) _ _
     (λ none. heard_ignored a b e f out back (control (init_c y)) h.sim at)
     (λ some. heard_init_c law.peer a b e f out back y e.link.role e.link.phase refl refl some h.sim at)
 heard_packet law a b e f out back (control (rr y)) h at = heard_rr law a b e f out back y e.link.phase refl h at
@@ -382,16 +384,25 @@ heard_packet law a b e f out back (control (srj y)) h at = heard_srj law a b e f
 heard_packet law a b e f out back (carry seq ack k message) h at =
     heard_data law a b e f out back seq ack k message e.link.phase refl h at
 
+-- a link that has ended is not up
+halted_loses : (phase : Phase) → is_halted phase ≡ true → found_at phase ≡ loses
+halted_loses Halted h = refl
+halted_loses Up h = absurd (true≢false (sym h))
+halted_loses _ h = refl
+
 pub heard : (law : LawsBelow) (a b : Announced) (e f : End) (out back : Wire) (p : PacketValue) →
-    Running law a b e f out back → IsNext e f p → Next a b e f out back (gone_past (moved_by e (packet_found p)))
+    Running law a b e f out back → IsNext e f p →
+    Next a b e f out back (comes e f (hears p)) (gone_past (moved_by e (packet_found p)))
 heard law a b e f out back p h at =
-    heard_either a b e f out back p (is_halted e.link.phase) _ _ (heard_halted a b e f out back p h.sim at)
-    (heard_packet law a b e f out back p h at)
+    heard_if a b e f out back (comes e f (hears p)) p (is_halted e.link.phase) _ _
+    (λ halted. subst (λ (act : Act). Heard a b e f out back (becomes act (Some p)) p (answers_halted e.link))
+    (sym (halted_loses e.link.phase halted)) (heard_halted a b e f out back p h.sim at))
+    (λ on. heard_packet law a b e f out back p h at)
 
 -- ---- the link's own events
 
 abbrev Moved : (a b : Announced) (e f : End) (out back : Wire) → Event → Effect → Type 0
-Moved a b e f out back event effect = Next a b e f out back (with_effect e event effect)
+Moved a b e f out back event effect = Next a b e f out back [] (with_effect e event effect)
 
 moved_either : (a b : Announced) (e f : End) (out back : Wire) (event : Event) (t : Bool) (x y : Effect) →
     Moved a b e f out back event x → Moved a b e f out back event y → Moved a b e f out back event (if t then x else y)
@@ -400,12 +411,12 @@ moved_either a b e f out back event false x y h k = k
 
 -- nothing is emitted
 stays_quiet : (a b : Announced) (e f : End) (out back : Wire) → Sim a b e f out back →
-    Next a b e f out back (record e { emitted = e.emitted ++ [] })
+    Next a b e f out back [] (record e { emitted = e.emitted ++ [] })
 stays_quiet a b e f out back h =
     emit a b e f out back e.link [] h (same e.link) h.knows h.own (emits_nothing a e.sent out.acked back.taken)
 
 begins : (a b : Announced) (e f : End) (out back : Wire) → Sim a b e f out back →
-    Next a b e f out back (moved_by e to_begin)
+    Next a b e f out back [] (moved_by e to_begin)
 begins a b e f out back h =
     moved_either a b e f out back to_begin (is_halted e.link.phase) _ _ (stays_quiet a b e f out back h)
     (emit a b e f out back (record e.link { phase = AwaitsInitA }) _ h (record { unacked = refl; oldest = refl; expected = refl })
@@ -413,7 +424,7 @@ begins a b e f out back h =
     (emits_init_a a e.sent out.acked back.taken e.link.own.window (ap (λ (x : Announced). x.window) h.own)))
 
 closes : (a b : Announced) (e f : End) (out back : Wire) → Sim a b e f out back → e.link.phase ≡ Up →
-    Next a b e f out back (moved_by e to_close)
+    Next a b e f out back [] (moved_by e to_close)
 closes a b e f out back h is_up =
     moved_either a b e f out back to_close (is_halted e.link.phase) _ _ (stays_quiet a b e f out back h)
     (emit a b e f out back (moved e.link Closing) _ h (record { unacked = refl; oldest = refl; expected = refl })
@@ -432,7 +443,7 @@ moved_bad a b e f out back Up h =
 moved_bad a b e f out back _ h = stays_quiet a b e f out back h
 
 hears_bad : (a b : Announced) (e f : End) (out back : Wire) → Sim a b e f out back →
-    Next a b e f out back (moved_by e bad_found)
+    Next a b e f out back [] (moved_by e bad_found)
 hears_bad a b e f out back h =
     moved_either a b e f out back bad_found (is_halted e.link.phase) _ _ (stays_quiet a b e f out back h)
     (moved_bad a b e f out back e.link.phase h)
@@ -452,7 +463,7 @@ emits_repeated a b e f out back _ Closing h low = emits_close a e.sent out.acked
 emits_repeated a b e f out back _ _ h low = emits_nothing a e.sent out.acked back.taken
 
 times_out : (law : LawsBelow) (a b : Announced) (e f : End) (out back : Wire) → Running law a b e f out back →
-    Next a b e f out back (moved_by e timed_out)
+    Next a b e f out back [] (moved_by e timed_out)
 times_out law a b e f out back h =
     moved_either a b e f out back timed_out (is_halted e.link.phase) _ _ (stays_quiet a b e f out back h.sim)
     (moved_either a b e f out back timed_out (nat_lt (e.link.timeouts + 1) TIMEOUTS_MAX) _ _
@@ -477,12 +488,18 @@ sent law a b e f out back message h room =
     omega (arith, low, ap length h.sim.out_half.unacked, length-drop out.acked e.sent) in
     let packet : PacketValue = data_packet e.link (next_number e.link) message in
     let last : last_received e.link ≡ back.taken % 8 = last_received_is e.link back.taken h.sim.back_half.expected in
+    let writes : IsWritten (e.sent ++ message ∷ []) (data_at (length e.sent) back.taken) packet =
+    (omega (arith, h.sim.out_half.oldest, kept), last, slice_get-last e.sent message) in
     record {
-      moves = on_out (sends message) ∷ [];
+      gone = sends message ∷ [];
+      ps = packet ∷ [];
       out' = record out { flight = out.flight ++ data_at (length e.sent) back.taken ∷ [] };
       back' = back;
       allowed = (omega (arith, room.1, agreed, kept), tt);
       leads = refl;
+      emitted = refl;
+      emits = (writes, tt);
+      sent = refl;
       sim = record {
         out_half = record {
           unacked = ap (λ (l : List (List ℕ)). l ++ message ∷ []) h.sim.out_half.unacked
@@ -495,7 +512,7 @@ sent law a b e f out back message h room =
               (sym (of_window-emitted f.passed e.emitted (packet ∷ []) h.sim.out_half.passed))
               (AreWritten-append (e.sent ++ message ∷ []) out.flight (data_at (length e.sent) back.taken ∷ []) _ _
               (AreWritten-more e.sent (message ∷ []) out.flight _ h.sim.out_half.flight)
-              ((omega (arith, h.sim.out_half.oldest, kept), last, slice_get-last e.sent message), tt));
+              (writes, tt));
         };
         back_half = record {
           unacked = h.sim.back_half.unacked;
@@ -520,7 +537,7 @@ if_not a b e f out back event t x y is h =
     subst (λ (z : Bool). Moved a b e f out back event (if z then x else y)) (sym is) h
 
 pub moves_itself : (law : LawsBelow) (a b : Announced) (e f : End) (out back : Wire) (event : Event) →
-    Running law a b e f out back → MayCall e.link event → Next a b e f out back (moved_by e event)
+    Running law a b e f out back → MayCall e.link event → Next a b e f out back [] (moved_by e event)
 moves_itself law a b e f out back to_begin h may = begins a b e f out back h.sim
 moves_itself law a b e f out back (packet_found p) h may = absurd may
 moves_itself law a b e f out back bad_found h may = hears_bad a b e f out back h.sim

@@ -1,14 +1,15 @@
 -- One end moves: the window machine moves with it.
-use Rattle.std.proofs.Common.{◌≡◌, ℕ, zero, suc, ◌+◌, ◌%◌, ◌<◌, ◌≤◌, Bool, true, false, List, [], ◌∷◌, ◌++◌, length, length-append, length-drop, drop, take, slice_get, Some, refl, ap, sym, subst, ◌∙◌, arith}
+use Rattle.std.proofs.Common.{◌≡◌, ℕ, zero, suc, ◌+◌, ◌%◌, ◌<◌, ◌≤◌, Bool, true, false, if◌then◌else◌, List, [], ◌∷◌, ◌++◌, length, length-append, length-drop, map, drop, take, slice_get, Some, refl, ap, sym, subst, ◌∙◌, arith}
 use Rattle.std.specs.Prelude.{⊤}
 use Rattle.std.proofs.lemmas.List.{append_assoc, append-nil}
 use Rattle.std.proofs.lemmas.Option.{none-some, same_Some, slice_get_within}
 use Rattle.uug_link.specs.Announced.{Announced}
+use Rattle.uug_link.specs.Moves.{becomes, AllEmit, new_of}
 use Rattle.uug_link.specs.OnTheLine.{is_of_window, of_window, AreWritten}
 use Rattle.uug_link.specs.State.{State, KnowsWindow, KnowsSize}
 use Rattle.uug_link.specs.Step.{data_packet, last_received, outstanding, sent_again}
 use Rattle.uug_link.specs.TwoLinks.{End, gone_past, packets_of}
-use Rattle.uug_link.specs.WindowMachine.{Direction, Machine, Flying, data_at, acknowledgement, ack_of, repeats, acknowledges, loses, arrives, Move, on_out, on_back, AllAllowed, after, taken_with}
+use Rattle.uug_link.specs.WindowMachine.{Direction, Machine, Flying, data_at, acknowledgement, ack_of, Act, repeats, acknowledges, loses, arrives, on_out, on_back, AllAllowed, after, taken_with}
 use Rattle.uug_link.proofs.OnTheLineLemmas.{front_of_drop, rest_of_drop, of_window-emitted, of_window-front, of_window-aside, AreWritten-append}
 use Rattle.uug_link.proofs.WindowMachineRuns.{after-append, AllAllowed-append}
 use Rattle.uug_packet.specs.Packet.{PacketValue, control, close, rj, rr, init_c, init_b, init_a}
@@ -87,30 +88,71 @@ Sim-turned h = record {
   other_said = h.said;
 }
 
--- the machine moves from here to where the end is then
-pub record Next (a b : Announced) (e f : End) (out back : Wire) (e' : End) : Type 0 where
-  pub moves : List Move
+-- The machine moves from here to where the end is then: with what comes, and then with what goes out, which is what
+-- the end emits.
+pub record Next (a b : Announced) (e f : End) (out back : Wire) (came : List Act) (e' : End) : Type 0 where
+  pub gone : List Act
+  pub ps : List PacketValue
   pub out' : Wire
   pub back' : Wire
-  pub allowed : AllAllowed (machine a b e f out back) moves
-  pub leads : after (machine a b e f out back) moves ≡ machine a b e' f out' back'
+  pub allowed : AllAllowed (machine a b e f out back) (map on_back came ++ map on_out gone)
+  pub leads : after (machine a b e f out back) (map on_back came ++ map on_out gone) ≡ machine a b e' f out' back'
+  pub emitted : e'.emitted ≡ e.emitted ++ ps
+  pub emits : AllEmit (after (machine a b e f out back) (map on_back came)) gone (of_window ps)
+  pub sent : e'.sent ≡ e.sent ++ new_of gone
   pub sim : Sim a b e' f out' back'
 
--- moves, and then more
-first_then : (a b : Announced) (e e1 e2 f : End) (out back out1 back1 : Wire) (moves : List Move) →
-    AllAllowed (machine a b e f out back) moves →
-    after (machine a b e f out back) moves ≡ machine a b e1 f out1 back1 →
-    Next a b e1 f out1 back1 e2 → Next a b e f out back e2
-first_then a b e e1 e2 f out back out1 back1 moves allowed leads next = record {
-  moves = moves ++ next.moves;
+-- it has moved with what comes, and nothing has gone out yet
+pub record Came (a b : Announced) (e f : End) (out back : Wire) (came : List Act) (e' : End) (out' back' : Wire) : Type 0 where
+  pub allowed : AllAllowed (machine a b e f out back) (map on_back came)
+  pub leads : after (machine a b e f out back) (map on_back came) ≡ machine a b e' f out' back'
+  pub emitted : e'.emitted ≡ e.emitted
+  pub sent : e'.sent ≡ e.sent
+  pub sim : Sim a b e' f out' back'
+
+-- and then it goes on
+came_then : (a b : Announced) (e e1 e2 f : End) (out back out1 back1 : Wire) (came : List Act) →
+    Came a b e f out back came e1 out1 back1 → Next a b e1 f out1 back1 [] e2 → Next a b e f out back came e2
+came_then a b e e1 e2 f out back out1 back1 came h next = record {
+  gone = next.gone;
+  ps = next.ps;
   out' = next.out';
   back' = next.back';
-  allowed = AllAllowed-append (machine a b e f out back) moves next.moves allowed
-      (subst (λ (m : Machine). AllAllowed m next.moves) (sym leads) next.allowed);
-  leads = after-append (machine a b e f out back) moves next.moves
-      ∙ ap (λ (m : Machine). after m next.moves) leads ∙ next.leads;
+  allowed = AllAllowed-append (machine a b e f out back) (map on_back came) (map on_out next.gone) h.allowed
+      (subst (λ (m : Machine). AllAllowed m (map on_out next.gone)) (sym h.leads) next.allowed);
+  leads = after-append (machine a b e f out back) (map on_back came) (map on_out next.gone)
+      ∙ ap (λ (m : Machine). after m (map on_out next.gone)) h.leads ∙ next.leads;
+  emitted = next.emitted ∙ ap (λ (l : List PacketValue). l ++ next.ps) h.emitted;
+  emits = subst (λ (m : Machine). AllEmit m next.gone (of_window next.ps)) (sym h.leads) next.emits;
+  sent = next.sent ∙ ap (λ (l : List (List ℕ)). l ++ new_of next.gone) h.sent;
   sim = next.sim;
 }
+
+-- nothing goes out
+stays : (a b : Announced) (e f : End) (out back : Wire) → Sim a b e f out back → Next a b e f out back [] e
+stays a b e f out back h = record {
+  gone = [];
+  ps = [];
+  out' = out;
+  back' = back;
+  allowed = tt;
+  leads = refl;
+  emitted = sym (append-nil e.emitted);
+  emits = tt;
+  sent = sym (append-nil e.sent);
+  sim = h;
+}
+
+-- the other end's packet is gone past, and with it what the machine has of it in front
+abbrev pub Past : (a b : Announced) (e f : End) (out back : Wire) (came : List Act) → Type 0
+Past a b e f out back came =
+    (xs : List Flying) × Came a b e f out back came (gone_past e) out (record back { flight = xs })
+
+pub past_only : (a b : Announced) (e f : End) (out back : Wire) (came : List Act) → Past a b e f out back came →
+    Next a b e f out back came (gone_past e)
+past_only a b e f out back came h =
+    let back1 : Wire = record back { flight = h.0 } in
+    came_then a b e (gone_past e) (gone_past e) f out back out back1 came h.1 (stays a b (gone_past e) f out back1 h.1.sim)
 
 -- ---- packets that go out
 
@@ -127,13 +169,13 @@ abbrev all_flying : ℕ → List Put → List Flying
 all_flying taken [] = []
 all_flying taken (u ∷ us) = flying taken u ∷ all_flying taken us
 
-abbrev put_move : Put → Move
-put_move (again n) = on_out (repeats n)
-put_move bare = on_out acknowledges
+abbrev put_act : Put → Act
+put_act (again n) = repeats n
+put_act bare = acknowledges
 
-abbrev put_moves : List Put → List Move
-put_moves [] = []
-put_moves (u ∷ us) = put_move u ∷ put_moves us
+abbrev put_acts : List Put → List Act
+put_acts [] = []
+put_acts (u ∷ us) = put_act u ∷ put_acts us
 
 abbrev MayPut : (acked sent : ℕ) → Put → Type 0
 MayPut acked sent (again n) = (acked ≤ n) × (n < sent)
@@ -147,8 +189,8 @@ abbrev with_flight : Machine → List Flying → Machine
 with_flight m xs = record m { out = record m.out { flight = xs } }
 
 put_all : (m : Machine) (us : List Put) → AllMayPut m.out.acked (length m.out.sent) us →
-    AllAllowed m (put_moves us)
-    × (after m (put_moves us) ≡ with_flight m (m.out.flight ++ all_flying m.back.taken us))
+    AllAllowed m (map on_out (put_acts us))
+    × (after m (map on_out (put_acts us)) ≡ with_flight m (m.out.flight ++ all_flying m.back.taken us))
 put_all m [] h = (tt, ap (λ (xs : List Flying). with_flight m xs) (sym (append-nil m.out.flight)))
 put_all m (again n ∷ us) h =
     let next = put_all (with_flight m (m.out.flight ++ data_at n m.back.taken ∷ [])) us h.1 in (
@@ -162,6 +204,24 @@ put_all m (bare ∷ us) h =
       next.1 ∙ ap (λ (xs : List Flying). with_flight m xs)
           (append_assoc m.out.flight (acknowledgement m.back.taken ∷ []) (all_flying m.back.taken us)),
     )
+
+-- each is a step that puts its packet in flight
+puts_emit : (m : Machine) (us : List Put) (ps : List PacketValue) → AreWritten m.out.sent (all_flying m.back.taken us) ps →
+    AllEmit m (put_acts us) ps
+puts_emit m [] [] h = tt
+puts_emit m [] (p ∷ ps) h = absurd h
+puts_emit m (again n ∷ us) [] h = absurd h
+puts_emit m (bare ∷ us) [] h = absurd h
+puts_emit m (again n ∷ us) (p ∷ ps) h =
+    (h.0, puts_emit (with_flight m (m.out.flight ++ data_at n m.back.taken ∷ [])) us ps h.1)
+puts_emit m (bare ∷ us) (p ∷ ps) h =
+    (h.0, puts_emit (with_flight m (m.out.flight ++ acknowledgement m.back.taken ∷ [])) us ps h.1)
+
+-- and sends no new message
+puts_none_new : (us : List Put) → new_of (put_acts us) ≡ []
+puts_none_new [] = refl
+puts_none_new (again n ∷ us) = puts_none_new us
+puts_none_new (bare ∷ us) = puts_none_new us
 
 -- packets that an end may emit which has sent these messages, where the machine has these numbers
 pub record MayEmit (own : Announced) (sent : List (List ℕ)) (acked taken : ℕ) (ps : List PacketValue) : Type 0 where
@@ -245,15 +305,19 @@ pub record Keeps (s t : State) : Type 0 where
 -- an end emits, and its numbers stay
 pub emit : (a b : Announced) (e f : End) (out back : Wire) (s : State) (ps : List PacketValue) →
     Sim a b e f out back → Keeps e.link s → Knows b s → s.own ≡ a → MayEmit a e.sent out.acked back.taken ps →
-    Next a b e f out back (record e { link = s; emitted = e.emitted ++ ps })
+    Next a b e f out back [] (record e { link = s; emitted = e.emitted ++ ps })
 emit a b e f out back s ps h keeps knows own emits =
     let moves = put_all (machine a b e f out back) emits.puts emits.may in
     record {
-      moves = put_moves emits.puts;
+      gone = put_acts emits.puts;
+      ps = ps;
       out' = record out { flight = out.flight ++ all_flying back.taken emits.puts };
       back' = back;
       allowed = moves.0;
       leads = moves.1;
+      emitted = refl;
+      emits = puts_emit (machine a b e f out back) emits.puts (of_window ps) emits.written;
+      sent = sym (append-nil e.sent) ∙ ap (λ (l : List (List ℕ)). e.sent ++ l) (sym (puts_none_new emits.puts));
       sim = record {
         out_half = record {
           unacked = keeps.unacked ∙ h.out_half.unacked;
@@ -317,46 +381,50 @@ past_sim a b e f out back xs h some written = record {
 loses_front : (a b : Announced) (e f : End) (out : Wire) (acked taken : ℕ) (xs : List Flying) (p : PacketValue) →
     Sim a b e f out (record { acked = acked; taken = taken; flight = xs }) → slice_get f.emitted e.passed ≡ Some p →
     AreWritten f.sent xs (p ∷ of_window (drop (suc e.passed) f.emitted)) →
-    Next a b e f out (record { acked = acked; taken = taken; flight = xs }) (gone_past e)
+    Past a b e f out (record { acked = acked; taken = taken; flight = xs }) (loses ∷ [])
 loses_front a b e f out acked taken [] p h at written = absurd written
-loses_front a b e f out acked taken (x ∷ xs) p h at written = record {
-  moves = on_back loses ∷ [];
-  out' = out;
-  back' = record { acked = acked; taken = taken; flight = xs };
-  allowed = (omega arith, tt);
-  leads = refl;
-  sim = past_sim a b e f out (record { acked = acked; taken = taken; flight = x ∷ xs }) xs h
-      (slice_get_within f.emitted e.passed p at) written.1;
-}
+loses_front a b e f out acked taken (x ∷ xs) p h at written = (
+  xs,
+  record {
+    allowed = (omega arith, tt);
+    leads = refl;
+    emitted = refl;
+    sent = refl;
+    sim = past_sim a b e f out (record { acked = acked; taken = taken; flight = x ∷ xs }) xs h
+        (slice_get_within f.emitted e.passed p at) written.1;
+  },
+)
 
 pub pass : (a b : Announced) (e f : End) (out back : Wire) (p : PacketValue) → Sim a b e f out back →
-    slice_get f.emitted e.passed ≡ Some p → Next a b e f out back (gone_past e)
+    slice_get f.emitted e.passed ≡ Some p → Past a b e f out back (becomes loses (Some p))
 pass a b e f out back p h at = by (is_of_window p) refl
   where
-    by : (t : Bool) → is_of_window p ≡ t → Next a b e f out back (gone_past e)
+    by : (t : Bool) → is_of_window p ≡ t → Past a b e f out back (if t then loses ∷ [] else [])
     by true is =
         loses_front a b e f out back.acked back.taken back.flight p h at
         (subst (AreWritten f.sent back.flight) (of_window-front e.passed f.emitted p at is) h.back_half.flight)
-    by false is = record {
-      moves = [];
-      out' = out;
-      back' = back;
-      allowed = tt;
-      leads = refl;
-      sim = past_sim a b e f out back back.flight h (slice_get_within f.emitted e.passed p at)
-          (subst (AreWritten f.sent back.flight) (of_window-aside e.passed f.emitted p at is) h.back_half.flight);
-    }
+    by false is = (
+      back.flight,
+      record {
+        allowed = tt;
+        leads = refl;
+        emitted = refl;
+        sent = refl;
+        sim = past_sim a b e f out back back.flight h (slice_get_within f.emitted e.passed p at)
+            (subst (AreWritten f.sent back.flight) (of_window-aside e.passed f.emitted p at is) h.back_half.flight);
+      },
+    )
 
 -- a packet comes to a link that leaves its numbers, and emits these
 pub hear_beside : (a b : Announced) (e f : End) (out back : Wire) (p : PacketValue) (s : State) (ps : List PacketValue) →
     Sim a b e f out back → slice_get f.emitted e.passed ≡ Some p → Keeps e.link s → Knows b s → s.own ≡ a →
     MayEmit a e.sent out.acked back.taken ps →
-    Next a b e f out back (gone_past (record e { link = s; emitted = e.emitted ++ ps }))
+    Next a b e f out back (becomes loses (Some p)) (gone_past (record e { link = s; emitted = e.emitted ++ ps }))
 hear_beside a b e f out back p s ps h at keeps knows own emits =
-    let spoken = emit a b e f out back s ps h keeps knows own emits in
-    let e1 : End = record e { link = s; emitted = e.emitted ++ ps } in
-    first_then a b e e1 (gone_past e1) f out back spoken.out' spoken.back' spoken.moves spoken.allowed spoken.leads
-    (pass a b e1 f spoken.out' spoken.back' p spoken.sim at)
+    let past = pass a b e f out back p h at in
+    let back1 : Wire = record back { flight = past.0 } in
+    came_then a b e (gone_past e) (gone_past (record e { link = s; emitted = e.emitted ++ ps })) f out back out back1
+    (becomes loses (Some p)) past.1 (emit a b (gone_past e) f out back1 s ps past.1.sim keeps knows own emits)
 
 -- ---- packets that arrive
 
@@ -369,7 +437,7 @@ pub arrive : (a b : Announced) (e f : End) (out : Wire) (acked taken : ℕ) (x :
     s.unacked ≡ drop (ack_of x) e.sent → s.oldest ≡ (ack_of x + 1) % 8 →
     s.expected ≡ (taken_with x taken + 1) % 8 → took ≡ take (taken_with x taken) f.sent →
     Knows b s → s.own ≡ a → MayEmit a e.sent (ack_of x) (taken_with x taken) ps →
-    Next a b e f out (record { acked = acked; taken = taken; flight = x ∷ xs })
+    Next a b e f out (record { acked = acked; taken = taken; flight = x ∷ xs }) (arrives ∷ [])
     (record e { link = s; taken = took; emitted = e.emitted ++ ps; passed = suc e.passed })
 arrive a b e f out acked taken x xs p s took ps h at written unacked oldest expected took_is knows own emits =
     let e1 : End = record e { link = s; taken = took; passed = suc e.passed } in
@@ -399,7 +467,13 @@ arrive a b e f out acked taken x xs p s took ps h at written unacked oldest expe
       said = h.said;
       other_said = h.other_said;
     } in
-    first_then a b e e1 (record e { link = s; taken = took; emitted = e.emitted ++ ps; passed = suc e.passed }) f
-    out (record { acked = acked; taken = taken; flight = x ∷ xs }) out1 back1 (on_back arrives ∷ [])
-    (omega arith, tt) refl
+    came_then a b e e1 (record e { link = s; taken = took; emitted = e.emitted ++ ps; passed = suc e.passed }) f
+    out (record { acked = acked; taken = taken; flight = x ∷ xs }) out1 back1 (arrives ∷ [])
+    (record {
+      allowed = (omega arith, tt);
+      leads = refl;
+      emitted = refl;
+      sent = refl;
+      sim = sim1;
+    })
     (emit a b e1 f out1 back1 s ps sim1 (record { unacked = refl; oldest = refl; expected = refl }) knows own emits)

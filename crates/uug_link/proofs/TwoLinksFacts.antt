@@ -23,7 +23,7 @@ start_up = at_near (moves to_begin)
     ∷ called_hears (control (init_b 1)) ∷ caller_hears (control (init_b 0))
     ∷ called_hears (control (init_c 3)) ∷ caller_hears (control (init_c 2)) ∷ []
 
-abbrev both_up : Ends
+abbrev pub both_up : Ends
 both_up = after_occurrences begun start_up
 
 pub record AreUp : Type 0 where
@@ -43,7 +43,7 @@ abbrev one_lost : List Occurrence
 one_lost = at_near (moves (to_send (1 ∷ []))) ∷ at_near (moves (to_send (2 ∷ []))) ∷ at_far misses
     ∷ called_hears (carry 2 0 1 (2 ∷ [])) ∷ []
 
-abbrev rejected : Ends
+abbrev pub rejected : Ends
 rejected = after_occurrences both_up one_lost
 
 pub record IsRejected : Type 0 where
@@ -69,7 +69,7 @@ repaired = at_far (moves (to_send (9 ∷ []))) ∷ caller_hears (control (rj 0))
     ∷ caller_hears (carry 1 0 2 (9 ∷ [])) ∷ at_near misses ∷ caller_hears (control (rr 2))
     ∷ called_hears (control (rr 1)) ∷ []
 
-abbrev talked : Ends
+abbrev pub talked : Ends
 talked = after_occurrences rejected repaired
 
 pub record IsRepaired : Type 0 where

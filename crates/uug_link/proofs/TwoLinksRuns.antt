@@ -1,17 +1,18 @@
 -- The runs of two links, and what holds after each.
-use Rattle.std.proofs.Common.{◌≡◌, ℕ, ◌≤◌, List, [], ◌∷◌, ◌++◌, length, length-drop, drop, get_or, inl, inr, refl, ap, sym, subst, ◌∙◌, arith}
+use Rattle.std.proofs.Common.{◌≡◌, ℕ, ◌≤◌, List, [], ◌∷◌, ◌++◌, length, length-drop, drop, map, get_or, slice_get, Option, Some, inl, inr, refl, ap, sym, subst, ◌∙◌, arith}
 use Rattle.std.proofs.lemmas.List.{take-append-drop}
 use Rattle.std.proofs.lemmas.Option.{slice_get-get_or}
 use Rattle.uug_link.specs.Announced.{Announced}
 use Rattle.uug_link.specs.Terms.{IsWindow}
+use Rattle.uug_link.specs.Moves.{ReadsBoth, becomes, comes}
 use Rattle.uug_link.specs.OnTheLine.{Reads}
 use Rattle.uug_link.specs.State.{State, KnowsWindow, KnowsSize}
-use Rattle.uug_link.specs.TwoLinks.{End, first_end, IsFirst, Happening, moves, misses, hears, MayHappen, after_happening, AllMayHappen, after_happenings, Ends, seen_from_far, first_ends, Occurrence, at_near, at_far, MayOccur, after_occurrence, AllMayOccur, after_occurrences, IsRun, AlwaysOfTwo, IsFrontOf}
-use Rattle.uug_link.specs.WindowMachine.{Machine, IsReached}
-use Rattle.uug_link.proofs.SimulationLemmas.{Wire, machine, direction, Half, Sim-turned, Next, pass}
+use Rattle.uug_link.specs.TwoLinks.{End, first_end, gone_past, IsFirst, Happening, moves, misses, hears, MayHappen, after_happening, AllMayHappen, after_happenings, Ends, seen_from_far, first_ends, Occurrence, at_near, at_far, MayOccur, after_occurrence, AllMayOccur, after_occurrences, IsRun, AlwaysOfTwo, IsFrontOf}
+use Rattle.uug_link.specs.WindowMachine.{Machine, start, loses, on_out, on_back, IsReached}
+use Rattle.uug_link.proofs.SimulationLemmas.{Wire, machine, direction, Half, Sim-turned, Next, past_only, pass}
 use Rattle.uug_link.proofs.SimulatedSteps.{LawsBelow, Running, heard, moves_itself}
 use Rattle.uug_link.proofs.WindowMachineRuns.{IsReached-start, IsReached-after, IsReached-turned}
-use Rattle.uug_packet.specs.Packet.{control, close}
+use Rattle.uug_packet.specs.Packet.{PacketValue, control, close}
 
 -- ---- runs
 
@@ -136,12 +137,14 @@ pub record Simulated (law : LawsBelow) (near far : Announced) (p : Ends) : Type 
   pub running : Running law near far p.near p.far out back
 
 -- a happening at the near end
-happens : (law : LawsBelow) (a b : Announced) (e f : End) (out back : Wire) (h : Happening) →
-    Running law a b e f out back → MayHappen e f h → Next a b e f out back (after_happening e h)
+pub happens : (law : LawsBelow) (a b : Announced) (e f : End) (out back : Wire) (h : Happening) →
+    Running law a b e f out back → MayHappen e f h → Next a b e f out back (comes e f h) (after_happening e h)
 happens law a b e f out back (moves event) h may = moves_itself law a b e f out back event h may
 happens law a b e f out back misses h may =
-    pass a b e f out back (get_or f.emitted e.passed (control close)) h.sim
-    (slice_get-get_or f.emitted e.passed (control close) may)
+    let p : PacketValue = get_or f.emitted e.passed (control close) in
+    let at : slice_get f.emitted e.passed ≡ Some p = slice_get-get_or f.emitted e.passed (control close) may in
+    subst (λ (o : Option PacketValue). Next a b e f out back (becomes loses o) (gone_past e)) (sym at)
+    (past_only a b e f out back (becomes loses (Some p)) (pass a b e f out back p h.sim at))
 happens law a b e f out back (hears p) h may = heard law a b e f out back p h may
 
 Simulated-near : (law : LawsBelow) (a b : Announced) (p : Ends) (h : Happening) → Simulated law a b p →
@@ -155,7 +158,8 @@ Simulated-near law a b p h at may =
         window = at.running.window;
         other = at.running.other;
         reached = subst (λ (m : Machine). IsReached b.window a.window m) next.leads
-            (IsReached-after b.window a.window (machine a b p.near p.far at.out at.back) next.moves at.running.reached next.allowed);
+            (IsReached-after b.window a.window (machine a b p.near p.far at.out at.back)
+            (map on_back (comes p.near p.far h) ++ map on_out next.gone) at.running.reached next.allowed);
         sim = next.sim;
       };
     }
@@ -259,7 +263,7 @@ simulated law a b p wa wb run =
 
 -- ---- what holds after each run
 
-reads : (from to : End) (window : ℕ) (x : Wire) → Half from to x → Reads from to (direction window from.sent x)
+pub reads : (from to : End) (window : ℕ) (x : Wire) → Half from to x → Reads from to (direction window from.sent x)
 reads from to window x h = record {
   sent = refl;
   unacked = h.unacked;
@@ -269,6 +273,17 @@ reads from to window x h = record {
   passed = h.passed;
   flight = h.flight;
 }
+
+-- the machine at the start reads two first links
+pub first_reads : (near far : Announced) (a b : State) → IsFirst near a → IsFirst far b →
+    ReadsBoth (first_ends a b) (start far.window near.window)
+unfolding idle
+first_reads near far a b is_a is_b =
+    let s = first_begins near a is_a in
+    let t = first_begins far b is_b in (
+      reads (first_end a) (first_end b) far.window idle (half_first near far a b s t),
+      reads (first_end b) (first_end a) near.window idle (half_first far near b a t s),
+    )
 
 pub machine_runs : (law : LawsBelow) (near far : Announced) (p : Ends) → IsWindow near.window → IsWindow far.window →
     IsRun near far p →

@@ -2,7 +2,7 @@
 use Rattle.std.proofs.Common.{◌≡◌, ℕ, ◌+◌, ◌-◌, ◌%◌, ◌<◌, ◌≤◌, List, [], ◌∷◌, ◌++◌, length, map, refl, ap, sym, ◌∙◌, subst, arith}
 use Rattle.uug_link.specs.Terms.{IsWindow}
 use Rattle.uug_link.specs.WindowBounds.{AcksRise, CountsInOrder, IsNear, NumbersNear}
-use Rattle.uug_link.specs.WindowMachine.{Direction, Machine, start, turned, Move, on_out, on_back, Allows, after_move, AllAllowed, after, IsReached, Always, EachNumber, EachAck}
+use Rattle.uug_link.specs.WindowMachine.{Direction, Machine, start, turned, Move, on_out, on_back, mirrored, Allows, after_move, AllAllowed, after, IsReached, Always, EachNumber, EachAck}
 use Rattle.uug_link.proofs.WindowMachineLemmas.{EachNumber-map, EachNumber-both, EachAck-map, EachAck-between, IsSafe, IsSafe-empty, BothSafe, BothSafe-after_move}
 
 -- ---- a run goes on
@@ -32,10 +32,6 @@ IsReached-after_move window other m move h k = IsReached-after window other m (m
 
 -- ---- a run seen from the other end
 
-abbrev pub mirrored : Move → Move
-mirrored (on_out act) = on_back act
-mirrored (on_back act) = on_out act
-
 after_move-mirrored : (m : Machine) (move : Move) → after_move (turned m) (mirrored move) ≡ turned (after_move m move)
 after_move-mirrored m (on_out act) = refl
 after_move-mirrored m (on_back act) = refl
@@ -44,12 +40,12 @@ Allows-mirrored : (m : Machine) (move : Move) → Allows m move → Allows (turn
 Allows-mirrored m (on_out act) h = h
 Allows-mirrored m (on_back act) h = h
 
-after-mirrored : (m : Machine) (moves : List Move) → after (turned m) (map mirrored moves) ≡ turned (after m moves)
+pub after-mirrored : (m : Machine) (moves : List Move) → after (turned m) (map mirrored moves) ≡ turned (after m moves)
 after-mirrored m [] = refl
 after-mirrored m (move ∷ moves) =
     ap (λ (x : Machine). after x (map mirrored moves)) (after_move-mirrored m move) ∙ after-mirrored (after_move m move) moves
 
-AllAllowed-mirrored : (m : Machine) (moves : List Move) → AllAllowed m moves → AllAllowed (turned m) (map mirrored moves)
+pub AllAllowed-mirrored : (m : Machine) (moves : List Move) → AllAllowed m moves → AllAllowed (turned m) (map mirrored moves)
 AllAllowed-mirrored m [] h = tt
 AllAllowed-mirrored m (move ∷ moves) h =
     (Allows-mirrored m move h.0, rw (after_move-mirrored m move) (AllAllowed-mirrored (after_move m move) moves h.1))

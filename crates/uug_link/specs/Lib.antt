@@ -13,3 +13,4 @@ pub mod WindowBounds
 pub mod TwoLinks
 pub mod Arrivals
 pub mod OnTheLine
+pub mod Moves

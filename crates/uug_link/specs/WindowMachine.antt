@@ -107,6 +107,11 @@ abbrev pub after_move : Machine → Move → Machine
 after_move m (on_out act) = after_act m act
 after_move m (on_back act) = turned (after_act (turned m) act)
 
+-- the same move seen from the other end
+abbrev pub mirrored : Move → Move
+mirrored (on_out act) = on_back act
+mirrored (on_back act) = on_out act
+
 abbrev pub AllAllowed : Machine → List Move → Type 0
 AllAllowed m [] = ⊤
 AllAllowed m (move ∷ moves) = Allows m move × AllAllowed (after_move m move) moves

@@ -3,15 +3,16 @@ ghost use Rattle.std.specs.Prelude.{◌≡◌, ◌≢◌, ◌↔◌, ℕ, suc, �
 ghost use Rattle.uug_link.specs.Announced.{Announced, announced};
 ghost use Rattle.uug_link.specs.Arrivals.{IsPlace, arrived, as_happenings, place_of, same_packet};
 ghost use Rattle.uug_link.specs.InRange.{AreWellFormed, IsAnnouncement, IsInRange, MayMeet};
+ghost use Rattle.uug_link.specs.Moves.{AllMoveWith, MovesWith, ReadsBoth};
 ghost use Rattle.uug_link.specs.OnTheLine.{Reads};
 ghost use Rattle.uug_link.specs.Outcomes.{FirstBySend, IsComing, MayAnswer, MovesPhase};
 ghost use Rattle.uug_link.specs.State.{IsFresh, IsUp, KnowsSize, KnowsWindow, State, called_state, caller_state};
 ghost use Rattle.uug_link.specs.Step.{Event, answers_halted, next_number, packet_found, step, to_begin, to_close, to_send, up};
 ghost use Rattle.uug_link.specs.Strays.{HasNumbers, IsSmallerOf, StandsBehind, acknowledgement};
 ghost use Rattle.uug_link.specs.Terms.{IsWindow};
-ghost use Rattle.uug_link.specs.TwoLinks.{AllMayHappen, AlwaysOfTwo, End, Ends, Happening, IsFirst, IsFrontOf, IsRun, MayOccur, Occurrence, after_happenings, after_occurrence, first_ends, seen_from_far};
+ghost use Rattle.uug_link.specs.TwoLinks.{AllMayHappen, AllMayOccur, AlwaysOfTwo, End, Ends, Happening, IsFirst, IsFrontOf, IsRun, MayOccur, Occurrence, after_happenings, after_occurrence, first_ends, seen_from_far};
 ghost use Rattle.uug_link.specs.WindowBounds.{AcksRise, CountsInOrder, NumbersNear};
-ghost use Rattle.uug_link.specs.WindowMachine.{Always, EachAck, EachNumber, IsReached, Machine};
+ghost use Rattle.uug_link.specs.WindowMachine.{Always, EachAck, EachNumber, IsReached, Machine, Move, start};
 ghost use Rattle.uug_link.specs.declared.announce.Announce.{Announce};
 ghost use Rattle.uug_link.specs.declared.limits.TheConstants.{ENTRIES_MAX, MESSAGE_MAX, SIZE_CODES, SIZE_MIN, TIMEOUTS_MAX, UNACKED_MAX, WINDOW_MAX};
 ghost use Rattle.uug_link.specs.declared.phase.Phase.TheVariants.{AwaitsInitA, Closing, Halted, Up};
@@ -117,6 +118,29 @@ pub fn two_links_run_as_the_machine()
         KnowsWindow e.link.phase → e.link.window ≡ announced.window) }
     ensures size { AlwaysOfTwo (λ e other announced.
         KnowsSize e.link.phase → e.link.size_code ≡ announced.size_code) }
+{
+    the_window_is_safe();
+    no_peer_leads_a_link_astray();
+}
+
+/// What occurs at two links is so many moves of the window machine: first what comes, then what goes out.
+///
+/// A packet of the window that is found arrives, at a link that is up; at any other link, and where it is gone past, it
+/// is lost. Each packet of the window that is emitted is put in flight, one by one: as a new message where the end's
+/// caller sends one, else as a message that is sent again or as an acknowledgement. Nothing else moves the machine.
+pub fn each_occurrence_is_moves_of_the_machine()
+    // The machine at the start reads two first links.
+    ensures start { (near far : Announced) (a b : State) → IsFirst near a → IsFirst far b →
+        ReadsBoth (first_ends a b) (start far.window near.window) }
+    // A machine that reads the ends has allowed moves for what occurs, and then reads the ends as they then are.
+    ensures moves { (near far : Announced) (ends : Ends) (o : Occurrence) (m : Machine) →
+        IsWindow near.window → IsWindow far.window → IsRun near far ends → MayOccur ends o →
+        IsReached far.window near.window m → ReadsBoth ends m →
+        (made : List Move) × MovesWith ends o m made }
+    // So each run is one of the machine from its start, occurrence by occurrence.
+    ensures whole { (near far : Announced) (a b : State) (os : List Occurrence) →
+        IsWindow near.window → IsWindow far.window → IsFirst near a → IsFirst far b → AllMayOccur (first_ends a b) os →
+        (made : List (List Move)) × AllMoveWith (first_ends a b) os (start far.window near.window) made }
 {
     the_window_is_safe();
     no_peer_leads_a_link_astray();
