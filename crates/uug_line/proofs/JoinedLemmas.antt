@@ -14,8 +14,9 @@ use Rattle.uug_line.specs.Taking.{packet_taken_up}
 use Rattle.uug_line.specs.World.{counted_end}
 use Rattle.uug_line.proofs.AgreementLemmas.{is_invariant}
 use Rattle.uug_line.proofs.AnswerLemmas.{taken_if}
+use Rattle.uug_line.proofs.FoundLemmas.{passed_behind}
 use Rattle.uug_line.proofs.Invariant.{DoesAlike, counted_effect, done_all, found}
-use Rattle.uug_line.proofs.Joining.{EndsJoined, IsSoundSession, Joined, Moment, link_end, moment_of}
+use Rattle.uug_line.proofs.Joining.{EndsJoined, HasPassed, IsSoundSession, Joined, Moment, link_end, moment_of}
 use Rattle.uug_line.specs.LowerLaws.{Laws}
 use Rattle.uug_line.proofs.MoveLemmas.{StandsThere}
 use Rattle.uug_line.proofs.StepLemmas.{packet_step_alike, step_alike}
@@ -54,6 +55,10 @@ most_found : (b : Bool) (message : List ℕ) (place : ℕ) (log : Log) → (took
 most_found true message place log = refl
 most_found false message place log = refl
 
+passed_found : (b : Bool) (message : List ℕ) (place : ℕ) (log : Log) → HasPassed (took b message (found_at place log))
+passed_found true message place log = sym (passed_behind log.arrivals place 0)
+passed_found false message place log = sym (passed_behind log.arrivals place 0)
+
 place_found : Laws → (p : PacketValue) (packets : List PacketValue) (passed place : ℕ) →
     place_of p packets passed ≡ Some place → IsPlace p packets passed place
 place_found law p packets passed place there =
@@ -74,11 +79,11 @@ module _ (law : Laws) (setup : SetupValue) (brought : AtBoth Belongings) (sound 
       (sound.window side) (sound.window (other side)) j.links).0
 
   call_done : (e f : LineEnd Talk) (log : Log) (x : EndEffect Talk) (y : EndEffect Count) → EndsJoined setup brought side e f →
-      log.most ≡ e.log.most →
+      log.most ≡ e.log.most → HasPassed log →
       DoesAlike (λ m. Joined setup brought side m (moment_of f)) (first_link (session_side side) (at side setup).own)
       (moment_with log e.state.link e.state.keeper) x y →
       DoneSo setup brought side f (after_call log e.line x) (after_call log e.line y)
-  call_done e f log x y joined most alike = record {
+  call_done e f log x y joined most has_passed alike = record {
     joined = record {
       joined = alike.holds;
       near_hails = alike.hails;
@@ -87,6 +92,8 @@ module _ (law : Laws) (setup : SetupValue) (brought : AtBoth Belongings) (sound 
           (subst (λ (n : ℕ). n ≤ (at (other side) setup).own.window) (sym most) joined.near_most)
           (unacked_within (done_all (moment_with log e.state.link e.state.keeper) x) (moment_of f) alike.holds);
       far_most = joined.far_most;
+      near_passed = has_passed;
+      far_passed = joined.far_passed;
     };
     same = counted_call log e.line e.state.link e.state.keeper x y alike.same;
   }
@@ -98,7 +105,7 @@ module _ (law : Laws) (setup : SetupValue) (brought : AtBoth Belongings) (sound 
       (does (count_player setup brought side) event (counted_end e))
   does_joined e f event none joined =
       call_done e f e.log (end_step (end_keeper (session_side side) (at side setup).holdings) (identity setup side) event e.state)
-      (end_step (count_keeper (seen_at setup brought side)) (identity setup side) event (counted_end e).state) joined refl
+      (end_step (count_keeper (seen_at setup brought side)) (identity setup side) event (counted_end e).state) joined refl joined.near_passed
       (step_alike law (session_side side) (at side setup).holdings (seen_at setup brought side)
       (λ m. Joined setup brought side m (moment_of f)) (StandsThere (moment_of f))
       (is_invariant law setup brought sound side (moment_of f)) (at side setup).own (at side setup).name
@@ -117,6 +124,7 @@ module _ (law : Laws) (setup : SetupValue) (brought : AtBoth Belongings) (sound 
       let log = taken_so x.took in
       subst (λ (b : Bool). DoneSo setup brought side f (after_call log e.line x) (after_call (taken_so b) e.line y)) tooks
       (call_done e f log x y joined (most_found x.took (message_of p) place e.log)
+      (passed_found x.took (message_of p) place e.log)
       (subst (λ (m : Moment). DoesAlike (λ n. Joined setup brought side n (moment_of f))
       (first_link (session_side side) (at side setup).own) m x y)
       (moment_found x.took (message_of p) place e.log e.state.link e.state.keeper) alike))

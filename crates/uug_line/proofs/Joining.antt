@@ -15,8 +15,9 @@ use Rattle.uug_session.specs.TwoEnds.{Talker, Two, Reached, first_talker, talker
 use Rattle.uug_line.specs.declared.side.Side.{Side}
 use Rattle.uug_line.specs.declared.side.Side.TheVariants.{Caller, Called}
 use Rattle.uug_line.specs.Belongings.{Belongings, SetupValue, party}
-use Rattle.uug_line.specs.LineEnd.{LineEnd}
+use Rattle.uug_line.specs.LineEnd.{Log, LineEnd}
 use Rattle.uug_line.specs.Sides.{other, session_side, AtBoth, at}
+use Rattle.uug_line.specs.WereSent.{passed_at}
 
 -- what an end has come to, but for its stage, its places and what is on its line
 pub record Moment : Type 0 where
@@ -70,12 +71,18 @@ pub record Joined (setup : SetupValue) (brought : AtBoth Belongings) (side : Sid
 abbrev pub Hails : SetupValue → Side → LineEnd Talk → Type 0
 Hails setup side e = (g : Greeting) → e.state.stage ≡ hailing g → e.state.link ≡ first_link (session_side side) (at side setup).own
 
+-- it has gone past no packet behind the last that it found
+abbrev pub HasPassed : Log → Type 0
+HasPassed log = log.passed ≡ passed_at log.arrivals 0
+
 pub record EndsJoined (setup : SetupValue) (brought : AtBoth Belongings) (side : Side) (e f : LineEnd Talk) : Type 0 where
   pub joined : Joined setup brought side (moment_of e) (moment_of f)
   pub near_hails : Hails setup side e
   pub far_hails : Hails setup (other side) f
   pub near_most : e.log.most ≤ (at (other side) setup).own.window
   pub far_most : f.log.most ≤ (at side setup).own.window
+  pub near_passed : HasPassed e.log
+  pub far_passed : HasPassed f.log
 
 -- ---- what a set-up's types say
 

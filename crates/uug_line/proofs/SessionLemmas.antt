@@ -58,6 +58,8 @@ module _ (law : Laws) (setup : SetupValue) (brought : AtBoth Belongings) where
     far_hails = joined.near_hails;
     near_most = joined.far_most;
     far_most = joined.near_most;
+    near_passed = joined.far_passed;
+    far_passed = joined.near_passed;
   }
   turned Called e f joined = record {
     joined = joined_turned Called (moment_of e) (moment_of f) joined.joined;
@@ -65,6 +67,8 @@ module _ (law : Laws) (setup : SetupValue) (brought : AtBoth Belongings) where
     far_hails = joined.near_hails;
     near_most = joined.far_most;
     far_most = joined.near_most;
+    near_passed = joined.far_passed;
+    far_passed = joined.near_passed;
   }
 
   -- ---- a session starts
@@ -95,6 +99,8 @@ module _ (law : Laws) (setup : SetupValue) (brought : AtBoth Belongings) where
     far_hails = λ g hails. refl;
     near_most = omega arith;
     far_most = omega arith;
+    near_passed = refl;
+    far_passed = refl;
   }
 
 pub first_counted : (setup : SetupValue) (brought : AtBoth Belongings) (side : Side) →

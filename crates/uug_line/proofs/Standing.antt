@@ -1,7 +1,8 @@
 -- What a run of two ends has come to, after every event: its ends are joined, and the run by numbers is the same.
-use Rattle.std.proofs.Common.{◌≡◌, ℕ, suc, List, [], ◌∷◌, ◌++◌, take, drop, All, ◌+◌, refl, sym, ap, ap₂, ◌∙◌}
+use Rattle.std.proofs.Common.{◌≡◌, ℕ, suc, List, [], ◌∷◌, ◌++◌, take, drop, All, ◌+◌, refl, sym, ap, ap₂, subst, ◌∙◌}
 use Rattle.std.proofs.lemmas.List.Elements.{All-nil, All-push}
 use Rattle.std.proofs.lemmas.Nat.{pow_pos}
+use Rattle.uug_link.specs.TwoLinks.{End, Ends, IsRun}
 use Rattle.uug_session.specs.Arriving.{held_in, Hearer, Came, all_taken, stopped, takes_piece}
 use Rattle.uug_session.specs.Count.{Count}
 use Rattle.uug_session.specs.EndStep.{EndEvent, time_ran_out, line_lost}
@@ -15,7 +16,7 @@ use Rattle.uug_line.specs.declared.side.Side.TheVariants.{Caller, Called}
 use Rattle.uug_line.specs.declared.verdict.LineVerdict.{LineVerdict}
 use Rattle.uug_line.specs.declared.verdict.LineVerdict.TheVariants.{Clean, Fooled}
 use Rattle.uug_line.specs.Belongings.{Belongings, SetupValue, party, renewed}
-use Rattle.uug_line.specs.Headline.{TookFronts, KeptToWindows, RanAsMachine, StaysInFront}
+use Rattle.uug_line.specs.Headline.{TookFronts, KeptToWindows, RanAsMachine, StaysInFront, link_end as told_end}
 use Rattle.uug_line.specs.LineEnd.{LineEnd, does, called_with, changed_line}
 use Rattle.uug_line.specs.Report.{EndReportValue, report_of_end}
 use Rattle.uug_line.specs.Run.{Run, end_at, with_end_at, has_now, first_end, session_begins, flipped, with_line_to, after_hearing, calls, hung_up, calls_again, after_event, unless_fooled, goes_through, first_run}
@@ -25,7 +26,7 @@ use Rattle.uug_line.specs.SoundSetup.{IsSoundSetup}
 use Rattle.uug_line.specs.Taking.{line_taker}
 use Rattle.uug_line.specs.World.{report_of, counted_hearer, counted, run_of_ends, world, report_of_ends, report_of_world}
 use Rattle.uug_line.proofs.Hearing.{counted_came, end_of, taken_piece}
-use Rattle.uug_line.proofs.Joining.{EndsJoined, IsSoundSession, link_end, moment_of}
+use Rattle.uug_line.proofs.Joining.{EndsJoined, HasPassed, IsSoundSession, link_end, moment_of}
 use Rattle.uug_line.specs.SessionLaws.{SessionLaws}
 use Rattle.uug_line.proofs.Steps.{talk_player, count_player, IsNoPacket, Steps}
 use Rattle.uug_line.proofs.StoredSince.{OwnSince, names_now, own_of_both, own_at_first, OwnPlaces, own_places, set_up}
@@ -58,6 +59,8 @@ near_line setup brought side change h f j = record {
   far_hails = j.far_hails;
   near_most = j.near_most;
   far_most = j.far_most;
+  near_passed = j.near_passed;
+  far_passed = j.far_passed;
 }
 
 far_line : (setup : SetupValue) (brought : AtBoth Belongings) (side : Side) (change : List ℕ → List ℕ)
@@ -69,6 +72,8 @@ far_line setup brought side change e h j = record {
   far_hails = j.far_hails;
   near_most = j.near_most;
   far_most = j.far_most;
+  near_passed = j.near_passed;
+  far_passed = j.far_passed;
 }
 
 -- ---- a session's end by end
@@ -78,6 +83,16 @@ AllSteps setup = (brought : AtBoth Belongings) → IsSoundSession setup brought 
 
 both_are : {A : Type 0} (x y : AtBoth A) → x.at_caller ≡ y.at_caller → x.at_called ≡ y.at_called → x ≡ y
 both_are x y e f = ap₂ (λ a b. record { at_caller = a; at_called = b }) e f
+
+-- an end's link with what is told of the end
+as_told : (e : LineEnd Talk) → HasPassed e.log → link_end (moment_of e) ≡ told_end (report_of_end e) e.state.link
+as_told e passed = ap (λ (n : ℕ). record {
+  link = e.state.link;
+  sent = e.log.sent;
+  taken = e.log.taken;
+  emitted = e.log.packets;
+  passed = n;
+}) passed
 
 module _ (setup : SetupValue) (all_steps : (brought : AtBoth Belongings) → IsSoundSession setup brought → Steps setup brought) (laws : SessionLaws) where
   steps_of : (run : Run Talk) → Stands setup run → Steps setup run.brought
@@ -221,20 +236,33 @@ module _ (setup : SetupValue) (all_steps : (brought : AtBoth Belongings) → IsS
 
   -- ---- a call
 
+  -- the run of the two links, as it is told
+  links_told : (e f : LineEnd Talk) → HasPassed e.log → HasPassed f.log →
+      IsRun setup.at_caller.own setup.at_called.own
+      (record { near = link_end (moment_of e); far = link_end (moment_of f) }) →
+      IsRun setup.at_caller.own setup.at_called.own
+      (record { near = told_end (report_of_end e) e.state.link; far = told_end (report_of_end f) f.state.link })
+  links_told e f near far run =
+      subst (λ (a : End). IsRun setup.at_caller.own setup.at_called.own
+      (record { near = a; far = told_end (report_of_end f) f.state.link })) (as_told e near)
+      (subst (λ (b : End). IsRun setup.at_caller.own setup.at_called.own
+      (record { near = link_end (moment_of e); far = b })) (as_told f far) run)
+
   ran_as_machine : (brought : AtBoth Belongings) → IsSoundSession setup brought → (e f : LineEnd Talk) →
       EndsJoined setup brought Caller e f →
       RanAsMachine setup (record { at_caller = report_of_end e; at_called = report_of_end f })
   ran_as_machine brought sound e f joined =
-      let m = laws.machine setup.at_caller.own setup.at_called.own
-      (record { near = link_end (moment_of e); far = link_end (moment_of f) })
-      (sound.window Caller) (sound.window Called) joined.joined.links in
+      let ends : Ends = record {
+        near = told_end (report_of_end e) e.state.link;
+        far = told_end (report_of_end f) f.state.link;
+      } in
+      let m = laws.machine setup.at_caller.own setup.at_called.own ends (sound.window Caller) (sound.window Called)
+      (links_told e f joined.near_passed joined.far_passed joined.joined.links) in
       let bounds = laws.bounds setup.at_called.own.window setup.at_caller.own.window m.0
       (sound.window Called) (sound.window Caller) m.1 in
       record {
         caller_link = e.state.link;
-        caller_passed = e.log.passed;
         called_link = f.state.link;
-        called_passed = f.log.passed;
         machine = m.0;
         reached = m.1;
         out = m.2;

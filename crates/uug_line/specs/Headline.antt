@@ -15,6 +15,7 @@ use Rattle.uug_line.specs.declared.side.Side.TheVariants.{Caller, Called}
 use Rattle.uug_line.specs.Belongings.{SetupValue}
 use Rattle.uug_line.specs.Report.{EndReportValue}
 use Rattle.uug_line.specs.Sides.{other, AtBoth, at}
+use Rattle.uug_line.specs.WereSent.{passed_at}
 use Rattle.uug_line.specs.World.{ReportValue}
 
 -- ---- in a session
@@ -29,24 +30,26 @@ KeptToWindows setup session = (side : Side) → (at side session).most ≤ (at (
 
 -- ---- in a session, packet by packet
 
--- an end's link as it is told of, in this state, which has found or gone past so many of the other end's packets
-abbrev pub link_end : EndReportValue → (link : State) → (passed : ℕ) → End
-link_end told link passed =
-    record { link = link; sent = told.sent; taken = told.taken; emitted = told.packets; passed = passed }
+-- an end's link in this state, with what is told of the end: it has found or gone past the other end's packets up to the
+-- place of the last that it found
+abbrev pub link_end : EndReportValue → (link : State) → End
+link_end told link = record {
+  link = link;
+  sent = told.sent;
+  taken = told.taken;
+  emitted = told.packets;
+  passed = passed_at told.arrivals 0;
+}
 
 -- The session has run as the window machine, INIT and CLOSE packets left aside: with its numbers and acknowledgements on the
 -- line as their digits modulo eight, and each direction within the machine's bounds.
 pub record RanAsMachine (setup : SetupValue) (session : AtBoth EndReportValue) : Type 0 where
   pub caller_link : State
-  pub caller_passed : ℕ
   pub called_link : State
-  pub called_passed : ℕ
   pub machine : Machine
   pub reached : IsReached (at Called setup).own.window (at Caller setup).own.window machine
-  pub out : Reads (link_end session.at_caller caller_link caller_passed) (link_end session.at_called called_link called_passed)
-      machine.out
-  pub back : Reads (link_end session.at_called called_link called_passed) (link_end session.at_caller caller_link caller_passed)
-      machine.back
+  pub out : Reads (link_end session.at_caller caller_link) (link_end session.at_called called_link) machine.out
+  pub back : Reads (link_end session.at_called called_link) (link_end session.at_caller caller_link) machine.back
   pub out_bounds : IsWithinBounds machine.out machine.back
   pub back_bounds : IsWithinBounds machine.back machine.out
 
