@@ -2,7 +2,8 @@
 use Rattle.std.proofs.Common.{◌≡◌, ℕ, suc, List, [], ◌∷◌, ◌++◌, take, drop, All, ◌+◌, refl, sym, ap, ap₂, subst, ◌∙◌}
 use Rattle.std.proofs.lemmas.List.Elements.{All-nil, All-push}
 use Rattle.std.proofs.lemmas.Nat.{pow_pos}
-use Rattle.uug_link.specs.TwoLinks.{End, Ends, IsRun}
+use Rattle.uug_link.specs.State.{State}
+use Rattle.uug_link.specs.TwoLinks.{End, IsRun}
 use Rattle.uug_session.specs.Arriving.{held_in, Hearer, Came, all_taken, stopped, takes_piece}
 use Rattle.uug_session.specs.Count.{Count}
 use Rattle.uug_session.specs.EndStep.{EndEvent, time_ran_out, line_lost}
@@ -16,7 +17,7 @@ use Rattle.uug_line.specs.declared.side.Side.TheVariants.{Caller, Called}
 use Rattle.uug_line.specs.declared.verdict.LineVerdict.{LineVerdict}
 use Rattle.uug_line.specs.declared.verdict.LineVerdict.TheVariants.{Clean, Fooled}
 use Rattle.uug_line.specs.Belongings.{Belongings, SetupValue, party, renewed}
-use Rattle.uug_line.specs.Headline.{TookFronts, KeptToWindows, RanAsMachine, StaysInFront, link_end as told_end}
+use Rattle.uug_line.specs.Headline.{TookFronts, KeptToWindows, RanAsMachine, SomeLinksRan, StaysInFront, link_end as told_end, link_ends}
 use Rattle.uug_line.specs.LineEnd.{LineEnd, does, called_with, changed_line}
 use Rattle.uug_line.specs.Report.{EndReportValue, report_of_end}
 use Rattle.uug_line.specs.Run.{Run, end_at, with_end_at, has_now, first_end, session_begins, flipped, with_line_to, after_hearing, calls, hung_up, calls_again, after_event, unless_fooled, goes_through, first_run}
@@ -35,7 +36,7 @@ use Rattle.uug_line.proofs.StoredSince.{OwnSince, names_now, own_of_both, own_at
 pub record IsKept (setup : SetupValue) (session : AtBoth EndReportValue) : Type 0 where
   pub front : TookFronts session
   pub window : KeptToWindows setup session
-  pub machine : RanAsMachine setup session
+  pub machine : SomeLinksRan setup session
 
 pub record Stands (setup : SetupValue) (run : Run Talk) : Type 0 where
   pub sound : IsSoundSession setup run.brought
@@ -83,6 +84,10 @@ AllSteps setup = (brought : AtBoth Belongings) → IsSoundSession setup brought 
 
 both_are : {A : Type 0} (x y : AtBoth A) → x.at_caller ≡ y.at_caller → x.at_called ≡ y.at_called → x ≡ y
 both_are x y e f = ap₂ (λ a b. record { at_caller = a; at_called = b }) e f
+
+-- how the links of these ends stand
+abbrev links_at : LineEnd Talk → LineEnd Talk → AtBoth State
+links_at e f = record { at_caller = e.state.link; at_called = f.state.link }
 
 -- an end's link with what is told of the end
 as_told : (e : LineEnd Talk) → HasPassed e.log → link_end (moment_of e) ≡ told_end (report_of_end e) e.state.link
@@ -241,7 +246,7 @@ module _ (setup : SetupValue) (all_steps : (brought : AtBoth Belongings) → IsS
       IsRun setup.at_caller.own setup.at_called.own
       (record { near = link_end (moment_of e); far = link_end (moment_of f) }) →
       IsRun setup.at_caller.own setup.at_called.own
-      (record { near = told_end (report_of_end e) e.state.link; far = told_end (report_of_end f) f.state.link })
+      (link_ends (record { at_caller = report_of_end e; at_called = report_of_end f }) (links_at e f))
   links_told e f near far run =
       subst (λ (a : End). IsRun setup.at_caller.own setup.at_called.own
       (record { near = a; far = told_end (report_of_end f) f.state.link })) (as_told e near)
@@ -250,19 +255,16 @@ module _ (setup : SetupValue) (all_steps : (brought : AtBoth Belongings) → IsS
 
   ran_as_machine : (brought : AtBoth Belongings) → IsSoundSession setup brought → (e f : LineEnd Talk) →
       EndsJoined setup brought Caller e f →
-      RanAsMachine setup (record { at_caller = report_of_end e; at_called = report_of_end f })
+      RanAsMachine setup (record { at_caller = report_of_end e; at_called = report_of_end f }) (links_at e f)
   ran_as_machine brought sound e f joined =
-      let ends : Ends = record {
-        near = told_end (report_of_end e) e.state.link;
-        far = told_end (report_of_end f) f.state.link;
-      } in
-      let m = laws.machine setup.at_caller.own setup.at_called.own ends (sound.window Caller) (sound.window Called)
-      (links_told e f joined.near_passed joined.far_passed joined.joined.links) in
+      let run = links_told e f joined.near_passed joined.far_passed joined.joined.links in
+      let m = laws.machine setup.at_caller.own setup.at_called.own
+      (link_ends (record { at_caller = report_of_end e; at_called = report_of_end f }) (links_at e f))
+      (sound.window Caller) (sound.window Called) run in
       let bounds = laws.bounds setup.at_called.own.window setup.at_caller.own.window m.0
       (sound.window Called) (sound.window Caller) m.1 in
       record {
-        caller_link = e.state.link;
-        called_link = f.state.link;
+        run = run;
         machine = m.0;
         reached = m.1;
         out = m.2;
@@ -276,7 +278,7 @@ module _ (setup : SetupValue) (all_steps : (brought : AtBoth Belongings) → IsS
       EndsJoined setup brought Caller e f →
       IsKept setup (record { at_caller = report_of_end e; at_called = report_of_end f })
   session_kept brought sound e f joined =
-      record { front = front; window = window; machine = ran_as_machine brought sound e f joined }
+      record { front = front; window = window; machine = (links_at e f, ran_as_machine brought sound e f joined) }
     where
       steps : Steps setup brought
       steps = all_steps brought sound

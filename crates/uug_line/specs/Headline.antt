@@ -3,7 +3,7 @@
 use Rattle.std.specs.Prelude.{◌≡◌, ℕ, ◌≤◌, List, ◌++◌, length, drop, All}
 use Rattle.uug_link.specs.OnTheLine.{Reads}
 use Rattle.uug_link.specs.State.{State}
-use Rattle.uug_link.specs.TwoLinks.{End}
+use Rattle.uug_link.specs.TwoLinks.{End, Ends, IsRun}
 use Rattle.uug_link.specs.WindowBounds.{IsWithinBounds}
 use Rattle.uug_link.specs.WindowMachine.{IsReached, Machine}
 use Rattle.uug_session.specs.declared.job.Job.{Job}
@@ -41,15 +41,25 @@ link_end told link = record {
   passed = passed_at told.arrivals 0;
 }
 
--- The session has run as the window machine, INIT and CLOSE packets left aside: with its numbers and acknowledgements on the
--- line as their digits modulo eight, and each direction within the machine's bounds.
-pub record RanAsMachine (setup : SetupValue) (session : AtBoth EndReportValue) : Type 0 where
-  pub caller_link : State
-  pub called_link : State
+-- the links of the two ends
+abbrev pub link_ends : AtBoth EndReportValue → (links : AtBoth State) → Ends
+link_ends session links = record {
+  near = link_end session.at_caller links.at_caller;
+  far = link_end session.at_called links.at_called;
+}
+
+-- The session has run as the window machine, and has left its ends' links so.
+pub record RanAsMachine (setup : SetupValue) (session : AtBoth EndReportValue) (links : AtBoth State) : Type 0 where
+  -- It is a run of two links that announce what the ends are set up with: in it they have sent and taken these messages and
+  -- emitted these packets, and no others.
+  pub run : IsRun (at Caller setup).own (at Called setup).own (link_ends session links)
+  -- The run is one of the machine, INIT and CLOSE packets left aside: its numbers and acknowledgements stand on the line as
+  -- their digits modulo eight.
   pub machine : Machine
   pub reached : IsReached (at Called setup).own.window (at Caller setup).own.window machine
-  pub out : Reads (link_end session.at_caller caller_link) (link_end session.at_called called_link) machine.out
-  pub back : Reads (link_end session.at_called called_link) (link_end session.at_caller caller_link) machine.back
+  pub out : Reads (link_end session.at_caller links.at_caller) (link_end session.at_called links.at_called) machine.out
+  pub back : Reads (link_end session.at_called links.at_called) (link_end session.at_caller links.at_caller) machine.back
+  -- Each direction is within the machine's bounds.
   pub out_bounds : IsWithinBounds machine.out machine.back
   pub back_bounds : IsWithinBounds machine.back machine.out
 
@@ -61,8 +71,12 @@ AllTookFronts report = All TookFronts report.sessions
 abbrev pub AllKeptToWindows : SetupValue → ReportValue → Type 0
 AllKeptToWindows setup report = All (KeptToWindows setup) report.sessions
 
+-- whatever links the ends then had
+abbrev pub SomeLinksRan : SetupValue → AtBoth EndReportValue → Type 0
+SomeLinksRan setup session = (links : AtBoth State) × RanAsMachine setup session links
+
 abbrev pub AllRanAsMachine : SetupValue → ReportValue → Type 0
-AllRanAsMachine setup report = All (RanAsMachine setup) report.sessions
+AllRanAsMachine setup report = All (SomeLinksRan setup) report.sessions
 
 -- ---- since the set-up
 
