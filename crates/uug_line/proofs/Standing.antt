@@ -17,7 +17,7 @@ use Rattle.uug_line.specs.declared.side.Side.TheVariants.{Caller, Called}
 use Rattle.uug_line.specs.declared.verdict.LineVerdict.{LineVerdict}
 use Rattle.uug_line.specs.declared.verdict.LineVerdict.TheVariants.{Clean, Fooled}
 use Rattle.uug_line.specs.Belongings.{Belongings, SetupValue, party, renewed}
-use Rattle.uug_line.specs.Headline.{TookFronts, KeptToWindows, RanAsMachine, SomeLinksRan, StaysInFront, link_end as told_end, link_ends}
+use Rattle.uug_line.specs.Headline.{TookFronts, KeptToWindows, RanAsMachine, PresentRanAsMachine, SomeLinksRan, StaysInFront, link_end as told_end, link_ends}
 use Rattle.uug_line.specs.LineEnd.{LineEnd, does, called_with, changed_line}
 use Rattle.uug_line.specs.Report.{EndReportValue, report_of_end}
 use Rattle.uug_line.specs.Run.{Run, end_at, with_end_at, has_now, first_end, session_begins, flipped, with_line_to, after_hearing, calls, hung_up, calls_again, after_event, unless_fooled, goes_through, first_run}
@@ -473,6 +473,12 @@ module _ (setup : SetupValue) (all_steps : (brought : AtBoth Belongings) → IsS
       let run = run_of_ends setup events in
       All-push (IsKept setup) run.past (at_each (λ side. report_of_end (end_at side run).end)) s.past
       (session_kept run.brought s.sound run.ends.at_caller.end run.ends.at_called.end s.joined)
+
+  pub present_ran : IsSoundSetup setup → (events : List Event) → PresentRanAsMachine setup (run_of_ends setup events)
+  present_ran sound events =
+      let s = (run_goes sound events).stands in
+      let run = run_of_ends setup events in
+      ran_as_machine run.brought s.sound run.ends.at_caller.end run.ends.at_called.end s.joined
 
   pub all_own : IsSoundSetup setup → (events : List Event) (giver : Side) →
       OwnPlaces setup (report_of_ends setup events).belongings giver

@@ -13,8 +13,10 @@ use Rattle.uug_session.specs.TwoEnds.{IsFrontOf}
 use Rattle.uug_line.specs.declared.side.Side.{Side}
 use Rattle.uug_line.specs.declared.side.Side.TheVariants.{Caller, Called}
 use Rattle.uug_line.specs.Belongings.{SetupValue}
+use Rattle.uug_line.specs.Fooled.{present}
 use Rattle.uug_line.specs.Report.{EndReportValue}
-use Rattle.uug_line.specs.Sides.{other, AtBoth, at}
+use Rattle.uug_line.specs.Run.{Run, end_at}
+use Rattle.uug_line.specs.Sides.{other, AtBoth, at, at_each}
 use Rattle.uug_line.specs.WereSent.{passed_at}
 use Rattle.uug_line.specs.World.{ReportValue}
 
@@ -62,6 +64,16 @@ pub record RanAsMachine (setup : SetupValue) (session : AtBoth EndReportValue) (
   -- Each direction is within the machine's bounds.
   pub out_bounds : IsWithinBounds machine.out machine.back
   pub back_bounds : IsWithinBounds machine.back machine.out
+
+-- ---- in the present session
+
+-- how its ends' links stand
+abbrev pub links_now : {C : Type 0} → Run C → AtBoth State
+links_now run = at_each (λ side. (end_at side run).end.state.link)
+
+-- it has run as the machine up to these links
+abbrev pub PresentRanAsMachine : {C : Type 0} → SetupValue → Run C → Type 0
+PresentRanAsMachine setup run = RanAsMachine setup (present run) (links_now run)
 
 -- ---- in all sessions of a report
 

@@ -17,8 +17,8 @@ ghost use Rattle.uug_line.specs.Shown.{lists_in};
 ghost use Rattle.uug_line.specs.Sides.{other};
 ghost use Rattle.uug_line.specs.Spelled.{spelled};
 ghost use Rattle.uug_line.specs.Fooled.{NamesUnsent};
-ghost use Rattle.uug_line.specs.Headline.{AllKeptToWindows, AllRanAsMachine, AllTookFronts, StaysInFront, StruckWereStored};
-ghost use Rattle.uug_line.specs.World.{report_of_ends, report_of_world};
+ghost use Rattle.uug_line.specs.Headline.{AllKeptToWindows, AllRanAsMachine, AllTookFronts, PresentRanAsMachine, StaysInFront, StruckWereStored};
+ghost use Rattle.uug_line.specs.World.{report_of_ends, report_of_world, run_of_ends};
 ghost use Rattle.uug_line.specs.declared.side.Side.{Side};
 
 use crate::event::Event;
@@ -62,8 +62,10 @@ pub fn run<A: Allocator + Copy>(
     ensures earlier { OnOk result ((side : Side) → StaysInFront (setup_of setup) (report_of_ends (setup_of setup) events.now) side) }
     // No end ever had more unacknowledged packets than the other announced.
     ensures window { OnOk result (AllKeptToWindows (setup_of setup) (report_of_ends (setup_of setup) events.now)) }
-    // Each session has run as the window machine, with its bounds in both directions.
+    // Each session is a run of the two ends' links, and one of the window machine, with its bounds in both directions.
     ensures machine { OnOk result (AllRanAsMachine (setup_of setup) (report_of_ends (setup_of setup) events.now)) }
+    // In the present session the links are those that the ends have then.
+    ensures present { OnOk result (PresentRanAsMachine (setup_of setup) (run_of_ends (setup_of setup) events.now)) }
 {
     look_at_setup(&setup);
     a_run_is_the_world();

@@ -8,7 +8,7 @@ ghost use Rattle.uug_line.specs.declared.verdict.LineVerdict.TheVariants.{Clean,
 ghost use Rattle.uug_line.specs.Belongings.{SetupValue};
 ghost use Rattle.uug_line.specs.Delivered.{HasHeardAt, HasScanned, came_in};
 ghost use Rattle.uug_line.specs.Fooled.{FindsNothingMore, FindsUnsent, FoundWereSent, StoppedAt};
-ghost use Rattle.uug_line.specs.Headline.{AllKeptToWindows, AllRanAsMachine, AllTookFronts, StaysInFront, StruckWereStored};
+ghost use Rattle.uug_line.specs.Headline.{AllKeptToWindows, AllRanAsMachine, AllTookFronts, PresentRanAsMachine, StaysInFront, StruckWereStored};
 ghost use Rattle.uug_line.specs.LowerLaws.{Laws};
 ghost use Rattle.uug_line.specs.OfBytes.{AreOfBytes, IsSetupOfBytes};
 ghost use Rattle.uug_line.specs.Run.{end_at};
@@ -86,9 +86,13 @@ pub fn the_headline()
     // What was struck and stored before the run stays in front.
     ensures earlier { (setup : SetupValue) (events : List Event) → IsSoundSetup setup
         → (side : Side) → StaysInFront setup (report_of_ends setup events) side }
-    // Packet by packet, each session is one of the window machine, with its bounds in both directions.
+    // Packet by packet, each session is a run of the two ends' links, and one of the window machine, with its bounds in both
+    // directions.
     ensures machine { (setup : SetupValue) (events : List Event) → IsSoundSetup setup
         → AllRanAsMachine setup (report_of_ends setup events) }
+    // In the present session the links are those that the ends have now.
+    ensures present { (setup : SetupValue) (events : List Event) → IsSoundSetup setup
+        → PresentRanAsMachine setup (run_of_ends setup events) }
 {
     laws_below();
     session_laws();

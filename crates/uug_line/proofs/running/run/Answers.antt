@@ -46,4 +46,5 @@ returns g c =
       earlier = c.the_headline.ensures.earlier setup events sound;
       window = c.the_headline.ensures.window setup events sound;
       machine = c.the_headline.ensures.machine setup events sound;
+      present = c.the_headline.ensures.present setup events sound;
     }

@@ -1,5 +1,5 @@
 use Rattle.uug_line.proofs.JoinedSteps.{steps}
-use Rattle.uug_line.proofs.Standing.{all_kept, all_own, stays_in_front}
+use Rattle.uug_line.proofs.Standing.{all_kept, all_own, present_ran, stays_in_front}
 use Rattle.uug_line.proofs.world_laws.the_headline.Goals as goal
 
 pub returns-clause-front : goal.returns-clause-front
@@ -21,3 +21,7 @@ returns-clause-earlier c setup events sound side =
 pub returns-clause-machine : goal.returns-clause-machine
 returns-clause-machine c setup events sound k d within =
     (all_kept setup (steps c.laws_below.ensures setup) c.session_laws.ensures sound events k d within).machine
+
+pub returns-clause-present : goal.returns-clause-present
+returns-clause-present c setup events sound =
+    present_ran setup (steps c.laws_below.ensures setup) c.session_laws.ensures sound events
