@@ -12,7 +12,7 @@ use Rattle.uug_line.specs.Sides.{AtBoth, at, session_side}
 use Rattle.uug_line.proofs.Invariant.{IsInvariant}
 use Rattle.uug_line.proofs.Joining.{IsSoundSession, IsTalk, Joined, Moment}
 use Rattle.uug_line.specs.LowerLaws.{Laws}
-use Rattle.uug_line.proofs.MoveLemmas.{StandsThere, joined_begins, joined_closes, joined_finds_bad, joined_goes_past, joined_hears, joined_sends, joined_times_out}
+use Rattle.uug_line.proofs.MoveLemmas.{StandsThere, joined_begins, joined_closes, joined_finds_bad, joined_hears, joined_sends, joined_times_out}
 use Rattle.uug_line.proofs.TalkLemmas.{Agrees, agrees_at, seen_at, talk_at, talker_at, told_at}
 
 -- what an end keeps, and its two numbers, say the same
@@ -70,5 +70,4 @@ module _ (law : Laws) (setup : SetupValue) (brought : AtBoth Belongings) (sound 
       finds_bad = joined_finds_bad setup brought side far law sound;
       times_out = joined_times_out setup brought side far law sound;
       hears = joined_hears setup brought side far law sound;
-      goes_past = joined_goes_past setup brought side far law sound;
     }

@@ -20,26 +20,27 @@ use Rattle.uug_line.specs.World.{counted_end, counted_hearer}
 use Rattle.uug_line.proofs.Joining.{EndsJoined}
 use Rattle.uug_line.proofs.Steps.{talk_player, count_player, IsNoPacket, Steps}
 
--- ---- what is found but packets
+-- ---- packets are found on a link alone, and told apart from the rest
 
-abbrev FindsNoPacket : Finding → Type 0
-FindsNoPacket (finds event behind) = IsNoPacket event
-FindsNoPacket _ = ⊤
+abbrev FindsAt : Stage → Finding → Type 0
+FindsAt stage (finds_nothing rest) = ⊤
+FindsAt stage (finds event behind) = IsNoPacket event
+FindsAt stage (finds_packet p from behind) = stage ≡ linked
 
-text_is_no_packet : (bytes : List ℕ) (s : TextSearch) → FindsNoPacket (text_finding bytes s)
-text_is_no_packet bytes (text_waits rest) = tt
-text_is_no_packet bytes (text_stands text others) = tt
-text_is_no_packet bytes text_too_long = tt
+text_found_at : (stage : Stage) (bytes : List ℕ) (s : TextSearch) → FindsAt stage (text_finding bytes s)
+text_found_at stage bytes (text_waits rest) = tt
+text_found_at stage bytes (text_stands text others) = tt
+text_found_at stage bytes text_too_long = tt
 
-item_is_no_packet : (s : Search) → FindsNoPacket (item_finding s)
-item_is_no_packet (waiting rest) = tt
-item_is_no_packet (standing (found p) size bytes) = tt
-item_is_no_packet (standing bad size bytes) = tt
+item_found_at : (s : Search) → FindsAt linked (item_finding s)
+item_found_at (waiting rest) = tt
+item_found_at (standing (found p) size bytes) = refl
+item_found_at (standing bad size bytes) = tt
 
-finds_no_packet : (stage : Stage) (bytes : List ℕ) → FindsNoPacket (finding stage bytes)
-finds_no_packet (hailing g) bytes = text_is_no_packet bytes (search_text bytes)
-finds_no_packet linked bytes = item_is_no_packet (search_of bytes)
-finds_no_packet (ended how) bytes = tt
+found_so_at : (stage : Stage) (bytes : List ℕ) → FindsAt stage (finding stage bytes)
+found_so_at (hailing g) bytes = text_found_at (hailing g) bytes (search_text bytes)
+found_so_at linked bytes = item_found_at (search_of bytes)
+found_so_at (ended how) bytes = tt
 
 -- ---- what came, by numbers
 
@@ -78,31 +79,31 @@ module _ (setup : SetupValue) (brought : AtBoth Belongings) (steps : Steps setup
       }
 
   taken_if : (n : ℕ) → AreTaken n → (p : PacketValue) (place : Option ℕ) (from behind : List ℕ) (e : LineEnd Talk) →
-      place_of p f.log.packets e.log.passed ≡ place → EndsJoined setup brought side e f →
+      e.state.stage ≡ linked → place_of p f.log.packets e.log.passed ≡ place → EndsJoined setup brought side e f →
       IsTaken (takes_if (takes_up_to n talks) talks (takes_sent (talk_player setup side) p place e) from behind e)
       (takes_if (takes_up_to n counts) counts (takes_sent (count_player setup brought side) p place (counted_end e)) from behind
       (counted_end e))
-  taken_if n more p None from behind e is joined = record { joined = joined; counted = refl }
-  taken_if n more p (Some place) from behind e is joined =
+  taken_if n more p None from behind e on_link is joined = record { joined = joined; counted = refl }
+  taken_if n more p (Some place) from behind e on_link is joined =
       taken_behind n more behind (packet_taken_up (talk_player setup side) p place e)
       (packet_taken_up (count_player setup brought side) p place (counted_end e))
-      (steps.packet_joined side p place e f is joined) (steps.packet_counted side p place e f is joined)
+      (steps.packet_joined side p place e f on_link is joined) (steps.packet_counted side p place e f on_link is joined)
 
-  taken_so : (n : ℕ) → AreTaken n → (what : Finding) → FindsNoPacket what → (e : LineEnd Talk) →
+  taken_so : (n : ℕ) → AreTaken n → (what : Finding) (e : LineEnd Talk) → FindsAt e.state.stage what →
       EndsJoined setup brought side e f →
       IsTaken (takes_up (takes_up_to n talks) talks what e) (takes_up (takes_up_to n counts) counts what (counted_end e))
-  taken_so n more (finds_nothing rest) no_packet e joined = record { joined = joined; counted = refl }
-  taken_so n more (finds event behind) no_packet e joined =
+  taken_so n more (finds_nothing rest) e found_at joined = record { joined = joined; counted = refl }
+  taken_so n more (finds event behind) e no_packet joined =
       taken_behind n more behind (does (talk_player setup side) event e)
       (does (count_player setup brought side) event (counted_end e))
       (steps.does_joined side event e f no_packet joined) (steps.does_counted side event e f no_packet joined)
-  taken_so n more (finds_packet p from behind) no_packet e joined =
-      taken_if n more p (place_of p f.log.packets e.log.passed) from behind e refl joined
+  taken_so n more (finds_packet p from behind) e on_link joined =
+      taken_if n more p (place_of p f.log.packets e.log.passed) from behind e on_link refl joined
 
   taken_up_to : (n : ℕ) → AreTaken n
   taken_up_to zero h joined = record { joined = joined; counted = refl }
   taken_up_to (suc n) h joined =
-      taken_so n (taken_up_to n) (finding h.end.state.stage h.held) (finds_no_packet h.end.state.stage h.held) h.end joined
+      taken_so n (taken_up_to n) (finding h.end.state.stage h.held) h.end (found_so_at h.end.state.stage h.held) joined
 
   pub taken_piece : (piece : List ℕ) (h : Hearer (LineEnd Talk)) → EndsJoined setup brought side h.end f →
       IsTaken (takes_piece talks piece h) (takes_piece counts piece (counted_hearer h))

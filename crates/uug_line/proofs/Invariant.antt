@@ -1,5 +1,5 @@
 -- What a fact on an end's moments has to keep to, so that it holds after every step, and the end is told by two numbers.
-use Rattle.std.specs.Prelude.{◌≡◌, ℕ, suc, true, false, List, Some}
+use Rattle.std.specs.Prelude.{◌≡◌, ℕ, suc, true, false, List, [], ◌∷◌, ◌++◌, Some}
 use Rattle.uug_link.specs.State.{State, IsFresh, IsUp}
 use Rattle.uug_link.specs.Step.{Event, bad_found, timed_out, to_begin, to_close, to_send, packet_found, OutcomeValue, nothing, up, taken, closed, gave_up, halted, step}
 use Rattle.uug_link.specs.Terms.{size_of_code}
@@ -33,6 +33,7 @@ found m place messages = record {
   sent = m.sent;
   taken = messages;
   packets = m.packets;
+  arrivals = m.arrivals ++ place ∷ [];
   passed = suc place;
 }
 
@@ -71,7 +72,6 @@ pub record IsInvariant (me : Side) (h : Holdings) (v : List Seen) (J : Moment �
   pub times_out : (m : Moment) → J m → J (moved m timed_out m.talk)
   pub hears : (m : Moment) (p : PacketValue) (place : ℕ) → J m → IsThere m p place →
       J (heard_by (end_keeper me h) m p place (answer_to m p))
-  pub goes_past : (m : Moment) (p : PacketValue) (place : ℕ) → J m → IsThere m p place → J (found m place m.taken)
 
 -- ---- told by numbers
 

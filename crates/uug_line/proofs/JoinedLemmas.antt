@@ -4,7 +4,7 @@ use Rattle.uug_link.specs.Arrivals.{IsPlace, place_of}
 use Rattle.uug_link.specs.State.{State}
 use Rattle.uug_packet.specs.Packet.{PacketValue}
 use Rattle.uug_session.specs.Count.{Count, count_keeper}
-use Rattle.uug_session.specs.EndStep.{EndEffect, EndEvent, packet_found_whole, end_step, first_link, message_of}
+use Rattle.uug_session.specs.EndStep.{EndEffect, EndEvent, packet_found_whole, end_step, first_link, linked, message_of}
 use Rattle.uug_session.specs.Talk.{Talk, end_keeper}
 use Rattle.uug_line.specs.declared.side.Side.{Side}
 use Rattle.uug_line.specs.Belongings.{Belongings, SetupValue, identity}
@@ -17,6 +17,7 @@ use Rattle.uug_line.proofs.AnswerLemmas.{taken_if}
 use Rattle.uug_line.proofs.FoundLemmas.{passed_behind}
 use Rattle.uug_line.proofs.Invariant.{DoesAlike, counted_effect, done_all, found}
 use Rattle.uug_line.proofs.Joining.{EndsJoined, HasPassed, IsSoundSession, Joined, Moment, link_end, moment_of}
+use Rattle.uug_line.proofs.LinkLemmas.{links_run}
 use Rattle.uug_line.specs.LowerLaws.{Laws}
 use Rattle.uug_line.proofs.MoveLemmas.{StandsThere}
 use Rattle.uug_line.proofs.StepLemmas.{packet_step_alike, step_alike}
@@ -33,6 +34,7 @@ moment_with log link talk = record {
   sent = log.sent;
   taken = log.taken;
   packets = log.packets;
+  arrivals = log.arrivals;
   passed = log.passed;
 }
 
@@ -76,7 +78,7 @@ module _ (law : Laws) (setup : SetupValue) (brought : AtBoth Belongings) (sound 
   unacked_within : (m n : Moment) → Joined setup brought side m n → length m.link.unacked ≤ (at (other side) setup).own.window
   unacked_within m n j =
       (law.unacked (at side setup).own (at (other side) setup).own (record { near = link_end m; far = link_end n })
-      (sound.window side) (sound.window (other side)) j.links).0
+      (sound.window side) (sound.window (other side)) (links_run setup side m n j.links)).0
 
   call_done : (e f : LineEnd Talk) (log : Log) (x : EndEffect Talk) (y : EndEffect Count) → EndsJoined setup brought side e f →
       log.most ≡ e.log.most → HasPassed log →
@@ -129,17 +131,18 @@ module _ (law : Laws) (setup : SetupValue) (brought : AtBoth Belongings) (sound 
       (first_link (session_side side) (at side setup).own) m x y)
       (moment_found x.took (message_of p) place e.log e.state.link e.state.keeper) alike))
 
-  pub packet_joined : (e f : LineEnd Talk) (p : PacketValue) (place : ℕ) → place_of p f.log.packets e.log.passed ≡ Some place →
+  pub packet_joined : (e f : LineEnd Talk) (p : PacketValue) (place : ℕ) → e.state.stage ≡ linked →
+      place_of p f.log.packets e.log.passed ≡ Some place →
       EndsJoined setup brought side e f →
       DoneSo setup brought side f (packet_taken_up (talk_player setup side) p place e)
       (packet_taken_up (count_player setup brought side) p place (counted_end e))
-  packet_joined e f p place found_there joined =
+  packet_joined e f p place on_link found_there joined =
       let event = packet_found_whole false p in
       let x = end_step (end_keeper (session_side side) (at side setup).holdings) (identity setup side) event e.state in
       let y = end_step (count_keeper (seen_at setup brought side)) (identity setup side) event (counted_end e).state in
       let alike = packet_step_alike law (session_side side) (at side setup).holdings (seen_at setup brought side)
       (λ m. Joined setup brought side m (moment_of f)) (StandsThere (moment_of f))
       (is_invariant law setup brought sound side (moment_of f)) (at side setup).own (at side setup).name
-      (at (other side) setup).name (moment_of e) p place e.state.stage (place_found law p f.log.packets e.log.passed place found_there) joined.joined
-      joined.near_hails in
+      (at (other side) setup).name (moment_of e) p place e.state.stage on_link
+      (place_found law p f.log.packets e.log.passed place found_there) joined.joined in
       packet_done e f p place x y joined (sym (ap (λ (z : EndEffect Count). z.took) alike.same)) alike

@@ -2,7 +2,7 @@
 use Rattle.std.proofs.Common.{◌≡◌, ◌⊎◌, ℕ, ◌≤◌, true, false, List}
 use Rattle.uug_link.specs.State.{State, IsUp, IsStarting}
 use Rattle.uug_link.specs.Terms.{IsWindow}
-use Rattle.uug_link.specs.TwoLinks.{End, IsRun}
+use Rattle.uug_link.specs.TwoLinks.{End}
 use Rattle.uug_packet.specs.Packet.{PacketValue}
 use Rattle.uug_session.specs.declared.greeting.Greeting.{Greeting}
 use Rattle.uug_session.specs.EndStep.{hailing, first_link}
@@ -16,16 +16,19 @@ use Rattle.uug_line.specs.declared.side.Side.{Side}
 use Rattle.uug_line.specs.declared.side.Side.TheVariants.{Caller, Called}
 use Rattle.uug_line.specs.Belongings.{Belongings, SetupValue, party}
 use Rattle.uug_line.specs.LineEnd.{Log, LineEnd}
+use Rattle.uug_line.specs.LinkRun.{LinksRan}
 use Rattle.uug_line.specs.Sides.{other, session_side, AtBoth, at}
 use Rattle.uug_line.specs.WereSent.{passed_at}
+use Rattle.uug_line.proofs.LinkRunLemmas.{first_of}
 
--- what an end has come to, but for its stage, its places and what is on its line
+-- what an end has come to, but for its stage and what is on its line
 pub record Moment : Type 0 where
   pub link : State
   pub talk : Talk
   pub sent : List (List ℕ)
   pub taken : List (List ℕ)
   pub packets : List PacketValue
+  pub arrivals : List ℕ
   pub passed : ℕ
 
 abbrev pub moment_of : LineEnd Talk → Moment
@@ -35,6 +38,7 @@ moment_of e = record {
   sent = e.log.sent;
   taken = e.log.taken;
   packets = e.log.packets;
+  arrivals = e.log.arrivals;
   passed = e.log.passed;
 }
 
@@ -52,9 +56,16 @@ pub record IsOpened (m : Moment) : Type 0 where
   pub up : IsUp m.link → m.talk.opened ≡ true
   pub starting : IsStarting m.link.phase → m.talk.opened ≡ false
 
+-- their links, from those of the greeting on
+abbrev pub LinksOf : SetupValue → Side → (near far : Moment) → Type 0
+LinksOf setup side near far =
+    LinksRan
+    (first_of (session_side side) (session_side (other side)) (at side setup).own (at (other side) setup).own)
+    (record { near = link_end near; far = link_end far }) near.arrivals far.arrivals
+
 -- the end on the side, and the other one
 pub record Joined (setup : SetupValue) (brought : AtBoth Belongings) (side : Side) (near far : Moment) : Type 0 where
-  pub links : IsRun (at side setup).own (at (other side) setup).own (record { near = link_end near; far = link_end far })
+  pub links : LinksOf setup side near far
   pub two : Two
   pub reached : Reached (party setup brought Caller) (party setup brought Called) two
   pub near_talk : IsTalk (session_side side) (party setup brought side) (at side brought) near.talk (talker (session_side side) two)

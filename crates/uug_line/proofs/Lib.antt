@@ -15,6 +15,7 @@ mod JoinedLemmas
 mod JoinedSteps
 mod Joining
 mod LinkLemmas
+mod LinkRunLemmas
 mod MomentLemmas
 mod MoveLemmas
 mod RightPacketLemmas

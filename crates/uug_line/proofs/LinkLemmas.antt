@@ -1,22 +1,25 @@
 -- What a link's events do to a run of two links, and to whether it is up.
-use Rattle.std.proofs.Common.{◌≡◌, ◌⊎◌, inl, inr, ℕ, zero, suc, ◌+◌, ◌-◌, ◌≤◌, false, List, [], ◌++◌, length, refl, sym, ap, subst, ◌∙◌, arith, true≢false}
+use Rattle.std.proofs.Common.{◌≡◌, ◌⊎◌, inl, inr, ℕ, suc, false, List, [], ◌∷◌, ◌++◌, refl, sym, ap, subst, ◌∙◌, true≢false}
 use Rattle.std.proofs.lemmas.List.{append-nil}
-use Rattle.std.proofs.lemmas.Option.{slice_get_within}
 use Rattle.std.specs.Bool.{⊤}
 use Rattle.uug_link.specs.declared.phase.Phase.{Phase}
 use Rattle.uug_link.specs.declared.phase.Phase.TheVariants as phases
-use Rattle.uug_link.specs.Announced.{Announced}
-use Rattle.uug_link.specs.Arrivals.{IsPlace, arrived}
+use Rattle.uug_link.specs.Arrivals.{IsPlace, arrived, as_happenings}
 use Rattle.uug_link.specs.Outcomes.{MovesPhase}
 use Rattle.uug_link.specs.State.{State, IsStarting, IsUp}
 use Rattle.uug_link.specs.Step.{Emission, Event, OutcomeValue, nothing, up, taken, closed, gave_up, halted, bad_found, packet_found, timed_out, to_begin, to_close, to_send, step}
-use Rattle.uug_link.specs.TwoLinks.{End, IsRun, MayCall, at_near, misses, moved_by, moves, packets_of, sent_with, taken_by}
+use Rattle.uug_link.specs.TwoLinks.{End, IsRun, MayCall, first_ends, moved_by, moves, packets_of, sent_with, taken_by}
 use Rattle.uug_packet.specs.Packet.{PacketValue}
 use Rattle.uug_session.specs.EndStep.{is_up, packets}
 use Rattle.uug_session.specs.Talk.{Talk}
+use Rattle.uug_line.specs.declared.side.Side.{Side}
+use Rattle.uug_line.specs.Belongings.{SetupValue}
 use Rattle.uug_line.specs.LineEnd.{messages_sent, packets_in}
-use Rattle.uug_line.proofs.Invariant.{answer_to, found, heard_with, moved}
-use Rattle.uug_line.proofs.Joining.{IsOpened, Moment, link_end}
+use Rattle.uug_line.specs.LinkRun.{LinksRan, places_heard}
+use Rattle.uug_line.specs.Sides.{at, other, session_side}
+use Rattle.uug_line.proofs.Invariant.{answer_to, heard_with, moved}
+use Rattle.uug_line.proofs.Joining.{IsOpened, LinksOf, Moment, link_end}
+use Rattle.uug_line.proofs.LinkRunLemmas.{arrival_heard, is_run, ran_on}
 use Rattle.uug_line.specs.LowerLaws.{Laws}
 use Rattle.uug_line.proofs.MomentLemmas.{none_sent, packets_in_packets}
 use Rattle.uug_line.proofs.SendLemmas.{sends_it}
@@ -91,41 +94,39 @@ arrived_end law m p place talk =
 
 -- ---- the runs
 
--- to this end, with the other one at the far side
-abbrev pub RunsTo : (own others : Announced) (far : Moment) → End → Type 0
-RunsTo own others far e = IsRun own others (record { near = e; far = link_end far })
+-- two ends' links run as two links that announce what they were set up with
+pub links_run : (setup : SetupValue) (side : Side) (near far : Moment) → LinksOf setup side near far →
+    IsRun (at side setup).own (at (other side) setup).own (record { near = link_end near; far = link_end far })
+links_run setup side near far ran =
+    is_run (session_side side) (session_side (other side)) (at side setup).own (at (other side) setup).own
+    (record { near = link_end near; far = link_end far }) near.arrivals far.arrivals ran
 
--- so many of the other end's packets are gone past
-abbrev past : Moment → ℕ → End
-past m passed = end_with m.link passed m.sent m.taken m.packets
+module _ (law : Laws) (near_first far_first : State) (far : Moment) where
+  -- to this end, which has found the packets at these places, with the other one at the far side
+  abbrev RanTo : End → (places : List ℕ) → Type 0
+  RanTo e places =
+      LinksRan (first_ends near_first far_first) (record { near = e; far = link_end far }) places far.arrivals
 
-module _ (law : Laws) (own others : Announced) (far : Moment) where
-  pub run_moves : (m : Moment) (event : Event) (talk : Talk) → RunsTo own others far (link_end m) →
-      MayCall m.link event → FindsNone event → RunsTo own others far (link_end (moved m event talk))
-  run_moves m event talk run may finds =
-      subst (RunsTo own others far) (moved_end law m event talk may finds)
-      (law.longer own others (record { near = link_end m; far = link_end far }) (at_near (moves event)) run may)
+  pub run_moves : (m : Moment) (event : Event) (talk : Talk) → RanTo (link_end m) m.arrivals → MayCall m.link event →
+      FindsNone event → RanTo (link_end (moved m event talk)) (moved m event talk).arrivals
+  run_moves m event talk ran may finds =
+      subst (λ (places : List ℕ). RanTo (link_end (moved m event talk)) places) (append-nil m.arrivals)
+      (subst (λ (e : End). RanTo e (m.arrivals ++ [])) (moved_end law m event talk may finds)
+      (ran_on near_first far_first (record { near = link_end m; far = link_end far }) m.arrivals far.arrivals
+      (moves event ∷ []) ran (may, tt)))
 
-  pub run_hears : (m : Moment) (p : PacketValue) (place : ℕ) (talk : Talk) → RunsTo own others far (link_end m) →
+  pub run_hears : (m : Moment) (p : PacketValue) (place : ℕ) (talk : Talk) → RanTo (link_end m) m.arrivals →
       IsPlace p far.packets m.passed place →
-      RunsTo own others far (link_end (heard_with m p place (answer_to m p) talk))
-  run_hears m p place talk run there =
-      subst (RunsTo own others far) (arrived_end law m p place talk)
-      (law.arrival own others (record { near = link_end m; far = link_end far }) p place run there)
-
-  run_misses : (m : Moment) (n : ℕ) → RunsTo own others far (link_end m) → m.passed + n ≤ length far.packets →
-      RunsTo own others far (past m (m.passed + n))
-  run_misses m zero run within = subst (λ (k : ℕ). RunsTo own others far (past m k)) (omega arith) run
-  run_misses m (suc n) run within =
-      subst (λ (k : ℕ). RunsTo own others far (past m k)) (omega arith)
-      (law.longer own others (record { near = past m (m.passed + n); far = link_end far }) (at_near misses)
-      (run_misses m n run (omega (arith, within))) (omega (arith, within)))
-
-  pub run_goes_past : (m : Moment) (p : PacketValue) (place : ℕ) → RunsTo own others far (link_end m) →
-      IsPlace p far.packets m.passed place → RunsTo own others far (link_end (found m place m.taken))
-  run_goes_past m p place run there =
-      subst (λ (k : ℕ). RunsTo own others far (past m k)) (omega (arith, there.behind))
-      (run_misses m (suc place - m.passed) run (omega (arith, there.behind, slice_get_within far.packets place p there.there)))
+      RanTo (link_end (heard_with m p place (answer_to m p) talk)) (m.arrivals ++ place ∷ [])
+  run_hears m p place talk ran there =
+      let hs = as_happenings p m.passed place in
+      let happens = law.arrival (link_end m) (link_end far) p place there in
+      subst (λ (places : List ℕ). RanTo (link_end (heard_with m p place (answer_to m p) talk)) (m.arrivals ++ places))
+      (arrival_heard p m.passed place there.behind)
+      (subst (λ (e : End). RanTo e (m.arrivals ++ places_heard m.passed hs))
+      (happens.1 ∙ arrived_end law m p place talk)
+      (ran_on near_first far_first (record { near = link_end m; far = link_end far }) m.arrivals far.arrivals hs ran
+      happens.0))
 
 -- ---- whether it is up
 

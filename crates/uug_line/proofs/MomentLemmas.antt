@@ -65,6 +65,7 @@ emits m es link talk = record {
   sent = m.sent ++ messages_sent es;
   taken = m.taken;
   packets = m.packets ++ packets_in es;
+  arrivals = m.arrivals;
   passed = m.passed;
 }
 
@@ -80,6 +81,7 @@ with_all m link talk sent packets = record {
   sent = sent;
   taken = m.taken;
   packets = packets;
+  arrivals = m.arrivals;
   passed = m.passed;
 }
 

@@ -5,13 +5,13 @@ use Rattle.std.proofs.lemmas.List.Elements.{All-drop, All-head, All-take}
 use Rattle.uug_link.specs.declared.phase.Phase.TheVariants as phases
 use Rattle.uug_link.specs.Arrivals.{IsPlace}
 use Rattle.uug_link.specs.Outcomes.{MayAnswer, MovesPhase}
-use Rattle.uug_link.specs.State.{IsFresh, IsStarting, IsUp, KnowsSize}
+use Rattle.uug_link.specs.State.{State, IsFresh, IsStarting, IsUp, KnowsSize}
 use Rattle.uug_link.specs.Step.{Event, OutcomeValue, nothing, up, taken, closed, gave_up, halted, bad_found, packet_found, timed_out, to_begin, to_close, to_send, step}
 use Rattle.uug_link.specs.Terms.{size_of_code}
 use Rattle.uug_link.specs.TwoLinks.{Ends, IsFrontOf, MayCall}
 use Rattle.uug_packet.specs.Packet.{PacketValue}
 use Rattle.uug_session.specs.EarlierJobs.{behind}
-use Rattle.uug_session.specs.EndStep.{has_room, is_up, message_of, packets}
+use Rattle.uug_session.specs.EndStep.{first_link, has_room, is_up, message_of, packets}
 use Rattle.uug_session.specs.Holdings.{Holdings}
 use Rattle.uug_session.specs.Jobs.{Lists, at_start, pending}
 use Rattle.uug_session.specs.Talk.{Talk, end_keeper, first_of, opened_with, unopened}
@@ -23,9 +23,9 @@ use Rattle.uug_line.specs.Belongings.{Belongings, SetupValue, party}
 use Rattle.uug_line.specs.LineEnd.{messages_sent}
 use Rattle.uug_line.specs.Sides.{AtBoth, at, other, session_side}
 use Rattle.uug_line.proofs.AnswerLemmas.{taken_message}
-use Rattle.uug_line.proofs.Invariant.{answer_to, found, heard_by, heard_with, moved}
-use Rattle.uug_line.proofs.Joining.{IsSoundSession, IsTalk, Joined, Moment, link_end}
-use Rattle.uug_line.proofs.LinkLemmas.{DoesNotOpen, FindsNone, IsNotUp, RunsTo, does_not_open, closes_it, opened_stays, run_goes_past, run_hears, run_moves, sends_none, stays_starting, stays_up, up_is_not_starting}
+use Rattle.uug_line.proofs.Invariant.{answer_to, heard_by, heard_with, moved}
+use Rattle.uug_line.proofs.Joining.{IsSoundSession, IsTalk, Joined, LinksOf, Moment, link_end}
+use Rattle.uug_line.proofs.LinkLemmas.{DoesNotOpen, FindsNone, IsNotUp, does_not_open, closes_it, links_run, opened_stays, run_hears, run_moves, sends_none, stays_starting, stays_up, up_is_not_starting}
 use Rattle.uug_line.specs.LowerLaws.{Laws}
 use Rattle.uug_line.proofs.MomentLemmas.{none_sent}
 use Rattle.uug_line.proofs.SendLemmas.{sends_it, up_with_room}
@@ -89,7 +89,14 @@ module _ (setup : SetupValue) (brought : AtBoth Belongings) (side : Side) (far :
   own = at side brought
 
   abbrev Runs : Moment → Type 0
-  Runs m = RunsTo (at side setup).own (at (other side) setup).own far (link_end m)
+  Runs m = LinksOf setup side m far
+
+  -- the links at first
+  abbrev near_first : State
+  near_first = first_link (session_side side) (at side setup).own
+
+  abbrev far_first : State
+  far_first = first_link (session_side (other side)) (at (other side) setup).own
 
   -- what the far end keeps
   abbrev FarTalk : Talker → Type 0
@@ -120,7 +127,7 @@ module _ (setup : SetupValue) (brought : AtBoth Belongings) (side : Side) (far :
       J (moved m event m.talk)
   quiet_event m event j may finds none phase =
       same_talk m (moved m event m.talk) j
-      (run_moves law (at side setup).own (at (other side) setup).own far m event m.talk j.links may finds)
+      (run_moves law near_first far_first far m event m.talk j.links may finds)
       refl (sends_none m.link event none m.sent) refl phase
 
   pub joined_begins : (m : Moment) → J m → IsFresh m.link → J (moved m to_begin m.talk)
@@ -148,12 +155,6 @@ module _ (setup : SetupValue) (brought : AtBoth Belongings) (side : Side) (far :
       (does_not_open e.outcome m.link e.state (late_is_not_up e.outcome (law.answers m.link timed_out))
       (law.phases m.link timed_out tt))
 
-  pub joined_goes_past : (m : Moment) (p : PacketValue) (place : ℕ) → J m → StandsThere far m p place → J (found m place m.taken)
-  joined_goes_past m p place j there =
-      same_talk m (found m place m.taken) j
-      (run_goes_past law (at side setup).own (at (other side) setup).own far m p place j.links there) refl refl refl
-      (λ risen. risen, λ starting. starting)
-
   -- ---- a message is sent
 
   -- of an end whose link is up
@@ -166,7 +167,7 @@ module _ (setup : SetupValue) (brought : AtBoth Belongings) (side : Side) (far :
   size_known m runs at_up =
       let ends : Ends = record { near = link_end m; far = link_end far } in
       let sizes = law.size (at side setup).own (at (other side) setup).own ends (sound.window side) (sound.window (other side)) in
-      ap size_of_code ((sizes runs).0 (subst KnowsSize (sym at_up) tt))
+      ap size_of_code ((sizes (links_run setup side m far runs)).0 (subst KnowsSize (sym at_up) tt))
 
   waiting_fits : (two : Two) → Reaches setup brought two → (message : List ℕ) (more : List (List ℕ)) →
       (talker_at setup brought side two).waiting ≡ message ∷ more → length message ≤ (party setup brought side).size
@@ -188,7 +189,7 @@ module _ (setup : SetupValue) (brought : AtBoth Belongings) (side : Side) (far :
       acts setup brought side sends j.two j.reached (message, waits.0, waits.1) in
       let then_m = moved m (to_send message) ((end_keeper (session_side side) (at side setup).holdings).sent m.talk) in
       record {
-        links = run_moves law (at side setup).own (at (other side) setup).own far m (to_send message) then_m.talk j.links (
+        links = run_moves law near_first far_first far m (to_send message) then_m.talk j.links (
           (at_up, room),
           subst (λ (n : ℕ). length message ≤ n) (sym (size_known m j.links at_up))
               (waiting_fits j.two j.reached message waits.0 waits.1),
@@ -283,7 +284,7 @@ module _ (setup : SetupValue) (brought : AtBoth Belongings) (side : Side) (far :
       let message = message_of p in
       let front : IsFrontOf then_m.taken far.sent =
       (law.front (at side setup).own (at (other side) setup).own (record { near = link_end then_m; far = link_end far })
-      (sound.window side) (sound.window (other side)) runs).0 in
+      (sound.window side) (sound.window (other side)) (links_run setup side then_m far runs)).0 in
       let grown : then_m.taken ≡ t.taken ++ message ∷ [] =
       taken_message p m.taken may ∙ ap (λ (l : List (List ℕ)). l ++ message ∷ []) (sym j.near_taken) in
       let acted : Acted setup brought side (takes message) j.two =
@@ -331,4 +332,4 @@ module _ (setup : SetupValue) (brought : AtBoth Belongings) (side : Side) (far :
   joined_hears m p place j there =
       let o = answer_to m p in
       hears_by m p place o j (law.answers m.link (packet_found p)) (law.phases m.link (packet_found p) tt)
-      (run_hears law (at side setup).own (at (other side) setup).own far m p place (heard m p place o).talk j.links there)
+      (run_hears law near_first far_first far m p place (heard m p place o).talk j.links there)

@@ -29,6 +29,7 @@ use Rattle.uug_line.proofs.CarriedLemmas.{CarriedLaws, IsRightEnd, right_packets
 use Rattle.uug_line.proofs.EmittedByteLemmas.{IsRight}
 use Rattle.uug_line.proofs.JoinedSteps.{steps}
 use Rattle.uug_line.proofs.Joining.{IsSoundSession, Joined, Moment, link_end, moment_of}
+use Rattle.uug_line.proofs.LinkLemmas.{links_run}
 use Rattle.uug_line.proofs.Standing.{Goes, run_goes}
 
 -- what the two ends of a session say is bytes
@@ -74,7 +75,8 @@ module _ (laws : RightLaws) (setup : SetupValue) (of_bytes : IsSetupOfBytes setu
         → IsRightEnd (link_end near) × IsRightEnd (link_end far)
     both_right near far setup_sound j =
         run_right laws.carried setup.at_caller.own setup.at_called.own (sound.window Caller) (sound.window Called)
-        (record { near = link_end near; far = link_end far }) (announces setup_sound Caller) (announces setup_sound Called) j.links
+        (record { near = link_end near; far = link_end far }) (announces setup_sound Caller) (announces setup_sound Called)
+        (links_run setup Caller near far j.links)
 
     told : (near far : Moment) (j : Joined setup brought Caller near far) →
         IsTold caller (party setup brought Caller) (party setup brought Called) j.two.caller_end j.two.called_end

@@ -2,9 +2,11 @@
 use Rattle.std.proofs.Common.{◌≡◌, inl, inr, ℕ, ◌≤◌, true, List, ◌++◌, length, refl, sym, ap, subst, ◌∙◌, arith}
 use Rattle.uug_link.specs.declared.phase.Phase.TheVariants as phases
 use Rattle.uug_session.specs.EarlierJobs.{behind}
+use Rattle.uug_session.specs.EndStep.{first_link}
 use Rattle.uug_session.specs.Holdings.{Kept}
 use Rattle.uug_session.specs.Jobs.{Lists}
 use Rattle.uug_session.specs.Talk.{Talk}
+use Rattle.uug_session.specs.Turns.{caller, called}
 use Rattle.uug_session.specs.TwoEnds.{IsFrontOf, Talker, at_first, first_two}
 use Rattle.uug_session.specs.View.{floor, kept_after, lists_after}
 use Rattle.uug_line.specs.declared.side.Side.{Side}
@@ -16,7 +18,8 @@ use Rattle.uug_line.specs.RunKeeper.{by_numbers, by_themselves, has_by, view_at}
 use Rattle.uug_line.specs.Sides.{AtBoth, at, other, session_side}
 use Rattle.uug_line.specs.World.{count_of, counted_end}
 use Rattle.uug_line.proofs.Joining.{EndsJoined, IsSoundSession, IsTalk, Joined, Moment, link_end, moment_of}
-use Rattle.uug_line.proofs.LinkLemmas.{not_up}
+use Rattle.uug_line.proofs.LinkLemmas.{links_run, not_up}
+use Rattle.uug_line.proofs.LinkRunLemmas.{ran_from_far, ran_nowhere}
 use Rattle.uug_line.specs.LowerLaws.{Laws}
 use Rattle.uug_line.proofs.TalkLemmas.{IsToldAt, seen_at, talk_at, talker_at, told_at}
 
@@ -25,7 +28,8 @@ module _ (law : Laws) (setup : SetupValue) (brought : AtBoth Belongings) where
 
   joined_turned : (side : Side) (m n : Moment) → Joined setup brought side m n → Joined setup brought (other side) n m
   joined_turned Caller m n j = record {
-    links = law.from_far setup.at_caller.own setup.at_called.own (record { near = link_end m; far = link_end n }) j.links;
+    links = ran_from_far (first_link caller setup.at_caller.own) (first_link called setup.at_called.own)
+        (record { near = link_end m; far = link_end n }) m.arrivals n.arrivals j.links;
     two = j.two;
     reached = j.reached;
     near_talk = j.far_talk;
@@ -38,7 +42,8 @@ module _ (law : Laws) (setup : SetupValue) (brought : AtBoth Belongings) where
     far_opened = j.near_opened;
   }
   joined_turned Called m n j = record {
-    links = law.from_far setup.at_called.own setup.at_caller.own (record { near = link_end m; far = link_end n }) j.links;
+    links = ran_from_far (first_link called setup.at_called.own) (first_link caller setup.at_caller.own)
+        (record { near = link_end m; far = link_end n }) m.arrivals n.arrivals j.links;
     two = j.two;
     reached = j.reached;
     near_talk = j.far_talk;
@@ -77,7 +82,7 @@ module _ (law : Laws) (setup : SetupValue) (brought : AtBoth Belongings) where
       (first_end by_themselves setup brought Called).end
   first_joined = record {
     joined = record {
-      links = law.first setup.at_caller.own setup.at_called.own _ _ (inl refl) (inr refl);
+      links = ran_nowhere (first_link caller setup.at_caller.own) (first_link called setup.at_called.own);
       two = first_two (party setup brought Caller) (party setup brought Called);
       reached = at_first;
       near_talk = inl (refl, refl);
@@ -153,7 +158,8 @@ module _ (law : Laws) (setup : SetupValue) (brought : AtBoth Belongings) (sound 
   front side e f joined =
       let front_and_rest = (law.front (at side setup).own (at (other side) setup).own
       (record { near = link_end (moment_of e); far = link_end (moment_of f) })
-      (sound.window side) (sound.window (other side)) joined.joined.links).0 in
+      (sound.window side) (sound.window (other side))
+      (links_run setup side (moment_of e) (moment_of f) joined.joined.links)).0 in
       (front_and_rest.0, sym front_and_rest.1)
 
   -- and it has sent no more than it may

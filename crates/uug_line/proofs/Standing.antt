@@ -3,13 +3,14 @@ use Rattle.std.proofs.Common.{◌≡◌, ℕ, suc, List, [], ◌∷◌, ◌++◌
 use Rattle.std.proofs.lemmas.List.Elements.{All-nil, All-push}
 use Rattle.std.proofs.lemmas.Nat.{pow_pos}
 use Rattle.uug_link.specs.State.{State}
-use Rattle.uug_link.specs.TwoLinks.{End, IsRun}
+use Rattle.uug_link.specs.TwoLinks.{End}
 use Rattle.uug_session.specs.Arriving.{held_in, Hearer, Came, all_taken, stopped, takes_piece}
 use Rattle.uug_session.specs.Count.{Count}
 use Rattle.uug_session.specs.EndStep.{EndEvent, time_ran_out, line_lost}
 use Rattle.uug_session.specs.Jobs.{at_start, pending}
 use Rattle.uug_session.specs.Party.{IsSound}
 use Rattle.uug_session.specs.Talk.{Talk}
+use Rattle.uug_session.specs.Turns.{caller, called}
 use Rattle.uug_line.specs.declared.event.Event.{Event}
 use Rattle.uug_line.specs.declared.event.Event.TheVariants.{Pass, Drop, Flip, Insert, Timeout, HangUp, Call}
 use Rattle.uug_line.specs.declared.side.Side.{Side}
@@ -17,8 +18,9 @@ use Rattle.uug_line.specs.declared.side.Side.TheVariants.{Caller, Called}
 use Rattle.uug_line.specs.declared.verdict.LineVerdict.{LineVerdict}
 use Rattle.uug_line.specs.declared.verdict.LineVerdict.TheVariants.{Clean, Fooled}
 use Rattle.uug_line.specs.Belongings.{Belongings, SetupValue, party, renewed}
-use Rattle.uug_line.specs.Headline.{TookFronts, KeptToWindows, RanAsMachine, PresentRanAsMachine, SomeLinksRan, StaysInFront, link_end as told_end, link_ends}
+use Rattle.uug_line.specs.Headline.{TookFronts, KeptToWindows, RanAsMachine, PresentRanAsMachine, SomeLinksRan, StaysInFront, first_links, link_end as told_end, link_ends}
 use Rattle.uug_line.specs.LineEnd.{LineEnd, does, called_with, changed_line}
+use Rattle.uug_line.specs.LinkRun.{LinksRan}
 use Rattle.uug_line.specs.Report.{EndReportValue, report_of_end}
 use Rattle.uug_line.specs.Run.{Run, end_at, with_end_at, has_now, first_end, session_begins, flipped, with_line_to, after_hearing, calls, hung_up, calls_again, after_event, unless_fooled, goes_through, first_run}
 use Rattle.uug_line.specs.RunKeeper.{by_themselves, by_numbers}
@@ -27,7 +29,8 @@ use Rattle.uug_line.specs.SoundSetup.{IsSoundSetup}
 use Rattle.uug_line.specs.Taking.{line_taker}
 use Rattle.uug_line.specs.World.{report_of, counted_hearer, counted, run_of_ends, world, report_of_ends, report_of_world}
 use Rattle.uug_line.proofs.Hearing.{counted_came, end_of, taken_piece}
-use Rattle.uug_line.proofs.Joining.{EndsJoined, HasPassed, IsSoundSession, link_end, moment_of}
+use Rattle.uug_line.proofs.Joining.{EndsJoined, HasPassed, IsSoundSession, LinksOf, link_end, moment_of}
+use Rattle.uug_line.proofs.LinkRunLemmas.{is_run}
 use Rattle.uug_line.specs.SessionLaws.{SessionLaws}
 use Rattle.uug_line.proofs.Steps.{talk_player, count_player, IsNoPacket, Steps}
 use Rattle.uug_line.proofs.StoredSince.{OwnSince, names_now, own_of_both, own_at_first, OwnPlaces, own_places, set_up}
@@ -242,25 +245,23 @@ module _ (setup : SetupValue) (all_steps : (brought : AtBoth Belongings) → IsS
   -- ---- a call
 
   -- the run of the two links, as it is told
-  links_told : (e f : LineEnd Talk) → HasPassed e.log → HasPassed f.log →
-      IsRun setup.at_caller.own setup.at_called.own
-      (record { near = link_end (moment_of e); far = link_end (moment_of f) }) →
-      IsRun setup.at_caller.own setup.at_called.own
-      (link_ends (record { at_caller = report_of_end e; at_called = report_of_end f }) (links_at e f))
-  links_told e f near far run =
-      subst (λ (a : End). IsRun setup.at_caller.own setup.at_called.own
-      (record { near = a; far = told_end (report_of_end f) f.state.link })) (as_told e near)
-      (subst (λ (b : End). IsRun setup.at_caller.own setup.at_called.own
-      (record { near = link_end (moment_of e); far = b })) (as_told f far) run)
+  links_told : (e f : LineEnd Talk) → HasPassed e.log → HasPassed f.log → LinksOf setup Caller (moment_of e) (moment_of f) →
+      LinksRan (first_links setup)
+      (link_ends (record { at_caller = report_of_end e; at_called = report_of_end f }) (links_at e f)) e.log.arrivals f.log.arrivals
+  links_told e f near far ran =
+      subst (λ (a : End). LinksRan (first_links setup)
+      (record { near = a; far = told_end (report_of_end f) f.state.link }) e.log.arrivals f.log.arrivals) (as_told e near)
+      (subst (λ (b : End). LinksRan (first_links setup)
+      (record { near = link_end (moment_of e); far = b }) e.log.arrivals f.log.arrivals) (as_told f far) ran)
 
   ran_as_machine : (brought : AtBoth Belongings) → IsSoundSession setup brought → (e f : LineEnd Talk) →
       EndsJoined setup brought Caller e f →
       RanAsMachine setup (record { at_caller = report_of_end e; at_called = report_of_end f }) (links_at e f)
   ran_as_machine brought sound e f joined =
+      let ends = link_ends (record { at_caller = report_of_end e; at_called = report_of_end f }) (links_at e f) in
       let run = links_told e f joined.near_passed joined.far_passed joined.joined.links in
-      let m = laws.machine setup.at_caller.own setup.at_called.own
-      (link_ends (record { at_caller = report_of_end e; at_called = report_of_end f }) (links_at e f))
-      (sound.window Caller) (sound.window Called) run in
+      let m = laws.machine setup.at_caller.own setup.at_called.own ends (sound.window Caller) (sound.window Called)
+      (is_run caller called setup.at_caller.own setup.at_called.own ends e.log.arrivals f.log.arrivals run) in
       let bounds = laws.bounds setup.at_called.own.window setup.at_caller.own.window m.0
       (sound.window Called) (sound.window Caller) m.1 in
       record {

@@ -16,7 +16,7 @@ use Rattle.uug_session.specs.Talk.{end_keeper}
 use Rattle.uug_session.specs.Turns.{Side, caller, called}
 use Rattle.uug_session.specs.View.{Seen}
 use Rattle.uug_line.proofs.AnswerLemmas.{Heard, bad_alike, late_alike, packet_alike, quiet_count}
-use Rattle.uug_line.proofs.Invariant.{DoesAlike, HailsFresh, IsInvariant, found, moved}
+use Rattle.uug_line.proofs.Invariant.{DoesAlike, HailsFresh, IsInvariant, moved}
 use Rattle.uug_line.proofs.Joining.{Moment}
 use Rattle.uug_line.specs.LowerLaws.{Laws}
 use Rattle.uug_line.proofs.MomentLemmas.{count, emits, emits_nothing, emits_texts, emits_texts_first}
@@ -145,11 +145,9 @@ module _ (law : Laws) (me : Side) (h : Holdings) (v : List Seen) (J : Moment →
       (stage_step (end_keeper me h) who stage (packet_found_whole false p) (at_stage stage m.link m.talk))
       (stage_step (count_keeper v) who stage (packet_found_whole false p) (at_stage stage m.link (count m)))
 
-  pub packet_step_alike : (m : Moment) (p : PacketValue) (place : ℕ) (stage : Stage) → IsThere m p place → J m →
-      HailsFresh (first_link me own) stage m.link → HeardAt m p place stage
-  packet_step_alike m p place (hailing g) there j hails =
-      unmoved_alike (found m place m.taken) (hailing g) (is.goes_past m p place j there) hails
-  packet_step_alike m p place linked there j hails =
-      packet_alike law me h v J IsThere is (first_link me own) who m p place j there
-  packet_step_alike m p place (ended how) there j hails =
-      unmoved_alike (found m place m.taken) (ended how) (is.goes_past m p place j there) hails
+  -- which is found on its link alone
+  pub packet_step_alike : (m : Moment) (p : PacketValue) (place : ℕ) (stage : Stage) → stage ≡ linked → IsThere m p place →
+      J m → HeardAt m p place stage
+  packet_step_alike m p place stage on_link there j =
+      subst (λ (s : Stage). HeardAt m p place s) (sym on_link)
+      (packet_alike law me h v J IsThere is (first_link me own) who m p place j there)

@@ -5,7 +5,7 @@ use Rattle.std.specs.Bool.{⊤}
 use Rattle.uug_link.specs.Arrivals.{place_of}
 use Rattle.uug_packet.specs.Packet.{PacketValue}
 use Rattle.uug_session.specs.Count.{Count, count_keeper}
-use Rattle.uug_session.specs.EndStep.{EndEvent, packet_found_whole}
+use Rattle.uug_session.specs.EndStep.{EndEvent, linked, packet_found_whole}
 use Rattle.uug_session.specs.Talk.{Talk, end_keeper}
 use Rattle.uug_session.specs.TwoEnds.{IsFrontOf}
 use Rattle.uug_session.specs.View.{floor}
@@ -50,10 +50,12 @@ pub record Steps (setup : SetupValue) (brought : AtBoth Belongings) : Type 0 whe
       EndsJoined setup brought side e f →
       counted_end (does (talk_player setup side) event e) ≡ does (count_player setup brought side) event (counted_end e)
   pub packet_joined : (side : Side) (p : PacketValue) (place : ℕ) (e f : LineEnd Talk) →
+      e.state.stage ≡ linked →
       place_of p f.log.packets e.log.passed ≡ Some place →
       EndsJoined setup brought side e f →
       EndsJoined setup brought side (packet_taken_up (talk_player setup side) p place e) f
   pub packet_counted : (side : Side) (p : PacketValue) (place : ℕ) (e f : LineEnd Talk) →
+      e.state.stage ≡ linked →
       place_of p f.log.packets e.log.passed ≡ Some place →
       EndsJoined setup brought side e f →
       counted_end (packet_taken_up (talk_player setup side) p place e)

@@ -1,9 +1,9 @@
 -- The headline, said of a report: what holds of it for every two ends, whatever happens on the line between them (this
 -- project's profile).
-use Rattle.std.specs.Prelude.{◌≡◌, ℕ, ◌≤◌, List, ◌++◌, length, drop, All}
+use Rattle.std.specs.Prelude.{◌≡◌, ◌≤◌, List, ◌++◌, length, drop, All}
 use Rattle.uug_link.specs.OnTheLine.{Reads}
-use Rattle.uug_link.specs.State.{State}
-use Rattle.uug_link.specs.TwoLinks.{End, Ends, IsRun}
+use Rattle.uug_link.specs.State.{State, caller_state, called_state}
+use Rattle.uug_link.specs.TwoLinks.{End, Ends, first_ends}
 use Rattle.uug_link.specs.WindowBounds.{IsWithinBounds}
 use Rattle.uug_link.specs.WindowMachine.{IsReached, Machine}
 use Rattle.uug_session.specs.declared.job.Job.{Job}
@@ -14,6 +14,7 @@ use Rattle.uug_line.specs.declared.side.Side.{Side}
 use Rattle.uug_line.specs.declared.side.Side.TheVariants.{Caller, Called}
 use Rattle.uug_line.specs.Belongings.{SetupValue}
 use Rattle.uug_line.specs.Fooled.{present}
+use Rattle.uug_line.specs.LinkRun.{LinksRan}
 use Rattle.uug_line.specs.Report.{EndReportValue}
 use Rattle.uug_line.specs.Run.{Run, end_at}
 use Rattle.uug_line.specs.Sides.{other, AtBoth, at, at_each}
@@ -50,11 +51,15 @@ link_ends session links = record {
   far = link_end session.at_called links.at_called;
 }
 
+-- as the ends are set up
+abbrev pub first_links : SetupValue → Ends
+first_links setup = first_ends (caller_state (at Caller setup).own) (called_state (at Called setup).own)
+
 -- The session has run as the window machine, and has left its ends' links so.
 pub record RanAsMachine (setup : SetupValue) (session : AtBoth EndReportValue) (links : AtBoth State) : Type 0 where
-  -- It is a run of two links that announce what the ends are set up with: in it they have sent and taken these messages and
-  -- emitted these packets, and no others.
-  pub run : IsRun (at Caller setup).own (at Called setup).own (link_ends session links)
+  -- It is a run of the two links from their first states on: in it they have sent and taken these messages, emitted these
+  -- packets, and found of each other's those at the places of the arrivals, and no others.
+  pub run : LinksRan (first_links setup) (link_ends session links) session.at_caller.arrivals session.at_called.arrivals
   -- The run is one of the machine, INIT and CLOSE packets left aside: its numbers and acknowledgements stand on the line as
   -- their digits modulo eight.
   pub machine : Machine

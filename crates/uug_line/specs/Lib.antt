@@ -3,6 +3,7 @@ pub mod Delivered
 pub mod Fooled
 pub mod Headline
 pub mod LineEnd
+pub mod LinkRun
 pub mod LowerLaws
 pub mod OfSomeRun
 pub mod Report

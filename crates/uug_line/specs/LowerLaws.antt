@@ -1,11 +1,11 @@
 -- What the crates below promise of links and of the ends of a conversation, as far as it is needed here.
 use Rattle.std.specs.Prelude.{◌≡◌, ◌≢◌, ℕ, ◌≤◌, List, [], All, length, slice_get, Some, MatchOption, false}
 use Rattle.uug_link.specs.Announced.{Announced}
-use Rattle.uug_link.specs.Arrivals.{IsPlace, arrived, place_of}
+use Rattle.uug_link.specs.Arrivals.{IsPlace, arrived, as_happenings, place_of}
 use Rattle.uug_link.specs.Outcomes.{FirstBySend, IsComing, MayAnswer, MovesPhase}
 use Rattle.uug_link.specs.State.{IsFresh, IsUp, KnowsSize, State}
 use Rattle.uug_link.specs.Step.{Event, step, to_begin, to_close, to_send}
-use Rattle.uug_link.specs.TwoLinks.{AlwaysOfTwo, Ends, IsFirst, IsFrontOf, IsRun, MayOccur, Occurrence, after_occurrence, first_ends, seen_from_far}
+use Rattle.uug_link.specs.TwoLinks.{AllMayHappen, AlwaysOfTwo, End, Ends, IsFirst, IsFrontOf, IsRun, MayOccur, Occurrence, after_happenings, after_occurrence, first_ends}
 use Rattle.uug_link.specs.declared.phase.Phase.TheVariants.{AwaitsInitA, Closing, Up}
 use Rattle.uug_packet.specs.Packet.{PacketValue}
 use Rattle.uug_session.specs.declared.job.Job.{Job}
@@ -35,15 +35,14 @@ pub record Laws : Type 0 where
   pub first : (near far : Announced) (a b : State) → IsFirst near a → IsFirst far b → IsRun near far (first_ends a b)
   pub longer : (near far : Announced) (ends : Ends) (o : Occurrence) → IsRun near far ends → MayOccur ends o →
       IsRun near far (after_occurrence ends o)
-  pub from_far : (near far : Announced) (ends : Ends) → IsRun near far ends → IsRun far near (seen_from_far ends)
   -- where a packet stands that arrives
   pub place : (p : PacketValue) (emitted : List PacketValue) (passed : ℕ) →
       MatchOption (place_of p emitted passed)
       ((i : ℕ) → passed ≤ i → slice_get emitted i ≢ Some p)
       (λ i. IsPlace p emitted passed i)
-  pub arrival : (near far : Announced) (ends : Ends) (p : PacketValue) (i : ℕ) →
-      IsRun near far ends → IsPlace p ends.far.emitted ends.near.passed i →
-      IsRun near far (record ends { near = arrived p i ends.near })
+  pub arrival : (e other : End) (p : PacketValue) (i : ℕ) → IsPlace p other.emitted e.passed i →
+      AllMayHappen e other (as_happenings p e.passed i)
+      × (after_happenings e (as_happenings p e.passed i) ≡ arrived p i e)
   -- two ends of a conversation
   pub told : (a b : Party) → IsSound a → IsSound b → (two : Two) → Reached a b two →
       IsTold caller a b two.caller_end two.called_end × IsTold called a b two.called_end two.caller_end
