@@ -56,7 +56,7 @@ pub record IsOpened (m : Moment) : Type 0 where
   pub up : IsUp m.link → m.talk.opened ≡ true
   pub starting : IsStarting m.link.phase → m.talk.opened ≡ false
 
--- their links, from those of the greeting on
+-- the run of the links of the end on the side and of the other one, from their first states on
 abbrev pub LinksOf : SetupValue → Side → (near far : Moment) → Type 0
 LinksOf setup side near far =
     LinksRan

@@ -476,10 +476,20 @@ module _ (setup : SetupValue) (all_steps : (brought : AtBoth Belongings) → IsS
       (session_kept run.brought s.sound run.ends.at_caller.end run.ends.at_called.end s.joined)
 
   pub present_ran : IsSoundSetup setup → (events : List Event) → PresentRanAsMachine setup (run_of_ends setup events)
-  present_ran sound events =
-      let s = (run_goes sound events).stands in
-      let run = run_of_ends setup events in
-      ran_as_machine run.brought s.sound run.ends.at_caller.end run.ends.at_called.end s.joined
+  present_ran sound events = record {
+    ran = ran_as_machine run.brought s.sound run.ends.at_caller.end run.ends.at_called.end s.joined;
+    passed = passed;
+  }
+    where
+      run : Run Talk
+      run = run_of_ends setup events
+
+      s : Stands setup run
+      s = (run_goes sound events).stands
+
+      passed : (side : Side) → HasPassed (end_at side run).end.log
+      passed Caller = s.joined.near_passed
+      passed Called = s.joined.far_passed
 
   pub all_own : IsSoundSetup setup → (events : List Event) (giver : Side) →
       OwnPlaces setup (report_of_ends setup events).belongings giver

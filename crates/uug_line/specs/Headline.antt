@@ -76,9 +76,10 @@ pub record RanAsMachine (setup : SetupValue) (session : AtBoth EndReportValue) (
 abbrev pub links_now : {C : Type 0} → Run C → AtBoth State
 links_now run = at_each (λ side. (end_at side run).end.state.link)
 
--- it has run as the machine up to these links
-abbrev pub PresentRanAsMachine : {C : Type 0} → SetupValue → Run C → Type 0
-PresentRanAsMachine setup run = RanAsMachine setup (present run) (links_now run)
+-- It has run as the machine up to these links; and each end looks for the next packet right behind the last that it found.
+pub record PresentRanAsMachine {C : Type 0} (setup : SetupValue) (run : Run C) : Type 0 where
+  pub ran : RanAsMachine setup (present run) (links_now run)
+  pub passed : (side : Side) → (end_at side run).end.log.passed ≡ passed_at (end_at side run).end.log.arrivals 0
 
 -- ---- in all sessions of a report
 
