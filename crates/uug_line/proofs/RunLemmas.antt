@@ -23,13 +23,13 @@ use Rattle.uug_line.specs.Belongings.{Belongings, SetupValue, renewed}
 use Rattle.uug_line.specs.Jottings.{packet_in}
 use Rattle.uug_line.specs.LineEnd.{LineEnd, Player, begins, called_with, changed_line}
 use Rattle.uug_line.specs.Live.{AreWritten, BeginsAgain, HasBegun, HasRoom, IsCalled, IsOrdered, Parts, Standing, hearer_of, line_end_of, player_of, standing_of, taker_of, told_of}
-use Rattle.uug_line.specs.Report.{EndReportValue, report_of_end}
+use Rattle.uug_line.specs.Report.{EndReportValue, end_now, report_of_end}
 use Rattle.uug_line.specs.Run.{Run, flipped, after_event, after_hearing, calls, end_at, first_run, goes_through, hung_up, player, unless_fooled, with_line_to}
 use Rattle.uug_line.specs.RunKeeper.{by_themselves}
-use Rattle.uug_line.specs.RunParts.{CallsAgain, ChangesLine, EndsAs, Happens, HappensAt, IsSteady, Passes, RunParts, StandsAs, hearing_side, owned_parts, standing_at, told_in_all, with_line}
+use Rattle.uug_line.specs.RunParts.{CallsAgain, ChangesLine, EndsAs, Happens, HappensAt, IsSteady, Passes, RunParts, StandsAs, hearing_side, owned_parts, parts_now, standing_at, told_in_all, whole_report, with_line}
 use Rattle.uug_line.specs.Shown.{end_shown, session_shown}
 use Rattle.uug_line.specs.Sides.{AtBoth, other}
-use Rattle.uug_line.specs.Spelled.{SpelledEnd, SpelledReport, spelled, spelled_end, spelled_session}
+use Rattle.uug_line.specs.Spelled.{GiveAsSetUp, SpelledEnd, SpelledReport, spelled, spelled_end, spelled_session}
 use Rattle.uug_line.specs.Taking.{line_taker}
 use Rattle.uug_line.specs.World.{report_of, report_of_ends, report_of_world, run_of_ends}
 
@@ -192,35 +192,39 @@ to_called n number setup run old new stands passes =
 
 -- the run is fooled
 fooled_at : (side : Side) (n number : ℕ) (setup : SetupValue) (run : Run Talk) (old new : RunParts) → StandsAs setup run old
-    → Passes side n false old new → EndsAs (after_event by_themselves setup number (Pass side n) run) (Fooled number side) new
+    → Passes side n false old new → EndsAs setup (after_event by_themselves setup number (Pass side n) run) (Fooled number side) new
 fooled_at Caller n number setup run old new stands passes =
     let is = passes.0 in
     let stop : Hearer (LineEnd Talk) = record { held = is.held; end = line_end_of new.caller } in
     let came = came_to (player by_themselves setup run Caller) n old.caller old.called (end_at Caller run) (end_at Called run) (stopped stop)
     (caller_is setup run old stands) stands.caller stands.called is.came in
-    let ends : EndsAs (after_hearing number Caller (stopped stop) (with_line_to Caller (drop n) run)) (Fooled number Caller) new = record {
+    let ends : EndsAs setup (after_hearing number Caller (stopped stop) (with_line_to Caller (drop n) run)) (Fooled number Caller) new = record {
       past = stands.past ∙ sym passes.2;
       caller = refl;
       called = ap (λ (h : Hearer (LineEnd Talk)). (changed_line (drop n) h).end) stands.called ∙ ap line_end_of (sym passes.1);
-      caller_written = is.ordered.written;
-      called_written = subst (λ (e : Parts). AreWritten e.jottings.packets) (sym passes.1) stands.steady.called_ordered.written;
+      caller_standing = is.standing ∙ stands.caller_standing;
+      called_standing = ap standing_of passes.1 ∙ stands.called_standing;
+      caller_ordered = is.ordered;
+      called_ordered = subst IsOrdered (sym passes.1) (line_ordered (drop n) old.called stands.steady.called_ordered);
       verdict_is = refl;
     } in
-    subst (λ (c : Came (LineEnd Talk)). EndsAs (after_hearing number Caller c (with_line_to Caller (drop n) run)) (Fooled number Caller) new) (sym came) ends
+    subst (λ (c : Came (LineEnd Talk)). EndsAs setup (after_hearing number Caller c (with_line_to Caller (drop n) run)) (Fooled number Caller) new) (sym came) ends
 fooled_at Called n number setup run old new stands passes =
     let is = passes.0 in
     let stop : Hearer (LineEnd Talk) = record { held = is.held; end = line_end_of new.called } in
     let came = came_to (player by_themselves setup run Called) n old.called old.caller (end_at Called run) (end_at Caller run) (stopped stop)
     (called_is setup run old stands) stands.called stands.caller is.came in
-    let ends : EndsAs (after_hearing number Called (stopped stop) (with_line_to Called (drop n) run)) (Fooled number Called) new = record {
+    let ends : EndsAs setup (after_hearing number Called (stopped stop) (with_line_to Called (drop n) run)) (Fooled number Called) new = record {
       past = stands.past ∙ sym passes.2;
       called = refl;
       caller = ap (λ (h : Hearer (LineEnd Talk)). (changed_line (drop n) h).end) stands.caller ∙ ap line_end_of (sym passes.1);
-      called_written = is.ordered.written;
-      caller_written = subst (λ (e : Parts). AreWritten e.jottings.packets) (sym passes.1) stands.steady.caller_ordered.written;
+      called_standing = is.standing ∙ stands.called_standing;
+      caller_standing = ap standing_of passes.1 ∙ stands.caller_standing;
+      called_ordered = is.ordered;
+      caller_ordered = subst IsOrdered (sym passes.1) (line_ordered (drop n) old.caller stands.steady.caller_ordered);
       verdict_is = refl;
     } in
-    subst (λ (c : Came (LineEnd Talk)). EndsAs (after_hearing number Called c (with_line_to Called (drop n) run)) (Fooled number Called) new) (sym came) ends
+    subst (λ (c : Came (LineEnd Talk)). EndsAs setup (after_hearing number Called c (with_line_to Called (drop n) run)) (Fooled number Called) new) (sym came) ends
 
 -- ---- a new call
 
@@ -333,7 +337,7 @@ happens_clean Call number setup run old new stands happens = called_again setup 
 
 -- only bytes that come may fool an end
 pub happens_fooled : (event : Event) (number : ℕ) (setup : SetupValue) (run : Run Talk) (old new : RunParts) → StandsAs setup run old
-    → Happens event false old new → EndsAs (after_event by_themselves setup number event run) (Fooled number (hearing_side event)) new
+    → Happens event false old new → EndsAs setup (after_event by_themselves setup number event run) (Fooled number (hearing_side event)) new
 happens_fooled (Pass side n) number setup run old new stands happens = fooled_at side n number setup run old new stands happens
 happens_fooled (Drop side n) number setup run old new stands happens = let never = happens.0 in absurd cc
 happens_fooled (Flip side mask) number setup run old new stands happens = let never = happens.0 in absurd cc
@@ -417,13 +421,15 @@ pub record StillRuns (events : List Event) (number : ℕ) (setup : SetupValue) (
   pub same : goes_through by_themselves setup 0 events run
       ≡ goes_through by_themselves setup number (drop number events) stands_as
 
-pub ends_clean : (run : Run Talk) (setup : SetupValue) (r : RunParts) → StandsAs setup run r → EndsAs run Clean r
+pub ends_clean : (run : Run Talk) (setup : SetupValue) (r : RunParts) → StandsAs setup run r → EndsAs setup run Clean r
 ends_clean run setup r stands = record {
   past = stands.past;
   caller = ap (λ (h : Hearer (LineEnd Talk)). h.end) stands.caller;
   called = ap (λ (h : Hearer (LineEnd Talk)). h.end) stands.called;
-  caller_written = stands.steady.caller_ordered.written;
-  called_written = stands.steady.called_ordered.written;
+  caller_standing = stands.caller_standing;
+  called_standing = stands.called_standing;
+  caller_ordered = stands.steady.caller_ordered;
+  called_ordered = stands.steady.called_ordered;
   verdict_is = stands.clean;
 }
 
@@ -444,27 +450,27 @@ runs_on events number event setup run old new next still happens =
 
 pub runs_to_fooled : (events : List Event) (number : ℕ) (event : Event) (setup : SetupValue) (run : Run Talk) (old new : RunParts)
     → drop number events ≡ event ∷ drop (number + 1) events → StillRuns events number setup run old → Happens event false old new
-    → EndsAs (goes_through by_themselves setup 0 events run) (Fooled number (hearing_side event)) new
+    → EndsAs setup (goes_through by_themselves setup 0 events run) (Fooled number (hearing_side event)) new
 runs_to_fooled events number event setup run old new next still happens =
     let before = still.stands_as in
     let after = after_event by_themselves setup number event before in
     let ends = happens_fooled event number setup before old new still.stands happens in
-    subst (λ (r : Run Talk). EndsAs r (Fooled number (hearing_side event)) new)
+    subst (λ (r : Run Talk). EndsAs setup r (Fooled number (hearing_side event)) new)
     (sym (still.same
     ∙ ap (λ (es : List Event). goes_through by_themselves setup number es before) next
     ∙ goes_on_clean number (drop (number + 1) events) setup before event still.stands.clean
     ∙ stays_fooled (suc number) number (hearing_side event) (drop (number + 1) events) setup after ends.verdict_is)) ends
 
 pub runs_to_end : (events : List Event) (number : ℕ) (setup : SetupValue) (run : Run Talk) (now : RunParts)
-    → drop number events ≡ [] → StillRuns events number setup run now → EndsAs (goes_through by_themselves setup 0 events run) Clean now
+    → drop number events ≡ [] → StillRuns events number setup run now → EndsAs setup (goes_through by_themselves setup 0 events run) Clean now
 runs_to_end events number setup run now none still =
-    subst (λ (r : Run Talk). EndsAs r Clean now)
+    subst (λ (r : Run Talk). EndsAs setup r Clean now)
     (sym (still.same ∙ ap (λ (es : List Event). goes_through by_themselves setup number es still.stands_as) none))
     (ends_clean still.stands_as setup now still.stands)
 
 -- ---- what is told
 
-pub told_as : (setup : SetupValue) (run : Run Talk) (verdict : LineVerdict) (r : RunParts) → EndsAs run verdict r
+pub told_as : (setup : SetupValue) (run : Run Talk) (verdict : LineVerdict) (r : RunParts) → EndsAs setup run verdict r
     → spelled (report_of by_themselves setup run) ≡ told_in_all r verdict
 unfolding owned_by_talk
 told_as setup run verdict r ends =
@@ -472,9 +478,10 @@ told_as setup run verdict r ends =
       at_caller = report_of_end (end_at Caller run).end;
       at_called = report_of_end (end_at Called run).end;
     }) r.past (record { at_caller = told_of r.caller; at_called = told_of r.called }) ends.past
-    (both_told (end_at Caller run).end (end_at Called run).end r.caller r.called ends.caller ends.called ends.caller_written ends.called_written) in
+    (both_told (end_at Caller run).end (end_at Called run).end r.caller r.called ends.caller ends.called ends.caller_ordered.written ends.called_ordered.written) in
     let by_sessions : List (AtBoth SpelledEnd) → SpelledReport = λ x. record {
       sessions = x;
+      ends = record { at_caller = end_now (end_at Caller run).end; at_called = end_now (end_at Called run).end };
       belongings = record {
         at_caller = owned_by_talk (end_at Caller run).end.state.keeper;
         at_called = owned_by_talk (end_at Called run).end.state.keeper;
@@ -484,6 +491,7 @@ told_as setup run verdict r ends =
     let told = r.past ++ record { at_caller = told_of r.caller; at_called = told_of r.called } ∷ [] in
     let by_caller : LineEnd Talk → SpelledReport = λ x. record {
       sessions = told;
+      ends = record { at_caller = end_now x; at_called = end_now (end_at Called run).end };
       belongings = record {
         at_caller = owned_by_talk x.state.keeper;
         at_called = owned_by_talk (end_at Called run).end.state.keeper;
@@ -492,11 +500,13 @@ told_as setup run verdict r ends =
     } in
     let by_called : LineEnd Talk → SpelledReport = λ x. record {
       sessions = told;
+      ends = record { at_caller = parts_now r.caller; at_called = end_now x };
       belongings = record { at_caller = owned_parts r.caller; at_called = owned_by_talk x.state.keeper };
       verdict = run.verdict;
     } in
     let by_verdict : LineVerdict → SpelledReport = λ x. record {
       sessions = told;
+      ends = record { at_caller = parts_now r.caller; at_called = parts_now r.called };
       belongings = record { at_caller = owned_parts r.caller; at_called = owned_parts r.called };
       verdict = x;
     } in
@@ -504,13 +514,19 @@ told_as setup run verdict r ends =
 
 -- a run that ends so is what the two ends do, and what the world tells
 pub told_by_ends : (setup : SetupValue) (events : List Event) (verdict : LineVerdict) (r : RunParts)
-    → EndsAs (run_of_ends setup events) verdict r → told_in_all r verdict ≡ spelled (report_of_ends setup events)
+    → EndsAs setup (run_of_ends setup events) verdict r → told_in_all r verdict ≡ spelled (report_of_ends setup events)
 told_by_ends setup events verdict r ends = sym (told_as setup (run_of_ends setup events) verdict r ends)
 
 pub told_by_world : (setup : SetupValue) (events : List Event) (verdict : LineVerdict) (r : RunParts)
-    → EndsAs (run_of_ends setup events) verdict r → report_of_ends setup events ≡ report_of_world setup events
+    → EndsAs setup (run_of_ends setup events) verdict r → report_of_ends setup events ≡ report_of_world setup events
     → told_in_all r verdict ≡ spelled (report_of_world setup events)
 told_by_world setup events verdict r ends same = told_by_ends setup events verdict r ends ∙ ap spelled same
+
+-- the spools give and accept what they did at first
+pub give_as_set_up : (setup : SetupValue) (run : Run Talk) (verdict : LineVerdict) (r : RunParts) → EndsAs setup run verdict r
+    → GiveAsSetUp setup (whole_report r verdict).spools
+give_as_set_up setup run verdict r ends Caller = ap (λ (s : Standing). s.holdings) ends.caller_standing
+give_as_set_up setup run verdict r ends Called = ap (λ (s : Standing). s.holdings) ends.called_standing
 
 -- ---- the first session
 
@@ -578,10 +594,10 @@ next_runs events number d all_sent old new within all happens steady =
 pub next_fools : (events : List Event) (number : ℕ) (d : Event) (all_sent : Bool) (side : Side) (old new : RunParts) → number < length events
     → all_sent ≡ false → side ≡ hearing_side (get_or events number d) → Happens (get_or events number d) all_sent old new
     → (setup : SetupValue) (run : Run Talk) → StillRuns events number setup run old
-    → EndsAs (goes_through by_themselves setup 0 events run) (Fooled number side) new
+    → EndsAs setup (goes_through by_themselves setup 0 events run) (Fooled number side) new
 next_fools events number d all_sent side old new within unsent is happens setup run still =
     let event = get_or events number d in
-    subst (λ (s : Side). EndsAs (goes_through by_themselves setup 0 events run) (Fooled number s) new) (sym is)
+    subst (λ (s : Side). EndsAs setup (goes_through by_themselves setup 0 events run) (Fooled number s) new) (sym is)
     (runs_to_fooled events number event setup run old new (drop_more events number d within) still
     (subst (λ (b : Bool). Happens event b old new) unsent happens))
 

@@ -21,7 +21,7 @@ use Rattle.uug_line.specs.Belongings.{Belongings, SetupValue, party, renewed}
 use Rattle.uug_line.specs.Headline.{TookFronts, KeptToWindows, RanAsMachine, PresentRanAsMachine, SomeLinksRan, StaysInFront, first_links, link_end as told_end, link_ends}
 use Rattle.uug_line.specs.LineEnd.{LineEnd, does, called_with, changed_line}
 use Rattle.uug_line.specs.LinkRun.{LinksRan}
-use Rattle.uug_line.specs.Report.{EndReportValue, report_of_end}
+use Rattle.uug_line.specs.Report.{EndReportValue, end_now, report_of_end}
 use Rattle.uug_line.specs.Run.{Run, end_at, with_end_at, has_now, first_end, session_begins, flipped, with_line_to, after_hearing, calls, hung_up, calls_again, after_event, unless_fooled, goes_through, first_run}
 use Rattle.uug_line.specs.RunKeeper.{by_themselves, by_numbers}
 use Rattle.uug_line.specs.Sides.{AtBoth, at, at_each}
@@ -459,6 +459,7 @@ module _ (setup : SetupValue) (all_steps : (brought : AtBoth Belongings) → IsS
   reported : (run : Run Talk) → Stands setup run → report_of by_themselves setup run ≡ report_of by_numbers setup (counted run)
   reported run s = ap (λ z. record {
     sessions = run.past ++ at_each (λ side. report_of_end (end_at side run).end) ∷ [];
+    ends = at_each (λ side. end_now (end_at side run).end);
     belongings = z;
     verdict = run.verdict;
   }) (has_counted run s)

@@ -3,12 +3,13 @@ use Rattle.std.specs.Prelude.{◌≡◌, List}
 use Rattle.uug_line.specs.declared.event.Event.{Event}
 use Rattle.uug_line.specs.Belongings.{SetupValue}
 use Rattle.uug_line.specs.SoundSetup.{IsSoundSetup}
-use Rattle.uug_line.specs.Spelled.{SpelledReport, spelled}
+use Rattle.uug_line.specs.Spelled.{GiveAsSetUp, WholeReport, spelled}
 use Rattle.uug_line.specs.World.{report_of_world}
 
--- for some two ends and some events, the world tells this report
-pub record IsOfSomeRun (report : SpelledReport) : Type 0 where
+-- for some two ends and some events, the world tells this report, and the spools stand in it as the ends were set up
+pub record IsOfSomeRun (report : WholeReport) : Type 0 where
   pub setup : SetupValue
   pub events : List Event
   pub sound : IsSoundSetup setup
-  pub told : report ≡ spelled (report_of_world setup events)
+  pub told : report.told ≡ spelled (report_of_world setup events)
+  pub spools : GiveAsSetUp setup report.spools

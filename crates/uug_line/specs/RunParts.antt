@@ -9,11 +9,12 @@ use Rattle.uug_line.specs.declared.side.Side.TheVariants.{Caller, Called}
 use Rattle.uug_line.specs.declared.verdict.LineVerdict.{LineVerdict}
 use Rattle.uug_line.specs.declared.verdict.LineVerdict.TheVariants.{Clean}
 use Rattle.uug_line.specs.Belongings.{Belongings, SetupValue, identity}
-use Rattle.uug_line.specs.Live.{AreWritten, BeginsAgain, HasRoom, HearsPiece, IsCalled, IsOrdered, Parts, Standing, hearer_of, line_end_of, parts_of, standing_of, told_of}
+use Rattle.uug_line.specs.Live.{BeginsAgain, HasRoom, HearsPiece, IsCalled, IsOrdered, Parts, Standing, hearer_of, line_end_of, parts_of, standing_of, told_of}
+use Rattle.uug_line.specs.Report.{EndNow}
 use Rattle.uug_line.specs.Run.{Run, end_at, flipped}
 use Rattle.uug_line.specs.Shown.{session_shown}
 use Rattle.uug_line.specs.Sides.{AtBoth, at, other}
-use Rattle.uug_line.specs.Spelled.{SpelledEnd, SpelledReport, spelled_session}
+use Rattle.uug_line.specs.Spelled.{SpelledEnd, SpelledReport, WholeReport, spelled_session}
 use Rattle.uug_session.specs.Talk.{Talk}
 
 pub record RunParts : Type 0 where
@@ -103,12 +104,14 @@ pub record StandsAs (setup : SetupValue) (run : Run Talk) (r : RunParts) : Type 
   pub clean : run.verdict ≡ Clean
 
 -- as it stops, but for bytes that were not read
-pub record EndsAs (run : Run Talk) (verdict : LineVerdict) (r : RunParts) : Type 0 where
+pub record EndsAs (setup : SetupValue) (run : Run Talk) (verdict : LineVerdict) (r : RunParts) : Type 0 where
   pub past : map spelled_session run.past ≡ r.past
   pub caller : (end_at Caller run).end ≡ line_end_of r.caller
   pub called : (end_at Called run).end ≡ line_end_of r.called
-  pub caller_written : AreWritten r.caller.jottings.packets
-  pub called_written : AreWritten r.called.jottings.packets
+  pub caller_standing : standing_of r.caller ≡ standing_at setup Caller
+  pub called_standing : standing_of r.called ≡ standing_at setup Called
+  pub caller_ordered : IsOrdered r.caller
+  pub called_ordered : IsOrdered r.called
   pub verdict_is : run.verdict ≡ verdict
 
 -- ---- what is told of it
@@ -116,9 +119,24 @@ pub record EndsAs (run : Run Talk) (verdict : LineVerdict) (r : RunParts) : Type
 abbrev pub owned_parts : Parts → Belongings
 owned_parts e = record { lists = e.node.engine.talking.machine.lists; kept = e.spool.stored }
 
+abbrev pub parts_now : Parts → EndNow
+parts_now e = record { stage = e.node.engine.stage; link = e.node.engine.link }
+
 abbrev pub told_in_all : RunParts → LineVerdict → SpelledReport
 told_in_all r verdict = record {
   sessions = r.past ++ record { at_caller = told_of r.caller; at_called = told_of r.called } ∷ [];
+  ends = record { at_caller = parts_now r.caller; at_called = parts_now r.called };
   belongings = record { at_caller = owned_parts r.caller; at_called = owned_parts r.called };
   verdict = verdict;
 }
+
+abbrev pub whole_report : RunParts → LineVerdict → WholeReport
+whole_report r verdict = record {
+  told = told_in_all r verdict;
+  spools = record { at_caller = r.caller.spool; at_called = r.called.spool };
+}
+
+-- all that the ends emitted stands on the line
+pub record AllIsSaid (r : RunParts) : Type 0 where
+  pub caller : r.caller.node.engine.outbox.entries ≡ []
+  pub called : r.called.node.engine.outbox.entries ≡ []

@@ -1,15 +1,16 @@
 -- What the program's report of a run shows.
-use Rattle.std.specs.Prelude.{ℕ, List, map, Vec}
+use Rattle.std.specs.Prelude.{◌≡◌, ℕ, List, [], map, Vec}
 use Rattle.uug_session.specs.declared.memory_spool.MemorySpool.{MemorySpool}
 use Rattle.uug_session.specs.declared.node.Node.{Node}
-use Rattle.uug_session.specs.MemoryHoldings.{held_by}
+use Rattle.uug_session.specs.MemoryHoldings.{MemoryHoldings, held_by}
 use Rattle.uug_session.specs.Node.{node_of}
 use Rattle.uug_line.specs.declared.report.EndReport.{EndReport}
 use Rattle.uug_line.specs.declared.report.SessionReport.{SessionReport}
 use Rattle.uug_line.specs.declared.verdict.LineVerdict.{LineVerdict}
 use Rattle.uug_line.specs.Belongings.{Belongings}
+use Rattle.uug_line.specs.Report.{EndNow}
 use Rattle.uug_line.specs.Sides.{AtBoth}
-use Rattle.uug_line.specs.Spelled.{SpelledEnd, SpelledReport}
+use Rattle.uug_line.specs.Spelled.{SpelledEnd, WholeReport}
 
 abbrev pub lists_in : {A : Type 0} → List (Vec ℕ A) → List (List ℕ)
 lists_in vectors = map (λ v. v.items) vectors
@@ -34,11 +35,27 @@ owned_by node = record {
   kept = (held_by node.spool).stored;
 }
 
+-- how it stands
+abbrev pub stands_so : {A : Type 0} → Node (MemorySpool A) A → EndNow
+stands_so node = record { stage = (node_of node).engine.stage; link = (node_of node).engine.link }
+
+-- what is in its spool
+abbrev pub spool_of : {A : Type 0} → Node (MemorySpool A) A → MemoryHoldings
+spool_of node = held_by node.spool
+
+-- all that it emitted has gone out
+abbrev pub HasSaidAll : {A : Type 0} → Node (MemorySpool A) A → Type 0
+HasSaidAll node = (node_of node).engine.outbox.entries ≡ []
+
 -- a report of these sessions, with the ends as they stand then
 abbrev pub report_shown : {A : Type 0} → List (SessionReport A) → (caller called : Node (MemorySpool A) A) → LineVerdict →
-    SpelledReport
+    WholeReport
 report_shown sessions caller called verdict = record {
-  sessions = map session_shown sessions;
-  belongings = record { at_caller = owned_by caller; at_called = owned_by called };
-  verdict = verdict;
+  told = record {
+    sessions = map session_shown sessions;
+    ends = record { at_caller = stands_so caller; at_called = stands_so called };
+    belongings = record { at_caller = owned_by caller; at_called = owned_by called };
+    verdict = verdict;
+  };
+  spools = record { at_caller = spool_of caller; at_called = spool_of called };
 }

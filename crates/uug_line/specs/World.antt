@@ -8,7 +8,7 @@ use Rattle.uug_line.specs.declared.event.Event.{Event}
 use Rattle.uug_line.specs.declared.verdict.LineVerdict.{LineVerdict}
 use Rattle.uug_line.specs.Belongings.{Belongings, SetupValue}
 use Rattle.uug_line.specs.LineEnd.{LineEnd}
-use Rattle.uug_line.specs.Report.{EndReportValue, report_of_end}
+use Rattle.uug_line.specs.Report.{EndNow, EndReportValue, end_now, report_of_end}
 use Rattle.uug_line.specs.Run.{Run, end_at, has_now, run_of}
 use Rattle.uug_line.specs.RunKeeper.{RunKeeper, by_themselves, by_numbers}
 use Rattle.uug_line.specs.Sides.{AtBoth, at_each}
@@ -16,13 +16,15 @@ use Rattle.uug_line.specs.Sides.{AtBoth, at_each}
 pub record ReportValue : Type 0 where
   -- the sessions in order, the present one last
   pub sessions : List (AtBoth EndReportValue)
-  -- what the ends have then
+  -- how the ends stand then, and what they have
+  pub ends : AtBoth EndNow
   pub belongings : AtBoth Belongings
   pub verdict : LineVerdict
 
 abbrev pub report_of : {C : Type 0} → RunKeeper C → SetupValue → Run C → ReportValue
 report_of k setup run = record {
   sessions = run.past ++ at_each (λ side. report_of_end (end_at side run).end) ∷ [];
+  ends = at_each (λ side. end_now (end_at side run).end);
   belongings = at_each (has_now k setup run);
   verdict = run.verdict;
 }

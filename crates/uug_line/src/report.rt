@@ -1,6 +1,6 @@
 ghost use Rattle.std.specs.Prelude.{◌≡◌, map};
 ghost use Rattle.uug_line.specs.OfSomeRun.{IsOfSomeRun};
-ghost use Rattle.uug_line.specs.Shown.{owned_by, session_shown};
+ghost use Rattle.uug_line.specs.Shown.{HasSaidAll, owned_by, session_shown, spool_of, stands_so};
 
 use crate::verdict::LineVerdict;
 use std::alloc::Allocator;
@@ -46,20 +46,21 @@ pub struct Report<A: Allocator + Copy> {
 
 impl<A: Allocator + Copy> Model for Report<A> {
     ghost use Rattle.uug_line.specs.OfSomeRun.{IsOfSomeRun};
-    ghost use Rattle.uug_line.specs.Shown.{report_shown};
-    ghost use Rattle.uug_line.specs.Spelled.{SpelledReport};
+    ghost use Rattle.uug_line.specs.Shown.{HasSaidAll, report_shown};
+    ghost use Rattle.uug_line.specs.Spelled.{WholeReport};
 
-    ghost Value = { SpelledReport };
+    ghost Value = { WholeReport };
 
     ghost view = { λ r. report_shown r.sessions.items r.caller r.called r.verdict };
 
-    ghost invariant = { λ r. IsOfSomeRun (report_shown r.sessions.items r.caller r.called r.verdict) };
+    ghost invariant = { λ r. IsOfSomeRun (report_shown r.sessions.items r.caller r.called r.verdict)
+        × HasSaidAll r.caller × HasSaidAll r.called };
 }
 
 impl<A: Allocator + Copy> Report<A> {
     /// The sessions in order, the present one last.
     pub fn sessions(&self) -> &[SessionReport<A>]
-        ensures sessions { map session_shown result.now ≡ self.now.sessions }
+        ensures sessions { map session_shown result.now ≡ self.now.told.sessions }
         ensures of_a_run { IsOfSomeRun self.now }
     {
         self.sessions.as_slice()
@@ -67,21 +68,27 @@ impl<A: Allocator + Copy> Report<A> {
 
     /// The end that calls, as it stands.
     pub fn caller(&self) -> &Node<MemorySpool<A>, A>
-        ensures { owned_by result.now ≡ self.now.belongings.at_caller }
+        ensures stands { stands_so result.now ≡ self.now.told.ends.at_caller }
+        ensures has { owned_by result.now ≡ self.now.told.belongings.at_caller }
+        ensures spool { spool_of result.now ≡ self.now.spools.at_caller }
+        ensures said { HasSaidAll result.now }
     {
         &self.caller
     }
 
     /// The end that is called, as it stands.
     pub fn called(&self) -> &Node<MemorySpool<A>, A>
-        ensures { owned_by result.now ≡ self.now.belongings.at_called }
+        ensures stands { stands_so result.now ≡ self.now.told.ends.at_called }
+        ensures has { owned_by result.now ≡ self.now.told.belongings.at_called }
+        ensures spool { spool_of result.now ≡ self.now.spools.at_called }
+        ensures said { HasSaidAll result.now }
     {
         &self.called
     }
 
     /// Whether each packet that was found had been sent.
     pub fn verdict(&self) -> LineVerdict
-        ensures { result ≡ self.now.verdict }
+        ensures { result ≡ self.now.told.verdict }
     {
         self.verdict
     }

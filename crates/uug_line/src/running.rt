@@ -11,11 +11,11 @@ ghost use Rattle.uug_line.specs.Live.{AreWritten, HasBegun, HasRoom, HearsPiece,
 ghost use Rattle.uug_line.specs.OfSomeRun.{IsOfSomeRun};
 ghost use Rattle.uug_line.specs.Run.{Run, first_run, flipped, goes_through};
 ghost use Rattle.uug_line.specs.RunKeeper.{by_themselves};
-ghost use Rattle.uug_line.specs.RunParts.{CallsAgain, ChangesLine, EndsAs, Happens, HappensAt, IsSteady, Passes, StandsAs, hearing_side, run_parts, told_in_all, with_line};
+ghost use Rattle.uug_line.specs.RunParts.{AllIsSaid, CallsAgain, ChangesLine, EndsAs, Happens, HappensAt, IsSteady, Passes, StandsAs, hearing_side, run_parts, whole_report, with_line};
 ghost use Rattle.uug_line.specs.Setup.{setup_of};
 ghost use Rattle.uug_line.specs.Shown.{lists_in};
 ghost use Rattle.uug_line.specs.Sides.{other};
-ghost use Rattle.uug_line.specs.Spelled.{spelled};
+ghost use Rattle.uug_line.specs.Spelled.{GiveAsSetUp, spelled};
 ghost use Rattle.uug_line.specs.Fooled.{NamesUnsent};
 ghost use Rattle.uug_line.specs.Headline.{AllKeptToWindows, AllRanAsMachine, AllTookFronts, PresentRanAsMachine, StaysInFront, StruckWereStored};
 ghost use Rattle.uug_line.specs.World.{report_of_ends, report_of_world, run_of_ends};
@@ -51,10 +51,12 @@ pub fn run<A: Allocator + Copy>(
     events: &[Event],
 ) -> Result<Report<A>, RunFault>
     // It is what the two ends do, neither of which knows the other's jobs, and what somebody tells who knows both.
-    ensures ends { IfOk result (λ report. report ≡ spelled (report_of_ends (setup_of setup) events.now)) }
-    ensures world { IfOk result (λ report. report ≡ spelled (report_of_world (setup_of setup) events.now)) }
+    ensures ends { IfOk result (λ report. report.told ≡ spelled (report_of_ends (setup_of setup) events.now)) }
+    ensures world { IfOk result (λ report. report.told ≡ spelled (report_of_world (setup_of setup) events.now)) }
+    // The spools of the ends that it lends give and accept what they did when the ends were set up.
+    ensures spools { IfOk result (λ report. GiveAsSetUp (setup_of setup) report.spools) }
     // It is fooled exactly where an end has found a packet that was not sent, and names the first event with which one has.
-    ensures fooled { IfOk result (λ report. NamesUnsent (setup_of setup) events.now report.verdict) }
+    ensures fooled { IfOk result (λ report. NamesUnsent (setup_of setup) events.now report.told.verdict) }
     // In every session each end has taken the first messages that the other has sent.
     ensures front { OnOk result (AllTookFronts (report_of_ends (setup_of setup) events.now)) }
     // Each struck job has an entry of its own in what was stored, with its exact bytes.
@@ -96,7 +98,7 @@ impl<A: Allocator + Copy> RunSoFar<A> {
     fn go_through(&mut self, alloc: A, events: &[Event]) -> Result<LineVerdict, AllocError>
         requires { IsSteady (run_parts self.old) }
         ensures { IfOk result (λ verdict. (setup : SetupValue) (run : Run Talk) → StandsAs setup run (run_parts self.old)
-            → EndsAs (goes_through by_themselves setup 0 events.now run) verdict (run_parts self.new)) }
+            → EndsAs setup (goes_through by_themselves setup 0 events.now run) verdict (run_parts self.new)) }
     {
         for (number, event) in events.iter().enumerate() {
             if !self.happens(alloc, *event)? {
@@ -204,8 +206,9 @@ impl<A: Allocator + Copy> RunSoFar<A> {
 
     /// What is told of it.
     fn into_report(self, verdict: LineVerdict) -> Result<Report<A>, AllocError>
-        requires { IsOfSomeRun (told_in_all (run_parts self) verdict) }
-        ensures { IfOk result (λ report. report ≡ told_in_all (run_parts self) verdict) }
+        requires some_run { IsOfSomeRun (whole_report (run_parts self) verdict) }
+        requires said { AllIsSaid (run_parts self) }
+        ensures { IfOk result (λ report. report ≡ whole_report (run_parts self) verdict) }
     {
         let RunSoFar {
             mut past,

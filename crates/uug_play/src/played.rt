@@ -90,8 +90,8 @@ fn status(sessions: &[SessionNumbers], verdict: LineVerdict) -> u8
 
 /// The text of a report, and the status.
 fn shown<A: Allocator + Copy>(alloc: A, report: &Report<A>) -> Result<Played<A>, AllocError>
-    ensures text { IfOk result (λ played. string_bytes played.text ≡ report_text (result_of report.now)) }
-    ensures status { IfOk result (λ played. played.status ≡ status_of_result (result_of report.now)) }
+    ensures text { IfOk result (λ played. string_bytes played.text ≡ report_text (result_of report.now.told)) }
+    ensures status { IfOk result (λ played. played.status ≡ status_of_result (result_of report.now.told)) }
 {
     let sessions = session_numbers(alloc, report.sessions())?;
     let shown = ShownReport {

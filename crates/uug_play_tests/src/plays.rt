@@ -1,6 +1,8 @@
-//! What no clause says of a player: scripts and reports from outside, want of memory, failing streams, and noisy lines.
+//! What no clause says of a player: scripts and reports from outside, where the ends stand, want of memory, failing streams, and
+//! noisy lines.
 
 mod faults;
+mod lent_ends;
 mod memory;
 mod noisy_lines;
 mod reports;

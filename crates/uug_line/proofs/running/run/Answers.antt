@@ -5,21 +5,27 @@ use Rattle.uug_line.specs.Run.{first_run}
 use Rattle.uug_line.specs.RunKeeper.{by_themselves}
 use Rattle.uug_line.specs.RunParts.{run_parts}
 use Rattle.uug_line.specs.Setup.{setup_of}
-use Rattle.uug_line.specs.Spelled.{SpelledReport}
-use Rattle.uug_line.proofs.RunLemmas.{told_by_ends, told_by_world}
+use Rattle.uug_line.specs.Spelled.{GiveAsSetUp, SpelledReport, WholeReport}
+use Rattle.uug_line.specs.World.{run_of_ends}
+use Rattle.uug_line.proofs.RunLemmas.{give_as_set_up, told_by_ends, told_by_world}
 use Rattle.uug_line.proofs.running.run.Goals as goal
 
 pub into_report-requires : goal.into_report-requires
 into_report-requires g c =
     let setup = setup_of c.args.setup in
     let events = c.args.events.now in
+    let verdict = c.in_ok-verdict.verdict in
+    let parts = run_parts c.go_through.new.self in
+    let ended = c.in_ok-verdict.ensures setup (first_run by_themselves setup) c.in_ok-run.ensures in
     record {
-      setup = setup;
-      events = events;
-      sound = c.look_at_setup.ensures;
-      told = told_by_world setup events c.in_ok-verdict.verdict (run_parts c.go_through.new.self)
-          (c.in_ok-verdict.ensures setup (first_run by_themselves setup) c.in_ok-run.ensures)
-          (c.a_run_is_the_world.ensures.report setup events c.look_at_setup.ensures);
+      some_run = record {
+        setup = setup;
+        events = events;
+        sound = c.look_at_setup.ensures;
+        told = told_by_world setup events verdict parts ended (c.a_run_is_the_world.ensures.report setup events c.look_at_setup.ensures);
+        spools = give_as_set_up setup (run_of_ends setup events) verdict parts ended;
+      };
+      said = record { caller = ended.caller_ordered.cleared; called = ended.called_ordered.cleared };
     }
 
 pub returns : goal.returns
@@ -30,11 +36,14 @@ returns g c =
     let verdict = c.in_ok-verdict.verdict in
     let parts = run_parts c.go_through.new.self in
     let ended = c.in_ok-verdict.ensures setup (first_run by_themselves setup) c.in_ok-run.ensures in
-    let ends = c.in_ok-report.ensures ∙ told_by_ends setup events verdict parts ended in
+    let told = ap (λ (report : WholeReport). report.told) c.in_ok-report.ensures in
+    let ends = told ∙ told_by_ends setup events verdict parts ended in
     record {
       ends = ends;
-      world = c.in_ok-report.ensures
+      world = told
           ∙ told_by_world setup events verdict parts ended (c.a_run_is_the_world.ensures.report setup events sound);
+      spools = subst (λ (report : WholeReport). GiveAsSetUp setup report.spools) (sym c.in_ok-report.ensures)
+          (give_as_set_up setup (run_of_ends setup events) verdict parts ended);
       fooled = subst (λ (verdict : LineVerdict). NamesUnsent setup events verdict)
           (sym (ap (λ (report : SpelledReport). report.verdict) ends))
           (record {
