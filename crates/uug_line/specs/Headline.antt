@@ -60,8 +60,8 @@ pub record RanAsMachine (setup : SetupValue) (session : AtBoth EndReportValue) (
   -- It is a run of the two links from their first states on: in it they have sent and taken these messages, emitted these
   -- packets, and found of each other's those at the places of the arrivals, and no others.
   pub run : LinksRan (first_links setup) (link_ends session links) session.at_caller.arrivals session.at_called.arrivals
-  -- The run is one of the machine, INIT and CLOSE packets left aside: its numbers and acknowledgements stand on the line as
-  -- their digits modulo eight.
+  -- A run of the machine comes to the same, INIT and CLOSE packets left aside: its numbers and acknowledgements stand on
+  -- the line, and in the links, as their digits modulo eight.
   pub machine : Machine
   pub reached : IsReached (at Called setup).own.window (at Caller setup).own.window machine
   pub out : Reads (link_end session.at_caller links.at_caller) (link_end session.at_called links.at_called) machine.out
@@ -89,7 +89,7 @@ AllTookFronts report = All TookFronts report.sessions
 abbrev pub AllKeptToWindows : SetupValue → ReportValue → Type 0
 AllKeptToWindows setup report = All (KeptToWindows setup) report.sessions
 
--- whatever links the ends then had
+-- with some links at its end
 abbrev pub SomeLinksRan : SetupValue → AtBoth EndReportValue → Type 0
 SomeLinksRan setup session = (links : AtBoth State) × RanAsMachine setup session links
 
