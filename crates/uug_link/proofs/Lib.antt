@@ -15,6 +15,7 @@ pub mod SimulatedSteps
 pub mod TwoLinksRuns
 pub mod TwoLinksFacts
 pub mod MovesRuns
+pub mod MovesAlone
 pub mod MovesFacts
 pub mod ArrivalLemmas
 pub mod OutcomeLemmas

@@ -15,9 +15,9 @@ use Rattle.uug_packet.specs.Packet.{PacketValue}
 
 -- ---- the windows of a machine stay
 
-record SameWindows (m n : Machine) : Type 0 where
-  out : n.out.window ≡ m.out.window
-  back : n.back.window ≡ m.back.window
+pub record SameWindows (m n : Machine) : Type 0 where
+  pub out : n.out.window ≡ m.out.window
+  pub back : n.back.window ≡ m.back.window
 
 arrival_windows : (m : Machine) (xs : List Flying) → SameWindows m (after_arrival m xs)
 arrival_windows m [] = record { out = refl; back = refl }
@@ -43,7 +43,7 @@ all_windows m (move ∷ made) =
     let more = all_windows (after_move m move) made in
     record { out = more.out ∙ one.out; back = more.back ∙ one.back }
 
-reached_windows : (window other : ℕ) (m : Machine) → IsReached window other m → SameWindows (start window other) m
+pub reached_windows : (window other : ℕ) (m : Machine) → IsReached window other m → SameWindows (start window other) m
 reached_windows window other m h =
     subst (λ (x : Machine). SameWindows (start window other) x) h.2 (all_windows (start window other) h.0)
 
@@ -141,7 +141,7 @@ moves_near law a b p h m wa wb run may reached both =
       },
     )
 
-mirrored_twice : (made : List Move) → map mirrored (map mirrored made) ≡ made
+pub mirrored_twice : (made : List Move) → map mirrored (map mirrored made) ≡ made
 mirrored_twice [] = refl
 mirrored_twice (on_out act ∷ made) = ap (λ (l : List Move). on_out act ∷ l) (mirrored_twice made)
 mirrored_twice (on_back act ∷ made) = ap (λ (l : List Move). on_back act ∷ l) (mirrored_twice made)

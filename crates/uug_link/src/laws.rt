@@ -137,6 +137,10 @@ pub fn each_occurrence_is_moves_of_the_machine()
         IsWindow near.window → IsWindow far.window → IsRun near far ends → MayOccur ends o →
         IsReached far.window near.window m → ReadsBoth ends m →
         (made : List Move) × MovesWith ends o m made }
+    // There are no other such moves.
+    ensures alone { (near far : Announced) (ends : Ends) (o : Occurrence) (m : Machine) (made others : List Move) →
+        IsWindow near.window → IsWindow far.window → IsReached far.window near.window m →
+        MovesWith ends o m made → MovesWith ends o m others → made ≡ others }
     // So each run is one of the machine from its start, occurrence by occurrence.
     ensures whole { (near far : Announced) (a b : State) (os : List Occurrence) →
         IsWindow near.window → IsWindow far.window → IsFirst near a → IsFirst far b → AllMayOccur (first_ends a b) os →

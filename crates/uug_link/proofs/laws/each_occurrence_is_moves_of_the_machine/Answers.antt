@@ -1,6 +1,7 @@
 use Rattle.uug_link.proofs.SimulatedSteps.{LawsBelow}
 use Rattle.uug_link.proofs.TwoLinksRuns.{first_reads}
 use Rattle.uug_link.proofs.MovesRuns.{occurrence_moves, run_moves}
+use Rattle.uug_link.proofs.MovesAlone.{occurrence_alone}
 use Rattle.uug_link.proofs.laws.each_occurrence_is_moves_of_the_machine.Goals as goal
 
 pub returns : goal.returns
@@ -17,4 +18,4 @@ returns c =
       number_digits = c.the_window_is_safe.ensures.number_digits;
       ack_digits = c.the_window_is_safe.ensures.ack_digits;
     } in
-    record { start = first_reads; moves = occurrence_moves law; whole = run_moves law }
+    record { start = first_reads; moves = occurrence_moves law; alone = occurrence_alone law; whole = run_moves law }
