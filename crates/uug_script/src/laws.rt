@@ -1,5 +1,7 @@
 //! Laws of scripts. A call does nothing: its contract is the law.
 ghost use Rattle.std.specs.Prelude.{◌≡◌, ℕ, List, Ok, Err};
+ghost use Rattle.uug_script.specs.declared.fields.TheConstants.{MODE_DIGITS};
+ghost use Rattle.uug_script.specs.declared.line.TheConstants.{LINE_MAX, BYTES_MAX, TURNS_MAX};
 ghost use Rattle.uug_script.specs.IsScript.{IsScript, IsFirstBad};
 ghost use Rattle.uug_script.specs.Script.{ScriptSays};
 ghost use Rattle.uug_script.specs.ScriptOf.{script_of};
@@ -8,4 +10,13 @@ ghost use Rattle.uug_script.specs.ScriptOf.{script_of};
 pub fn one_reading_of_scripts()
     ensures script { (text : List ℕ) (script : ScriptSays) → IsScript text script → script_of text ≡ Ok script }
     ensures bad { (text : List ℕ) (n : ℕ) → IsFirstBad text n → script_of text ≡ Err n }
+{}
+
+/// Each limit of a script is this number: of the bytes of a line, of the bytes that one event passes or drops, of the
+/// turns of one `flow`, and of the octal digits of a mode.
+pub fn limits()
+    ensures line { LINE_MAX ≡ 65536 }
+    ensures bytes { BYTES_MAX ≡ 1000000000 }
+    ensures turns { TURNS_MAX ≡ 100000 }
+    ensures mode_digits { MODE_DIGITS ≡ 4 }
 {}
