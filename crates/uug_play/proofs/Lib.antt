@@ -1,2 +1,3 @@
 pub mod PlayedLemmas
+pub mod StandardFacts
 pub mod WholeLemmas

@@ -1,0 +1,112 @@
+-- What reports show, and the statuses that they give, computed from the definitions: a wrong rule in them does not check.
+use Rattle.std.proofs.Common.{◌≡◌, ℕ, List, [], ◌∷◌, codes, None, refl}
+use Rattle.uug_session.specs.declared.end.End.TheVariants.{Done, HungUp}
+use Rattle.uug_session.specs.declared.job.Job.{Job}
+use Rattle.uug_session.specs.declared.job.Job.TheVariants.{Send}
+use Rattle.uug_session.specs.declared.phase.Phase.{Phase}
+use Rattle.uug_session.specs.declared.phase.Phase.TheVariants.{Closing, Ended}
+use Rattle.uug_session.specs.Holdings.{Kept, kept_file}
+use Rattle.uug_line.specs.declared.side.Side.TheVariants.{Caller, Called}
+use Rattle.uug_line.specs.declared.verdict.LineVerdict.{LineVerdict}
+use Rattle.uug_line.specs.declared.verdict.LineVerdict.TheVariants.{Clean, Fooled}
+use Rattle.uug_line.specs.Belongings.{Belongings}
+use Rattle.uug_line.specs.Sides.{AtBoth}
+use Rattle.uug_line.specs.Spelled.{SpelledEnd, SpelledReport}
+use Rattle.uug_script.specs.ReportText.{RunResult}
+use Rattle.uug_play.specs.Numbers.{result_of, status_of_result}
+
+-- ---- what is shown of a report
+
+-- three messages sent, one taken, two packets that came to places
+abbrev at_work : SpelledEnd
+at_work = record {
+  sent = codes "a" ∷ codes "b" ∷ codes "c" ∷ [];
+  taken = codes "d" ∷ [];
+  packets = [];
+  arrivals = 0 ∷ 1 ∷ [];
+  most = 5;
+  phase = Closing;
+}
+
+abbrev at_rest : SpelledEnd
+at_rest = record { sent = []; taken = []; packets = []; arrivals = []; most = 0; phase = Ended HungUp }
+
+abbrev job : Job
+job = Send (codes "x") (codes "y") (codes "u") None
+
+abbrev stored : List Kept
+stored = kept_file (codes "y") 420 [] ∷ []
+
+-- jobs that were passed over are pending, too
+abbrev some_jobs : Belongings
+some_jobs = record {
+  lists = record { passed = job ∷ []; ahead = job ∷ job ∷ []; struck = job ∷ []; failed = job ∷ job ∷ [] };
+  kept = [];
+}
+
+abbrev no_jobs : Belongings
+no_jobs = record { lists = record { passed = []; ahead = []; struck = []; failed = [] }; kept = stored }
+
+abbrev report : SpelledReport
+report = record {
+  sessions = record { at_caller = at_work; at_called = at_rest } ∷ [];
+  belongings = record { at_caller = some_jobs; at_called = no_jobs };
+  verdict = Fooled 14 Called;
+}
+
+abbrev shown : RunResult
+shown = record {
+  sessions = record {
+    caller = record { sent = 3; taken = 1; most = 5; phase = Closing };
+    called = record { sent = 0; taken = 0; most = 0; phase = Ended HungUp };
+  } ∷ [];
+  caller = record { pending = 3; struck = 1; failed = 2; stored = [] };
+  called = record { pending = 0; struck = 0; failed = 0; stored = stored };
+  verdict = Fooled 14 Called;
+}
+
+a_report : result_of report ≡ shown
+a_report = refl
+
+-- ---- the status
+
+abbrev with_phase : Phase → SpelledEnd
+with_phase phase = record { sent = []; taken = []; packets = []; arrivals = []; most = 0; phase = phase }
+
+-- a session in which the ends came so far
+abbrev session : (caller called : Phase) → AtBoth SpelledEnd
+session caller called = record { at_caller = with_phase caller; at_called = with_phase called }
+
+abbrev status : LineVerdict → List (AtBoth SpelledEnd) → ℕ
+status verdict sessions = status_of_result (result_of (record {
+  sessions = sessions;
+  belongings = record { at_caller = no_jobs; at_called = no_jobs };
+  verdict = verdict;
+}))
+
+abbrev done : AtBoth SpelledEnd
+done = session (Ended Done) (Ended Done)
+
+abbrev broken_off : AtBoth SpelledEnd
+broken_off = session (Ended HungUp) (Ended HungUp)
+
+-- the last session counts
+last_is_done : status Clean (broken_off ∷ done ∷ []) ≡ 0
+last_is_done = refl
+
+last_is_not_done : status Clean (done ∷ broken_off ∷ []) ≡ 1
+last_is_not_done = refl
+
+-- one end alone is not enough, nor is an end that is not over
+caller_alone : status Clean (session (Ended Done) (Ended HungUp) ∷ []) ≡ 1
+caller_alone = refl
+
+called_alone : status Clean (session Closing (Ended Done) ∷ []) ≡ 1
+called_alone = refl
+
+no_session : status Clean [] ≡ 1
+no_session = refl
+
+-- a run that was fooled never ends as done
+fooled_when_done : status (Fooled 14 Caller) (done ∷ []) ≡ 5
+fooled_when_done = refl
