@@ -23,6 +23,7 @@ mod OfferLemmas
 mod OutgoingLemmas
 mod OwnEntryLemmas
 mod ReadBackLemmas
+mod SameJobsLemmas
 mod SayableLemmas
 mod SharingLemmas
 mod ShownItemLemmas

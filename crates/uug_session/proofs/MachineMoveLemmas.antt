@@ -1,5 +1,5 @@
 -- Whatever comes, an end only moves its jobs from one list to another.
-use Rattle.std.proofs.Common.{◌≡◌, ℕ, nat_lt, Bool, true, false, List, [], ◌∷◌, ◌++◌, length, Option, Some, None, Result, Ok, Err, refl, sym, ap, ◌∙◌, arith}
+use Rattle.std.proofs.Common.{ℕ, nat_lt, Bool, true, false, List, [], ◌∷◌, ◌++◌, length, Option, Some, None, Result, Ok, Err, refl, sym, ap, ◌∙◌, arith}
 use Rattle.uug_talk.specs.declared.answer.Answer.{Answer}
 use Rattle.uug_talk.specs.declared.answer.Answer.TheVariants as answer
 use Rattle.uug_talk.specs.declared.error.BadText.{BadText}
@@ -16,18 +16,14 @@ use Rattle.uug_session.specs.declared.verdict.Verdict.{Verdict}
 use Rattle.uug_session.specs.Choice.{choice, fetched_by}
 use Rattle.uug_session.specs.Holdings.{File, Kept, Holdings, to_give}
 use Rattle.uug_session.specs.Jobs.{Lists, at_start, pending, Move, pass, strike, fail, moved, moved_once}
-use Rattle.uug_session.specs.Machine.{State, goes_on, on_send, on_request, on_hang_up, on_order, on_given_file_done, on_last_hang_up, sends_file, on_send_yes, on_send_answer, on_sent_file_done, on_request_answer, on_hang_up_answer, on_nothing_more, on_text, on_sent_file, on_asked_file, on_file_of, on_file, on_whole, on_gathered, on_part, gathered_with, step}
+use Rattle.uug_session.specs.Machine.{State, goes_on, on_send, on_request, on_hang_up, on_order, on_given_file_done, on_last_hang_up, sends_file, on_send_yes, on_send_answer, on_sent_file_done, on_request_answer, on_hang_up_answer, on_nothing_more, on_text, on_sent_file, on_asked_file, on_file_of, on_file, on_whole, on_gathered, on_part, gathered_with, opening, step}
 use Rattle.uug_session.specs.Party.{Party}
 use Rattle.uug_session.specs.Runs.{Progress, taking, taking_all, opened, progress_after}
-use Rattle.uug_session.specs.Sharing.{AreShared}
+use Rattle.uug_session.specs.Sharing.{AreShared, OnlyMoves}
 use Rattle.uug_session.specs.Turns.{Side, caller, called, Said, the_answer}
 use Rattle.uug_session.proofs.SharingLemmas.{moved-append, moved_are_shared}
 
-record OnlyMoves (before after : Lists) : Type 0 where
-  moves : List Move
-  are : after ≡ moved moves before
-
-stays : (l : Lists) → OnlyMoves l l
+pub stays : (l : Lists) → OnlyMoves l l
 stays l = record { moves = []; are = refl }
 
 one_move : (move : Move) (l : Lists) → OnlyMoves l (moved_once move l)
@@ -180,22 +176,22 @@ after_part : (too_long : Bool) (g : Gathering) (h : Holdings) (s : State) → On
 after_part true g h s = stays s.lists
 after_part false g h s = after_gathered g.whole g.kind h s g.bytes
 
-after_step : (h : Holdings) (s : State) (message : List ℕ) → OnlyMoves s.lists (step h s message).state.lists
+pub after_step : (h : Holdings) (s : State) (message : List ℕ) → OnlyMoves s.lists (step h s message).state.lists
 after_step h s message =
     let g : Gathering = gathered_with s message in
     after_part (nat_lt (limit_of g.kind) (length g.bytes)) g h s
 
 -- ---- from the start
 
-then_moves : (first second third : Lists) → OnlyMoves first second → OnlyMoves second third → OnlyMoves first third
+pub then_moves : (first second third : Lists) → OnlyMoves first second → OnlyMoves second third → OnlyMoves first third
 then_moves first second third h k = record {
   moves = h.moves ++ k.moves;
   are = k.are ∙ ap (moved k.moves) h.are ∙ sym (moved-append h.moves k.moves first);
 }
 
-after_opening : (me : Side) (p : Party) → OnlyMoves (at_start p.jobs [] []) (opened me p).state.lists
-after_opening caller p = chooses p.holdings (at_start p.jobs [] []) []
-after_opening called p = stays (at_start p.jobs [] [])
+pub after_opening : (me : Side) (h : Holdings) (l : Lists) → OnlyMoves l (opening me h l).state.lists
+after_opening caller h l = chooses h l []
+after_opening called h l = stays l
 
 after_all : (p : Party) (progress : Progress) (messages : List (List ℕ)) → OnlyMoves progress.state.lists (taking_all p progress messages).state.lists
 after_all p progress [] = stays progress.state.lists
@@ -210,5 +206,5 @@ pub jobs_are_shared : (me : Side) (p : Party) (messages : List (List ℕ))
 jobs_are_shared me p messages =
     let h : OnlyMoves (at_start p.jobs [] []) (progress_after me p messages).state.lists =
     then_moves (at_start p.jobs [] []) (opened me p).state.lists (progress_after me p messages).state.lists
-    (after_opening me p) (after_all p (opened me p) messages) in
+    (after_opening me p.holdings (at_start p.jobs [] [])) (after_all p (opened me p) messages) in
     rw h.are (moved_are_shared p.jobs h.moves)

@@ -1,12 +1,14 @@
 //! Laws of a node's calls. The functions do nothing.
-ghost use Rattle.std.specs.Prelude.{◌≡◌, ◌++◌, List, map};
+ghost use Rattle.std.specs.Prelude.{◌≡◌, ℕ, List};
 ghost use Rattle.uug_link.specs.Announced.{Announced};
 ghost use Rattle.uug_link.specs.Entries.{EntryValue};
-ghost use Rattle.uug_session.specs.Engine.{BeginsSession, Does, EngineState, bare, end_of, entry_of, hung_up, stage_late, with_stage};
-ghost use Rattle.uug_session.specs.EndStep.{Identity, begins_session, line_lost, time_ran_out, unmoved};
+ghost use Rattle.uug_session.specs.Engine.{BeginsSession, Does, EngineState, HasFailed, all_ahead, bare, end_of, entry_of, hung_up, stage_late, with_stage};
+ghost use Rattle.uug_session.specs.EndStep.{EndEvent, Identity, begins_session, line_lost, time_ran_out, unmoved};
 ghost use Rattle.uug_session.specs.Holdings.{Holdings, Kept};
 ghost use Rattle.uug_session.specs.Jobs.{Lists};
-ghost use Rattle.uug_session.specs.Node.{effect_of};
+ghost use Rattle.uug_session.specs.Node.{NodeState, effect_of};
+ghost use Rattle.uug_session.specs.NodeArriving.{GoesOn, TakesAll};
+ghost use Rattle.uug_session.specs.Sharing.{HaveSameJobs, OnlyMoves, all_jobs};
 ghost use Rattle.uug_session.specs.Talk.{unopened};
 ghost use Rattle.uug_session.specs.Talking.{talking_has_parted};
 
@@ -22,4 +24,22 @@ pub fn calls_are_steps()
     ensures begins { (h : Holdings) (kept : List Kept) (id : Identity) (own : Announced) (l : Lists) (entries : List EntryValue)
         (after : EngineState) → BeginsSession id own l entries after
         → end_of h kept after ≡ (begins_session id own (unopened l kept)).state }
+{}
+
+/// Whatever a node is called with, and however many sessions it has, the jobs of the three lists stay the same together,
+/// each as often as it was given.
+pub fn jobs_stay_together()
+    // An event only moves some from one list to another.
+    ensures event { (h : Holdings) (kept : List Kept) (event : EndEvent) (e : EngineState)
+        → OnlyMoves e.talking.machine.lists (effect_of h kept event e).state.keeper.machine.lists }
+    ensures moved { (before after : Lists) → OnlyMoves before after → HaveSameJobs before after }
+    // So it is with all that is found in bytes that come, in whatever pieces.
+    ensures goes_on { (h : Holdings) (kept kept_after : List Kept) (most faults later : ℕ) (bytes : List ℕ)
+        (before after : NodeState) → GoesOn h kept kept_after (HasFailed most faults later) bytes before after
+        → HaveSameJobs before.engine.talking.machine.lists after.engine.talking.machine.lists }
+    ensures taken { (h : Holdings) (kept kept_after : List Kept) (most faults later : ℕ) (bytes : List ℕ)
+        (before after : NodeState) → TakesAll h kept kept_after (HasFailed most faults later) bytes before after
+        → HaveSameJobs before.engine.talking.machine.lists after.engine.talking.machine.lists }
+    // The next session begins with the same ones.
+    ensures again { (l : Lists) → all_jobs (all_ahead l) ≡ all_jobs l }
 {}
