@@ -12,7 +12,7 @@ ghost use Rattle.uug_session.specs.Found.{FindsItems, FindsTexts, Hails};
 ghost use Rattle.uug_session.specs.Holdings.{Holdings, Kept};
 ghost use Rattle.uug_session.specs.ItemLaws.{ItemLaws};
 ghost use Rattle.uug_session.specs.Node.{ItemValue, NodeState, item_size, searched};
-ghost use Rattle.uug_session.specs.NodeArriving.{GoesOn, TakesAll};
+ghost use Rattle.uug_session.specs.NodeArriving.{GoesOn, IsAtRest, TakesAll};
 ghost use Rattle.uug_session.specs.NodeCalls.{Beside, Make, NodeCall, ShowsWhatIsFound, all_offered};
 ghost use Rattle.uug_session.specs.Sessions.{HoldsNothing};
 ghost use Rattle.uug_session.specs.ShownItems.{IsShown, ItemFound, NothingFound};
@@ -71,6 +71,10 @@ pub fn calls_take_what_comes()
     ensures goes_on { (h : Holdings) (most : ℕ) (calls : List NodeCall) (old new : Beside)
         → ShowsWhatIsFound old.node → Make h most calls old new
         → GoesOn h old.kept new.kept (HasFailed most old.faults new.faults) (all_offered calls) old.node new.node }
+    // Where nothing is found any more in the bytes held, all that is found was taken up.
+    ensures all { (h : Holdings) (kept later_kept : List Kept) (most faults later : ℕ) (bytes : List ℕ) (a b : NodeState)
+        → GoesOn h kept later_kept (HasFailed most faults later) bytes a b → IsAtRest b
+        → TakesAll h kept later_kept (HasFailed most faults later) bytes a b }
     ensures shows { (h : Holdings) (most : ℕ) (calls : List NodeCall) (old new : Beside)
         → ShowsWhatIsFound old.node → Make h most calls old new → ShowsWhatIsFound new.node }
     ensures at_first { (n : NodeState) → HoldsNothing n → ShowsWhatIsFound n }
@@ -85,6 +89,7 @@ pub fn a_search_shows_what_is_found()
     ensures one { (n : NodeState) (item other : ItemValue) → IsShown item (searched n) → IsShown other (searched n)
         → item ≡ other }
     ensures none { (n : NodeState) → item_size (searched n) ≡ 0 → NothingFound n (searched n) }
+    ensures rests { (n : NodeState) → item_size (searched n) ≡ 0 → IsAtRest (searched n) }
 {
     item_laws();
 }

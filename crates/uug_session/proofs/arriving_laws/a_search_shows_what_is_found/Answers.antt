@@ -1,3 +1,6 @@
+use Rattle.std.proofs.Common.{None, false}
+use Rattle.uug_session.specs.declared.verdict.Verdict.TheVariants as verdicts
+use Rattle.uug_session.proofs.NodeSearchLemmas.{searched_rests}
 use Rattle.uug_session.proofs.ShownItemLemmas.{item_found, nothing_found, one_item}
 use Rattle.uug_session.proofs.arriving_laws.a_search_shows_what_is_found.Goals as goal
 
@@ -9,3 +12,7 @@ returns-clause-one c = one_item c.item_laws.ensures
 
 pub returns-clause-none : goal.returns-clause-none
 returns-clause-none c = nothing_found
+
+pub returns-clause-rests : goal.returns-clause-rests
+returns-clause-rests c =
+    searched_rests c.item_laws.ensures (record { file = λ name. None; verdict = λ name. verdicts.Yes; immovable = λ name. false })
