@@ -39,11 +39,14 @@ mod TwoEndsLemmas
 mod WholeFileLemmas
 pub mod ArrivingLemmas
 pub mod BeginningLemmas
+pub mod BehindGreetingLemmas
 pub mod ChoiceLemmas
 pub mod CleanLineLemmas
 pub mod CourseLemmas
 pub mod EngineLemmas
+pub mod HeardGreetingLemmas
 pub mod NodeCallLemmas
+pub mod NodeGreetingLemmas
 pub mod NodeItemLemmas
 pub mod FoundLemmas
 pub mod NodeLemmas

@@ -25,6 +25,7 @@ pub mod Messages
 pub mod Node
 pub mod NodeArriving
 pub mod NodeCalls
+pub mod NodeGreeting
 pub mod NodeLoan
 pub mod Offers
 pub mod Outgoing

@@ -1,14 +1,26 @@
-//! Laws over the definition of the greeting. The functions do nothing.
-ghost use Rattle.std.specs.Prelude.{◌≡◌, ◌≢◌, ◌++◌, ℕ, List};
+//! Laws over the definition of the greeting, and of a node in it. The functions do nothing.
+ghost use Rattle.std.specs.Prelude.{◌≡◌, ◌≢◌, ◌++◌, ℕ, Bool, List};
+ghost use Rattle.uug_link.specs.Announced.{Announced};
+ghost use Rattle.uug_link.specs.Entries.{EntryValue};
 ghost use Rattle.uug_talk.specs.Name.{IsName};
 ghost use Rattle.uug_session.specs.declared.greeting.Greeting.{Greeting};
 ghost use Rattle.uug_session.specs.declared.greeting.Greeted.TheVariants.{GoesOn, LinkBegins, Ended};
 ghost use Rattle.uug_session.specs.declared.greeting.AwaitedText.TheVariants.{CallerName};
+ghost use Rattle.uug_session.specs.declared.end.End.{End};
 ghost use Rattle.uug_session.specs.declared.end.End.TheVariants.{WrongName, Refused};
+ghost use Rattle.uug_session.specs.Arriving.{takes_piece};
+ghost use Rattle.uug_session.specs.EndStep.{Identity, begins_session};
 ghost use Rattle.uug_session.specs.Greeting.{first_greeting};
+ghost use Rattle.uug_session.specs.Holdings.{Holdings};
+ghost use Rattle.uug_session.specs.Node.{NodeState};
+ghost use Rattle.uug_session.specs.NodeArriving.{node_taker};
+ghost use Rattle.uug_session.specs.NodeGreeting.{GreetsStill, HasBegunLink, HasEnded, HasHeard, come_to, greeted_by, holding_nothing};
+ghost use Rattle.uug_session.specs.Talk.{Talk};
 ghost use Rattle.uug_session.specs.Turns.{Side};
 ghost use Rattle.uug_session.specs.WholeGreeting.{GreetingRun, GreetsBy, Greets, GreetEachOther, BecomeOf, IsOver, greeting_run, whole_greeting, run_behind};
 
+use crate::arriving_laws::what_is_found_stays;
+use crate::text_laws::hearing_laws;
 use uug_talk::{hearing_finds_the_texts, one_first_text, one_reading_of_texts, texts_in_pieces};
 
 /// Whatever bytes are delivered make one thing of the whole greeting of an end, and of a greeting from any stage on.
@@ -75,4 +87,34 @@ pub fn ends_that_expect_each_other_begin()
 {
     one_reading_of_texts();
     hearing_finds_the_texts();
+}
+
+/// From the start of a session on, a node greets as the whole greeting says that follows from its side, its name, the
+/// other's, and all bytes that came to it, in whatever pieces these came: it has said the same texts, and nothing else as
+/// long as it greets; it waits for the same text, or the session has ended the same way; and it holds what waits of the
+/// bytes behind the last text used. Where the greeting leads to the link, the link's begin comes behind the texts, and just
+/// the bytes behind the last text are taken up on it.
+pub fn a_node_greets()
+    ensures goes_on { (h : Holdings) (id : Identity) (own : Announced) (entries : List EntryValue) (came behind : List ℕ)
+        (now : NodeState) (run : GreetingRun) (g : Greeting)
+        → HasHeard h id own entries came now → Greets id.side id.me id.peer came run behind → run.greeted ≡ GoesOn g
+        → GreetsStill id own entries run.says g behind now }
+    ensures ended { (h : Holdings) (id : Identity) (own : Announced) (entries : List EntryValue) (came behind : List ℕ)
+        (now : NodeState) (run : GreetingRun) (how : End)
+        → HasHeard h id own entries came now → Greets id.side id.me id.peer came run behind → run.greeted ≡ Ended how
+        → HasEnded entries run.says how now }
+    ensures link { (h : Holdings) (id : Identity) (own : Announced) (entries : List EntryValue) (came behind : List ℕ)
+        (now : NodeState) (run : GreetingRun)
+        → (m : HasHeard h id own entries came now) → Greets id.side id.me id.peer came run behind → run.greeted ≡ LinkBegins
+        → HasBegunLink m run.says behind }
+    // The same as one equation, whatever the node keeps and its spool's device does: all bytes from the start lead to what the
+    // bytes left lead to behind the whole greeting.
+    ensures comes { (h : Holdings) (id : Identity) (own : Announced) (talk : Talk) (failures : List Bool)
+        (came behind : List ℕ) (run : GreetingRun) → Greets id.side id.me id.peer came run behind
+        → takes_piece (node_taker h id) came (holding_nothing (come_to (begins_session id own talk) failures))
+        ≡ takes_piece (node_taker h id) behind (holding_nothing (come_to (greeted_by id own run talk) failures)) }
+{
+    hearing_laws();
+    what_is_found_stays();
+    one_first_text();
 }

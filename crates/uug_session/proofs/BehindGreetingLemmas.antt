@@ -1,0 +1,133 @@
+-- What a node does behind its greeting: it never greets again, and what it emitted before stands in front.
+use Rattle.std.proofs.Common.{◌≡◌, ◌≢◌, ℕ, zero, suc, Bool, true, false, ◌&&◌, List, [], ◌++◌, refl, ap, ◌∙◌, append_assoc}
+use Rattle.uug_link.specs.State.{State}
+use Rattle.uug_link.specs.Step.{Effect, OutcomeValue, nothing, up, taken, closed, gave_up, halted, step, packet_found, bad_found, timed_out}
+use Rattle.uug_session.specs.declared.greeting.Greeting.{Greeting}
+use Rattle.uug_session.specs.Arriving.{Hearer, Came, all_taken, stopped, held_in, holds, takes_up, takes_up_to}
+use Rattle.uug_session.specs.EndStep.{Stage, hailing, linked, ended, Emitted, EndEvent, EndState, Identity, text_found, long_text_found, packet_found_whole, broken_found, time_ran_out, line_lost, behind_link, end_step, late_link, linked_step, message_of, stage_step, takes_by, talks_by}
+use Rattle.uug_session.specs.Finding.{Finding, finds_nothing, finds, finds_packet, finding}
+use Rattle.uug_session.specs.Holdings.{Holdings}
+use Rattle.uug_session.specs.Keeper.{Keeper}
+use Rattle.uug_session.specs.NodeArriving.{NodeEnd, fails_first, fails_later, node_taker, with_effect}
+use Rattle.uug_session.specs.Talk.{Talk, end_keeper}
+
+-- ---- what is emitted on the link stands behind what was emitted before
+
+abbrev pub with_front : List Emitted → NodeEnd → NodeEnd
+with_front front x = record { state = x.state; emitted = front ++ x.emitted; failures = x.failures }
+
+abbrev pub came_behind : List Emitted → Came NodeEnd → Came NodeEnd
+came_behind front (all_taken y) = all_taken (record { held = y.held; end = with_front front y.end })
+came_behind front (stopped y) = stopped (record { held = y.held; end = with_front front y.end })
+
+module _ (h : Holdings) (id : Identity) where
+  abbrev takes_from : ℕ → (bytes : List ℕ) → EndState Talk → List Emitted → List Bool → Came NodeEnd
+  takes_from n bytes e emitted failures =
+      takes_up_to n (node_taker h id) (holds (node_taker h id) bytes (record { state = e; emitted = emitted; failures = failures }))
+
+  front_up : (n : ℕ) → ((front : List Emitted) (bytes : List ℕ) (x : NodeEnd)
+      → takes_up_to n (node_taker h id) (record { held = bytes; end = with_front front x }) ≡ came_behind front (takes_up_to n (node_taker h id) (record { held = bytes; end = x })))
+      → (front : List Emitted) (x : NodeEnd) (found : Finding)
+      → takes_up (takes_up_to n (node_taker h id)) (node_taker h id) found (with_front front x)
+      ≡ came_behind front (takes_up (takes_up_to n (node_taker h id)) (node_taker h id) found x)
+  front_up n more front x (finds_nothing rest) = refl
+  front_up n more front x (finds event behind) =
+      let e = end_step (end_keeper id.side h) id event x.state in
+      ap (λ (emitted : List Emitted). takes_from n behind e.state emitted x.failures) (append_assoc front x.emitted e.emitted)
+      ∙ more front (held_in e.state.stage behind) (with_effect e x.failures x)
+  front_up n more front x (finds_packet p from behind) =
+      let e = end_step (end_keeper id.side h) id (packet_found_whole (fails_first x.failures) p) x.state in
+      ap (λ (emitted : List Emitted). takes_from n behind e.state emitted (fails_later x.failures)) (append_assoc front x.emitted e.emitted)
+      ∙ more front (held_in e.state.stage behind) (with_effect e (fails_later x.failures) x)
+
+  pub front_stays : (n : ℕ) (front : List Emitted) (bytes : List ℕ) (x : NodeEnd)
+      → takes_up_to n (node_taker h id) (record { held = bytes; end = with_front front x }) ≡ came_behind front (takes_up_to n (node_taker h id) (record { held = bytes; end = x }))
+  front_stays zero front bytes x = refl
+  front_stays (suc n) front bytes x = front_up n (front_stays n) front x (finding x.state.stage bytes)
+
+-- what came with this in front
+pub record CameWithout (front : List Emitted) (came : Came NodeEnd) (now : Hearer NodeEnd) : Type 0 where
+  pub later : List Emitted
+  pub came_is : came ≡ all_taken (record { held = now.held; end = record { state = now.end.state; emitted = later; failures = now.end.failures } })
+  pub emitted : front ++ later ≡ now.end.emitted
+
+pub came_without : (front : List Emitted) (came : Came NodeEnd) (now : Hearer NodeEnd) → came_behind front came ≡ all_taken now → CameWithout front came now
+came_without front (all_taken y) now is =
+    let same : ◌≡◌ {A = Hearer NodeEnd} (record { held = y.held; end = with_front front y.end }) now = cc in
+    record {
+      later = y.end.emitted;
+      came_is = ap (λ (z : Hearer NodeEnd). all_taken (record { held = z.held; end = record { state = z.end.state; emitted = y.end.emitted; failures = z.end.failures } })) same;
+      emitted = ap (λ (z : Hearer NodeEnd). z.end.emitted) same;
+    }
+came_without front (stopped y) now is = cc
+
+-- ---- behind the greeting there is no other
+
+abbrev pub HasGreeted : Stage → Type 0
+HasGreeted (hailing g) = ⊥
+HasGreeted _ = Unit {0}
+
+pub hails_not : (stage : Stage) → HasGreeted stage → (g : Greeting) → stage ≢ hailing g
+hails_not (hailing other) is g e = absurd is
+hails_not linked is g e = cc
+hails_not (ended how) is g e = cc
+
+module _ (k : Keeper Talk) (id : Identity) where
+  talks_greeted : (bad : Bool) (e : Effect) (before after : Talk) → HasGreeted (talks_by bad k id e before after).state.stage
+  talks_greeted true e before after = tt
+  talks_greeted false e before after = tt
+
+  takes_greeted : (failed : Bool) (e : Effect) (message : List ℕ) (c : Talk) → HasGreeted (takes_by failed k id e message c).state.stage
+  takes_greeted true e message c = tt
+  takes_greeted false e message c = talks_greeted (k.is_bad (k.taking message c)) e c (k.taking message c)
+
+  link_greeted : (failed : Bool) (o : OutcomeValue) (e : Effect) (message : List ℕ) (c : Talk) → HasGreeted (behind_link k id failed o e message c).state.stage
+  link_greeted failed nothing e message c = tt
+  link_greeted failed up e message c = tt
+  link_greeted failed taken e message c = takes_greeted (failed && k.asks_spool message c) e message c
+  link_greeted failed closed e message c = tt
+  link_greeted failed gave_up e message c = tt
+  link_greeted failed halted e message c = tt
+
+  late_greeted : (parted : Bool) (o : OutcomeValue) (e : Effect) (c : Talk) → HasGreeted (late_link id parted o e c).state.stage
+  late_greeted parted nothing e c = tt
+  late_greeted parted up e c = tt
+  late_greeted parted taken e c = tt
+  late_greeted parted closed e c = tt
+  late_greeted parted gave_up e c = tt
+  late_greeted parted halted e c = tt
+
+  linked_greeted : (event : EndEvent) (s : State) (c : Talk) → HasGreeted (linked_step k id event (record { stage = linked; link = s; keeper = c })).state.stage
+  linked_greeted (text_found text) s c = tt
+  linked_greeted long_text_found s c = tt
+  linked_greeted (packet_found_whole failed p) s c = link_greeted failed (step s (packet_found p)).outcome (step s (packet_found p)) (message_of p) c
+  linked_greeted broken_found s c = link_greeted false (step s bad_found).outcome (step s bad_found) [] c
+  linked_greeted time_ran_out s c = late_greeted (k.has_parted c) (step s timed_out).outcome (step s timed_out) c
+  linked_greeted line_lost s c = tt
+
+  step_greeted : (stage : Stage) (event : EndEvent) (s : State) (c : Talk) → HasGreeted stage → HasGreeted (stage_step k id stage event (record { stage = stage; link = s; keeper = c })).state.stage
+  step_greeted (hailing g) event s c is = absurd is
+  step_greeted linked event s c is = linked_greeted event s c
+  step_greeted (ended how) event s c is = tt
+
+abbrev pub CameGreeted : Came NodeEnd → Type 0
+CameGreeted (all_taken y) = HasGreeted y.end.state.stage
+CameGreeted (stopped y) = HasGreeted y.end.state.stage
+
+module _ (h : Holdings) (id : Identity) where
+  greeted_up : (n : ℕ) → ((bytes : List ℕ) (x : NodeEnd) → HasGreeted x.state.stage → CameGreeted (takes_up_to n (node_taker h id) (record { held = bytes; end = x })))
+      → (x : NodeEnd) (found : Finding) → HasGreeted x.state.stage → CameGreeted (takes_up (takes_up_to n (node_taker h id)) (node_taker h id) found x)
+  greeted_up n more x (finds_nothing rest) is = is
+  greeted_up n more x (finds event behind) is =
+      let e = end_step (end_keeper id.side h) id event x.state in
+      more (held_in e.state.stage behind) (with_effect e x.failures x)
+      (step_greeted (end_keeper id.side h) id x.state.stage event x.state.link x.state.keeper is)
+  greeted_up n more x (finds_packet p from behind) is =
+      let event = packet_found_whole (fails_first x.failures) p in
+      let e = end_step (end_keeper id.side h) id event x.state in
+      more (held_in e.state.stage behind) (with_effect e (fails_later x.failures) x)
+      (step_greeted (end_keeper id.side h) id x.state.stage event x.state.link x.state.keeper is)
+
+  pub stays_greeted : (n : ℕ) (bytes : List ℕ) (x : NodeEnd) → HasGreeted x.state.stage → CameGreeted (takes_up_to n (node_taker h id) (record { held = bytes; end = x }))
+  stays_greeted zero bytes x is = is
+  stays_greeted (suc n) bytes x is = greeted_up n (stays_greeted n) x (finding x.state.stage bytes) is
