@@ -1,15 +1,18 @@
 -- A session that begins is the step of the definitions, over an unopened conversation.
-use Rattle.std.proofs.Common.{◌≡◌, ℕ, Bool, false, List, [], ap, ◌∙◌}
+use Rattle.std.proofs.Common.{◌≡◌, ℕ, Bool, false, List, [], length, refl, ap, ◌∙◌}
+use Rattle.uug_link.specs.Announced.{Announced}
+use Rattle.uug_link.specs.State.{State as LinkState}
 use Rattle.uug_session.specs.declared.awaits.Awaits.TheVariants as awaits
 use Rattle.uug_session.specs.declared.reaction.Saying.{Saying}
-use Rattle.uug_session.specs.EndStep.{begins_session}
-use Rattle.uug_session.specs.Engine.{BeginsSession, Does, EngineState, IsUnopened, bare}
+use Rattle.uug_session.specs.EndStep.{Identity, Stage, begins_session, first_link}
+use Rattle.uug_session.specs.Engine.{BeginsSession, Does, EngineState, IsHailing, IsReady, IsUnopened, bare}
 use Rattle.uug_session.specs.Holdings.{Kept, Holdings}
 use Rattle.uug_session.specs.Jobs.{Lists}
 use Rattle.uug_session.specs.Machine.{State, between}
 use Rattle.uug_session.specs.Outgoing.{messages_of}
 use Rattle.uug_session.specs.Talk.{Talk, unopened}
 use Rattle.uug_session.specs.Talking.{Talking, talk_of}
+use Rattle.uug_session.specs.Turns.{Side, caller, called}
 
 -- beside any spool
 pub unopened_talk : (h : Holdings) (kept : List Kept) (l : Lists) (talking : Talking) → IsUnopened l talking
@@ -33,3 +36,14 @@ pub begun_does : (l : Lists) (before after : EngineState)
     → Does (begins_session before.identity before.own after.talking) (bare after) before after
 begun_does l before after begun =
     record { end = begun.end; emitted = begun.emitted; identity = begun.identity; own = begun.own }
+
+-- ---- before the link has begun
+
+none_at_first : (side : Side) (own : Announced) → length (first_link side own).unacked ≡ 0
+none_at_first caller own = refl
+none_at_first called own = refl
+
+pub none_in_greeting : (stage : Stage) (id : Identity) (own : Announced) (link : LinkState) (talking : Talking)
+    → IsReady stage id own link talking → IsHailing stage → length link.unacked ≡ 0
+none_in_greeting stage id own link talking ready hails =
+    ap (λ (s : LinkState). length s.unacked) (ready.first hails) ∙ none_at_first id.side own

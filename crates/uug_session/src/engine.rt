@@ -423,9 +423,10 @@ impl<A: Allocator + Copy> Engine<A> {
         }
     }
 
-    /// How many messages were sent and not acknowledged.
+    /// How many messages were sent and not acknowledged. In the greeting there is none.
     pub(crate) fn unacked(&self) -> usize
-        ensures { result ≡ length self.now.link.unacked }
+        ensures count { result ≡ length self.now.link.unacked }
+        ensures greeting { IsHailing self.now.stage → result ≡ 0 }
     {
         self.link.unacked()
     }

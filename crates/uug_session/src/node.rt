@@ -1,5 +1,5 @@
 ghost use Rattle.std.specs.Prelude.{◌≡◌, ◌≢◌, ◌<◌, ◌≤◌, ℕ, [], length, take, true, false, OnOk, OnErr, IfOk, MatchOption, IsTrue};
-ghost use Rattle.uug_session.specs.Engine.{Does, HasFailed, bare, hung_up, stage_late, with_outbox, with_stage};
+ghost use Rattle.uug_session.specs.Engine.{Does, HasFailed, IsHailing, bare, hung_up, stage_late, with_outbox, with_stage};
 ghost use Rattle.uug_session.specs.Node.{node_of, accepted, held_bytes, item_size, offered, searched, shown_item, IsAsBefore, LeavesRoom, ShowsItem, TakesShown};
 ghost use Rattle.uug_session.specs.NodeLoan.{EndsFound};
 ghost use Rattle.uug_session.specs.Phases.{phase_at};
@@ -201,9 +201,10 @@ impl<S: Spool, A: Allocator + Copy> Node<S, A> {
         self.engine.phase()
     }
 
-    /// How many messages were sent and not acknowledged.
+    /// How many messages were sent and not acknowledged. In the greeting there is none.
     pub fn unacked(&self) -> usize
-        ensures { result ≡ length (node_of self.now).engine.link.unacked }
+        ensures count { result ≡ length (node_of self.now).engine.link.unacked }
+        ensures greeting { IsHailing (node_of self.now).engine.stage → result ≡ 0 }
     {
         self.engine.unacked()
     }
