@@ -441,6 +441,7 @@ impl<A: Allocator + Copy> Engine<A> {
     /// Takes all that was emitted away.
     pub(crate) fn clear_outbox(&mut self)
         ensures entries { self.new.outbox.entries ≡ [] }
+        ensures spare { self.old.outbox.spare ≤ self.new.outbox.spare }
         ensures rest { self.new ≡ with_outbox self.new.outbox self.old }
     {
         self.outbox.clear();

@@ -216,10 +216,11 @@ impl<S: Spool, A: Allocator + Copy> Node<S, A> {
         self.engine.outbox()
     }
 
-    /// Takes all that was emitted away.
+    /// Takes all that was emitted away. What it takes without memory gets no less.
     pub fn clear_outbox(&mut self)
         ensures entries { (node_of self.new).engine.outbox.entries ≡ [] }
         ensures rest { (node_of self.new).engine ≡ with_outbox (node_of self.new).engine.outbox (node_of self.old).engine }
+        ensures spare { (node_of self.old).engine.outbox.spare ≤ (node_of self.new).engine.outbox.spare }
         ensures bytes { ((node_of self.new).texts ≡ (node_of self.old).texts) × ((node_of self.new).packets ≡ (node_of self.old).packets) }
         ensures spool { self.new.spool ≡ self.old.spool }
     {
