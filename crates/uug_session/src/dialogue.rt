@@ -193,13 +193,6 @@ impl<A: Allocator + Copy> Dialogue<A> {
         }
     }
 
-    /// Whether the link has come up in this session.
-    pub(crate) fn is_opened(&self) -> bool
-        ensures { result ≡ self.now.opened }
-    {
-        self.opened
-    }
-
     /// The jobs.
     pub(crate) fn queue(&self) -> &Queue<A>
         ensures { result.now ≡ self.now.machine.lists }
