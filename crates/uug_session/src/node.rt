@@ -189,6 +189,7 @@ impl<S: Spool, A: Allocator + Copy> Node<S, A> {
     pub fn hang_up(&mut self)
         ensures stage { (node_of self.new).engine ≡ with_stage (hung_up (talking_has_parted (node_of self.old).engine.talking)
             (node_of self.old).engine.stage) (node_of self.old).engine }
+        ensures bytes { ((node_of self.new).texts ≡ (node_of self.old).texts) × ((node_of self.new).packets ≡ (node_of self.old).packets) }
         ensures spool { self.new.spool ≡ self.old.spool }
     {
         self.engine.hang_up();
@@ -219,8 +220,8 @@ impl<S: Spool, A: Allocator + Copy> Node<S, A> {
     /// Takes all that was emitted away. What it takes without memory gets no less.
     pub fn clear_outbox(&mut self)
         ensures entries { (node_of self.new).engine.outbox.entries ≡ [] }
-        ensures rest { (node_of self.new).engine ≡ with_outbox (node_of self.new).engine.outbox (node_of self.old).engine }
         ensures spare { (node_of self.old).engine.outbox.spare ≤ (node_of self.new).engine.outbox.spare }
+        ensures rest { (node_of self.new).engine ≡ with_outbox (node_of self.new).engine.outbox (node_of self.old).engine }
         ensures bytes { ((node_of self.new).texts ≡ (node_of self.old).texts) × ((node_of self.new).packets ≡ (node_of self.old).packets) }
         ensures spool { self.new.spool ≡ self.old.spool }
     {
