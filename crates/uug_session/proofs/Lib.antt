@@ -15,6 +15,7 @@ mod FrontLemmas
 mod GreetingFacts
 mod InRangeLemmas
 mod LimitLemmas
+mod LinkEndLemmas
 mod LongTextLemmas
 mod MachineFacts
 mod MachineLemmas

@@ -1,9 +1,11 @@
 -- How far an end is, as the program says it (this project's profile).
+use Rattle.std.specs.Prelude.{◌≡◌}
 use Rattle.uug_link.specs.declared.phase.Phase.{Phase as LinkPhase}
 use Rattle.uug_link.specs.declared.phase.Phase.TheVariants as link_phases
 use Rattle.uug_session.specs.declared.phase.Phase.{Phase}
 use Rattle.uug_session.specs.declared.phase.Phase.TheVariants as phases
-use Rattle.uug_session.specs.EndStep.{Stage, hailing, linked, ended}
+use Rattle.uug_session.specs.EndStep.{Stage, hailing, linked, ended, EndState}
+use Rattle.uug_session.specs.Engine.{IsEnded}
 
 abbrev pub phase_of_link : LinkPhase → Phase
 phase_of_link link_phases.Up = phases.Talking
@@ -15,3 +17,7 @@ abbrev pub phase_at : Stage → LinkPhase → Phase
 phase_at (hailing greeting) p = phases.Hail
 phase_at linked p = phase_of_link p
 phase_at (ended how) p = phases.Ended how
+
+-- where the link has ended, so has the session
+abbrev pub EndsWithItsLink : {C : Type 0} → EndState C → Type 0
+EndsWithItsLink e = e.link.phase ≡ link_phases.Halted → IsEnded e.stage

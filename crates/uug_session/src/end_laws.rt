@@ -2,14 +2,18 @@
 ghost use Rattle.std.specs.Prelude.{◌≡◌, ◌≤◌, ℕ, List, [], All, length};
 ghost use Rattle.uug_link.specs.Announced.{Announced};
 ghost use Rattle.uug_link.specs.InRange.{IsAnnouncement};
+ghost use Rattle.uug_link.specs.State.{IsStarting};
 ghost use Rattle.uug_session.specs.declared.job.Job.{Job};
+ghost use Rattle.uug_session.specs.declared.phase.Phase.TheVariants.{Starting};
 ghost use Rattle.uug_session.specs.EarlierJobs.{behind, state_behind, reply_behind};
 ghost use Rattle.uug_session.specs.EndStep.{EndEvent, EndState, Identity, begins_session, end_step};
 ghost use Rattle.uug_session.specs.Holdings.{Holdings};
 ghost use Rattle.uug_session.specs.InRange.{CanBeWritten, IsEndInRange, MayFind};
 ghost use Rattle.uug_session.specs.Jobs.{Lists, at_start};
+ghost use Rattle.uug_session.specs.Keeper.{Keeper};
 ghost use Rattle.uug_session.specs.Machine.{State, step, opening};
 ghost use Rattle.uug_session.specs.Party.{Party};
+ghost use Rattle.uug_session.specs.Phases.{EndsWithItsLink, phase_at};
 ghost use Rattle.uug_session.specs.Talk.{Talk, end_keeper};
 ghost use Rattle.uug_session.specs.Turns.{Side};
 ghost use Rattle.uug_session.specs.View.{conversation_view, own_messages, party};
@@ -51,4 +55,16 @@ pub fn what_an_end_emits_can_be_written()
     what_a_link_answers();
     what_a_link_emits_can_be_written();
     messages_fit();
+}
+
+/// The session of an end whose link has ended is over. This holds of whatever keeps the conversation.
+pub fn a_session_ends_with_its_link<C>()
+    ensures first { (id : Identity) (own : Announced) (c : C) → EndsWithItsLink (begins_session id own c).state }
+    ensures stays { (k : Keeper C) (id : Identity) (event : EndEvent) (e : EndState C) → EndsWithItsLink e
+        → EndsWithItsLink (end_step k id event e).state }
+    // So an end that is starting has a link that has not come up yet.
+    ensures starting { (e : EndState C) → EndsWithItsLink e → phase_at e.stage e.link.phase ≡ Starting
+        → IsStarting e.link.phase }
+{
+    what_a_link_answers();
 }
