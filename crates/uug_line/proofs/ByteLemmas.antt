@@ -17,6 +17,7 @@ use Rattle.uug_packet.specs.Packet.{ControlValue, close, rj, srj, rr, init_c, in
 use Rattle.uug_packet.specs.Spelling.{canonical, checksum_of, control_byte, data_byte, header, with_field}
 use Rattle.uug_packet.specs.WellFormed.{HasNumber, IsWellFormed}
 use Rattle.uug_session.specs.EndStep.{message_of}
+use Rattle.uug_talk.specs.Name.{IsName}
 
 abbrev pub IsByte : ℕ → Type 0
 IsByte b = b < 256
@@ -32,6 +33,9 @@ are_bytes (b ∷ bytes) all (suc i) = are_bytes bytes (All-tail IsByte b bytes a
 pub all_bytes : (bytes : List ℕ) → AreBytes bytes → AllBytes bytes
 all_bytes [] are = All-nil IsByte
 all_bytes (b ∷ bytes) are = All-cons IsByte b bytes (are zero) (all_bytes bytes (λ i. are (suc i)))
+
+pub name_bytes : (name : List ℕ) → IsName name → AreBytes name
+name_bytes name is = are_bytes name (λ k d within. omega (arith, (is.printing k d within).1))
 
 -- a short list, byte by byte
 abbrev pub Bytewise : List ℕ → Type 0

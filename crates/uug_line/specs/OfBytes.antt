@@ -8,6 +8,7 @@ use Rattle.uug_line.specs.declared.event.Event.TheVariants.{Flip, Insert}
 use Rattle.uug_line.specs.declared.side.Side.{Side}
 use Rattle.uug_line.specs.Belongings.{EndSetupValue, SetupValue}
 use Rattle.uug_line.specs.Sides.{at}
+use Rattle.uug_line.specs.SoundSetup.{IsSoundSetup}
 
 -- its name is bytes and its files hold bytes, and the code of the size that it announces is one
 pub record IsEndOfBytes (e : EndSetupValue) : Type 0 where
@@ -26,3 +27,9 @@ IsOfBytes _ = ⊤
 
 abbrev pub AreOfBytes : List Event → Type 0
 AreOfBytes events = All IsOfBytes events
+
+-- what a program's types say of a set-up and of events
+pub record AreOfTypes (setup : SetupValue) (events : List Event) : Type 0 where
+  pub sound : IsSoundSetup setup
+  pub of_bytes : IsSetupOfBytes setup
+  pub events_of_bytes : AreOfBytes events

@@ -2,7 +2,7 @@
 use Rattle.std.specs.Prelude.{◌≡◌, List}
 use Rattle.uug_line.specs.declared.event.Event.{Event}
 use Rattle.uug_line.specs.Belongings.{SetupValue}
-use Rattle.uug_line.specs.SoundSetup.{IsSoundSetup}
+use Rattle.uug_line.specs.OfBytes.{AreOfTypes}
 use Rattle.uug_line.specs.Spelled.{GiveAsSetUp, WholeReport, spelled}
 use Rattle.uug_line.specs.World.{report_of_world}
 
@@ -10,6 +10,6 @@ use Rattle.uug_line.specs.World.{report_of_world}
 pub record IsOfSomeRun (report : WholeReport) : Type 0 where
   pub setup : SetupValue
   pub events : List Event
-  pub sound : IsSoundSetup setup
+  pub types : AreOfTypes setup events
   pub told : report.told ≡ spelled (report_of_world setup events)
   pub spools : GiveAsSetUp setup report.spools

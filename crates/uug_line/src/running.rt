@@ -8,14 +8,16 @@ ghost use Rattle.uug_session.specs.Turns.{caller, called};
 ghost use Rattle.uug_session.specs.Talk.{Talk};
 ghost use Rattle.uug_line.specs.Belongings.{SetupValue};
 ghost use Rattle.uug_line.specs.Live.{AreWritten, HasBegun, HasRoom, HearsPiece, IsCalled, IsOrdered, parts_of};
+ghost use Rattle.uug_line.specs.OfBytes.{AreOfTypes};
 ghost use Rattle.uug_line.specs.OfSomeRun.{IsOfSomeRun};
 ghost use Rattle.uug_line.specs.Run.{Run, first_run, flipped, goes_through};
 ghost use Rattle.uug_line.specs.RunKeeper.{by_themselves};
 ghost use Rattle.uug_line.specs.RunParts.{AllIsSaid, CallsAgain, ChangesLine, EndsAs, Happens, HappensAt, IsSteady, Passes, StandsAs, hearing_side, run_parts, whole_report, with_line};
 ghost use Rattle.uug_line.specs.Setup.{setup_of};
 ghost use Rattle.uug_line.specs.Shown.{lists_in};
-ghost use Rattle.uug_line.specs.Sides.{other};
+ghost use Rattle.uug_line.specs.Sides.{at, other};
 ghost use Rattle.uug_line.specs.Spelled.{GiveAsSetUp, spelled};
+ghost use Rattle.uug_line.specs.Delivered.{HasHeardAt, came_in};
 ghost use Rattle.uug_line.specs.Fooled.{NamesUnsent};
 ghost use Rattle.uug_line.specs.Headline.{AllKeptToWindows, AllRanAsMachine, AllTookFronts, PresentRanAsMachine, StaysInFront, StruckWereStored};
 ghost use Rattle.uug_line.specs.World.{report_of_ends, report_of_world, run_of_ends};
@@ -30,7 +32,9 @@ use crate::setup::{EndSetup, Setup};
 use crate::side::Side;
 use crate::soundness::look_at_setup;
 use crate::verdict::LineVerdict;
-use crate::world_laws::{a_run_is_the_world, a_run_stops_at_what_was_not_sent, the_headline};
+use crate::world_laws::{
+    a_run_is_the_world, a_run_stops_at_what_was_not_sent, an_end_finds_what_came, the_headline,
+};
 use std::alloc::{AllocError, Allocator};
 use uug_session::{Node, Place};
 
@@ -57,6 +61,11 @@ pub fn run<A: Allocator + Copy>(
     ensures spools { IfOk result (λ report. GiveAsSetUp (setup_of setup) report.spools) }
     // It is fooled exactly where an end has found a packet that was not sent, and names the first event with which one has.
     ensures fooled { IfOk result (λ report. NamesUnsent (setup_of setup) events.now report.told.verdict) }
+    // What the laws of a run ask of two ends and events is so.
+    ensures types { OnOk result (AreOfTypes (setup_of setup) events.now) }
+    // The arrivals of an end are the places of the packets that it found in the bytes that came to it, and of no others.
+    ensures heard { OnOk result ((side : Side) → HasHeardAt (at side (came_in by_themselves (setup_of setup) events.now))
+        (run_of_ends (setup_of setup) events.now) side) }
     // In every session each end has taken the first messages that the other has sent.
     ensures front { OnOk result (AllTookFronts (report_of_ends (setup_of setup) events.now)) }
     // Each struck job has an entry of its own in what was stored, with its exact bytes.
@@ -70,10 +79,11 @@ pub fn run<A: Allocator + Copy>(
     // In the present session the links are those that the ends have then.
     ensures present { OnOk result (PresentRanAsMachine (setup_of setup) (run_of_ends (setup_of setup) events.now)) }
 {
-    look_at_setup(&setup);
+    look_at_setup(&setup, events);
     a_run_is_the_world();
     the_headline();
     a_run_stops_at_what_was_not_sent();
+    an_end_finds_what_came();
     let mut run = RunSoFar::start(alloc, setup)?;
     let verdict = run.go_through(alloc, events)?;
     let report = run.into_report(verdict)?;

@@ -2,9 +2,11 @@ ghost use Rattle.std.specs.Prelude.{All};
 ghost use Rattle.uug_session.specs.Party.{HasNames};
 ghost use Rattle.uug_talk.specs.Name.{IsName};
 ghost use Rattle.uug_talk.specs.Order.{AreNames, IsCopy};
+ghost use Rattle.uug_line.specs.OfBytes.{AreOfBytes, AreOfTypes, IsEndOfBytes, IsOfBytes};
 ghost use Rattle.uug_line.specs.Setup.{end_setup_of, setup_of};
-ghost use Rattle.uug_line.specs.SoundSetup.{IsSoundEnd, IsSoundSetup};
+ghost use Rattle.uug_line.specs.SoundSetup.{IsSoundEnd};
 
+use crate::event::Event;
 use crate::setup::{EndSetup, Setup};
 use std::alloc::Allocator;
 use uug_session::Job;
@@ -56,16 +58,38 @@ fn look_at_jobs(jobs: &[Job])
 }
 
 fn look_at_end<A: Allocator + Copy>(end: &EndSetup<A>)
-    ensures { IsSoundEnd (end_setup_of end.now) }
+    ensures sound { IsSoundEnd (end_setup_of end.now) }
+    ensures of_bytes { IsEndOfBytes (end_setup_of end.now) }
 {
+    end.name.as_bytes();
     end.announce.window();
     look_at_jobs(end.queue.pending());
 }
 
-/// Each set-up is sound: its types say so. This looks at its jobs and does nothing.
-pub(crate) fn look_at_setup<A: Allocator + Copy>(setup: &Setup<A>)
-    ensures { IsSoundSetup (setup_of setup.now) }
+fn look_at_event(event: Event)
+    ensures { IsOfBytes event }
+{
+    match event {
+        Event::Flip { .. } => {}
+        Event::Insert { .. } => {}
+        _ => {}
+    }
+}
+
+fn look_at_events(events: &[Event])
+    ensures { AreOfBytes events.now }
+{
+    for event in events {
+        look_at_event(*event);
+    }
+}
+
+/// Each set-up is sound and of bytes, and so are all events: their types say so. This looks at jobs and events and does
+/// nothing.
+pub(crate) fn look_at_setup<A: Allocator + Copy>(setup: &Setup<A>, events: &[Event])
+    ensures { AreOfTypes (setup_of setup.now) events.now }
 {
     look_at_end(&setup.caller);
     look_at_end(&setup.called);
+    look_at_events(events);
 }

@@ -40,6 +40,7 @@ pub mod Sessions
 pub mod Sharing
 pub mod ShownItems
 pub mod Side
+pub mod StoredBytes
 pub mod StoredModes
 pub mod Talk
 pub mod Talking

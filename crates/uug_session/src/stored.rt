@@ -1,4 +1,5 @@
 ghost use Rattle.std.specs.Prelude.{◌≤◌};
+ghost use Rattle.uug_packet.specs.Bytes.{AreBytes};
 ghost use Rattle.uug_talk.specs.declared.mode.TheConstants.{MODE_MAX};
 
 use std::alloc::Allocator;
@@ -14,4 +15,5 @@ pub struct Stored<A: Allocator> {
     /// What is in it.
     pub bytes: Vec<u8, A>,
     ghost in_range: { mode ≤ MODE_MAX },
+    ghost of_bytes: { AreBytes bytes.items },
 }

@@ -21,8 +21,8 @@ into_report-requires g c =
       some_run = record {
         setup = setup;
         events = events;
-        sound = c.look_at_setup.ensures;
-        told = told_by_world setup events verdict parts ended (c.a_run_is_the_world.ensures.report setup events c.look_at_setup.ensures);
+        types = c.look_at_setup.ensures;
+        told = told_by_world setup events verdict parts ended (c.a_run_is_the_world.ensures.report setup events c.look_at_setup.ensures.sound);
         spools = give_as_set_up setup (run_of_ends setup events) verdict parts ended;
       };
       said = record { caller = ended.caller_ordered.cleared; called = ended.called_ordered.cleared };
@@ -32,7 +32,8 @@ pub returns : goal.returns
 returns g c =
     let setup = setup_of c.args.setup in
     let events = c.args.events.now in
-    let sound = c.look_at_setup.ensures in
+    let types = c.look_at_setup.ensures in
+    let sound = types.sound in
     let verdict = c.in_ok-verdict.verdict in
     let parts = run_parts c.go_through.new.self in
     let ended = c.in_ok-verdict.ensures setup (first_run by_themselves setup) c.in_ok-run.ensures in
@@ -50,6 +51,8 @@ returns g c =
             exactly = c.a_run_stops_at_what_was_not_sent.ensures.fooled setup events;
             stopped = c.a_run_stops_at_what_was_not_sent.ensures.stopped setup events;
           });
+      types = types;
+      heard = λ side. c.an_end_finds_what_came.ensures.heard setup events side sound types.of_bytes types.events_of_bytes;
       front = c.the_headline.ensures.front setup events sound;
       stored = c.the_headline.ensures.stored setup events sound;
       earlier = c.the_headline.ensures.earlier setup events sound;

@@ -1,12 +1,22 @@
 use Rattle.std.proofs.Common.{All, subst}
 use Rattle.uug_link.specs.Terms.{IsWindow}
 use Rattle.uug_session.specs.Party.{HasNames}
+use Rattle.uug_session.specs.StoredBytes.{stored_bytes}
 use Rattle.uug_session.specs.StoredModes.{modes_in_range}
+use Rattle.uug_talk.specs.Name.{IsName}
+use Rattle.uug_line.proofs.ByteLemmas.{name_bytes}
 use Rattle.uug_line.proofs.soundness.look_at_end.Goals as goal
 
 pub returns : goal.returns
 returns g c = record {
-  window = subst IsWindow c.window.ensures.value c.window.ensures.within;
-  modes = modes_in_range c.args.end.now.spool.files.items;
-  names = subst (All HasNames) c.pending.ensures.jobs c.look_at_jobs.ensures;
+  sound = record {
+    window = subst IsWindow c.window.ensures.value c.window.ensures.within;
+    modes = modes_in_range c.args.end.now.spool.files.items;
+    names = subst (All HasNames) c.pending.ensures.jobs c.look_at_jobs.ensures;
+  };
+  of_bytes = record {
+    name = name_bytes c.args.end.now.name (subst IsName c.as_bytes.ensures.value c.as_bytes.ensures.name);
+    files = stored_bytes c.args.end.now.spool.files.items;
+    size_code = c.args.end.now.announce.size_code.below;
+  };
 }
