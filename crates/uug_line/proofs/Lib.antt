@@ -16,6 +16,7 @@ mod JoinedSteps
 mod Joining
 mod LinkLemmas
 mod LinkRunLemmas
+mod MachineLemmas
 mod MomentLemmas
 mod MoveLemmas
 mod RightPacketLemmas

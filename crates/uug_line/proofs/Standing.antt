@@ -260,16 +260,24 @@ module _ (setup : SetupValue) (all_steps : (brought : AtBoth Belongings) → IsS
   ran_as_machine brought sound e f joined =
       let ends = link_ends (record { at_caller = report_of_end e; at_called = report_of_end f }) (links_at e f) in
       let run = links_told e f joined.near_passed joined.far_passed joined.joined.links in
-      let m = laws.machine setup.at_caller.own setup.at_called.own ends (sound.window Caller) (sound.window Called)
-      (is_run caller called setup.at_caller.own setup.at_called.own ends e.log.arrivals f.log.arrivals run) in
-      let bounds = laws.bounds setup.at_called.own.window setup.at_caller.own.window m.0
-      (sound.window Called) (sound.window Caller) m.1 in
+      let window : ℕ = setup.at_called.own.window in
+      let other : ℕ = setup.at_caller.own.window in
+      let near : State = caller_state setup.at_caller.own in
+      let far : State = called_state setup.at_called.own in
+      let moved = laws.moves setup.at_caller.own setup.at_called.own near far run.occurrences (sound.window Caller)
+      (sound.window Called) (inl refl) (inr refl) run.allowed in
+      let behind = stands_behind window other (first_links setup) run.occurrences (first_machine setup) moved.0
+      (stands_first window other (first_links setup)
+      (laws.first_reads setup.at_caller.own setup.at_called.own near far (inl refl) (inr refl))) moved.1 in
+      let machine : Machine = after_all (first_machine setup) moved.0 in
+      let bounds = laws.bounds window other machine (sound.window Called) (sound.window Caller) behind.reached in
       record {
         run = run;
-        machine = m.0;
-        reached = m.1;
-        out = m.2;
-        back = m.3;
+        moves = moved.0;
+        moved = moved.1;
+        machine = machine;
+        behind = refl;
+        reads = subst (λ (p : Ends). ReadsBoth p machine) run.leads behind.reads;
         out_bounds = bounds.0;
         back_bounds = bounds.1;
       }

@@ -1,11 +1,11 @@
 -- The headline, said of a report: what holds of it for every two ends, whatever happens on the line between them (this
 -- project's profile).
 use Rattle.std.specs.Prelude.{◌≡◌, ◌≤◌, List, ◌++◌, length, drop, All}
-use Rattle.uug_link.specs.OnTheLine.{Reads}
+use Rattle.uug_link.specs.Moves.{AllMoveWith, ReadsBoth}
 use Rattle.uug_link.specs.State.{State, caller_state, called_state}
 use Rattle.uug_link.specs.TwoLinks.{End, Ends, first_ends}
 use Rattle.uug_link.specs.WindowBounds.{IsWithinBounds}
-use Rattle.uug_link.specs.WindowMachine.{IsReached, Machine}
+use Rattle.uug_link.specs.WindowMachine.{Machine, Move, start}
 use Rattle.uug_session.specs.declared.job.Job.{Job}
 use Rattle.uug_session.specs.Holdings.{Kept}
 use Rattle.uug_session.specs.OwnEntries.{HasOwnEntries}
@@ -14,7 +14,7 @@ use Rattle.uug_line.specs.declared.side.Side.{Side}
 use Rattle.uug_line.specs.declared.side.Side.TheVariants.{Caller, Called}
 use Rattle.uug_line.specs.Belongings.{SetupValue}
 use Rattle.uug_line.specs.Fooled.{present}
-use Rattle.uug_line.specs.LinkRun.{LinksRan}
+use Rattle.uug_line.specs.LinkRun.{LinksRan, after_all}
 use Rattle.uug_line.specs.Report.{EndReportValue}
 use Rattle.uug_line.specs.Run.{Run, end_at}
 use Rattle.uug_line.specs.Sides.{other, AtBoth, at, at_each}
@@ -55,17 +55,23 @@ link_ends session links = record {
 abbrev pub first_links : SetupValue → Ends
 first_links setup = first_ends (caller_state (at Caller setup).own) (called_state (at Called setup).own)
 
+-- the window machine at the start of a session
+abbrev pub first_machine : SetupValue → Machine
+first_machine setup = start (at Called setup).own.window (at Caller setup).own.window
+
 -- The session has run as the window machine, and has left its ends' links so.
 pub record RanAsMachine (setup : SetupValue) (session : AtBoth EndReportValue) (links : AtBoth State) : Type 0 where
   -- It is a run of the two links from their first states on: in it they have sent and taken these messages, emitted these
   -- packets, and found of each other's those at the places of the arrivals, and no others.
   pub run : LinksRan (first_links setup) (link_ends session links) session.at_caller.arrivals session.at_called.arrivals
-  -- A run of the machine comes to the same, INIT and CLOSE packets left aside: its numbers and acknowledgements stand on
-  -- the line, and in the links, as their digits modulo eight.
+  -- The machine has made the moves of what occurred, INIT and CLOSE packets left aside: each allowed, one for each packet
+  -- of the window that was emitted, found or lost, with its number and its acknowledgement as their digits modulo eight.
+  pub moves : List (List Move)
+  pub moved : AllMoveWith (first_links setup) run.occurrences (first_machine setup) moves
+  -- So it stands as the links do.
   pub machine : Machine
-  pub reached : IsReached (at Called setup).own.window (at Caller setup).own.window machine
-  pub out : Reads (link_end session.at_caller links.at_caller) (link_end session.at_called links.at_called) machine.out
-  pub back : Reads (link_end session.at_called links.at_called) (link_end session.at_caller links.at_caller) machine.back
+  pub behind : machine ≡ after_all (first_machine setup) moves
+  pub reads : ReadsBoth (link_ends session links) machine
   -- Each direction is within the machine's bounds.
   pub out_bounds : IsWithinBounds machine.out machine.back
   pub back_bounds : IsWithinBounds machine.back machine.out

@@ -2,6 +2,7 @@
 -- profile).
 use Rattle.std.specs.Prelude.{◌≡◌, ℕ, suc, List, [], ◌∷◌}
 use Rattle.uug_link.specs.TwoLinks.{AllMayOccur, Ends, Happening, Occurrence, after_occurrences, at_far, at_near, hears, misses, moves}
+use Rattle.uug_link.specs.WindowMachine.{Machine, Move, after}
 
 -- what happened at one end
 abbrev pub happened_near : List Occurrence → List Happening
@@ -30,3 +31,8 @@ pub record LinksRan (first ends : Ends) (near_places far_places : List ℕ) : Ty
   pub leads : after_occurrences first occurrences ≡ ends
   pub near_heard : places_heard 0 (happened_near occurrences) ≡ near_places
   pub far_heard : places_heard 0 (happened_far occurrences) ≡ far_places
+
+-- the machine behind the moves of each occurrence, one after the other
+abbrev pub after_all : Machine → List (List Move) → Machine
+after_all m [] = m
+after_all m (made ∷ more) = after_all (after m made) more

@@ -1,11 +1,12 @@
 -- What the laws of the crates below say of a session, for this crate's own proofs of runs, which cannot cite a contract.
 use Rattle.std.specs.Prelude.{◌≡◌, ℕ, ◌≤◌, List, [], ◌++◌, All}
 use Rattle.uug_link.specs.Announced.{Announced}
-use Rattle.uug_link.specs.OnTheLine.{Reads}
+use Rattle.uug_link.specs.Moves.{AllMoveWith, ReadsBoth}
+use Rattle.uug_link.specs.State.{State}
 use Rattle.uug_link.specs.Terms.{IsWindow}
-use Rattle.uug_link.specs.TwoLinks.{Ends, IsRun}
+use Rattle.uug_link.specs.TwoLinks.{AllMayOccur, IsFirst, Occurrence, first_ends}
 use Rattle.uug_link.specs.WindowBounds.{IsWithinBounds}
-use Rattle.uug_link.specs.WindowMachine.{Always, IsReached, Machine}
+use Rattle.uug_link.specs.WindowMachine.{Always, Move, start}
 use Rattle.uug_session.specs.declared.job.Job.{Job}
 use Rattle.uug_session.specs.Holdings.{Holdings, Kept}
 use Rattle.uug_session.specs.Jobs.{pending}
@@ -16,9 +17,12 @@ use Rattle.uug_session.specs.Turns.{Side, caller, called}
 use Rattle.uug_session.specs.View.{conversation_view, floor, kept_after, lists_after, party}
 
 pub record SessionLaws : Type 0 where
-  -- two links run as the window machine
-  pub machine : (near far : Announced) (ends : Ends) → IsWindow near.window → IsWindow far.window → IsRun near far ends →
-      (m : Machine) × IsReached far.window near.window m × Reads ends.near ends.far m.out × Reads ends.far ends.near m.back
+  -- what occurs at two links is so many moves of the window machine
+  pub first_reads : (near far : Announced) (a b : State) → IsFirst near a → IsFirst far b →
+      ReadsBoth (first_ends a b) (start far.window near.window)
+  pub moves : (near far : Announced) (a b : State) (os : List Occurrence) → IsWindow near.window → IsWindow far.window →
+      IsFirst near a → IsFirst far b → AllMayOccur (first_ends a b) os →
+      (made : List (List Move)) × AllMoveWith (first_ends a b) os (start far.window near.window) made
   -- which keeps within its bounds
   pub bounds : Always (λ d opposite. IsWithinBounds d opposite)
   -- struck jobs have own entries in each end's store

@@ -13,7 +13,8 @@ returns c =
       record { counts = counts.1; numbers = numbers.1; acks = acks.1 },
     ) in
     record {
-      machine = c.two_links_run_as_the_machine.ensures.machine;
+      first_reads = c.each_occurrence_is_moves_of_the_machine.ensures.start;
+      moves = c.each_occurrence_is_moves_of_the_machine.ensures.whole;
       bounds = bounds;
       called_store = c.struck_jobs_have_own_entries.ensures.called_store;
       caller_store = c.struck_jobs_have_own_entries.ensures.caller_store;
