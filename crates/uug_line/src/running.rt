@@ -73,8 +73,8 @@ pub fn run<A: Allocator + Copy>(
     ensures earlier { OnOk result ((side : Side) → StaysInFront (setup_of setup) (report_of_ends (setup_of setup) events.now) side) }
     // No end ever had more unacknowledged packets than the other announced.
     ensures window { OnOk result (AllKeptToWindows (setup_of setup) (report_of_ends (setup_of setup) events.now)) }
-    // Each session is a run of the two ends' links, and one of the window machine comes to the same, with its bounds in both
-    // directions.
+    // Each session is a run of the two ends' links, and what occurs in it so many moves of the window machine, packet by
+    // packet, with its bounds in both directions.
     ensures machine { OnOk result (AllRanAsMachine (setup_of setup) (report_of_ends (setup_of setup) events.now)) }
     // In the present session the links are those that the ends have then.
     ensures present { OnOk result (PresentRanAsMachine (setup_of setup) (run_of_ends (setup_of setup) events.now)) }

@@ -86,8 +86,8 @@ pub fn the_headline()
     // What was struck and stored before the run stays in front.
     ensures earlier { (setup : SetupValue) (events : List Event) → IsSoundSetup setup
         → (side : Side) → StaysInFront setup (report_of_ends setup events) side }
-    // Packet by packet, each session is a run of the two ends' links, and one of the window machine comes to the same, with
-    // its bounds in both directions.
+    // Each session is a run of the two ends' links, and what occurs in it so many moves of the window machine, packet by
+    // packet, with its bounds in both directions.
     ensures machine { (setup : SetupValue) (events : List Event) → IsSoundSetup setup
         → AllRanAsMachine setup (report_of_ends setup events) }
     // In the present session the links are those that the ends have now.
