@@ -19,8 +19,8 @@ ghost use Rattle.uug_line.specs.SoundSetup.{IsSoundSetup};
 ghost use Rattle.uug_line.specs.World.{counted, report_of_ends, report_of_world, run_of_ends, world};
 
 use uug_link::laws::{
-    arrivals, runs_of_two_links, the_window_is_safe, two_links_run_as_the_machine,
-    what_a_link_answers, what_a_link_emits_can_be_written,
+    arrivals, each_occurrence_is_moves_of_the_machine, runs_of_two_links, the_window_is_safe,
+    two_links_run_as_the_machine, what_a_link_answers, what_a_link_emits_can_be_written,
 };
 use uug_reader::laws::{found_in_steps, search_finds_the_first};
 use uug_session::arriving_laws::{bytes_are_left, what_is_found_stays};
