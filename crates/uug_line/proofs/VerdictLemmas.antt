@@ -22,7 +22,7 @@ use Rattle.uug_line.specs.declared.side.Side.TheVariants.{Caller, Called}
 use Rattle.uug_line.specs.declared.verdict.LineVerdict.{LineVerdict}
 use Rattle.uug_line.specs.declared.verdict.LineVerdict.TheVariants.{Clean, Fooled}
 use Rattle.uug_line.specs.Belongings.{Belongings, SetupValue, renewed}
-use Rattle.uug_line.specs.Fooled.{FindsNothingMore, FindsUnsent, FoundWereSent, StoppedAt, present}
+use Rattle.uug_line.specs.Fooled.{ArrivalsArePlaces, FindsNothingMore, FindsUnsent, StoppedAt, present}
 use Rattle.uug_line.specs.LineEnd.{LineEnd, Player, does, called_with, changed_line}
 use Rattle.uug_line.specs.Report.{EndReportValue, report_of_end}
 use Rattle.uug_line.specs.Run.{Run, end_at, player, has_now, first_end, first_run, session_begins, flipped, with_line_to, hears_next, after_hearing, calls, hung_up, calls_again, after_event, unless_fooled, goes_through, run_of}
@@ -101,7 +101,7 @@ call_finds_nothing p event h uses none =
 -- all sessions that are over, and what the ends of the present one have found
 pub record FoundSo {C : Type 0} (run : Run C) : Type 0 where
   pub both : BothFound run.ends.at_caller.end run.ends.at_called.end
-  pub past : All FoundWereSent run.past
+  pub past : All ArrivalsArePlaces run.past
 
 -- by the verdict nothing more is found at either end, or at one of them a packet that was not sent
 abbrev pub JudgedBy : {C : Type 0} → LineVerdict → Run C → Type 0
@@ -124,16 +124,16 @@ near_line change h f both = record {
   far = record { packets = both.far.packets; places = both.far.places; passed = both.far.passed };
 }
 
--- in a session all that was found was sent
+-- in a session the arrivals are places
 session_found : {C : Type 0} (e f : LineEnd C) → BothFound e f →
-    FoundWereSent (record { at_caller = report_of_end e; at_called = report_of_end f })
+    ArrivalsArePlaces (record { at_caller = report_of_end e; at_called = report_of_end f })
 session_found e f both Caller = (both.near.packets, both.near.places)
 session_found e f both Called = (both.far.packets, both.far.places)
 
 module _ (laws : FindingLaws) (place_is : PlaceIs) {C : Type 0} (k : RunKeeper C) (setup : SetupValue) where
   -- both ends, told in one
   judged_ends : (past : List (AtBoth EndReportValue)) (brought : AtBoth Belongings) (x y : Hearer (LineEnd C)) →
-      All FoundWereSent past → BothFound x.end y.end → FindsNothingMore x → FindsNothingMore y →
+      All ArrivalsArePlaces past → BothFound x.end y.end → FindsNothingMore x → FindsNothingMore y →
       IsJudged (record { past = past; brought = brought; ends = record { at_caller = x; at_called = y }; verdict = Clean })
   judged_ends past brought x y were both at_x at_y =
       record { found = record { both = both; past = were }; judged = each }
@@ -142,7 +142,7 @@ module _ (laws : FindingLaws) (place_is : PlaceIs) {C : Type 0} (k : RunKeeper C
       each Caller = at_x
       each Called = at_y
 
-  begins_judged : (past : List (AtBoth EndReportValue)) (brought : AtBoth Belongings) → All FoundWereSent past →
+  begins_judged : (past : List (AtBoth EndReportValue)) (brought : AtBoth Belongings) → All ArrivalsArePlaces past →
       IsJudged (session_begins k setup past brought)
   begins_judged past brought were =
       judged_ends past brought (first_end k setup brought Caller) (first_end k setup brought Called) were both refl refl
@@ -256,7 +256,7 @@ module _ (laws : FindingLaws) (place_is : PlaceIs) {C : Type 0} (k : RunKeeper C
       let first = does_found (player k setup run Caller) line_lost e f j.found.both in
       let both = turned f' e' (does_found (player k setup run Called) line_lost f e' (turned e' f first)) in
       begins_judged (run.past ++ told ∷ []) (at_each (λ side. renewed (has_now k setup run side)))
-      (All-push FoundWereSent run.past told j.found.past (session_found e' f' both))
+      (All-push ArrivalsArePlaces run.past told j.found.past (session_found e' f' both))
     where
       told : AtBoth EndReportValue
       told = at_each (λ side. report_of_end (hung_up k setup run side).end)
@@ -287,15 +287,15 @@ module _ (laws : FindingLaws) (place_is : PlaceIs) {C : Type 0} (k : RunKeeper C
   pub run_judged : (events : List Event) → IsJudged (run_of k setup events)
   run_judged events =
       all_judged 0 events (first_run k setup)
-      (begins_judged [] (at_each (λ side. renewed (at side setup).belongings)) (All-nil FoundWereSent))
+      (begins_judged [] (at_each (λ side. renewed (at side setup).belongings)) (All-nil ArrivalsArePlaces))
 
   -- ---- for readers
 
-  pub found_were_sent : (events : List Event) → All FoundWereSent (report_of k setup (run_of k setup events)).sessions
-  found_were_sent events =
+  pub arrivals_are_places : (events : List Event) → All ArrivalsArePlaces (report_of k setup (run_of k setup events)).sessions
+  arrivals_are_places events =
       let run = run_of k setup events in
       let j = run_judged events in
-      All-push FoundWereSent run.past (present run) j.found.past
+      All-push ArrivalsArePlaces run.past (present run) j.found.past
       (session_found run.ends.at_caller.end run.ends.at_called.end j.found.both)
 
   pub nothing_left : (events : List Event) → (run_of k setup events).verdict ≡ Clean → (side : Side) →

@@ -1,5 +1,5 @@
--- What the verdict of a run says of it: each packet that an end found was sent to it, or the run stopped at one that was
--- not (this project's profile).
+-- What the verdict of a run says of it: whether it stopped at a packet that an end found and that was not sent to it (this
+-- project's profile).
 use Rattle.std.specs.Prelude.{◌≡◌, ◌↔◌, ℕ, suc, List, [], ◌∷◌, ◌++◌, take, slice_get, Some}
 use Rattle.uug_packet.specs.Packet.{PacketValue}
 use Rattle.uug_session.specs.Arriving.{Hearer}
@@ -25,9 +25,10 @@ use Rattle.uug_line.specs.World.{run_of_ends}
 abbrev pub AreFound : List PacketValue → AtBoth EndReportValue → Side → Type 0
 AreFound found session side = HavePlaces found (at side session).arrivals (at (other side) session).packets 0
 
--- so all packets that an end has found and taken up were sent
-abbrev pub FoundWereSent : AtBoth EndReportValue → Type 0
-FoundWereSent session = (side : Side) → (found : List PacketValue) × AreFound found session side
+-- The arrivals of each end are places of some packets among those that the other end emitted, each the least one behind the
+-- place before it. That these are the packets that the end found in the bytes that came to it, HasHeard says.
+abbrev pub ArrivalsArePlaces : AtBoth EndReportValue → Type 0
+ArrivalsArePlaces session = (side : Side) → (found : List PacketValue) × AreFound found session side
 
 -- ---- at the end of a run
 

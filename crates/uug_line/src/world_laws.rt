@@ -7,7 +7,7 @@ ghost use Rattle.uug_line.specs.declared.side.Side.{Side};
 ghost use Rattle.uug_line.specs.declared.verdict.LineVerdict.TheVariants.{Clean, Fooled};
 ghost use Rattle.uug_line.specs.Belongings.{SetupValue};
 ghost use Rattle.uug_line.specs.Delivered.{HasHeardAt, HasScanned, came_in};
-ghost use Rattle.uug_line.specs.Fooled.{FindsNothingMore, FindsUnsent, FoundWereSent, StoppedAt};
+ghost use Rattle.uug_line.specs.Fooled.{ArrivalsArePlaces, FindsNothingMore, FindsUnsent, StoppedAt};
 ghost use Rattle.uug_line.specs.Headline.{AllKeptToWindows, AllRanAsMachine, AllTookFronts, PresentRanAsMachine, StaysInFront, StruckWereStored};
 ghost use Rattle.uug_line.specs.LowerLaws.{Laws};
 ghost use Rattle.uug_line.specs.OfBytes.{AreOfBytes, IsSetupOfBytes};
@@ -101,8 +101,9 @@ pub fn the_headline()
 /// A run stops exactly where an end finds a packet that was not sent to it: one that, with those found before it in the
 /// session, is not among the packets that the other end emitted, in this order and none more often.
 pub fn a_run_stops_at_what_was_not_sent()
-    // All packets that were taken up were sent.
-    ensures sent { (setup : SetupValue) (events : List Event) → All FoundWereSent (report_of_ends setup events).sessions }
+    // Arrivals are places among the packets that the other end emitted. That they are those of the packets that the end found
+    // in the bytes that came to it is the law `an_end_finds_what_came`.
+    ensures places { (setup : SetupValue) (events : List Event) → All ArrivalsArePlaces (report_of_ends setup events).sessions }
     // A run that did not stop found no others in the bytes that came.
     ensures clean { (setup : SetupValue) (events : List Event) → (run_of_ends setup events).verdict ≡ Clean
         → (side : Side) → FindsNothingMore (end_at side (run_of_ends setup events)) }

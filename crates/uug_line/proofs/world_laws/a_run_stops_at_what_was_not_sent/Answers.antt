@@ -1,11 +1,11 @@
 use Rattle.uug_session.specs.Finding.{FindingLaws}
 use Rattle.uug_line.specs.RunKeeper.{by_themselves}
-use Rattle.uug_line.proofs.VerdictLemmas.{found_were_sent, nothing_left, fooled_by_unsent, unsent_when_fooled, stopped_at}
+use Rattle.uug_line.proofs.VerdictLemmas.{arrivals_are_places, nothing_left, fooled_by_unsent, unsent_when_fooled, stopped_at}
 use Rattle.uug_line.proofs.world_laws.a_run_stops_at_what_was_not_sent.Goals as goal
 
-pub returns-clause-sent : goal.returns-clause-sent
-returns-clause-sent c setup events =
-    found_were_sent (record { more = c.what_is_found_stays.ensures.more; fewer = c.what_is_found_stays.ensures.fewer })
+pub returns-clause-places : goal.returns-clause-places
+returns-clause-places c setup events =
+    arrivals_are_places (record { more = c.what_is_found_stays.ensures.more; fewer = c.what_is_found_stays.ensures.fewer })
     c.arrivals.ensures.place by_themselves setup events
 
 pub returns-clause-clean : goal.returns-clause-clean
