@@ -9,6 +9,7 @@ mod EndCallLemmas
 mod FactSetups
 mod FoundLemmas
 mod HeardLemmas
+mod GreetedLemmas
 mod Hearing
 mod Invariant
 mod JoinedLemmas

@@ -34,10 +34,10 @@ use Rattle.uug_line.proofs.PlaceLemmas.{PlaceIs, none_left}
 
 -- ---- a call of an end that finds nothing more
 
--- an event that uses no bytes leaves an end hailing or linked, or ends it
+-- an event that uses no bytes leaves an end hailing, for the same text, or linked, or ends it
 abbrev pub StaysOrEnds : Stage → Stage → Type 0
 StaysOrEnds s (ended how) = ⊤
-StaysOrEnds (hailing g) (hailing h) = ⊤
+StaysOrEnds (hailing g) (hailing h) = g.awaited ≡ h.awaited
 StaysOrEnds linked linked = ⊤
 StaysOrEnds _ _ = ⊥
 
@@ -54,7 +54,7 @@ greeting_stays : {C : Type 0} (id : Identity) (g : Greeting) (goes_on : Bool) (l
     StaysOrEnds (hailing g) (behind_greeting id (if goes_on
     then record { says = []; greeted = GoesOn (record { awaited = g.awaited; timeouts = g.timeouts + 1 }) }
     else fails [] ends.GaveUp) link c).state.stage
-greeting_stays id g true link c = tt
+greeting_stays id g true link c = refl
 greeting_stays id g false link c = tt
 
 abbrev pub UsesNoBytes : EndEvent → Type 0

@@ -1,17 +1,22 @@
 -- The bytes that came to the ends of a line in a session, and what each has found in them (this project's profile).
-use Rattle.std.specs.Prelude.{◌≡◌, ℕ, suc, List, [], ◌∷◌, ◌++◌, take, ⊤}
+use Rattle.std.specs.Prelude.{◌≡◌, ℕ, suc, List, [], ◌∷◌, ◌++◌, length, take, ◌⊎◌}
 use Rattle.uug_packet.specs.Packet.{PacketValue}
 use Rattle.uug_reader.specs.Cut.{Item, found, bad}
 use Rattle.uug_reader.specs.Scan.{Finds, IsScan}
-use Rattle.uug_session.specs.EndStep.{Stage, hailing, linked, ended}
+use Rattle.uug_session.specs.declared.greeting.AwaitedText.{AwaitedText}
+use Rattle.uug_session.specs.declared.greeting.Greeted.TheVariants.{GoesOn, LinkBegins}
+use Rattle.uug_session.specs.declared.greeting.Greeting.{Greeting}
+use Rattle.uug_session.specs.EndStep.{Identity, Stage, hailing, linked, ended}
+use Rattle.uug_session.specs.Greeting.{greeting_at_first}
 use Rattle.uug_session.specs.TextsFound.{Taken}
-use Rattle.uug_talk.specs.StreamTexts.{StandBefore}
+use Rattle.uug_session.specs.WholeGreeting.{GreetingRun, texts_came}
+use Rattle.uug_talk.specs.StreamTexts.{Rest, StandBefore}
 use Rattle.uug_line.specs.declared.event.Event.{Event}
 use Rattle.uug_line.specs.declared.event.Event.TheVariants.{Pass, Drop, Flip, Insert, Timeout, HangUp, Call}
 use Rattle.uug_line.specs.declared.side.Side.{Side}
 use Rattle.uug_line.specs.declared.verdict.LineVerdict.{LineVerdict}
 use Rattle.uug_line.specs.declared.verdict.LineVerdict.TheVariants.{Clean, Fooled}
-use Rattle.uug_line.specs.Belongings.{SetupValue}
+use Rattle.uug_line.specs.Belongings.{SetupValue, identity}
 use Rattle.uug_line.specs.Run.{Run, end_at, after_event, first_run}
 use Rattle.uug_line.specs.RunKeeper.{RunKeeper}
 use Rattle.uug_line.specs.Sides.{other, AtBoth, at, with_at}
@@ -55,16 +60,33 @@ packets_among [] = []
 packets_among (found packet ∷ items) = packet ∷ packets_among items
 packets_among (bad ∷ items) = packets_among items
 
--- By how far the end has come: in the greeting there are no items, and the texts of what is held go on as those of all
--- bytes do; on the link just the bytes behind the last item are held.
-abbrev pub IsLeft : Stage → (texts : List (List ℕ)) → List Item → (others came held : List ℕ) → Type 0
-IsLeft (hailing greeting) texts items others came held = (items ≡ []) × Taken texts came held
-IsLeft linked texts items others came held = others ≡ held
-IsLeft (ended how) texts items others came held = ⊤
+-- what these texts make of the greeting of an end that is so called, from its start
+abbrev pub greeted_by : Identity → (texts : List (List ℕ)) → GreetingRun
+greeted_by id texts = texts_came id.me id.peer texts (Rest []) (greeting_at_first id.side)
 
--- An end has found texts in all bytes that came to it, and then, from where they end, items of the link. The packets of
--- these, and no others, are written down, each at its place among those that the other end emitted.
-pub record HasHeard (came : List ℕ) (stage : Stage) (held arrivals : List ℕ) (emitted : List PacketValue) : Type 0 where
+-- with all of these texts the greeting goes on, and awaits this
+pub record GreetsOn (id : Identity) (texts : List (List ℕ)) (awaited : AwaitedText) : Type 0 where
+  pub greeting : Greeting
+  pub goes_on : (greeted_by id texts).greeted ≡ GoesOn greeting
+  pub awaits : greeting.awaited ≡ awaited
+
+-- with the last of these texts, and not before, the greeting was over and the link began
+pub record LinkBeganWith (id : Identity) (texts : List (List ℕ)) : Type 0 where
+  pub begins : (greeted_by id texts).greeted ≡ LinkBegins
+  pub used : (greeted_by id texts).used ≡ length texts
+
+-- By how far the end has come: in the greeting there are no items, and the texts of what is held go on as those of all
+-- bytes do; on the link, which began with the last text, just the bytes behind the last item are held; and an end whose
+-- session is over has found items only behind such a text.
+abbrev pub IsLeft : Identity → Stage → (texts : List (List ℕ)) → List Item → (others came held : List ℕ) → Type 0
+IsLeft id (hailing greeting) texts items others came held =
+    (items ≡ []) × Taken texts came held × GreetsOn id texts greeting.awaited
+IsLeft id linked texts items others came held = (others ≡ held) × LinkBeganWith id texts
+IsLeft id (ended how) texts items others came held = (items ≡ []) ⊎ LinkBeganWith id texts
+
+-- An end that is so called has found texts in all bytes that came to it, and then, from where they end, items of the link. The
+-- packets of these, and no others, are written down, each at its place among those that the other end emitted.
+pub record HasHeard (id : Identity) (came : List ℕ) (stage : Stage) (held arrivals : List ℕ) (emitted : List PacketValue) : Type 0 where
   pub texts : List (List ℕ)
   pub begins : List ℕ
   pub greeting : StandBefore texts begins came
@@ -72,15 +94,16 @@ pub record HasHeard (came : List ℕ) (stage : Stage) (held arrivals : List ℕ)
   pub others : List ℕ
   pub link : Finds begins items others
   pub places : HavePlaces (packets_among items) arrivals emitted 0
-  pub left : IsLeft stage texts items others came held
+  pub left : IsLeft id stage texts items others came held
 
 -- the end on the side, of these bytes
-abbrev pub HasHeardAt : {C : Type 0} → (came : List ℕ) → Run C → Side → Type 0
-HasHeardAt came run side =
+abbrev pub HasHeardAt : {C : Type 0} → SetupValue → (came : List ℕ) → Run C → Side → Type 0
+HasHeardAt setup came run side =
     let h = end_at side run in
-    HasHeard came h.end.state.stage h.held h.end.log.arrivals (end_at (other side) run).end.log.packets
+    HasHeard (identity setup side) came h.end.state.stage h.held h.end.log.arrivals (end_at (other side) run).end.log.packets
 
 -- On a link nothing more than its items stands in all bytes since it began, and what waits is held.
-abbrev pub HasScanned : {C : Type 0} → (came : List ℕ) → (run : Run C) → (side : Side) → HasHeardAt came run side → Type 0
-HasScanned came run side heard =
+abbrev pub HasScanned : {C : Type 0} → (setup : SetupValue) → (came : List ℕ) → (run : Run C) → (side : Side) →
+    HasHeardAt setup came run side → Type 0
+HasScanned setup came run side heard =
     (end_at side run).end.state.stage ≡ linked → IsScan heard.begins heard.items (end_at side run).held

@@ -64,7 +64,7 @@ pub fn run<A: Allocator + Copy>(
     // What the laws of a run ask of two ends and events is so.
     ensures types { OnOk result (AreOfTypes (setup_of setup) events.now) }
     // The arrivals of an end are the places of the packets that it found in the bytes that came to it, and of no others.
-    ensures heard { OnOk result ((side : Side) → HasHeardAt (at side (came_in by_themselves (setup_of setup) events.now))
+    ensures heard { OnOk result ((side : Side) → HasHeardAt (setup_of setup) (at side (came_in by_themselves (setup_of setup) events.now))
         (run_of_ends (setup_of setup) events.now) side) }
     // In every session each end has taken the first messages that the other has sent.
     ensures front { OnOk result (AllTookFronts (report_of_ends (setup_of setup) events.now)) }

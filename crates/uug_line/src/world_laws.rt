@@ -136,14 +136,14 @@ pub fn what_comes_is_bytes()
 fn what_is_found_in_bytes()
     ensures heard { (setup : SetupValue) (events : List Event) (side : Side)
         → AreBytes (at side (came_in by_themselves setup events))
-        → HasHeardAt (at side (came_in by_themselves setup events)) (run_of_ends setup events) side }
+        → HasHeardAt setup (at side (came_in by_themselves setup events)) (run_of_ends setup events) side }
     ensures scanned { (setup : SetupValue) (events : List Event) (side : Side)
         → AreBytes (at side (came_in by_themselves setup events)) → (run_of_ends setup events).verdict ≡ Clean
-        → (heard : HasHeardAt (at side (came_in by_themselves setup events)) (run_of_ends setup events) side)
-        → HasScanned (at side (came_in by_themselves setup events)) (run_of_ends setup events) side heard }
+        → (heard : HasHeardAt setup (at side (came_in by_themselves setup events)) (run_of_ends setup events) side)
+        → HasScanned setup (at side (came_in by_themselves setup events)) (run_of_ends setup events) side heard }
     ensures world { (setup : SetupValue) (events : List Event) (side : Side)
         → AreBytes (at side (came_in by_numbers setup events))
-        → HasHeardAt (at side (came_in by_numbers setup events)) (world setup events) side }
+        → HasHeardAt setup (at side (came_in by_numbers setup events)) (world setup events) side }
 {
     arrivals();
     what_is_found_stays();
@@ -154,21 +154,21 @@ fn what_is_found_in_bytes()
 }
 
 /// In whatever pieces bytes come to an end, in each session, what it finds in them is what stands in all of them: the texts
-/// of its greeting, and then, from the first byte behind the last of these on, the items of the link. The packets that have
-/// places among those of the other end are the packets among these items, and no others. A session that is over was the
+/// of its greeting, and then, from the first byte behind the text with which the link began, the items of the link. The packets
+/// that have places among those of the other end are the packets among these items, and no others. A session that is over was the
 /// present one behind fewer events.
 pub fn an_end_finds_what_came()
     ensures heard { (setup : SetupValue) (events : List Event) (side : Side) → IsSoundSetup setup → IsSetupOfBytes setup
         → AreOfBytes events
-        → HasHeardAt (at side (came_in by_themselves setup events)) (run_of_ends setup events) side }
+        → HasHeardAt setup (at side (came_in by_themselves setup events)) (run_of_ends setup events) side }
     // Where the run did not stop, an end on its link has found the whole scan of them.
     ensures scanned { (setup : SetupValue) (events : List Event) (side : Side) → IsSoundSetup setup → IsSetupOfBytes setup
         → AreOfBytes events → (run_of_ends setup events).verdict ≡ Clean
-        → (heard : HasHeardAt (at side (came_in by_themselves setup events)) (run_of_ends setup events) side)
-        → HasScanned (at side (came_in by_themselves setup events)) (run_of_ends setup events) side heard }
+        → (heard : HasHeardAt setup (at side (came_in by_themselves setup events)) (run_of_ends setup events) side)
+        → HasScanned setup (at side (came_in by_themselves setup events)) (run_of_ends setup events) side heard }
     // So it is in the world.
     ensures world { (setup : SetupValue) (events : List Event) (side : Side) → IsSoundSetup setup → IsSetupOfBytes setup
-        → AreOfBytes events → HasHeardAt (at side (came_in by_numbers setup events)) (world setup events) side }
+        → AreOfBytes events → HasHeardAt setup (at side (came_in by_numbers setup events)) (world setup events) side }
 {
     what_comes_is_bytes();
     what_is_found_in_bytes();
