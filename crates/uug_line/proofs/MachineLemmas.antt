@@ -1,5 +1,5 @@
 -- The window machine behind the moves of all that occurs at two links.
-use Rattle.std.proofs.Common.{◌≡◌, ℕ, List, [], ◌∷◌, ◌++◌, refl, sym, subst, ◌∙◌, ap, absurd}
+use Rattle.std.proofs.Common.{◌≡◌, ℕ, List, [], ◌∷◌, ◌++◌, refl, sym, subst, ◌∙◌, ap}
 use Rattle.uug_link.specs.Moves.{AllMoveWith, ReadsBoth}
 use Rattle.uug_link.specs.TwoLinks.{Ends, Occurrence, after_occurrence, after_occurrences}
 use Rattle.uug_link.specs.WindowMachine.{AllAllowed, IsReached, Machine, Move, after, after_move, start}

@@ -1,9 +1,11 @@
 -- What a run of two ends has come to, after every event: its ends are joined, and the run by numbers is the same.
-use Rattle.std.proofs.Common.{◌≡◌, ℕ, suc, List, [], ◌∷◌, ◌++◌, take, drop, All, ◌+◌, refl, sym, ap, ap₂, subst, ◌∙◌}
+use Rattle.std.proofs.Common.{◌≡◌, inl, inr, ℕ, suc, List, [], ◌∷◌, ◌++◌, take, drop, All, ◌+◌, refl, sym, ap, ap₂, subst, ◌∙◌}
 use Rattle.std.proofs.lemmas.List.Elements.{All-nil, All-push}
 use Rattle.std.proofs.lemmas.Nat.{pow_pos}
-use Rattle.uug_link.specs.State.{State}
-use Rattle.uug_link.specs.TwoLinks.{End}
+use Rattle.uug_link.specs.Moves.{ReadsBoth}
+use Rattle.uug_link.specs.State.{State, caller_state, called_state}
+use Rattle.uug_link.specs.TwoLinks.{End, Ends}
+use Rattle.uug_link.specs.WindowMachine.{Machine}
 use Rattle.uug_session.specs.Arriving.{held_in, Hearer, Came, all_taken, stopped, takes_piece}
 use Rattle.uug_session.specs.Count.{Count}
 use Rattle.uug_session.specs.EndStep.{EndEvent, time_ran_out, line_lost}
@@ -18,9 +20,9 @@ use Rattle.uug_line.specs.declared.side.Side.TheVariants.{Caller, Called}
 use Rattle.uug_line.specs.declared.verdict.LineVerdict.{LineVerdict}
 use Rattle.uug_line.specs.declared.verdict.LineVerdict.TheVariants.{Clean, Fooled}
 use Rattle.uug_line.specs.Belongings.{Belongings, SetupValue, party, renewed}
-use Rattle.uug_line.specs.Headline.{TookFronts, KeptToWindows, RanAsMachine, PresentRanAsMachine, SomeLinksRan, StaysInFront, first_links, link_end as told_end, link_ends}
+use Rattle.uug_line.specs.Headline.{TookFronts, KeptToWindows, RanAsMachine, PresentRanAsMachine, SomeLinksRan, StaysInFront, first_links, first_machine, link_end as told_end, link_ends}
 use Rattle.uug_line.specs.LineEnd.{LineEnd, does, called_with, changed_line}
-use Rattle.uug_line.specs.LinkRun.{LinksRan}
+use Rattle.uug_line.specs.LinkRun.{LinksRan, after_all}
 use Rattle.uug_line.specs.Report.{EndReportValue, end_now, report_of_end}
 use Rattle.uug_line.specs.Run.{Run, end_at, with_end_at, has_now, first_end, session_begins, flipped, with_line_to, after_hearing, calls, hung_up, calls_again, after_event, unless_fooled, goes_through, first_run}
 use Rattle.uug_line.specs.RunKeeper.{by_themselves, by_numbers}
@@ -30,7 +32,7 @@ use Rattle.uug_line.specs.Taking.{line_taker}
 use Rattle.uug_line.specs.World.{report_of, counted_hearer, counted, run_of_ends, world, report_of_ends, report_of_world}
 use Rattle.uug_line.proofs.Hearing.{counted_came, end_of, taken_piece}
 use Rattle.uug_line.proofs.Joining.{EndsJoined, HasPassed, IsSoundSession, LinksOf, link_end, moment_of}
-use Rattle.uug_line.proofs.LinkRunLemmas.{is_run}
+use Rattle.uug_line.proofs.MachineLemmas.{stands_behind, stands_first}
 use Rattle.uug_line.specs.SessionLaws.{SessionLaws}
 use Rattle.uug_line.proofs.Steps.{talk_player, count_player, IsNoPacket, Steps}
 use Rattle.uug_line.proofs.StoredSince.{OwnSince, names_now, own_of_both, own_at_first, OwnPlaces, own_places, set_up}

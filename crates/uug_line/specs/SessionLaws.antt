@@ -2,11 +2,12 @@
 use Rattle.std.specs.Prelude.{◌≡◌, ℕ, ◌≤◌, List, [], ◌++◌, All}
 use Rattle.uug_link.specs.Announced.{Announced}
 use Rattle.uug_link.specs.Moves.{AllMoveWith, ReadsBoth}
+use Rattle.uug_link.specs.OnTheLine.{Reads}
 use Rattle.uug_link.specs.State.{State}
 use Rattle.uug_link.specs.Terms.{IsWindow}
-use Rattle.uug_link.specs.TwoLinks.{AllMayOccur, IsFirst, Occurrence, first_ends}
+use Rattle.uug_link.specs.TwoLinks.{AllMayOccur, Ends, IsFirst, IsRun, Occurrence, first_ends}
 use Rattle.uug_link.specs.WindowBounds.{IsWithinBounds}
-use Rattle.uug_link.specs.WindowMachine.{Always, Move, start}
+use Rattle.uug_link.specs.WindowMachine.{Always, IsReached, Machine, Move, start}
 use Rattle.uug_session.specs.declared.job.Job.{Job}
 use Rattle.uug_session.specs.Holdings.{Holdings, Kept}
 use Rattle.uug_session.specs.Jobs.{pending}
@@ -23,6 +24,9 @@ pub record SessionLaws : Type 0 where
   pub moves : (near far : Announced) (a b : State) (os : List Occurrence) → IsWindow near.window → IsWindow far.window →
       IsFirst near a → IsFirst far b → AllMayOccur (first_ends a b) os →
       (made : List (List Move)) × AllMoveWith (first_ends a b) os (start far.window near.window) made
+  -- a run of two links comes to what some run of the machine does
+  pub machine : (near far : Announced) (ends : Ends) → IsWindow near.window → IsWindow far.window → IsRun near far ends →
+      (m : Machine) × IsReached far.window near.window m × Reads ends.near ends.far m.out × Reads ends.far ends.near m.back
   -- which keeps within its bounds
   pub bounds : Always (λ d opposite. IsWithinBounds d opposite)
   -- struck jobs have own entries in each end's store

@@ -54,6 +54,7 @@ fn session_laws()
     ensures { SessionLaws }
 {
     each_occurrence_is_moves_of_the_machine();
+    two_links_run_as_the_machine();
     the_window_is_safe();
     struck_jobs_have_own_entries();
     own_entries_of_sessions();

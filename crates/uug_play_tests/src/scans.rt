@@ -18,46 +18,67 @@ const LINK: [u8; 42] = [
     0x90, 0xaa, 0x1a, 0x29, 0x10, 0x09, 0xa2, 0xaa, 0x08, 0x09,
 ];
 
-/// The first bytes of a stream, how many bytes it has with the zeros behind them, and its listing.
-const STREAMS: [(&[u8], usize, &str); 14] = [
+/// The first bytes of a stream, the byte that fills it up, how many bytes it has then, and its listing.
+const STREAMS: [(&[u8], u8, usize, &str); 15] = [
     (
         &LINK,
+        0,
         42,
         "INITA 3\nINITB 64\nINITC 3\nRR 1\nRJ 2\nSRJ 2\nCLOSE\nREST 0\n",
     ),
-    (&[], 0, "REST 0\n"),
+    (&[], 0, 0, "REST 0\n"),
     // CLOSE with another number beside it
-    (&[0x10, 0x09, 0x9d, 0xaa, 0x0d, 0x33], 6, "CLOSE\nREST 0\n"),
+    (
+        &[0x10, 0x09, 0x9d, 0xaa, 0x0d, 0x33],
+        0,
+        6,
+        "CLOSE\nREST 0\n",
+    ),
     (
         &[0x10, 0x09, 0x72, 0xaa, 0x38, 0xe9],
+        0,
         6,
         "INITA 0\nREST 0\n",
     ),
     (
         &[0x10, 0x10, 0x09, 0x6f, 0xaa, 0x3b, 0xf7],
+        0,
         7,
         "INITA 3\nREST 0\n",
     ),
-    (&[0x10, 0x09], 2, "REST 2\n"),
+    (&[0x10, 0x09], 0, 2, "REST 2\n"),
     (
         &[0x10, 0x01, 0x0d, 0x3a, 0x88, 0xbe],
+        0,
         38,
         "DATA 1 ACK 0 SIZE 32 VALID 32\nREST 0\n",
     ),
     (
         &[0x10, 0x01, 0x9a, 0x0e, 0xd1, 0x44, 0x20],
+        0,
         38,
         "DATA 2 ACK 1 SIZE 32 VALID 0\nREST 0\n",
     ),
-    (&[0x10, 0x01, 0xcd, 0x39, 0xc8, 0x3d], 38, "BAD\nREST 0\n"),
-    (&[0x10, 0x01, 0x0d, 0x3a, 0x88, 0xbf], 38, "REST 0\n"),
-    (&[0x10, 0x01, 0x0e, 0x3a, 0x88, 0xbd], 38, "BAD\nREST 0\n"),
-    (&[0x10, 0x01, 0x0d, 0x3a, 0x88, 0xbe], 37, "REST 37\n"),
+    (
+        &[0x10, 0x01, 0xcd, 0x39, 0xc8, 0x3d],
+        0,
+        38,
+        "BAD\nREST 0\n",
+    ),
+    (&[0x10, 0x01, 0x0d, 0x3a, 0x88, 0xbf], 0, 38, "REST 0\n"),
+    (
+        &[0x10, 0x01, 0x0e, 0x3a, 0x88, 0xbd],
+        0,
+        38,
+        "BAD\nREST 0\n",
+    ),
+    (&[0x10, 0x01, 0x0d, 0x3a, 0x88, 0xbe], 0, 37, "REST 37\n"),
     // a data packet whose checksum is one too high, and in its field what reads as a packet
     (
         &[
             0x10, 0x01, 0x96, 0x6a, 0x88, 0x75, 0x10, 0x09, 0x89, 0xaa, 0x21, 0x0b,
         ],
+        0,
         38,
         "BAD\nRR 1\nREST 0\n",
     ),
@@ -65,16 +86,19 @@ const STREAMS: [(&[u8], usize, &str); 14] = [
         &[
             0x10, 0x08, 0x00, 0x00, 0x88, 0x80, 0x10, 0x09, 0x6f, 0xaa, 0x3b, 0xf7,
         ],
+        0,
         12,
         "REST 12\n",
     ),
+    // no K is 0x10: what waits is what is shorter than a header
+    (&[], 0x10, 1000, "REST 5\n"),
 ];
 
 #[test]
 fn lists_streams(rt: HostRuntime) -> Result<(), Fail> {
-    for (front, length, listing) in STREAMS {
+    for (front, fill, length, listing) in STREAMS {
         let mut bytes = Vec::from_slice(rt.alloc(), front)?;
-        bytes.resize(length, 0)?;
+        bytes.resize(length, fill)?;
         let mut input = MemoryInput::new(&bytes);
         let mut output = MemoryOutput::new(rt.alloc());
         scan_stream(rt.alloc(), &mut input, &mut output)?;
@@ -118,14 +142,29 @@ fn lists_each_read_before_the_next(rt: HostRuntime) {
     }
 }
 
-// How many lines an output takes, why it refuses the next, the answer, and how many of 100 reads are left.
-#[test]
-fn stops_at_a_refused_write(rt: HostRuntime) {
-    for (writes, refusal, fault, left) in [
-        (0, WriteFailed::Device, ToolFault::Write, 99),
-        (2, WriteFailed::Device, ToolFault::Write, 97),
-        (1, WriteFailed::Memory, ToolFault::Memory, 98),
-    ] {
+/// Lets each read of the link fail in turn. How many reads its scan takes.
+fn reads_of_a_scan(rt: &(impl Abort + AllocGlobal)) -> Result<u32, Fail> {
+    for reads in 0..100 {
+        let mut input = link_in_reads(reads);
+        let mut output = MemoryOutput::new(rt.alloc());
+        let result = scan_stream(rt.alloc(), &mut input, &mut output);
+        if input.faults() == 0 {
+            assert_eq!(rt; result, Ok(()));
+            return Ok(reads);
+        }
+        assert_eq!(rt; result, Err(ToolFault::Read), "after {reads} reads");
+        assert_eq!(rt; input.faults(), 1, "read on");
+    }
+    Err("a scan that is never done".into())
+}
+
+/// Refuses each write of the link's listing in turn. How many writes its scan takes.
+fn writes_of_a_scan(
+    rt: &(impl Abort + AllocGlobal),
+    refusal: WriteFailed,
+    fault: ToolFault,
+) -> Result<u32, Fail> {
+    for writes in 0..100 {
         let mut input = link_in_reads(100);
         let mut output = SlowOutput {
             most: 100,
@@ -134,9 +173,29 @@ fn stops_at_a_refused_write(rt: HostRuntime) {
             faults: 0,
         };
         let result = scan_stream(rt.alloc(), &mut input, &mut output);
+        if output.faults() == 0 {
+            assert_eq!(rt; result, Ok(()));
+            return Ok(writes);
+        }
         assert_eq!(rt; result, Err(fault), "after {writes} writes");
-        assert_eq!(rt; input.reads, left, "went on");
+        assert_eq!(rt; input.reads, 99 - writes, "went on");
     }
+    Err("a scan that is never done".into())
+}
+
+// Seven packets, one a read, whose lines go out before the next; then the read that finds the end, and the last line.
+#[test]
+fn stops_at_each_fault(rt: HostRuntime) -> Result<(), Fail> {
+    assert_eq!(rt; reads_of_a_scan(&rt)?, 8);
+    assert_eq!(rt;
+        writes_of_a_scan(&rt, WriteFailed::Device, ToolFault::Write)?,
+        8
+    );
+    assert_eq!(rt;
+        writes_of_a_scan(&rt, WriteFailed::Memory, ToolFault::Memory)?,
+        8
+    );
+    Ok(())
 }
 
 #[test]

@@ -38,8 +38,16 @@ fn lends_the_ends_as_they_stand(rt: HostRuntime) -> Result<(), Fail> {
     for (text, caller, called) in SCRIPTS {
         let script = read_script(rt.alloc(), text.as_bytes())?;
         let report = run(rt.alloc(), script.setup, script.events.as_slice())?;
-        assert_eq!(rt; (report.caller().phase(), report.caller().unacked()), caller, "the caller of {text}");
-        assert_eq!(rt; (report.called().phase(), report.called().unacked()), called, "the called end of {text}");
+        assert_eq!(rt;
+            (report.caller().phase(), report.caller().unacked()),
+            caller,
+            "the caller of {text}"
+        );
+        assert_eq!(rt;
+            (report.called().phase(), report.called().unacked()),
+            called,
+            "the called end of {text}"
+        );
     }
     Ok(())
 }

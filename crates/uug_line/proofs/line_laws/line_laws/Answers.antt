@@ -2,7 +2,11 @@ use Rattle.uug_line.proofs.line_laws.line_laws.Goals as goal
 
 pub returns : goal.returns
 returns c = record {
-  search = c.a_search_shows_what_is_found.ensures;
+  search = record {
+    shown = c.a_search_shows_what_is_found.ensures.shown;
+    one = c.a_search_shows_what_is_found.ensures.one;
+    none = c.a_search_shows_what_is_found.ensures.none;
+  };
   reads = c.packets_are_well_formed.ensures.read;
   in_range = c.what_an_end_emits_can_be_written.ensures;
   spelled = c.packets_are_well_formed.ensures.spelled;

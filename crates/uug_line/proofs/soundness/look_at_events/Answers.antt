@@ -1,4 +1,4 @@
-use Rattle.std.proofs.Common.{ℕ, ◌<◌, ◌+◌, List, [], ◌∷◌, ◌++◌, take, length, get_or, All, sym, subst, ◌∙◌, ap, add-one}
+use Rattle.std.proofs.Common.{ℕ, ◌<◌, ◌+◌, List, take, length, get_or, All, sym, subst, ◌∙◌, ap, add-one}
 use Rattle.std.proofs.lemmas.List.{take_all}
 use Rattle.std.proofs.lemmas.List.Elements.{All-push}
 use Rattle.std.proofs.Math.Seq.{take-suc}

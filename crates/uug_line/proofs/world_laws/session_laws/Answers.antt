@@ -15,6 +15,7 @@ returns c =
     record {
       first_reads = c.each_occurrence_is_moves_of_the_machine.ensures.start;
       moves = c.each_occurrence_is_moves_of_the_machine.ensures.whole;
+      machine = c.two_links_run_as_the_machine.ensures.machine;
       bounds = bounds;
       called_store = c.struck_jobs_have_own_entries.ensures.called_store;
       caller_store = c.struck_jobs_have_own_entries.ensures.caller_store;
