@@ -10,6 +10,7 @@ use Rattle.uug_line.specs.declared.side.Side.TheVariants.{Caller, Called}
 use Rattle.uug_line.specs.declared.verdict.LineVerdict.{LineVerdict}
 use Rattle.uug_line.specs.declared.verdict.LineVerdict.TheVariants.{Clean, Fooled}
 use Rattle.uug_line.specs.Belongings.{Belongings}
+use Rattle.uug_line.specs.Report.{EndNow}
 use Rattle.uug_line.specs.Sides.{AtBoth}
 use Rattle.uug_line.specs.Spelled.{SpelledEnd, SpelledReport}
 use Rattle.uug_script.specs.ReportText.{RunResult}
@@ -47,9 +48,11 @@ some_jobs = record {
 abbrev no_jobs : Belongings
 no_jobs = record { lists = record { passed = []; ahead = []; struck = []; failed = [] }; kept = stored }
 
-abbrev report : SpelledReport
-report = record {
+-- however the ends stand, which is not shown
+abbrev report : AtBoth EndNow → SpelledReport
+report ends = record {
   sessions = record { at_caller = at_work; at_called = at_rest } ∷ [];
+  ends = ends;
   belongings = record { at_caller = some_jobs; at_called = no_jobs };
   verdict = Fooled 14 Called;
 }
@@ -65,8 +68,8 @@ shown = record {
   verdict = Fooled 14 Called;
 }
 
-a_report : result_of report ≡ shown
-a_report = refl
+a_report : (ends : AtBoth EndNow) → result_of (report ends) ≡ shown
+a_report ends = refl
 
 -- ---- the status
 
@@ -77,9 +80,10 @@ with_phase phase = record { sent = []; taken = []; packets = []; arrivals = []; 
 abbrev session : (caller called : Phase) → AtBoth SpelledEnd
 session caller called = record { at_caller = with_phase caller; at_called = with_phase called }
 
-abbrev status : LineVerdict → List (AtBoth SpelledEnd) → ℕ
-status verdict sessions = status_of_result (result_of (record {
+abbrev status : AtBoth EndNow → LineVerdict → List (AtBoth SpelledEnd) → ℕ
+status ends verdict sessions = status_of_result (result_of (record {
   sessions = sessions;
+  ends = ends;
   belongings = record { at_caller = no_jobs; at_called = no_jobs };
   verdict = verdict;
 }))
@@ -91,22 +95,22 @@ abbrev broken_off : AtBoth SpelledEnd
 broken_off = session (Ended HungUp) (Ended HungUp)
 
 -- the last session counts
-last_is_done : status Clean (broken_off ∷ done ∷ []) ≡ 0
-last_is_done = refl
+last_is_done : (ends : AtBoth EndNow) → status ends Clean (broken_off ∷ done ∷ []) ≡ 0
+last_is_done ends = refl
 
-last_is_not_done : status Clean (done ∷ broken_off ∷ []) ≡ 1
-last_is_not_done = refl
+last_is_not_done : (ends : AtBoth EndNow) → status ends Clean (done ∷ broken_off ∷ []) ≡ 1
+last_is_not_done ends = refl
 
 -- one end alone is not enough, nor is an end that is not over
-caller_alone : status Clean (session (Ended Done) (Ended HungUp) ∷ []) ≡ 1
-caller_alone = refl
+caller_alone : (ends : AtBoth EndNow) → status ends Clean (session (Ended Done) (Ended HungUp) ∷ []) ≡ 1
+caller_alone ends = refl
 
-called_alone : status Clean (session Closing (Ended Done) ∷ []) ≡ 1
-called_alone = refl
+called_alone : (ends : AtBoth EndNow) → status ends Clean (session Closing (Ended Done) ∷ []) ≡ 1
+called_alone ends = refl
 
-no_session : status Clean [] ≡ 1
-no_session = refl
+no_session : (ends : AtBoth EndNow) → status ends Clean [] ≡ 1
+no_session ends = refl
 
 -- a run that was fooled never ends as done
-fooled_when_done : status (Fooled 14 Caller) (done ∷ []) ≡ 5
-fooled_when_done = refl
+fooled_when_done : (ends : AtBoth EndNow) → status ends (Fooled 14 Caller) (done ∷ []) ≡ 5
+fooled_when_done ends = refl
