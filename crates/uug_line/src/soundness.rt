@@ -12,6 +12,7 @@ use std::alloc::Allocator;
 use uug_session::Job;
 use uug_talk::Name;
 
+// These calls do nothing at run time but look: only a reading call tells a proof that a name is one.
 fn look_at_names(source: &Name, target: &Name, user: &Name)
     ensures { AreNames source.now target.now user.now }
 {
@@ -66,6 +67,7 @@ fn look_at_end<A: Allocator + Copy>(end: &EndSetup<A>)
     look_at_jobs(end.queue.pending());
 }
 
+// Only where an event is matched does a proof know that the numbers in it are bytes.
 fn look_at_event(event: Event)
     ensures { IsOfBytes event }
 {
