@@ -6,8 +6,6 @@ mod program;
 mod stop;
 mod system_input;
 mod system_output;
-#[cfg(test)]
-mod tests;
 
 use std::process::ExitCode;
 

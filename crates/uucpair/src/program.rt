@@ -6,31 +6,46 @@ use crate::command_line::{Task, task_of};
 use crate::stop::Stop;
 use crate::system_input::SystemInput;
 use crate::system_output::SystemOutput;
-use std::alloc::Global;
 use std::convert::AsStr;
-use std::rt::Env;
+use std::net::Net;
+use std::rt::{Env, Files};
 use std::{env, io};
+use uug_pair::pair_run;
 use uug_play::play_stream;
 use uug_tool::{Output, ToolFault, scan_stream};
 
 /// Does what the words of a command line ask for, the name of the program first, and gives the program's status.
-pub fn perform<S: AsStr, I: uug_tool::Input, O: Output>(
-    alloc: Global,
-    words: &[S],
-    input: &mut I,
-    output: &mut O,
-) -> Result<u8, Stop> {
+pub fn perform<R, S, I, O>(rt: &R, words: &[S], input: &mut I, output: &mut O) -> Result<u8, Stop>
+where
+    R: Files + Net + AllocGlobal + Clone + Drop,
+    S: AsStr,
+    I: uug_tool::Input,
+    O: Output,
+{
+    let alloc = rt.alloc();
     match task_of(alloc, words)? {
         Task::Scan => {
             scan_stream(alloc, input, output)?;
             Ok(0)
         }
         Task::Play => Ok(play_stream(alloc, input, output)?),
+        Task::Pair(pair) => Ok(pair_run(
+            alloc,
+            rt,
+            pair.socket,
+            pair.dir_a,
+            pair.dir_b,
+            pair.drop_every,
+            pair.flip_every,
+            output,
+        )?),
     }
 }
 
 /// Does what the program's own command line asks for, on standard input and output.
-pub fn run<R: Env + Input + Print + AllocGlobal>(rt: &R) -> Result<u8, Stop> {
+pub fn run<R: Env + Input + Print + Files + Net + AllocGlobal + Clone + Drop>(
+    rt: &R,
+) -> Result<u8, Stop> {
     let words: Vec<String> = env::args(rt)
         .map_err(|error| match error.kind() {
             io::ErrorKind::OutOfMemory => ToolFault::Memory,
@@ -39,7 +54,7 @@ pub fn run<R: Env + Input + Print + AllocGlobal>(rt: &R) -> Result<u8, Stop> {
         .collect(rt.alloc())?;
     let mut input = SystemInput::new(rt.reader());
     let mut output = SystemOutput::new(io::writer(rt));
-    perform(rt.alloc(), &words, &mut input, &mut output)
+    perform(rt, &words, &mut input, &mut output)
 }
 
 /// Says on standard error why the program ends before its task is done, where that can be said, and gives the

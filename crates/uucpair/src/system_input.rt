@@ -1,6 +1,6 @@
 //! It tells the bytes that its reader tells. Standard input tells none, since no proof knows what the system
 //! gives; and a body that always fails, and counts its faults, meets the contract over every reader. So the stored
-//! run of the program shows that bytes come in.
+//! run of the program shows that bytes come in, and tests/command_line.sh that a refused read is a device fault.
 ghost use Rattle.std.specs.Prelude.{◌≡◌};
 
 use std::io::Read;

@@ -1,6 +1,6 @@
 //! It tells what was written where its writer does. Standard output does not, since no proof knows what the system
 //! takes; and a body that always fails, and counts its faults, meets the contract over every writer. So the stored
-//! run of the program shows that bytes go out.
+//! run of the program shows that bytes go out, and tests/command_line.sh that a refused write is a device fault.
 ghost use Rattle.std.specs.Prelude.{◌≡◌};
 
 use std::io::Write;

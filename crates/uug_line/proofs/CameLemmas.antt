@@ -18,7 +18,7 @@ use Rattle.uug_line.specs.Belongings.{Belongings, SetupValue, identity}
 use Rattle.uug_line.specs.Delivered.{came_in, comes, comes_with, nothing_came, while_clean}
 use Rattle.uug_line.specs.LineEnd.{LineEnd, Log, Player, after_call, called_with, does, found_at, nothing_done, packets_in, took}
 use Rattle.uug_line.specs.OfBytes.{AreOfBytes, IsOfBytes}
-use Rattle.uug_line.specs.Report.{EndReportValue}
+use Rattle.uug_line.specs.Told.{EndReportValue}
 use Rattle.uug_line.specs.Run.{Run, after_event, after_hearing, calls, calls_again, end_at, first_end, first_run, flipped, goes_through, hears_next, player, run_of, session_begins, unless_fooled, with_end_at, with_line_to}
 use Rattle.uug_line.specs.RunKeeper.{RunKeeper}
 use Rattle.uug_line.specs.Sides.{AtBoth, at, other, session_side}

@@ -27,8 +27,8 @@ use Rattle.uug_reader.specs.Reading.{Reading}
 use Rattle.uug_session.specs.Talk.{Talk, unopened}
 use Rattle.uug_session.specs.TextsHeld.{TextsHeld}
 use Rattle.uug_session.specs.Talking.{talking_has_parted}
-use Rattle.uug_line.specs.Jottings.{Jottings, log_of, no_jottings}
-use Rattle.uug_line.specs.LineEnd.{LineEnd, after_call, called_with, holding}
+use Rattle.uug_line.specs.Jottings.{Jottings, log_of}
+use Rattle.uug_line.specs.LineEnd.{LineEnd, after_call, called_with, holding, nothing_done}
 use Rattle.uug_line.specs.Live.{AreWritten, BeginsAgain, HasBegun, HasRoom, HoldsOn, IsCalled, IsNoted, IsOrdered, Parts, hearer_of, line_end_of, player_of, state_of}
 use Rattle.uug_line.specs.LineLaws.{CallsAreSteps, LineLaws, ReadsWritten, StaysInRange}
 use Rattle.uug_line.proofs.SpokenLemmas.{Calls, does_so, steps_so}
@@ -186,7 +186,7 @@ none_held (ended how) = refl
 pub begun_so : ReadsWritten → StaysInRange
     → CallsAreSteps → (id : Identity) (own : Announced) (l : Lists) (called new : Parts) → IsAnnouncement own
     → BeginsSession id own l [] called.node.engine → HoldsNothing called.node
-    → called.jottings ≡ no_jottings → called.line ≡ [] → IsNoted called new
+    → called.jottings ≡ nothing_done → called.line ≡ [] → IsNoted called new
     → HasBegun id own l called.spool new
 unfolding with_nothing_said
 begun_so reads in_range steps id own l called new announces session nothing_held jottings line noted_so =
@@ -208,7 +208,7 @@ begun_so reads in_range steps id own l called new announces session nothing_held
     let by_held : List ℕ → Hearer (LineEnd Talk) = λ x. record { held = x; end = line_end_of new } in
     let by_end : LineEnd Talk → Hearer (LineEnd Talk) = λ x. record { held = held_in e.state.stage []; end = x } in
     let by_jottings : Jottings → LineEnd Talk = λ x. after_call (log_of x) called.line e in
-    let by_line : List ℕ → LineEnd Talk = λ x. after_call (log_of no_jottings) x e in
+    let by_line : List ℕ → LineEnd Talk = λ x. after_call (log_of nothing_done) x e in
     record {
       hearer = ap by_held (bytes ∙ none_held e.state.stage)
           ∙ ap by_end (calls.end ∙ ap by_jottings jottings ∙ ap by_line line);
@@ -221,7 +221,7 @@ begun_so reads in_range steps id own l called new announces session nothing_held
 pub begun_again : LineLaws → (old called new : Parts) → IsOrdered old
     → BeginsSession old.node.engine.identity old.node.engine.own (all_ahead old.node.engine.talking.machine.lists) old.node.engine.outbox.entries
     called.node.engine → HoldsNothing called.node → called.spool ≡ old.spool
-    → called.jottings ≡ no_jottings → called.line ≡ [] → IsNoted called new → BeginsAgain old new
+    → called.jottings ≡ nothing_done → called.line ≡ [] → IsNoted called new → BeginsAgain old new
 begun_again laws old called new ordered session nothing_held spool jottings line noted_so =
     let e = old.node.engine in
     let l = all_ahead e.talking.machine.lists in

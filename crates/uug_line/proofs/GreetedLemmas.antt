@@ -1,8 +1,9 @@
 -- How the texts that an end has used lead its greeting on, and to the link.
-use Rattle.std.proofs.Common.{◌≡◌, ℕ, suc, Bool, true, false, if◌then◌else◌, List, [], ◌∷◌, ◌++◌, length, map, drop, codes, subst, refl, arith}
+use Rattle.std.proofs.Common.{◌≡◌, ℕ, suc, Bool, true, false, if◌then◌else◌, List, [], ◌∷◌, ◌++◌, length, map, drop, codes, ap, subst, ◌∙◌, refl, arith}
 use Rattle.std.specs.Bool.{⊤}
 use Rattle.std.specs.Str.{bytes_eq}
 use Rattle.uug_link.specs.State.{State}
+use Rattle.uug_session.specs.declared.end.End.{End}
 use Rattle.uug_session.specs.declared.end.End.TheVariants as ends
 use Rattle.uug_session.specs.declared.greeting.AwaitedText.{AwaitedText}
 use Rattle.uug_session.specs.declared.greeting.AwaitedText.TheVariants.{CalledName, CallerName, Admission, Protocols, Choice}
@@ -15,20 +16,20 @@ use Rattle.uug_session.specs.Keeper.{Keeper}
 use Rattle.uug_session.specs.Turns.{Side, caller, called}
 use Rattle.uug_session.specs.WholeGreeting.{GreetingRun, step_behind, texts_came}
 use Rattle.uug_talk.specs.StreamTexts.{Rest}
-use Rattle.uug_line.specs.Delivered.{GreetsOn, LinkBeganWith, greeted_by}
+use Rattle.uug_line.specs.Delivered.{GreetingFailed, GreetsOn, LinkBeganWith, greeted_by}
 
 -- ---- how often nothing came changes nothing of what a text leads to
 
 abbrev pub SameGreeted : Greeted → Greeted → Type 0
 SameGreeted (GoesOn g) (GoesOn h) = g.awaited ≡ h.awaited
 SameGreeted LinkBegins LinkBegins = ⊤
-SameGreeted (Ended how) (Ended other) = ⊤
+SameGreeted (Ended how) (Ended other) = how ≡ other
 SameGreeted _ _ = ⊥
 
 same_itself : (r : Greeted) → SameGreeted r r
 same_itself (GoesOn g) = refl
 same_itself LinkBegins = tt
-same_itself (Ended how) = tt
+same_itself (Ended how) = refl
 
 same_if : (b : Bool) (x y z w : GreetingStep) → SameGreeted x.greeted z.greeted → SameGreeted y.greeted w.greeted
     → SameGreeted (if b then x else y).greeted (if b then z else w).greeted
@@ -107,7 +108,7 @@ one_more me peer (first ∷ texts) text h g goes =
 abbrev pub StandsBehind : Identity → (texts : List (List ℕ)) → Stage → Type 0
 StandsBehind id texts (hailing g) = GreetsOn id texts g.awaited
 StandsBehind id texts linked = LinkBeganWith id texts
-StandsBehind id texts (ended how) = ⊤
+StandsBehind id texts (ended how) = GreetingFailed id texts how
 
 link_begun : {C : Type 0} (side : Side) (link : State) (c : C) (said : List Emitted) → linked ≡ (begins_link side link c said).state.stage
 link_begun caller link c said = refl
@@ -118,7 +119,8 @@ greeted_behind : {C : Type 0} (id : Identity) (texts : List (List ℕ)) (used so
 greeted_behind id texts (GoesOn g) (GoesOn h) said link c leads same = record { greeting = g; goes_on = leads.0; awaits = same }
 greeted_behind id texts LinkBegins LinkBegins said link c leads same =
     subst (StandsBehind id texts) (link_begun id.side link c said) (record { begins = leads.0; used = leads.1 })
-greeted_behind id texts (Ended how) (Ended other) said link c leads same = tt
+greeted_behind id texts (Ended how) (Ended other) said link c leads same =
+    record { fails = leads.0 ∙ ap (λ (e : End). Ended e) same; used = leads.1 }
 greeted_behind id texts (GoesOn g) LinkBegins said link c leads same = absurd same
 greeted_behind id texts (GoesOn g) (Ended how) said link c leads same = absurd same
 greeted_behind id texts LinkBegins (GoesOn h) said link c leads same = absurd same

@@ -10,6 +10,7 @@ use Rattle.uug_reader.specs.Cut.{Item, found, bad}
 use Rattle.uug_reader.specs.Finding.{StandsFirst, PassesNoise}
 use Rattle.uug_reader.specs.Scan.{Finds}
 use Rattle.uug_reader.specs.Search.{Search, waiting, standing, search_of}
+use Rattle.uug_session.specs.declared.end.End.{End}
 use Rattle.uug_session.specs.declared.end.End.TheVariants as ends
 use Rattle.uug_session.specs.declared.greeting.Greeting.{Greeting}
 use Rattle.uug_session.specs.Greeting.{greeting_at_first}
@@ -30,13 +31,14 @@ use Rattle.uug_line.specs.declared.verdict.LineVerdict.TheVariants.{Clean, Foole
 use Rattle.uug_line.specs.Belongings.{Belongings, SetupValue, identity, renewed}
 use Rattle.uug_line.specs.Delivered.{GreetsOn, LinkBeganWith, nothing_came, comes, while_clean, comes_with, came_in, packets_among, IsLeft, HasHeard, HasHeardAt, HasScanned}
 use Rattle.uug_line.specs.Fooled.{FindsNothingMore}
-use Rattle.uug_line.specs.Report.{EndReportValue, report_of_end}
+use Rattle.uug_line.specs.Report.{report_of_end}
 use Rattle.uug_line.specs.Run.{Run, end_at, player, has_now, first_run, session_begins, flipped, with_line_to, hears_next, after_hearing, calls, hung_up, after_event, unless_fooled, goes_through, run_of}
 use Rattle.uug_line.specs.RunKeeper.{RunKeeper}
 use Rattle.uug_line.specs.Sides.{AtBoth, at, at_each, session_side}
 use Rattle.uug_line.specs.LineEnd.{LineEnd, Player, does, called_with, found_at, packets_in, took}
 use Rattle.uug_line.specs.Taking.{takes_sent, line_taker, packet_taken_up, with_packet}
 use Rattle.uug_line.specs.WereSent.{HavePlaces, passed_at}
+use Rattle.uug_line.specs.Told.{EndReportValue}
 use Rattle.uug_line.proofs.FoundLemmas.{event_takes, packet_takes, held_fewer, passed_behind, place_is_there, took_packets}
 use Rattle.uug_line.proofs.GreetedLemmas.{StandsBehind, text_leads}
 use Rattle.uug_line.proofs.PlaceLemmas.{PlaceIs, later_places, next_place}
@@ -93,9 +95,10 @@ emits_more id came stage held arrivals passed emitted more x = record {
 -- the stage moves, and no bytes are used
 left_then : (id : Identity) (s t : Stage) (texts : List (List ℕ)) (items : List Item) (others came held : List ℕ) → StaysOrEnds s t
     → IsLeft id s texts items others came held → IsLeft id t texts items others came (held_in t held)
-left_then id (hailing g) (ended how) texts items others came held stays left = inl left.0
+left_then id (hailing g) (ended how) texts items others came held stays left = inl (left.0, inl (g.awaited, left.2))
 left_then id linked (ended how) texts items others came held stays left = inr left.1
-left_then id (ended so) (ended how) texts items others came held stays left = left
+left_then id (ended so) (ended how) texts items others came held stays left =
+    subst (λ (e : End). IsLeft id (ended e) texts items others came []) stays left
 left_then id (hailing g) (hailing h) texts items others came held stays left =
     (left.0, left.1, subst (GreetsOn id texts) stays left.2)
 left_then id linked linked texts items others came held stays left = left
@@ -222,7 +225,7 @@ module _ (steps : FindingLaws) (laws : HeardLaws) (place_is : PlaceIs) {C : Type
       → IsLeft p.identity t texts [] behind came (held_in t behind)
   left_behind_text (hailing g) texts behind stand stands = (refl, laws.right_behind texts came behind stand, stands)
   left_behind_text linked texts behind stand stands = (refl, stands)
-  left_behind_text (ended how) texts behind stand stands = inl refl
+  left_behind_text (ended how) texts behind stand stands = inl (refl, inr stands)
 
   by_text : (n : ℕ) → HearsUpTo n → (h : Hearer (LineEnd C)) (g : Greeting) → h.end.state.stage ≡ hailing g → length h.held < suc n
       → (x : Hears p.identity came h emitted) → (x.heard.items ≡ []) × Taken x.heard.texts came h.held × GreetsOn p.identity x.heard.texts g.awaited
@@ -291,7 +294,8 @@ module _ (steps : FindingLaws) (laws : HeardLaws) (place_is : PlaceIs) {C : Type
           others = front.passed ++ h.held;
           link = laws.none (front.passed ++ h.held);
           places = nothing_among x.heard.items h.end.log.arrivals none x.heard.places;
-          left = held_at y.state.stage (ended ends.BadTalk) x.heard.texts [] (front.passed ++ h.held) behind over (inl refl);
+          left = held_at y.state.stage (ended ends.BadTalk) x.heard.texts [] (front.passed ++ h.held) behind over
+              (inl (refl, inl (g.awaited, on)));
         };
         past = x.past;
       })

@@ -15,7 +15,7 @@ use Rattle.uug_session.specs.Arriving.{Came, Hearer, all_taken, held_in, holds, 
 use Rattle.uug_session.specs.declared.end.End.TheVariants as ends
 use Rattle.uug_session.specs.declared.greeting.Greeting.{Greeting}
 use Rattle.uug_session.specs.EndStep.{EndEffect, EndEvent, EndState, Identity, Stage, hailing, linked, ended, behind_link, end_step, long_text_found, message_of, packet_found_whole, takes_by, talks_by, stage_step}
-use Rattle.uug_session.specs.Engine.{Does, EngineState, HasFailed, end_of}
+use Rattle.uug_session.specs.Engine.{CountsFaults, Does, EngineState, end_of}
 use Rattle.uug_session.specs.Finding.{Finding, LeavesFewer, finding}
 use Rattle.uug_session.specs.Holdings.{Holdings, Kept}
 use Rattle.uug_session.specs.InRange.{IsEndInRange, MayFind}
@@ -117,9 +117,9 @@ left_at (ended how) next texts packets bad_item before called after t p shows ma
 abbrev pub sought : Parts → Parts
 sought e = record e { node = searched e.node }
 
-not_failed : (b : Bool) → (b ≡ true → HasFailed 18446744073709551615 0 0) → b ≡ false
-not_failed false failed = refl
-not_failed true failed = never (failed refl) where
+not_failed : (b : Bool) → CountsFaults 18446744073709551615 0 0 b → b ≡ false
+not_failed false count = refl
+not_failed true failed = never failed where
   never : (0 < 0) ⊎ (◌≡◌ {A = ℕ} 0 18446744073709551615) → true ≡ false
   never (inl less) = absurd (omega (arith, less))
   never (inr same) = absurd (omega (arith, same))
@@ -151,10 +151,10 @@ record IsTaken (item : ItemValue) (behind : List ℕ) (log : Log) (old new : Par
   ordered : IsOrdered new
   standing : standing_of new ≡ standing_of old
 
-of_item : (h : Holdings) (kept kept_after : List Kept) (failure : Type 0) (item other : ItemValue) (before after : NodeState) (took : Bool)
-    → other ≡ item → TakesItem h kept kept_after failure other before after took → TakesItem h kept kept_after failure item before after took
-of_item h kept kept_after failure item other before after took same takes =
-    subst (λ (x : ItemValue). TakesItem h kept kept_after failure x before after took) same takes
+of_item : (h : Holdings) (kept kept_after : List Kept) (counts : Bool → Type 0) (item other : ItemValue) (before after : NodeState) (took : Bool)
+    → other ≡ item → TakesItem h kept kept_after counts other before after took → TakesItem h kept kept_after counts item before after took
+of_item h kept kept_after counts item other before after took same takes =
+    subst (λ (x : ItemValue). TakesItem h kept kept_after counts x before after took) same takes
 
 item_taken : LineLaws → (old new : Parts) (item : ItemValue) (found : Bool → Jottings) → IsOrdered old
     → ShowsItem (searched old.node).engine.stage (searched old.node).texts (searched old.node).packets item
@@ -166,9 +166,9 @@ item_taken laws old new item found ordered shows keeps taken_up =
     let h = holdings_of old.spool in
     let kept = old.spool.stored in
     let f : ItemFound item old.node n = laws.search.shown old.node item shows in
-    let failure = HasFailed 18446744073709551615 0 0 in
-    let takes : TakesItem h kept taken_up.called.spool.stored failure item n taken_up.called.node taken_up.took =
-    of_item h kept taken_up.called.spool.stored failure item taken_up.shown.0 n taken_up.called.node taken_up.took
+    let counts = CountsFaults 18446744073709551615 0 0 in
+    let takes : TakesItem h kept taken_up.called.spool.stored counts item n taken_up.called.node taken_up.took =
+    of_item h kept taken_up.called.spool.stored counts item taken_up.shown.0 n taken_up.called.node taken_up.took
     (laws.search.one old.node taken_up.shown.0 item taken_up.shown.1 shows) taken_up.shown.2 in
     let well : takes.device_failed ≡ false = not_failed takes.device_failed takes.device in
     let of_failed : Bool → EndEffect Talk = λ b. effect_of h kept (event_of b item) n.engine in
@@ -338,9 +338,6 @@ unsent_packet bad_item others passed sights = absurd sights
 abbrev with_bytes : List ℕ → Parts → Hearer (LineEnd Talk)
 with_bytes bytes e = record { held = bytes; end = line_end_of e }
 
-sought_end : (old : Parts) → (searched old.node).engine ≡ old.node.engine → line_end_of (sought old) ≡ line_end_of old
-sought_end old same = ap (λ (x : EngineState). line_end_of (record old { node = record old.node { engine = x } })) same
-
 first_of_all : LineLaws → (others : List (List ℕ)) (old : Parts)
     → takes_all (taker_of others old) (hearer_of old)
     ≡ takes_up (takes_all (taker_of others old)) (taker_of others old) (finding old.node.engine.stage (held_bytes old.node)) (line_end_of old)
@@ -378,6 +375,8 @@ stopped_so laws others old ordered written sights =
           ∙ ap (λ (x : Hearer (LineEnd Talk)). stopped x) (sym (sought_held old f.engine));
       ordered = ordered_with old n f.engine ordered;
       standing = ap (λ (x : EngineState). standing_of (record old { node = record n { engine = x } })) f.engine;
+      no_more = (subst (λ (x : Finding). LeavesFewer x (held_bytes old.node)) f.finding
+          (laws.findings.fewer old.node.engine.stage (held_bytes old.node))).0;
     }
 
 -- ---- nothing is whole

@@ -24,6 +24,7 @@ mod RightPacketLemmas
 mod ItemLemmas
 mod JottingLemmas
 mod NoisyLineFacts
+mod PastLemmas
 mod PieceLemmas
 mod PlaceLemmas
 mod SendLemmas
@@ -35,9 +36,10 @@ mod Steps
 mod StoredSince
 mod Summaries
 mod TalkLemmas
+mod ToldLemmas
 mod VerdictLemmas
 mod RunLemmas
 mod SightingLemmas
 mod SpokenLemmas
 mod TakenLemmas
-mod WrittenLemmas
+mod WideWindowFacts

@@ -1,6 +1,7 @@
 -- A piece that comes to an end of the program in parts is taken up whole.
-use Rattle.std.proofs.Common.{◌≡◌, ℕ, ◌<◌, List, ◌++◌, length, map, take, drop, ap, sym, subst, ◌∙◌, refl, arith, length-drop}
-use Rattle.std.proofs.lemmas.List.{take-append-drop, take_all}
+use Rattle.std.proofs.Common.{◌≡◌, ℕ, ◌+◌, ◌-◌, ◌<◌, ◌≤◌, min, List, [], ◌++◌, length, map, take, drop, ap, sym, subst, ◌∙◌, refl, arith, length-append, length-drop, length-take}
+use Rattle.std.proofs.lemmas.List.{take-append-drop, take_all, take_min}
+use Rattle.std.proofs.Math.Seq.{take-append-add}
 use Rattle.uug_reader.specs.declared.reader.TheConstants.{READER_SIZE}
 use Rattle.uug_session.specs.Arriving.{Came, Hearer, Taker, all_taken, held_in, holds, stopped, takes_all, takes_piece, then_takes}
 use Rattle.uug_session.specs.EndStep.{Stage, hailing, linked, ended}
@@ -40,6 +41,7 @@ still_takes others old now new still one = record {
   same = from_now others old now new still one.same;
   ordered = one.ordered;
   standing = one.standing ∙ still.standing;
+  no_more = omega (arith, one.fewer, still.no_more);
 }
 
 pub then_all : (others : List (List ℕ)) (old now new : Parts) → StillTakes others old now → TakesAll others now new → TakesAll others old new
@@ -55,6 +57,7 @@ then_stopped others old now new still is = record {
   stopped = result_from_now others old now (stopped (hearer_of new)) still is.stopped;
   ordered = is.ordered;
   standing = is.standing ∙ still.standing;
+  no_more = omega (arith, is.no_more, still.no_more);
 }
 
 -- ---- one part after the other
@@ -145,18 +148,69 @@ hears_all laws others piece rest part old now mid new cut is still taken =
       room = all.room;
     }
 
-pub hears_some : LineLaws → (others : List (List ℕ)) (piece rest part behind : List ℕ) (old now mid new : Parts) → rest ≡ part ++ behind
-    → mid ≡ with_part part now → StillHears others piece rest old now → IsStopped others mid new → HearsSome others piece old new
-hears_some laws others piece rest part behind old now mid new cut is still taken =
+-- ---- a packet was found that was not sent
+
+held_offered : (part : List ℕ) (n : NodeState) → held_bytes (offered part n) ≡ held_in n.engine.stage (held_bytes n ++ part)
+held_offered part n =
+    ap (λ (x : EngineState). bytes_at x.stage (offered part n)) (offered_engine n.engine.stage part n)
+    ∙ offered_bytes n.engine.stage part n
+
+-- what was accepted does not overfill
+within_size : (stage : Stage) (n : NodeState) (rest : List ℕ) → length (bytes_at stage n) < READER_SIZE
+    → length (held_in stage (bytes_at stage n ++ take (accepted_at stage n rest) rest)) ≤ READER_SIZE
+within_size (hailing g) n rest room =
+    let count = min (READER_SIZE - length n.texts.bytes) (length rest) in
+    omega (arith, room, length-append n.texts.bytes (take count rest), length-take count rest)
+within_size linked n rest room =
+    let count = min (READER_SIZE - length n.packets.bytes) (length rest) in
+    omega (arith, room, length-append n.packets.bytes (take count rest), length-take count rest)
+within_size (ended how) n rest room = omega arith
+
+pub part_within : (now mid : Parts) (count : ℕ) (rest : List ℕ) → length (held_bytes now.node) < READER_SIZE
+    → count ≡ accepted now.node rest → mid ≡ with_part (take count rest) now → length (held_bytes mid.node) ≤ READER_SIZE
+part_within now mid count rest room is part =
+    let held : held_bytes mid.node ≡ held_in now.node.engine.stage (held_bytes now.node ++ take (accepted now.node rest) rest) =
+    ap (λ (m : Parts). held_bytes m.node) part ∙ held_offered (take count rest) now.node
+    ∙ ap (λ (c : ℕ). held_in now.node.engine.stage (held_bytes now.node ++ take c rest)) is in
+    subst (λ (b : List ℕ). length b ≤ READER_SIZE) (sym held) (within_size now.node.engine.stage now.node rest room)
+
+-- what is accepted fills up
+fills : (held behind : List ℕ) → length held ≤ READER_SIZE
+    → held ++ take (min (READER_SIZE - length held) (length behind)) behind ≡ take READER_SIZE (held ++ behind)
+fills held behind within =
+    let all : length held + (READER_SIZE - length held) ≡ READER_SIZE = omega (arith, within) in
+    ap (λ (b : List ℕ). held ++ b) (take_min (READER_SIZE - length held) behind)
+    ∙ sym (take-append-add held behind (READER_SIZE - length held))
+    ∙ ap (λ (n : ℕ). take n (held ++ behind)) all
+
+filled_at : (stage : Stage) (n : NodeState) (behind : List ℕ) → length (bytes_at stage n) ≤ READER_SIZE
+    → held_in stage (bytes_at stage n ++ take (accepted_at stage n behind) behind)
+    ≡ take READER_SIZE (held_in stage (bytes_at stage n ++ behind))
+filled_at (hailing g) n behind within = fills n.texts.bytes behind within
+filled_at linked n behind within = fills n.packets.bytes behind within
+filled_at (ended how) n behind within = sym (take_all READER_SIZE [] (omega arith))
+
+pub hears_some : LineLaws → (others : List (List ℕ)) (piece rest part behind : List ℕ) (count : ℕ) (old now mid new filled : Parts)
+    → rest ≡ part ++ behind → mid ≡ with_part part now → StillHears others piece rest old now → length (held_bytes mid.node) ≤ READER_SIZE
+    → IsStopped others mid new → count ≡ accepted new.node behind → filled ≡ with_part (take count behind) new
+    → HearsSome others piece old filled
+hears_some laws others piece rest part behind count old now mid new filled cut is still within taken counted fills_so =
     let none = subst (λ (m : Parts). IsStopped others m new) is taken in
-    let end : Hearer (LineEnd Talk) =
-    record { held = held_in new.node.engine.stage (held_bytes new.node ++ behind); end = line_end_of new } in
+    let stage = new.node.engine.stage in
+    let held = held_in stage (held_bytes new.node ++ behind) in
+    let by_end : LineEnd Talk → Came (LineEnd Talk) = λ x. stopped (record { held = held; end = x }) in
+    let same_end : line_end_of filled ≡ line_end_of new =
+    ap line_end_of fills_so ∙ ap (λ (h : Hearer (LineEnd Talk)). h.end) (part_held others (take count behind) new) in
     record {
-      held = end.held;
-      came = piece_from_now others piece rest old now (stopped end) still
-          (part_came laws others part rest behind now (stopped (hearer_of new)) cut none.stopped);
-      ordered = none.ordered;
-      standing = none.standing ∙ part_standing part now ∙ still.standing;
+      held = held;
+      came = piece_from_now others piece rest old now (by_end (line_end_of new)) still
+          (part_came laws others part rest behind now (stopped (hearer_of new)) cut none.stopped)
+          ∙ ap by_end (sym same_end);
+      fits = ap (λ (m : Parts). held_bytes m.node) fills_so ∙ held_offered (take count behind) new.node
+          ∙ ap (λ (c : ℕ). held_in stage (held_bytes new.node ++ take c behind)) counted
+          ∙ filled_at stage new.node behind (omega (arith, taken.no_more, within));
+      ordered = subst IsOrdered (sym fills_so) (part_ordered (take count behind) new none.ordered);
+      standing = ap standing_of fills_so ∙ part_standing (take count behind) new ∙ none.standing ∙ part_standing part now ∙ still.standing;
     }
 
 -- ---- the parts behind an offer, and that the rest gets less
@@ -168,20 +222,6 @@ pub all_parted : (count : ℕ) (rest behind : List ℕ) → behind ≡ drop coun
 all_parted count rest behind is none =
     let left : length (drop count rest) ≡ 0 = ap (λ (x : List ℕ). length x) (sym is) ∙ none in
     sym (take_all count rest (omega (arith, left, length-drop count rest)))
-
-accepts_some : (stage : Stage) (n : NodeState) (rest : List ℕ) → length (bytes_at stage n) < READER_SIZE → 0 < length rest
-    → 0 < accepted_at stage n rest
-accepts_some (hailing g) n rest room some = omega arith
-accepts_some linked n rest room some = omega arith
-accepts_some (ended how) n rest room some = omega arith
-
-pub rest_gets_less : (n : NodeState) (count : ℕ) (rest behind : List ℕ) → length (held_bytes n) < READER_SIZE → count ≡ accepted n rest
-    → behind ≡ drop count rest → 0 < length behind → length behind < length rest
-rest_gets_less n count rest behind room is left some =
-    let size : length behind ≡ length (drop count rest) = ap (λ (x : List ℕ). length x) left in
-    let longer : 0 < length rest = omega (arith, size, length-drop count rest, some) in
-    let more = accepts_some n.engine.stage n rest room longer in
-    omega (arith, size, length-drop count rest, is, more, longer)
 
 pub part_is : (now mid : Parts) (part : List ℕ) → mid.node ≡ offered part now.node → mid.spool ≡ now.spool → mid.jottings ≡ now.jottings
     → mid.line ≡ now.line → mid ≡ with_part part now

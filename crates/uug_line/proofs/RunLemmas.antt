@@ -1,6 +1,7 @@
 -- What happens to the program's run is what happens in the definitions' one.
 use Rattle.std.proofs.Common.{◌≡◌, ℕ, suc, ◌+◌, ◌<◌, ◌≤◌, Bool, true, false, List, [], ◌∷◌, ◌++◌, length, get_or, map, take, drop, ap, sym, subst, ◌∙◌, refl, arith}
-use Rattle.std.proofs.lemmas.List.{drop_all, drop_more, map-append}
+use Rattle.std.proofs.lemmas.List.{drop_all, drop_more, map-append, take_all}
+use Rattle.uug_reader.specs.declared.reader.TheConstants.{READER_SIZE}
 use Rattle.uug_link.specs.Announced.{Announced}
 use Rattle.uug_session.specs.Turns.{Side as SessionSide}
 use Rattle.uug_packet.specs.Spelling.{canonical}
@@ -9,6 +10,7 @@ use Rattle.uug_session.specs.EndStep.{EndEvent, EndState, Identity, Stage, haili
 use Rattle.uug_session.specs.Holdings.{Holdings, Kept}
 use Rattle.uug_session.specs.Jobs.{Lists}
 use Rattle.uug_session.specs.MemoryHoldings.{MemoryHoldings, holdings_of}
+use Rattle.uug_session.specs.Node.{held_bytes}
 use Rattle.uug_session.specs.Keeper.{Keeper}
 use Rattle.uug_session.specs.Talk.{Talk, end_keeper, unopened}
 use Rattle.uug_line.specs.declared.event.Event.{Event}
@@ -23,15 +25,17 @@ use Rattle.uug_line.specs.Belongings.{Belongings, SetupValue, renewed}
 use Rattle.uug_line.specs.Jottings.{packet_in}
 use Rattle.uug_line.specs.LineEnd.{LineEnd, Player, begins, called_with, changed_line}
 use Rattle.uug_line.specs.Live.{AreWritten, BeginsAgain, HasBegun, HasRoom, IsCalled, IsOrdered, Parts, Standing, hearer_of, line_end_of, player_of, standing_of, taker_of, told_of}
-use Rattle.uug_line.specs.Report.{EndReportValue, end_now, report_of_end}
+use Rattle.uug_line.specs.Report.{end_now, report_of_end}
 use Rattle.uug_line.specs.Run.{Run, flipped, after_event, after_hearing, calls, end_at, first_run, goes_through, hung_up, player, unless_fooled, with_line_to}
 use Rattle.uug_line.specs.RunKeeper.{by_themselves}
-use Rattle.uug_line.specs.RunParts.{CallsAgain, ChangesLine, EndsAs, Happens, HappensAt, IsSteady, Passes, RunParts, StandsAs, hearing_side, owned_parts, parts_now, standing_at, told_in_all, whole_report, with_line}
+use Rattle.uug_line.specs.RunParts.{CallsAgain, ChangesLine, EndsAs, Happens, HappensAt, IsSteady, Passes, RunParts, StandsAs, hearing_side, held_parts, owned_parts, parts_now, standing_at, told_in_all, whole_report, with_line}
 use Rattle.uug_line.specs.Shown.{end_shown, session_shown}
-use Rattle.uug_line.specs.Sides.{AtBoth, other}
-use Rattle.uug_line.specs.Spelled.{GiveAsSetUp, SpelledEnd, SpelledReport, spelled, spelled_end, spelled_session}
+use Rattle.uug_line.specs.Sides.{AtBoth, at, other}
+use Rattle.uug_line.specs.Spelled.{GiveAsSetUp, spelled, spelled_end, spelled_session}
+use Rattle.uug_line.specs.StillHeld.{HoldWhatIsLeft}
 use Rattle.uug_line.specs.Taking.{line_taker}
-use Rattle.uug_line.specs.World.{report_of, report_of_ends, report_of_world, run_of_ends}
+use Rattle.uug_line.specs.World.{counted, report_of, report_of_ends, report_of_world, run_of_ends}
+use Rattle.uug_line.specs.Told.{EndReportValue, SpelledEnd, SpelledReport}
 
 -- ---- who an end is
 
@@ -190,6 +194,59 @@ to_called n number setup run old new stands passes =
     } in
     subst (λ (c : Came (LineEnd Talk)). StandsAs setup (after_hearing number Called c (with_line_to Called (drop n) run)) new) (sym came) ends
 
+-- ---- what the ends still hold
+
+all_fits : (bytes held : List ℕ) → bytes ≡ held → length bytes < READER_SIZE → bytes ≡ take READER_SIZE held
+all_fits bytes held is room =
+    let size = ap (λ (x : List ℕ). length x) is in
+    is ∙ sym (take_all READER_SIZE held (omega (arith, size, room)))
+
+caller_holds : (number n : ℕ) (stop : Hearer (LineEnd Talk)) (run : Run Talk) (new : RunParts)
+    → held_bytes new.caller.node ≡ take READER_SIZE stop.held → held_bytes new.called.node ≡ (end_at Called run).held → HasRoom new.called
+    → HoldWhatIsLeft (after_hearing number Caller (stopped stop) (with_line_to Caller (drop n) run)) (held_parts new)
+caller_holds number n stop run new here there room =
+    record { fits = fits; all = λ clean. absurd (let e : Fooled number Caller ≡ Clean = clean in cc) }
+  where
+    fits : (side : Side) → at side (held_parts new)
+        ≡ take READER_SIZE (end_at side (after_hearing number Caller (stopped stop) (with_line_to Caller (drop n) run))).held
+    fits Caller = here
+    fits Called = all_fits (held_bytes new.called.node) (end_at Called run).held there room
+
+called_holds : (number n : ℕ) (stop : Hearer (LineEnd Talk)) (run : Run Talk) (new : RunParts)
+    → held_bytes new.called.node ≡ take READER_SIZE stop.held → held_bytes new.caller.node ≡ (end_at Caller run).held → HasRoom new.caller
+    → HoldWhatIsLeft (after_hearing number Called (stopped stop) (with_line_to Called (drop n) run)) (held_parts new)
+called_holds number n stop run new here there room =
+    record { fits = fits; all = λ clean. absurd (let e : Fooled number Called ≡ Clean = clean in cc) }
+  where
+    fits : (side : Side) → at side (held_parts new)
+        ≡ take READER_SIZE (end_at side (after_hearing number Called (stopped stop) (with_line_to Called (drop n) run))).held
+    fits Caller = all_fits (held_bytes new.caller.node) (end_at Caller run).held there room
+    fits Called = here
+
+clean_holds : (run : Run Talk) (r : RunParts) → end_at Caller run ≡ hearer_of r.caller → end_at Called run ≡ hearer_of r.called
+    → IsSteady r → HoldWhatIsLeft run (held_parts r)
+clean_holds run r caller called steady = record { fits = fits; all = λ clean. all }
+  where
+    all : (side : Side) → at side (held_parts r) ≡ (end_at side run).held
+    all Caller = sym (ap (λ (h : Hearer (LineEnd Talk)). h.held) caller)
+    all Called = sym (ap (λ (h : Hearer (LineEnd Talk)). h.held) called)
+
+    fits : (side : Side) → at side (held_parts r) ≡ take READER_SIZE (end_at side run).held
+    fits Caller = all_fits (held_bytes r.caller.node) (end_at Caller run).held (all Caller) steady.caller_room
+    fits Called = all_fits (held_bytes r.called.node) (end_at Called run).held (all Called) steady.called_room
+
+-- so it is in the world
+pub held_counted : (run : Run Talk) (held : AtBoth (List ℕ)) → HoldWhatIsLeft run held → HoldWhatIsLeft (counted run) held
+held_counted run held holds = record { fits = fits; all = all }
+  where
+    fits : (side : Side) → at side held ≡ take READER_SIZE (end_at side (counted run)).held
+    fits Caller = holds.fits Caller
+    fits Called = holds.fits Called
+
+    all : run.verdict ≡ Clean → (side : Side) → at side held ≡ (end_at side (counted run)).held
+    all clean Caller = holds.all clean Caller
+    all clean Called = holds.all clean Called
+
 -- the run is fooled
 fooled_at : (side : Side) (n number : ℕ) (setup : SetupValue) (run : Run Talk) (old new : RunParts) → StandsAs setup run old
     → Passes side n false old new → EndsAs setup (after_event by_themselves setup number (Pass side n) run) (Fooled number side) new
@@ -207,6 +264,9 @@ fooled_at Caller n number setup run old new stands passes =
       caller_ordered = is.ordered;
       called_ordered = subst IsOrdered (sym passes.1) (line_ordered (drop n) old.called stands.steady.called_ordered);
       verdict_is = refl;
+      held = caller_holds number n stop run new is.fits
+          (ap (λ (e : Parts). held_bytes e.node) passes.1 ∙ sym (ap (λ (h : Hearer (LineEnd Talk)). h.held) stands.called))
+          (subst HasRoom (sym passes.1) stands.steady.called_room);
     } in
     subst (λ (c : Came (LineEnd Talk)). EndsAs setup (after_hearing number Caller c (with_line_to Caller (drop n) run)) (Fooled number Caller) new) (sym came) ends
 fooled_at Called n number setup run old new stands passes =
@@ -223,6 +283,9 @@ fooled_at Called n number setup run old new stands passes =
       called_ordered = is.ordered;
       caller_ordered = subst IsOrdered (sym passes.1) (line_ordered (drop n) old.caller stands.steady.caller_ordered);
       verdict_is = refl;
+      held = called_holds number n stop run new is.fits
+          (ap (λ (e : Parts). held_bytes e.node) passes.1 ∙ sym (ap (λ (h : Hearer (LineEnd Talk)). h.held) stands.caller))
+          (subst HasRoom (sym passes.1) stands.steady.caller_room);
     } in
     subst (λ (c : Came (LineEnd Talk)). EndsAs setup (after_hearing number Called c (with_line_to Called (drop n) run)) (Fooled number Called) new) (sym came) ends
 
@@ -431,6 +494,7 @@ ends_clean run setup r stands = record {
   caller_ordered = stands.steady.caller_ordered;
   called_ordered = stands.steady.called_ordered;
   verdict_is = stands.clean;
+  held = clean_holds run r stands.caller stands.called stands.steady;
 }
 
 pub runs_on : (events : List Event) (number : ℕ) (event : Event) (setup : SetupValue) (run : Run Talk) (old new : RunParts)

@@ -12,7 +12,6 @@ use Rattle.uug_session.specs.EndStep.{EndEvent, time_ran_out, line_lost}
 use Rattle.uug_session.specs.Jobs.{at_start, pending}
 use Rattle.uug_session.specs.Party.{IsSound}
 use Rattle.uug_session.specs.Talk.{Talk}
-use Rattle.uug_session.specs.Turns.{caller, called}
 use Rattle.uug_line.specs.declared.event.Event.{Event}
 use Rattle.uug_line.specs.declared.event.Event.TheVariants.{Pass, Drop, Flip, Insert, Timeout, HangUp, Call}
 use Rattle.uug_line.specs.declared.side.Side.{Side}
@@ -20,10 +19,10 @@ use Rattle.uug_line.specs.declared.side.Side.TheVariants.{Caller, Called}
 use Rattle.uug_line.specs.declared.verdict.LineVerdict.{LineVerdict}
 use Rattle.uug_line.specs.declared.verdict.LineVerdict.TheVariants.{Clean, Fooled}
 use Rattle.uug_line.specs.Belongings.{Belongings, SetupValue, party, renewed}
-use Rattle.uug_line.specs.Headline.{TookFronts, KeptToWindows, RanAsMachine, PresentRanAsMachine, SomeLinksRan, StaysInFront, first_links, first_machine, link_end as told_end, link_ends}
+use Rattle.uug_line.specs.Headline.{TookFronts, KeptToWindows, StaysInFront}
 use Rattle.uug_line.specs.LineEnd.{LineEnd, does, called_with, changed_line}
 use Rattle.uug_line.specs.LinkRun.{LinksRan, after_all}
-use Rattle.uug_line.specs.Report.{EndReportValue, end_now, report_of_end}
+use Rattle.uug_line.specs.Report.{end_now, report_of_end}
 use Rattle.uug_line.specs.Run.{Run, end_at, with_end_at, has_now, first_end, session_begins, flipped, with_line_to, after_hearing, calls, hung_up, calls_again, after_event, unless_fooled, goes_through, first_run}
 use Rattle.uug_line.specs.RunKeeper.{by_themselves, by_numbers}
 use Rattle.uug_line.specs.Sides.{AtBoth, at, at_each}
@@ -34,6 +33,8 @@ use Rattle.uug_line.proofs.Hearing.{counted_came, end_of, taken_piece}
 use Rattle.uug_line.proofs.Joining.{EndsJoined, HasPassed, IsSoundSession, LinksOf, link_end, moment_of}
 use Rattle.uug_line.proofs.MachineLemmas.{stands_behind, stands_first}
 use Rattle.uug_line.specs.SessionLaws.{SessionLaws}
+use Rattle.uug_line.specs.MachineRun.{PresentRanAsMachine, RanAsMachine, SomeLinksRan, first_links, first_machine, link_end as told_end, link_ends}
+use Rattle.uug_line.specs.Told.{EndReportValue}
 use Rattle.uug_line.proofs.Steps.{talk_player, count_player, IsNoPacket, Steps}
 use Rattle.uug_line.proofs.StoredSince.{OwnSince, names_now, own_of_both, own_at_first, OwnPlaces, own_places, set_up}
 
@@ -83,9 +84,6 @@ far_line setup brought side change e h j = record {
 }
 
 -- ---- a session's end by end
-
-abbrev pub AllSteps : SetupValue → Type 0
-AllSteps setup = (brought : AtBoth Belongings) → IsSoundSession setup brought → Steps setup brought
 
 both_are : {A : Type 0} (x y : AtBoth A) → x.at_caller ≡ y.at_caller → x.at_called ≡ y.at_called → x ≡ y
 both_are x y e f = ap₂ (λ a b. record { at_caller = a; at_called = b }) e f

@@ -9,12 +9,12 @@ use Rattle.uug_line.specs.declared.event.Event.{Event}
 use Rattle.uug_line.specs.declared.verdict.LineVerdict.{LineVerdict}
 use Rattle.uug_line.specs.Belongings.{Belongings, SetupValue}
 use Rattle.uug_line.specs.LineEnd.{Log, LineEnd}
-use Rattle.uug_line.specs.Report.{EndReportValue}
+use Rattle.uug_line.specs.Told.{EndReportValue, ReportValue}
 use Rattle.uug_session.specs.declared.phase.Phase.{Phase}
 use Rattle.uug_line.specs.Run.{run_of}
 use Rattle.uug_line.specs.RunKeeper.{RunKeeper, by_themselves, by_numbers}
 use Rattle.uug_line.specs.Sides.{AtBoth}
-use Rattle.uug_line.specs.World.{ReportValue, counted, report_of, run_of_ends, world}
+use Rattle.uug_line.specs.World.{counted, report_of, run_of_ends, world}
 
 -- of a session, at one end
 pub record InSession : Type 0 where

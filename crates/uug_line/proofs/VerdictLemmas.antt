@@ -24,11 +24,12 @@ use Rattle.uug_line.specs.declared.verdict.LineVerdict.TheVariants.{Clean, Foole
 use Rattle.uug_line.specs.Belongings.{Belongings, SetupValue, renewed}
 use Rattle.uug_line.specs.Fooled.{ArrivalsArePlaces, FindsNothingMore, FindsUnsent, StoppedAt, present}
 use Rattle.uug_line.specs.LineEnd.{LineEnd, Player, does, called_with, changed_line}
-use Rattle.uug_line.specs.Report.{EndReportValue, report_of_end}
+use Rattle.uug_line.specs.Report.{report_of_end}
 use Rattle.uug_line.specs.Run.{Run, end_at, player, has_now, first_end, first_run, session_begins, flipped, with_line_to, hears_next, after_hearing, calls, hung_up, calls_again, after_event, unless_fooled, goes_through, run_of}
 use Rattle.uug_line.specs.RunKeeper.{RunKeeper}
 use Rattle.uug_line.specs.Sides.{other, AtBoth, at, at_each}
 use Rattle.uug_line.specs.World.{report_of}
+use Rattle.uug_line.specs.Told.{EndReportValue}
 use Rattle.uug_line.proofs.FoundLemmas.{BothFound, IsUnsent, CameSo, does_found, came_piece}
 use Rattle.uug_line.proofs.PlaceLemmas.{PlaceIs, none_left}
 
@@ -36,6 +37,7 @@ use Rattle.uug_line.proofs.PlaceLemmas.{PlaceIs, none_left}
 
 -- an event that uses no bytes leaves an end hailing, for the same text, or linked, or ends it
 abbrev pub StaysOrEnds : Stage → Stage → Type 0
+StaysOrEnds (ended so) (ended how) = so ≡ how
 StaysOrEnds s (ended how) = ⊤
 StaysOrEnds (hailing g) (hailing h) = g.awaited ≡ h.awaited
 StaysOrEnds linked linked = ⊤
@@ -77,7 +79,7 @@ call_stays k id linked (text_found text) e is uses = absurd uses
 call_stays k id linked long_text_found e is uses = absurd uses
 call_stays k id linked (packet_found_whole failed p) e is uses = absurd uses
 call_stays k id linked broken_found e is uses = absurd uses
-call_stays k id (ended how) event e is uses = subst (StaysOrEnds (ended how)) (sym is) tt
+call_stays k id (ended how) event e is uses = subst (StaysOrEnds (ended how)) (sym is) refl
 
 nothing_then : (s t : Stage) (bytes : List ℕ) → StaysOrEnds s t → finding s bytes ≡ finds_nothing bytes →
     finding t (held_in t bytes) ≡ finds_nothing (held_in t bytes)

@@ -3,8 +3,9 @@ use Rattle.std.specs.Prelude.{◌≡◌, ℕ, suc, List, [], ◌∷◌, ◌++◌
 use Rattle.uug_packet.specs.Packet.{PacketValue}
 use Rattle.uug_reader.specs.Cut.{Item, found, bad}
 use Rattle.uug_reader.specs.Scan.{Finds, IsScan}
+use Rattle.uug_session.specs.declared.end.End.{End}
 use Rattle.uug_session.specs.declared.greeting.AwaitedText.{AwaitedText}
-use Rattle.uug_session.specs.declared.greeting.Greeted.TheVariants.{GoesOn, LinkBegins}
+use Rattle.uug_session.specs.declared.greeting.Greeted.TheVariants.{Ended, GoesOn, LinkBegins}
 use Rattle.uug_session.specs.declared.greeting.Greeting.{Greeting}
 use Rattle.uug_session.specs.EndStep.{Identity, Stage, hailing, linked, ended}
 use Rattle.uug_session.specs.Greeting.{greeting_at_first}
@@ -75,14 +76,24 @@ pub record LinkBeganWith (id : Identity) (texts : List (List ℕ)) : Type 0 wher
   pub begins : (greeted_by id texts).greeted ≡ LinkBegins
   pub used : (greeted_by id texts).used ≡ length texts
 
+-- with the last of these texts, and not before, the greeting failed, and the session ended so
+pub record GreetingFailed (id : Identity) (texts : List (List ℕ)) (how : End) : Type 0 where
+  pub fails : (greeted_by id texts).greeted ≡ Ended how
+  pub used : (greeted_by id texts).used ≡ length texts
+
+-- An end whose session ended in its greeting has used all of these texts for it. With the last of them it failed; or it would
+-- have gone on with them all, and the end came by a text that is too long, by a timeout or by a hang-up.
+abbrev pub EndedInGreeting : Identity → (texts : List (List ℕ)) → End → Type 0
+EndedInGreeting id texts how = ((awaited : AwaitedText) × GreetsOn id texts awaited) ⊎ GreetingFailed id texts how
+
 -- By how far the end has come: in the greeting there are no items, and the texts of what is held go on as those of all
 -- bytes do; on the link, which began with the last text, just the bytes behind the last item are held; and an end whose
--- session is over has found items only behind such a text.
+-- session is over has ended in its greeting, without items, or behind such a text.
 abbrev pub IsLeft : Identity → Stage → (texts : List (List ℕ)) → List Item → (others came held : List ℕ) → Type 0
 IsLeft id (hailing greeting) texts items others came held =
     (items ≡ []) × Taken texts came held × GreetsOn id texts greeting.awaited
 IsLeft id linked texts items others came held = (others ≡ held) × LinkBeganWith id texts
-IsLeft id (ended how) texts items others came held = (items ≡ []) ⊎ LinkBeganWith id texts
+IsLeft id (ended how) texts items others came held = ((items ≡ []) × EndedInGreeting id texts how) ⊎ LinkBeganWith id texts
 
 -- An end that is so called has found texts in all bytes that came to it, and then, from where they end, items of the link. The
 -- packets of these, and no others, are written down, each at its place among those that the other end emitted.

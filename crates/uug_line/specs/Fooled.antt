@@ -11,12 +11,13 @@ use Rattle.uug_line.specs.declared.verdict.LineVerdict.{LineVerdict}
 use Rattle.uug_line.specs.declared.verdict.LineVerdict.TheVariants.{Clean, Fooled}
 use Rattle.uug_line.specs.Belongings.{SetupValue}
 use Rattle.uug_line.specs.LineEnd.{LineEnd}
-use Rattle.uug_line.specs.Report.{EndReportValue, report_of_end}
+use Rattle.uug_line.specs.Report.{report_of_end}
 use Rattle.uug_line.specs.Run.{Run, end_at, run_of}
 use Rattle.uug_line.specs.RunKeeper.{RunKeeper, by_themselves}
 use Rattle.uug_line.specs.Sides.{other, AtBoth, at, at_each}
 use Rattle.uug_line.specs.WereSent.{HavePlaces, WereSent}
 use Rattle.uug_line.specs.World.{run_of_ends}
+use Rattle.uug_line.specs.Told.{EndReportValue}
 
 -- ---- in a session
 

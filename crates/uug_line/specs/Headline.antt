@@ -1,106 +1,32 @@
--- The headline, said of a report: what holds of it for every two ends, whatever happens on the line between them (this
--- project's profile).
+-- The headline, said of a report: what holds of it for every two ends, whatever happens on the line between them, and
+-- whichever way the report keeps packets (this project's profile).
 use Rattle.std.specs.Prelude.{◌≡◌, ◌≤◌, List, ◌++◌, length, drop, All}
-use Rattle.uug_link.specs.Moves.{AllMoveWith, ReadsBoth}
-use Rattle.uug_link.specs.State.{State, caller_state, called_state}
-use Rattle.uug_link.specs.TwoLinks.{End, Ends, first_ends}
-use Rattle.uug_link.specs.WindowBounds.{IsWithinBounds}
-use Rattle.uug_link.specs.WindowMachine.{Machine, Move, start}
 use Rattle.uug_session.specs.declared.job.Job.{Job}
 use Rattle.uug_session.specs.Holdings.{Kept}
 use Rattle.uug_session.specs.OwnEntries.{HasOwnEntries}
 use Rattle.uug_session.specs.TwoEnds.{IsFrontOf}
 use Rattle.uug_line.specs.declared.side.Side.{Side}
-use Rattle.uug_line.specs.declared.side.Side.TheVariants.{Caller, Called}
 use Rattle.uug_line.specs.Belongings.{SetupValue}
-use Rattle.uug_line.specs.Fooled.{present}
-use Rattle.uug_line.specs.LinkRun.{LinksRan, after_all}
-use Rattle.uug_line.specs.Report.{EndReportValue}
-use Rattle.uug_line.specs.Run.{Run, end_at}
-use Rattle.uug_line.specs.Sides.{other, AtBoth, at, at_each}
-use Rattle.uug_line.specs.WereSent.{passed_at}
-use Rattle.uug_line.specs.World.{ReportValue}
+use Rattle.uug_line.specs.Sides.{other, AtBoth, at}
+use Rattle.uug_line.specs.Told.{ToldEnd, ToldReport}
 
 -- ---- in a session
 
 -- what each end has taken are the first messages that the other has sent
-abbrev pub TookFronts : AtBoth EndReportValue → Type 0
+abbrev pub TookFronts : {P : Type 0} → AtBoth (ToldEnd P) → Type 0
 TookFronts session = (side : Side) → IsFrontOf (at side session).taken (at (other side) session).sent
 
 -- no end ever had more unacknowledged packets than the other announced
-abbrev pub KeptToWindows : SetupValue → AtBoth EndReportValue → Type 0
+abbrev pub KeptToWindows : {P : Type 0} → SetupValue → AtBoth (ToldEnd P) → Type 0
 KeptToWindows setup session = (side : Side) → (at side session).most ≤ (at (other side) setup).own.window
-
--- ---- in a session, packet by packet
-
--- an end's link in this state, with what is told of the end: it has found or gone past the other end's packets up to the
--- place of the last that it found
-abbrev pub link_end : EndReportValue → (link : State) → End
-link_end told link = record {
-  link = link;
-  sent = told.sent;
-  taken = told.taken;
-  emitted = told.packets;
-  passed = passed_at told.arrivals 0;
-}
-
--- the links of the two ends
-abbrev pub link_ends : AtBoth EndReportValue → (links : AtBoth State) → Ends
-link_ends session links = record {
-  near = link_end session.at_caller links.at_caller;
-  far = link_end session.at_called links.at_called;
-}
-
--- as the ends are set up
-abbrev pub first_links : SetupValue → Ends
-first_links setup = first_ends (caller_state (at Caller setup).own) (called_state (at Called setup).own)
-
--- the window machine at the start of a session
-abbrev pub first_machine : SetupValue → Machine
-first_machine setup = start (at Called setup).own.window (at Caller setup).own.window
-
--- The session has run as the window machine, and has left its ends' links so.
-pub record RanAsMachine (setup : SetupValue) (session : AtBoth EndReportValue) (links : AtBoth State) : Type 0 where
-  -- It is a run of the two links from their first states on: in it they have sent and taken these messages, emitted these
-  -- packets, and found of each other's those at the places of the arrivals, and no others.
-  pub run : LinksRan (first_links setup) (link_ends session links) session.at_caller.arrivals session.at_called.arrivals
-  -- The machine has made the moves of what occurred, INIT and CLOSE packets left aside: each allowed, one for each packet
-  -- of the window that was emitted, found or lost, with its number and its acknowledgement as their digits modulo eight.
-  pub moves : List (List Move)
-  pub moved : AllMoveWith (first_links setup) run.occurrences (first_machine setup) moves
-  -- So it stands as the links do.
-  pub machine : Machine
-  pub behind : machine ≡ after_all (first_machine setup) moves
-  pub reads : ReadsBoth (link_ends session links) machine
-  -- Each direction is within the machine's bounds.
-  pub out_bounds : IsWithinBounds machine.out machine.back
-  pub back_bounds : IsWithinBounds machine.back machine.out
-
--- ---- in the present session
-
--- how its ends' links stand
-abbrev pub links_now : {C : Type 0} → Run C → AtBoth State
-links_now run = at_each (λ side. (end_at side run).end.state.link)
-
--- It has run as the machine up to these links; and each end looks for the next packet right behind the last that it found.
-pub record PresentRanAsMachine {C : Type 0} (setup : SetupValue) (run : Run C) : Type 0 where
-  pub ran : RanAsMachine setup (present run) (links_now run)
-  pub passed : (side : Side) → (end_at side run).end.log.passed ≡ passed_at (end_at side run).end.log.arrivals 0
 
 -- ---- in all sessions of a report
 
-abbrev pub AllTookFronts : ReportValue → Type 0
+abbrev pub AllTookFronts : {P : Type 0} → ToldReport P → Type 0
 AllTookFronts report = All TookFronts report.sessions
 
-abbrev pub AllKeptToWindows : SetupValue → ReportValue → Type 0
+abbrev pub AllKeptToWindows : {P : Type 0} → SetupValue → ToldReport P → Type 0
 AllKeptToWindows setup report = All (KeptToWindows setup) report.sessions
-
--- with some links at its end
-abbrev pub SomeLinksRan : SetupValue → AtBoth EndReportValue → Type 0
-SomeLinksRan setup session = (links : AtBoth State) × RanAsMachine setup session links
-
-abbrev pub AllRanAsMachine : SetupValue → ReportValue → Type 0
-AllRanAsMachine setup report = All (SomeLinksRan setup) report.sessions
 
 -- ---- since the set-up
 
@@ -109,15 +35,15 @@ abbrev pub since : {A : Type 0} → (before now : List A) → List A
 since before now = drop (length before) now
 
 -- the jobs that the end on the side has struck since the set-up, and the files that it has stored since then
-abbrev pub struck_since : SetupValue → ReportValue → Side → List Job
+abbrev pub struck_since : {P : Type 0} → SetupValue → ToldReport P → Side → List Job
 struck_since setup report side =
     since (at side setup).belongings.lists.struck (at side report.belongings).lists.struck
 
-abbrev pub stored_since : SetupValue → ReportValue → Side → List Kept
+abbrev pub stored_since : {P : Type 0} → SetupValue → ToldReport P → Side → List Kept
 stored_since setup report side = since (at side setup).belongings.kept (at side report.belongings).kept
 
 -- what was struck and stored before stays in front
-pub record StaysInFront (setup : SetupValue) (report : ReportValue) (side : Side) : Type 0 where
+pub record StaysInFront {P : Type 0} (setup : SetupValue) (report : ToldReport P) (side : Side) : Type 0 where
   pub struck : (at side report.belongings).lists.struck
       ≡ (at side setup).belongings.lists.struck ++ struck_since setup report side
   pub stored : (at side report.belongings).kept ≡ (at side setup).belongings.kept ++ stored_since setup report side
@@ -125,7 +51,7 @@ pub record StaysInFront (setup : SetupValue) (report : ReportValue) (side : Side
 -- Each job struck since the set-up whose file came from the end on the side, the giver, has an entry of its own among
 -- those stored at the other end since then: its target, and the mode and bytes that the giver's spool has. As this holds
 -- after all events, it holds after each: a job is struck only after its file was stored.
-abbrev pub StruckWereStored : SetupValue → ReportValue → (giver : Side) → Type 0
+abbrev pub StruckWereStored : {P : Type 0} → SetupValue → ToldReport P → (giver : Side) → Type 0
 StruckWereStored setup report giver =
     HasOwnEntries (at giver setup).holdings (struck_since setup report giver) (struck_since setup report (other giver))
     (stored_since setup report (other giver))

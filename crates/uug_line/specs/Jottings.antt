@@ -1,22 +1,15 @@
 -- How the program writes down what an end did: a packet as it is spelled, and what it says is read from that.
-use Rattle.std.specs.Prelude.{ℕ, suc, max, Bool, true, false, List, [], ◌∷◌, ◌++◌, map, Option, Some, None, Result, Ok, Err}
+use Rattle.std.specs.Prelude.{ℕ, max, Bool, true, false, List, [], ◌∷◌, ◌++◌, map, Option, Some, None, Result, Ok, Err}
 use Rattle.uug_link.specs.Entries.{EntryValue, text, packet}
 use Rattle.uug_packet.specs.declared.decoding.NoPacket.{NoPacket}
 use Rattle.uug_packet.specs.Decoded.{decoded}
 use Rattle.uug_packet.specs.Packet.{PacketValue, close, control, carry}
-use Rattle.uug_session.specs.declared.phase.Phase.{Phase}
 use Rattle.uug_line.specs.declared.journal.Journal.{Journal}
-use Rattle.uug_line.specs.LineEnd.{Log}
+use Rattle.uug_line.specs.LineEnd.{Log, Notes, found_at}
 use Rattle.uug_line.specs.Shown.{lists_in}
-use Rattle.uug_line.specs.Spelled.{SpelledEnd}
 
-pub record Jottings : Type 0 where
-  pub sent : List (List ℕ)
-  pub taken : List (List ℕ)
-  pub packets : List (List ℕ)
-  pub arrivals : List ℕ
-  pub passed : ℕ
-  pub most : ℕ
+abbrev pub Jottings : Type 0
+Jottings = Notes (List ℕ)
 
 abbrev pub jotted : {A : Type 0} → Journal A → Jottings
 jotted j = record {
@@ -27,9 +20,6 @@ jotted j = record {
   passed = j.passed;
   most = j.most;
 }
-
-abbrev pub no_jottings : Jottings
-no_jottings = record { sent = []; taken = []; packets = []; arrivals = []; passed = 0; most = 0 }
 
 -- ---- what bytes spell
 
@@ -63,17 +53,14 @@ or_empty (Some message) = message
 
 -- ---- what is written down
 
-abbrev pub arrived_at : (place : ℕ) → Jottings → Jottings
-arrived_at place j = record j { arrivals = j.arrivals ++ place ∷ []; passed = suc place }
-
 -- the message of the packet that is spelled so
 abbrev pub taking_from : (bytes : List ℕ) → Jottings → Jottings
 taking_from bytes j = record j { taken = j.taken ++ or_empty (message_in bytes) ∷ [] }
 
 -- the packet at that place, which is spelled so, was found, and its message taken or not
 abbrev pub packet_jotted : (bytes : List ℕ) → (place : ℕ) → Jottings → (took : Bool) → Jottings
-packet_jotted bytes place j false = arrived_at place j
-packet_jotted bytes place j true = taking_from bytes (arrived_at place j)
+packet_jotted bytes place j false = found_at place j
+packet_jotted bytes place j true = taking_from bytes (found_at place j)
 
 -- its message was sent, where it has one
 abbrev pub sending_from : (bytes : List ℕ) → Jottings → Jottings
@@ -117,15 +104,4 @@ log_of j = record {
   arrivals = j.arrivals;
   passed = j.passed;
   most = j.most;
-}
-
--- what is told of a session in which the end has come so far
-abbrev pub told_by : Jottings → Phase → SpelledEnd
-told_by j phase = record {
-  sent = j.sent;
-  taken = j.taken;
-  packets = j.packets;
-  arrivals = j.arrivals;
-  most = j.most;
-  phase = phase;
 }

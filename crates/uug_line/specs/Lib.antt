@@ -2,8 +2,10 @@ pub mod Belongings
 pub mod Delivered
 pub mod Fooled
 pub mod Headline
+pub mod Heard
 pub mod LineEnd
 pub mod LinkRun
+pub mod MachineRun
 pub mod LowerLaws
 pub mod OfSomeRun
 pub mod Report
@@ -21,6 +23,9 @@ pub mod Sides
 pub mod SoundSetup
 pub mod Sightings
 pub mod Spelled
+pub mod StillHeld
+pub mod PastSessions
 pub mod Taking
+pub mod Told
 pub mod WereSent
 pub mod World

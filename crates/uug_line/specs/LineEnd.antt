@@ -7,19 +7,23 @@ use Rattle.uug_session.specs.EndStep.{EndState, Emitted, says_text, sends_packet
 use Rattle.uug_session.specs.Keeper.{Keeper}
 use Rattle.uug_session.specs.Says.{written_text}
 
--- what an end did in a session
-pub record Log : Type 0 where
+-- what is written down of an end's session, whichever way a packet is kept
+pub record Notes (P : Type 0) : Type 0 where
   -- the messages that it sent, in the order of their first sending, and those that it took
   pub sent : List (List ℕ)
   pub taken : List (List ℕ)
   -- all packets that it emitted
-  pub packets : List PacketValue
+  pub packets : List P
   -- the places of the packets that it found, among those that the other end emitted; and how many of those were found
   -- or gone past
   pub arrivals : List ℕ
   pub passed : ℕ
   -- the most packets that were unacknowledged after any call
   pub most : ℕ
+
+-- with packets as values
+abbrev pub Log : Type 0
+Log = Notes PacketValue
 
 pub record LineEnd (C : Type 0) : Type 0 where
   pub state : EndState C
@@ -57,12 +61,12 @@ bytes_in (sends_packet e ∷ es) = canonical e.packet ++ bytes_in es
 
 -- ---- what is written down
 
-abbrev pub nothing_done : Log
+abbrev pub nothing_done : {P : Type 0} → Notes P
 nothing_done = record { sent = []; taken = []; packets = []; arrivals = []; passed = 0; most = 0 }
 
 -- the other end's packet at this place was found
-abbrev pub found_at : (place : ℕ) → Log → Log
-found_at place log = record log { arrivals = log.arrivals ++ place ∷ []; passed = suc place }
+abbrev pub found_at : {P : Type 0} → (place : ℕ) → Notes P → Notes P
+found_at place notes = record notes { arrivals = notes.arrivals ++ place ∷ []; passed = suc place }
 
 -- by whether its message was taken
 abbrev pub took : Bool → (message : List ℕ) → Log → Log

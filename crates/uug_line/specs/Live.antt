@@ -1,5 +1,5 @@
 -- What an end of the program on a line is, in the terms of the definitions.
-use Rattle.std.specs.Prelude.{◌≡◌, ℕ, ◌<◌, ◌≤◌, Bool, true, false, List, [], ◌++◌, length, map}
+use Rattle.std.specs.Prelude.{◌≡◌, ℕ, ◌<◌, ◌≤◌, Bool, true, false, List, [], ◌++◌, length, map, take}
 use Rattle.std.specs.List.{AllByRecursion}
 use Rattle.uug_link.specs.Announced.{Announced}
 use Rattle.uug_link.specs.Entries.{joined}
@@ -9,7 +9,7 @@ use Rattle.uug_packet.specs.WellFormed.{IsWellFormed}
 use Rattle.uug_reader.specs.declared.reader.TheConstants.{READER_SIZE}
 use Rattle.uug_session.specs.Arriving.{Hearer, Taker, all_taken, held_in, stopped, takes_all, takes_piece}
 use Rattle.uug_session.specs.EndStep.{EndEffect, EndEvent, EndState, Identity, Stage, begins_session}
-use Rattle.uug_session.specs.Engine.{HasFailed, all_ahead, end_of, with_outbox}
+use Rattle.uug_session.specs.Engine.{CountsFaults, all_ahead, end_of, with_outbox}
 use Rattle.uug_session.specs.Holdings.{Holdings}
 use Rattle.uug_session.specs.InRange.{IsEndInRange}
 use Rattle.uug_session.specs.Jobs.{Lists}
@@ -19,11 +19,12 @@ use Rattle.uug_session.specs.Talk.{Talk, end_keeper, unopened}
 use Rattle.uug_line.specs.declared.live_end.LiveEnd.{LiveEnd}
 use Rattle.uug_line.specs.declared.live_end.Taking.{Taking}
 use Rattle.uug_line.specs.declared.live_end.Taking.TheVariants.{Goes, Waits, Stops}
-use Rattle.uug_line.specs.Jottings.{Jottings, jotted, log_of, packet_in, saying, told_by, with_most}
-use Rattle.uug_line.specs.Spelled.{SpelledEnd}
+use Rattle.uug_line.specs.Jottings.{Jottings, jotted, log_of, packet_in, saying, with_most}
+use Rattle.uug_line.specs.Report.{told_by}
 use Rattle.uug_session.specs.Phases.{phase_at}
 use Rattle.uug_line.specs.Taking.{line_taker}
 use Rattle.uug_line.specs.LineEnd.{LineEnd, Player, begins, called_with}
+use Rattle.uug_line.specs.Told.{SpelledEnd}
 
 -- its parts
 pub record Parts : Type 0 where
@@ -140,6 +141,7 @@ pub record IsStopped (others : List (List ℕ)) (old new : Parts) : Type 0 where
   pub stopped : takes_all (taker_of others old) (hearer_of old) ≡ stopped (hearer_of new)
   pub ordered : IsOrdered new
   pub standing : standing_of new ≡ standing_of old
+  pub no_more : length (held_bytes new.node) ≤ length (held_bytes old.node)
 
 abbrev pub TakesNext : Taking → (others : List (List ℕ)) → (old new : Parts) → Type 0
 TakesNext Goes others old new = TakesOne others old new
@@ -150,7 +152,7 @@ TakesNext Stops others old new = IsStopped others old new
 pub record IsTakenUp (found : Bool → Jottings) (old new : Parts) : Type 0 where
   pub called : Parts
   pub took : Bool
-  pub shown : TakesShown (holdings_of old.spool) old.spool.stored called.spool.stored (HasFailed 18446744073709551615 0 0)
+  pub shown : TakesShown (holdings_of old.spool) old.spool.stored called.spool.stored (CountsFaults 18446744073709551615 0 0)
       old.node called.node took
   pub holdings : holdings_of called.spool ≡ holdings_of old.spool
   pub jottings : called.jottings ≡ found took
@@ -169,10 +171,11 @@ pub record HearsAll (others : List (List ℕ)) (piece : List ℕ) (old new : Par
   pub standing : standing_of new ≡ standing_of old
   pub room : HasRoom new
 
--- up to a packet that was not sent
+-- up to a packet that was not sent; of the bytes from there on it holds what fits
 pub record HearsSome (others : List (List ℕ)) (piece : List ℕ) (old new : Parts) : Type 0 where
   pub held : List ℕ
   pub came : takes_piece (taker_of others old) piece (hearer_of old) ≡ stopped (record { held = held; end = line_end_of new })
+  pub fits : held_bytes new.node ≡ take READER_SIZE held
   pub ordered : IsOrdered new
   pub standing : standing_of new ≡ standing_of old
 
@@ -185,6 +188,7 @@ pub record StillTakes (others : List (List ℕ)) (old now : Parts) : Type 0 wher
   pub same : takes_all (taker_of others old) (hearer_of old) ≡ takes_all (taker_of others old) (hearer_of now)
   pub ordered : IsOrdered now
   pub standing : standing_of now ≡ standing_of old
+  pub no_more : length (held_bytes now.node) ≤ length (held_bytes old.node)
 
 pub record StillHears (others : List (List ℕ)) (piece rest : List ℕ) (old now : Parts) : Type 0 where
   pub same : takes_piece (taker_of others old) piece (hearer_of old) ≡ takes_piece (taker_of others old) rest (hearer_of now)

@@ -10,10 +10,11 @@ use Rattle.uug_line.specs.declared.verdict.LineVerdict.{LineVerdict}
 use Rattle.uug_line.specs.declared.verdict.LineVerdict.TheVariants.{Clean, Fooled}
 use Rattle.uug_line.specs.Belongings.{Belongings, SetupValue, identity, party, renewed}
 use Rattle.uug_line.specs.LineEnd.{LineEnd, Player, begins, called_with, changed_line}
-use Rattle.uug_line.specs.Report.{EndReportValue, report_of_end}
+use Rattle.uug_line.specs.Report.{report_of_end}
 use Rattle.uug_line.specs.RunKeeper.{RunKeeper}
 use Rattle.uug_line.specs.Sides.{other, AtBoth, at, with_at, at_each}
 use Rattle.uug_line.specs.Taking.{line_taker}
+use Rattle.uug_line.specs.Told.{EndReportValue}
 
 -- how a run stands
 pub record Run (C : Type 0) : Type 0 where

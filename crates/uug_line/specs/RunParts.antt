@@ -1,6 +1,7 @@
 -- How the program's run stands, in the terms of the definitions, and what its events do.
 use Rattle.std.specs.Prelude.{◌≡◌, ℕ, Bool, true, List, [], ◌∷◌, ◌++◌, map, take, drop}
 use Rattle.uug_session.specs.EndStep.{line_lost, time_ran_out}
+use Rattle.uug_session.specs.Node.{held_bytes}
 use Rattle.uug_line.specs.declared.event.Event.{Event}
 use Rattle.uug_line.specs.declared.event.Event.TheVariants.{Pass, Drop, Flip, Insert, Timeout, HangUp, Call}
 use Rattle.uug_line.specs.declared.running.RunSoFar.{RunSoFar}
@@ -10,11 +11,12 @@ use Rattle.uug_line.specs.declared.verdict.LineVerdict.{LineVerdict}
 use Rattle.uug_line.specs.declared.verdict.LineVerdict.TheVariants.{Clean}
 use Rattle.uug_line.specs.Belongings.{Belongings, SetupValue, identity}
 use Rattle.uug_line.specs.Live.{BeginsAgain, HasRoom, HearsPiece, IsCalled, IsOrdered, Parts, Standing, hearer_of, line_end_of, parts_of, standing_of, told_of}
-use Rattle.uug_line.specs.Report.{EndNow}
+use Rattle.uug_line.specs.Told.{EndNow, SpelledEnd, SpelledReport, WholeReport}
 use Rattle.uug_line.specs.Run.{Run, end_at, flipped}
 use Rattle.uug_line.specs.Shown.{session_shown}
 use Rattle.uug_line.specs.Sides.{AtBoth, at, other}
-use Rattle.uug_line.specs.Spelled.{SpelledEnd, SpelledReport, WholeReport, spelled_session}
+use Rattle.uug_line.specs.Spelled.{spelled_session}
+use Rattle.uug_line.specs.StillHeld.{HoldWhatIsLeft}
 use Rattle.uug_session.specs.Talk.{Talk}
 
 pub record RunParts : Type 0 where
@@ -103,7 +105,10 @@ pub record StandsAs (setup : SetupValue) (run : Run Talk) (r : RunParts) : Type 
   pub steady : IsSteady r
   pub clean : run.verdict ≡ Clean
 
--- as it stops, but for bytes that were not read
+abbrev pub held_parts : RunParts → AtBoth (List ℕ)
+held_parts r = record { at_caller = held_bytes r.caller.node; at_called = held_bytes r.called.node }
+
+-- as it stops; of the bytes that were not taken up it holds those that fit
 pub record EndsAs (setup : SetupValue) (run : Run Talk) (verdict : LineVerdict) (r : RunParts) : Type 0 where
   pub past : map spelled_session run.past ≡ r.past
   pub caller : (end_at Caller run).end ≡ line_end_of r.caller
@@ -113,6 +118,7 @@ pub record EndsAs (setup : SetupValue) (run : Run Talk) (verdict : LineVerdict) 
   pub caller_ordered : IsOrdered r.caller
   pub called_ordered : IsOrdered r.called
   pub verdict_is : run.verdict ≡ verdict
+  pub held : HoldWhatIsLeft run (held_parts r)
 
 -- ---- what is told of it
 
@@ -134,6 +140,7 @@ abbrev pub whole_report : RunParts → LineVerdict → WholeReport
 whole_report r verdict = record {
   told = told_in_all r verdict;
   spools = record { at_caller = r.caller.spool; at_called = r.called.spool };
+  held = held_parts r;
 }
 
 -- all that the ends emitted stands on the line

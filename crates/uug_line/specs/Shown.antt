@@ -3,14 +3,13 @@ use Rattle.std.specs.Prelude.{◌≡◌, ℕ, List, [], map, Vec}
 use Rattle.uug_session.specs.declared.memory_spool.MemorySpool.{MemorySpool}
 use Rattle.uug_session.specs.declared.node.Node.{Node}
 use Rattle.uug_session.specs.MemoryHoldings.{MemoryHoldings, held_by}
-use Rattle.uug_session.specs.Node.{node_of}
+use Rattle.uug_session.specs.Node.{held_bytes, node_of}
 use Rattle.uug_line.specs.declared.report.EndReport.{EndReport}
 use Rattle.uug_line.specs.declared.report.SessionReport.{SessionReport}
 use Rattle.uug_line.specs.declared.verdict.LineVerdict.{LineVerdict}
 use Rattle.uug_line.specs.Belongings.{Belongings}
-use Rattle.uug_line.specs.Report.{EndNow}
+use Rattle.uug_line.specs.Told.{EndNow, SpelledEnd, WholeReport}
 use Rattle.uug_line.specs.Sides.{AtBoth}
-use Rattle.uug_line.specs.Spelled.{SpelledEnd, WholeReport}
 
 abbrev pub lists_in : {A : Type 0} → List (Vec ℕ A) → List (List ℕ)
 lists_in vectors = map (λ v. v.items) vectors
@@ -43,6 +42,10 @@ stands_so node = record { stage = (node_of node).engine.stage; link = (node_of n
 abbrev pub spool_of : {A : Type 0} → Node (MemorySpool A) A → MemoryHoldings
 spool_of node = held_by node.spool
 
+-- the bytes that it holds and has not taken up
+abbrev pub held_at : {A : Type 0} → Node (MemorySpool A) A → List ℕ
+held_at node = held_bytes (node_of node)
+
 -- all that it emitted has gone out
 abbrev pub HasSaidAll : {A : Type 0} → Node (MemorySpool A) A → Type 0
 HasSaidAll node = (node_of node).engine.outbox.entries ≡ []
@@ -58,4 +61,5 @@ report_shown sessions caller called verdict = record {
     verdict = verdict;
   };
   spools = record { at_caller = spool_of caller; at_called = spool_of called };
+  held = record { at_caller = held_at caller; at_called = held_at called };
 }

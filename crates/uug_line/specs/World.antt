@@ -5,21 +5,13 @@ use Rattle.uug_session.specs.Arriving.{Hearer}
 use Rattle.uug_session.specs.Count.{Count}
 use Rattle.uug_session.specs.Talk.{Talk}
 use Rattle.uug_line.specs.declared.event.Event.{Event}
-use Rattle.uug_line.specs.declared.verdict.LineVerdict.{LineVerdict}
-use Rattle.uug_line.specs.Belongings.{Belongings, SetupValue}
+use Rattle.uug_line.specs.Belongings.{SetupValue}
 use Rattle.uug_line.specs.LineEnd.{LineEnd}
-use Rattle.uug_line.specs.Report.{EndNow, EndReportValue, end_now, report_of_end}
+use Rattle.uug_line.specs.Report.{end_now, report_of_end}
 use Rattle.uug_line.specs.Run.{Run, end_at, has_now, run_of}
 use Rattle.uug_line.specs.RunKeeper.{RunKeeper, by_themselves, by_numbers}
-use Rattle.uug_line.specs.Sides.{AtBoth, at_each}
-
-pub record ReportValue : Type 0 where
-  -- the sessions in order, the present one last
-  pub sessions : List (AtBoth EndReportValue)
-  -- how the ends stand then, and what they have
-  pub ends : AtBoth EndNow
-  pub belongings : AtBoth Belongings
-  pub verdict : LineVerdict
+use Rattle.uug_line.specs.Sides.{at_each}
+use Rattle.uug_line.specs.Told.{ReportValue}
 
 abbrev pub report_of : {C : Type 0} → RunKeeper C → SetupValue → Run C → ReportValue
 report_of k setup run = record {

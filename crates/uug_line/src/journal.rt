@@ -1,6 +1,8 @@
 ghost use Rattle.std.specs.Prelude.{◌≡◌, ◌<◌, [], ◌∷◌, ◌++◌, length, MatchOption, OnOk, None, Some};
-ghost use Rattle.uug_line.specs.Jottings.{arrived_at, jotted, message_in, no_jottings, packet_jotted, saying, taking_from, sending_from, told_by, with_most};
+ghost use Rattle.uug_line.specs.Jottings.{jotted, message_in, packet_jotted, saying, taking_from, sending_from, with_most};
 ghost use Rattle.uug_line.specs.Shown.{end_shown, lists_in};
+ghost use Rattle.uug_line.specs.LineEnd.{found_at, nothing_done};
+ghost use Rattle.uug_line.specs.Report.{told_by};
 ghost use Rattle.uug_link.specs.Entries.{shown_entry};
 
 use crate::report::EndReport;
@@ -25,7 +27,7 @@ pub(crate) struct Journal<A: Allocator> {
 impl<A: Allocator + Copy> Journal<A> {
     /// Nothing is written down yet.
     pub(crate) fn new(alloc: A) -> Self
-        ensures { jotted result ≡ no_jottings }
+        ensures { jotted result ≡ nothing_done }
     {
         Journal {
             sent: Vec::new(alloc),
@@ -71,7 +73,7 @@ impl<A: Allocator + Copy> Journal<A> {
 
     fn add_arrival(&mut self, place: usize) -> Result<(), AllocError>
         requires { place < usize.MAX }
-        ensures { OnOk result (jotted self.new ≡ arrived_at place (jotted self.old)) }
+        ensures { OnOk result (jotted self.new ≡ found_at place (jotted self.old)) }
     {
         self.arrivals.push(place)?;
         self.passed = place + 1;

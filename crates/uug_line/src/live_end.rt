@@ -128,6 +128,8 @@ impl<A: Allocator + Copy> LiveEnd<A> {
             let count = self.node.offer(rest);
             rest = &rest[count..];
             if !self.take_all(alloc, others)? {
+                // It holds what fits of the rest, too: so what it holds does not depend on how much was offered before.
+                self.node.offer(rest);
                 return Ok(false);
             }
             if rest.is_empty() {

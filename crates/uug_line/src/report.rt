@@ -1,6 +1,6 @@
 ghost use Rattle.std.specs.Prelude.{◌≡◌, map};
 ghost use Rattle.uug_line.specs.OfSomeRun.{IsOfSomeRun};
-ghost use Rattle.uug_line.specs.Shown.{HasSaidAll, owned_by, session_shown, spool_of, stands_so};
+ghost use Rattle.uug_line.specs.Shown.{HasSaidAll, held_at, owned_by, session_shown, spool_of, stands_so};
 
 use crate::verdict::LineVerdict;
 use std::alloc::Allocator;
@@ -35,7 +35,7 @@ pub struct SessionReport<A: Allocator> {
 
 /// What a run tells. Whoever made it, a report is what the world tells of some two ends and some events: its type keeps
 /// that, and `sessions` hands it on. So `world_laws::the_headline`, which is of all two ends and events, holds of each
-/// report. A clause sees what is told of the sessions, what the ends have, and the verdict.
+/// report. A clause sees what is told of the sessions, what the ends have and hold, and the verdict.
 #[derive(Drop)]
 pub struct Report<A: Allocator + Copy> {
     pub(crate) sessions: Vec<SessionReport<A>, A>,
@@ -47,7 +47,7 @@ pub struct Report<A: Allocator + Copy> {
 impl<A: Allocator + Copy> Model for Report<A> {
     ghost use Rattle.uug_line.specs.OfSomeRun.{IsOfSomeRun};
     ghost use Rattle.uug_line.specs.Shown.{HasSaidAll, report_shown};
-    ghost use Rattle.uug_line.specs.Spelled.{WholeReport};
+    ghost use Rattle.uug_line.specs.Told.{WholeReport};
 
     ghost Value = { WholeReport };
 
@@ -71,6 +71,7 @@ impl<A: Allocator + Copy> Report<A> {
         ensures stands { stands_so result.now ≡ self.now.told.ends.at_caller }
         ensures has { owned_by result.now ≡ self.now.told.belongings.at_caller }
         ensures spool { spool_of result.now ≡ self.now.spools.at_caller }
+        ensures holds { held_at result.now ≡ self.now.held.at_caller }
         ensures said { HasSaidAll result.now }
     {
         &self.caller
@@ -81,6 +82,7 @@ impl<A: Allocator + Copy> Report<A> {
         ensures stands { stands_so result.now ≡ self.now.told.ends.at_called }
         ensures has { owned_by result.now ≡ self.now.told.belongings.at_called }
         ensures spool { spool_of result.now ≡ self.now.spools.at_called }
+        ensures holds { held_at result.now ≡ self.now.held.at_called }
         ensures said { HasSaidAll result.now }
     {
         &self.called

@@ -1,4 +1,4 @@
-ghost use Rattle.std.specs.Prelude.{◌≡◌, ◌∷◌, [], ◌++◌, IfOk, OnOk, take, drop, map};
+ghost use Rattle.std.specs.Prelude.{◌≡◌, ◌∷◌, [], ◌++◌, ℕ, All, IfOk, OnOk, Some, take, drop, map, slice_get};
 ghost use Rattle.uug_link.specs.Announced.{announced};
 ghost use Rattle.uug_session.specs.Engine.{all_ahead};
 ghost use Rattle.uug_session.specs.EndStep.{line_lost, time_ran_out};
@@ -10,18 +10,23 @@ ghost use Rattle.uug_line.specs.Belongings.{SetupValue};
 ghost use Rattle.uug_line.specs.Live.{AreWritten, HasBegun, HasRoom, HearsPiece, IsCalled, IsOrdered, parts_of};
 ghost use Rattle.uug_line.specs.OfBytes.{AreOfTypes};
 ghost use Rattle.uug_line.specs.OfSomeRun.{IsOfSomeRun};
-ghost use Rattle.uug_line.specs.Run.{Run, first_run, flipped, goes_through};
+ghost use Rattle.uug_line.specs.Run.{Run, end_at, first_run, flipped, goes_through};
 ghost use Rattle.uug_line.specs.RunKeeper.{by_themselves};
 ghost use Rattle.uug_line.specs.RunParts.{AllIsSaid, CallsAgain, ChangesLine, EndsAs, Happens, HappensAt, IsSteady, Passes, StandsAs, hearing_side, run_parts, whole_report, with_line};
 ghost use Rattle.uug_line.specs.Setup.{setup_of};
 ghost use Rattle.uug_line.specs.Shown.{lists_in};
-ghost use Rattle.uug_line.specs.Sides.{at, other};
+ghost use Rattle.uug_line.specs.Sides.{AtBoth, other};
 ghost use Rattle.uug_line.specs.Spelled.{GiveAsSetUp, spelled};
-ghost use Rattle.uug_line.specs.Delivered.{HasHeardAt, came_in};
-ghost use Rattle.uug_line.specs.Fooled.{NamesUnsent};
-ghost use Rattle.uug_line.specs.Headline.{AllKeptToWindows, AllRanAsMachine, AllTookFronts, PresentRanAsMachine, StaysInFront, StruckWereStored};
+ghost use Rattle.uug_line.specs.Heard.{HasHeardBehind, HasScannedBehind};
+ghost use Rattle.uug_line.specs.Fooled.{ArrivalsArePlaces, FindsNothingMore, NamesUnsent};
+ghost use Rattle.uug_line.specs.PastSessions.{WasPresent};
+ghost use Rattle.uug_line.specs.StillHeld.{HoldWhatIsLeft};
+ghost use Rattle.uug_line.specs.Told.{EndReportValue};
+ghost use Rattle.uug_line.specs.Headline.{AllKeptToWindows, AllTookFronts, StaysInFront, StruckWereStored};
 ghost use Rattle.uug_line.specs.World.{report_of_ends, report_of_world, run_of_ends};
+ghost use Rattle.uug_line.specs.MachineRun.{AllRanAsMachine, PresentRanAsMachine};
 ghost use Rattle.uug_line.specs.declared.side.Side.{Side};
+ghost use Rattle.uug_line.specs.declared.verdict.LineVerdict.TheVariants.{Clean};
 
 use crate::event::Event;
 use crate::fault::RunFault;
@@ -33,7 +38,8 @@ use crate::side::Side;
 use crate::soundness::look_at_setup;
 use crate::verdict::LineVerdict;
 use crate::world_laws::{
-    a_run_is_the_world, a_run_stops_at_what_was_not_sent, an_end_finds_what_came, the_headline,
+    a_run_is_the_world, a_run_stops_at_what_was_not_sent, an_end_finds_what_came,
+    sessions_that_are_over_stay, the_headline,
 };
 use std::alloc::{AllocError, Allocator};
 use uug_session::{Node, Place};
@@ -54,6 +60,14 @@ pub fn run<A: Allocator + Copy>(
     setup: Setup<A>,
     events: &[Event],
 ) -> Result<Report<A>, RunFault>
+    // In every session each end has taken the first messages that the other has sent.
+    ensures front { IfOk result (λ report. AllTookFronts report.told) }
+    // Each struck job has an entry of its own in what was stored, with its exact bytes.
+    ensures stored { IfOk result (λ report. (giver : Side) → StruckWereStored (setup_of setup) report.told giver) }
+    // What was struck and stored before the run stays in front.
+    ensures earlier { IfOk result (λ report. (side : Side) → StaysInFront (setup_of setup) report.told side) }
+    // No end ever had more unacknowledged packets than the other announced.
+    ensures window { IfOk result (λ report. AllKeptToWindows (setup_of setup) report.told) }
     // It is what the two ends do, neither of which knows the other's jobs, and what somebody tells who knows both.
     ensures ends { IfOk result (λ report. report.told ≡ spelled (report_of_ends (setup_of setup) events.now)) }
     ensures world { IfOk result (λ report. report.told ≡ spelled (report_of_world (setup_of setup) events.now)) }
@@ -63,16 +77,22 @@ pub fn run<A: Allocator + Copy>(
     ensures fooled { IfOk result (λ report. NamesUnsent (setup_of setup) events.now report.told.verdict) }
     // What the laws of a run ask of two ends and events is so.
     ensures types { OnOk result (AreOfTypes (setup_of setup) events.now) }
-    // The arrivals of an end are the places of the packets that it found in the bytes that came to it, and of no others.
-    ensures heard { OnOk result ((side : Side) → HasHeardAt (setup_of setup) (at side (came_in by_themselves (setup_of setup) events.now))
-        (run_of_ends (setup_of setup) events.now) side) }
-    // In every session each end has taken the first messages that the other has sent.
-    ensures front { OnOk result (AllTookFronts (report_of_ends (setup_of setup) events.now)) }
-    // Each struck job has an entry of its own in what was stored, with its exact bytes.
-    ensures stored { OnOk result ((giver : Side) → StruckWereStored (setup_of setup) (report_of_ends (setup_of setup) events.now) giver) }
-    ensures earlier { OnOk result ((side : Side) → StaysInFront (setup_of setup) (report_of_ends (setup_of setup) events.now) side) }
-    // No end ever had more unacknowledged packets than the other announced.
-    ensures window { OnOk result (AllKeptToWindows (setup_of setup) (report_of_ends (setup_of setup) events.now)) }
+    // Behind each event the arrivals of an end are the places of the packets that it found in the bytes that came to it in the
+    // session, and of no others.
+    ensures heard { OnOk result ((n : ℕ) (side : Side) → HasHeardBehind (setup_of setup) (take n events.now) side) }
+    // A session that is over was the present one when an event called again.
+    ensures past { OnOk result ((number : ℕ) (session : AtBoth EndReportValue)
+        → slice_get (run_of_ends (setup_of setup) events.now).past number ≡ Some session
+        → WasPresent (setup_of setup) events.now number session) }
+    // In every session the arrivals are places of packets that the other end emitted.
+    ensures places { OnOk result (All ArrivalsArePlaces (report_of_ends (setup_of setup) events.now).sessions) }
+    // On a clean run nothing that is whole is left, and an end on its link has found the whole scan of the bytes that came.
+    ensures clean { IfOk result (λ report. report.told.verdict ≡ Clean
+        → (side : Side) → FindsNothingMore (end_at side (run_of_ends (setup_of setup) events.now))) }
+    ensures scanned { IfOk result (λ report. report.told.verdict ≡ Clean
+        → (side : Side) → HasScannedBehind (setup_of setup) events.now side) }
+    // The ends that it lends hold what is left of the bytes that came to them.
+    ensures holds { IfOk result (λ report. HoldWhatIsLeft (run_of_ends (setup_of setup) events.now) report.held) }
     // Each session is a run of the two ends' links, and what occurs in it so many moves of the window machine, packet by
     // packet, with its bounds in both directions.
     ensures machine { OnOk result (AllRanAsMachine (setup_of setup) (report_of_ends (setup_of setup) events.now)) }
@@ -84,6 +104,7 @@ pub fn run<A: Allocator + Copy>(
     the_headline();
     a_run_stops_at_what_was_not_sent();
     an_end_finds_what_came();
+    sessions_that_are_over_stay();
     let mut run = RunSoFar::start(alloc, setup)?;
     let verdict = run.go_through(alloc, events)?;
     let report = run.into_report(verdict)?;

@@ -1,6 +1,6 @@
 //! Laws of a run, for every two ends and whatever happens on the line between them: a run is the world, the headline, and
 //! where a run stops. The functions do nothing.
-ghost use Rattle.std.specs.Prelude.{◌≡◌, ◌↔◌, ℕ, List, All};
+ghost use Rattle.std.specs.Prelude.{◌≡◌, ◌↔◌, ℕ, List, All, Some, slice_get};
 ghost use Rattle.uug_packet.specs.Bytes.{AreBytes};
 ghost use Rattle.uug_line.specs.declared.event.Event.{Event};
 ghost use Rattle.uug_line.specs.declared.side.Side.{Side};
@@ -8,15 +8,18 @@ ghost use Rattle.uug_line.specs.declared.verdict.LineVerdict.TheVariants.{Clean,
 ghost use Rattle.uug_line.specs.Belongings.{SetupValue};
 ghost use Rattle.uug_line.specs.Delivered.{HasHeardAt, HasScanned, came_in};
 ghost use Rattle.uug_line.specs.Fooled.{ArrivalsArePlaces, FindsNothingMore, FindsUnsent, StoppedAt};
-ghost use Rattle.uug_line.specs.Headline.{AllKeptToWindows, AllRanAsMachine, AllTookFronts, PresentRanAsMachine, StaysInFront, StruckWereStored};
+ghost use Rattle.uug_line.specs.Headline.{AllKeptToWindows, AllTookFronts, StaysInFront, StruckWereStored};
 ghost use Rattle.uug_line.specs.LowerLaws.{Laws};
 ghost use Rattle.uug_line.specs.OfBytes.{AreOfBytes, IsSetupOfBytes};
+ghost use Rattle.uug_line.specs.PastSessions.{StayOver, WasPresent};
 ghost use Rattle.uug_line.specs.Run.{end_at};
 ghost use Rattle.uug_line.specs.RunKeeper.{by_numbers, by_themselves};
 ghost use Rattle.uug_line.specs.SessionLaws.{SessionLaws};
-ghost use Rattle.uug_line.specs.Sides.{at};
+ghost use Rattle.uug_line.specs.Sides.{AtBoth, at};
 ghost use Rattle.uug_line.specs.SoundSetup.{IsSoundSetup};
+ghost use Rattle.uug_line.specs.Told.{EndReportValue};
 ghost use Rattle.uug_line.specs.World.{counted, report_of_ends, report_of_world, run_of_ends, world};
+ghost use Rattle.uug_line.specs.MachineRun.{AllRanAsMachine, PresentRanAsMachine};
 
 use uug_link::laws::{
     arrivals, each_occurrence_is_moves_of_the_machine, runs_of_two_links, the_window_is_safe,
@@ -118,6 +121,14 @@ pub fn a_run_stops_at_what_was_not_sent()
     arrivals();
     what_is_found_stays();
 }
+
+/// What is told of a session that is over stays, whatever happens then; and each of them was the present one behind fewer
+/// events, of which the laws here speak as of any.
+pub fn sessions_that_are_over_stay()
+    ensures stay { (setup : SetupValue) (events more : List Event) → StayOver setup events more }
+    ensures were_present { (setup : SetupValue) (events : List Event) (number : ℕ) (session : AtBoth EndReportValue)
+        → slice_get (run_of_ends setup events).past number ≡ Some session → WasPresent setup events number session }
+{}
 
 /// Whatever happens on the line, what comes to an end in a session is bytes, where what the run is given is of bytes, as the
 /// program's types say.

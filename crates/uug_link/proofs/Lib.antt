@@ -21,3 +21,4 @@ pub mod ArrivalLemmas
 pub mod OutcomeLemmas
 pub mod TermsLemmas
 pub mod InRangeLemmas
+pub mod TimeoutLemmas

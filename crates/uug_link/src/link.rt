@@ -1,4 +1,4 @@
-ghost use Rattle.std.specs.Prelude.{◌≡◌, ℕ, ◌+◌, ◌≤◌, ◌++◌, length, drop, map, OnOk, OnErr, IsOk, IsTrue, ◌↔◌};
+ghost use Rattle.std.specs.Prelude.{◌≡◌, ◌≢◌, ℕ, ◌+◌, ◌≤◌, [], ◌++◌, length, drop, map, OnOk, OnErr, IsOk, IsTrue, ◌↔◌};
 ghost use Rattle.arrayvec.specs.ArrayVec.{array_vec_len};
 ghost use Rattle.uug_link.specs.Announced.{announced};
 ghost use Rattle.uug_link.specs.Follows.{Follows, answered, done, written};
@@ -102,6 +102,13 @@ impl Link {
     {
         let reaction = self.status.after_timeout();
         self.react(reaction, out)
+    }
+
+    /// Whether `on_timeout` would emit anything: there is something that may be lost, or the link ends.
+    pub fn speaks_when_late(&self) -> bool
+        ensures { IsTrue result ↔ ((step self.now timed_out).emitted ≢ []) }
+    {
+        self.status.speaks_when_late(self.unacked.len())
     }
 
     /// Sends a message of at most `size` bytes, on a link that has room for one more. Without memory for the packet, link

@@ -1,4 +1,4 @@
-ghost use Rattle.std.specs.Prelude.{◌≡◌, ℕ, ◌≤◌, List, [], length};
+ghost use Rattle.std.specs.Prelude.{◌≡◌, ◌≢◌, ◌↔◌, ℕ, ◌≤◌, List, [], length, IsTrue};
 ghost use Rattle.uug_packet.specs.Packet.{shown, shown_control};
 
 use crate::announce::Announce;
@@ -196,6 +196,25 @@ impl Status {
             (_, Phase::Up) => Emits::Outstanding,
             (_, Phase::Closing) => Emits::Control(Control::Close),
             _ => Emits::Nothing,
+        }
+    }
+
+    /// Whether anything goes out when nothing has come for some time, of a link that keeps so many messages.
+    pub(crate) fn speaks_when_late(self, outstanding: usize) -> bool
+        ensures { (ms : List (List ℕ)) → length ms ≡ outstanding →
+            IsTrue result ↔ ((step (state_of self ms) timed_out).emitted ≢ []) }
+    {
+        if let Phase::Halted = self.phase {
+            return false;
+        }
+        let Some(_next) = self.timeouts.next() else {
+            return true;
+        };
+        match (self.role, self.phase) {
+            (_, Phase::Up) => outstanding != 0,
+            (_, Phase::Closing) => true,
+            (Role::Caller, Phase::AwaitsInitA | Phase::AwaitsInitB | Phase::AwaitsInitC) => true,
+            _ => false,
         }
     }
 

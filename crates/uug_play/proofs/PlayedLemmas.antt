@@ -1,15 +1,16 @@
 -- What is shown of a report, and of a script that was played.
-use Rattle.std.proofs.Common.{◌≡◌, ℕ, List, [], ◌++◌, map, Ok, ap, ◌∙◌}
+use Rattle.std.proofs.Common.{◌≡◌, ℕ, List, [], ◌++◌, map, ap, ◌∙◌}
 use Rattle.uug_line.specs.declared.event.Event.{Event}
 use Rattle.uug_line.specs.declared.verdict.LineVerdict.{LineVerdict}
 use Rattle.uug_line.specs.Belongings.{Belongings}
 use Rattle.uug_line.specs.Sides.{AtBoth}
-use Rattle.uug_line.specs.Spelled.{SpelledEnd, SpelledReport, spelled}
+use Rattle.uug_line.specs.Spelled.{spelled}
 use Rattle.uug_line.specs.World.{report_of_world}
+use Rattle.uug_line.specs.Told.{SpelledEnd, SpelledReport}
 use Rattle.uug_script.specs.declared.report.SessionNumbers.{SessionNumbers}
+use Rattle.uug_script.specs.IsScript.{IsScript}
 use Rattle.uug_script.specs.ReportText.{EndResult, RunResult, report_text}
 use Rattle.uug_script.specs.Script.{ScriptSays}
-use Rattle.uug_script.specs.ScriptOf.{script_of}
 use Rattle.uug_play.specs.Numbers.{session_numbers, end_result, result_of, status_of_result}
 use Rattle.uug_play.specs.Played.{setup_said, IsPlayed}
 
@@ -39,7 +40,7 @@ text_is before after result other none added same = added ∙ ap (λ t. t ++ rep
 
 -- the run is of the set-up and the events that the script says
 pub plays : (script text : List ℕ) (status : ℕ) (says : ScriptSays) (events : List Event) (report : SpelledReport) →
-    script_of script ≡ Ok says → events ≡ says.events → report ≡ spelled (report_of_world (setup_said says) events) →
+    IsScript script says → events ≡ says.events → report ≡ spelled (report_of_world (setup_said says) events) →
     text ≡ report_text (result_of report) → status ≡ status_of_result (result_of report) →
     IsPlayed script text status
 plays script text status says events report script_is events_are report_is t s =

@@ -10,9 +10,8 @@ use Rattle.uug_line.specs.declared.side.Side.TheVariants.{Caller, Called}
 use Rattle.uug_line.specs.declared.verdict.LineVerdict.{LineVerdict}
 use Rattle.uug_line.specs.declared.verdict.LineVerdict.TheVariants.{Clean, Fooled}
 use Rattle.uug_line.specs.Belongings.{Belongings}
-use Rattle.uug_line.specs.Report.{EndNow}
+use Rattle.uug_line.specs.Told.{EndNow, SpelledEnd, SpelledReport}
 use Rattle.uug_line.specs.Sides.{AtBoth}
-use Rattle.uug_line.specs.Spelled.{SpelledEnd, SpelledReport}
 use Rattle.uug_script.specs.ReportText.{RunResult}
 use Rattle.uug_play.specs.Numbers.{result_of, status_of_result}
 

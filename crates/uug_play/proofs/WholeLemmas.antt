@@ -1,12 +1,8 @@
 -- An input is read on.
-use Rattle.std.proofs.Common.{◌≡◌, ℕ, ◌≤◌, List, [], ◌++◌, take, length, Option, Some, None, IfSome, refl, sym, ap, ◌∙◌, arith, append_assoc, length-append}
+use Rattle.std.proofs.Common.{◌≡◌, ℕ, ◌≤◌, List, [], ◌++◌, take, length, Option, Some, None, IfSome, sym, ap, ◌∙◌, arith, append_assoc, length-append}
 use Rattle.std.proofs.lemmas.List.{append-nil}
 use Rattle.uug_tool.specs.Streams.{Moves}
 use Rattle.uug_play.specs.Whole.{Brings, BringsAll}
-
-pub brings_none : (before : Option (List ℕ)) → Brings [] before before
-brings_none None = tt
-brings_none (Some s) = (s, refl, refl)
 
 pub brings_more : (n : ℕ) (bytes buffer : List ℕ) (first before after : Option (List ℕ)) → Brings bytes first before →
     Moves n buffer before after → Brings (bytes ++ take n buffer) first after

@@ -1,5 +1,5 @@
 -- What is played from a text (this project's profile).
-use Rattle.std.specs.Prelude.{◌≡◌, ℕ, List, Option, Ok, Err, ⊤}
+use Rattle.std.specs.Prelude.{◌≡◌, ℕ, List, Option, ⊤}
 use Rattle.uug_session.specs.MemoryHoldings.{holdings_of}
 use Rattle.uug_tool.specs.Streams.{Appends}
 use Rattle.uug_tool.specs.declared.fault.ToolFault.{ToolFault}
@@ -7,9 +7,9 @@ use Rattle.uug_tool.specs.declared.fault.ToolFault.TheVariants as faults
 use Rattle.uug_line.specs.Belongings.{EndSetupValue, SetupValue}
 use Rattle.uug_line.specs.Spelled.{spelled}
 use Rattle.uug_line.specs.World.{report_of_world}
+use Rattle.uug_script.specs.IsScript.{IsFirstBad, IsScript}
 use Rattle.uug_script.specs.ReportText.{RunResult, report_text}
 use Rattle.uug_script.specs.Script.{EndSays, ScriptSays}
-use Rattle.uug_script.specs.ScriptOf.{script_of}
 use Rattle.uug_play.specs.Numbers.{result_of, status_of_result}
 
 -- an end as the script sets it up
@@ -31,7 +31,7 @@ result_said s = result_of (spelled (report_of_world (setup_said s) s.events))
 -- the text is a script, and this the text and the status of the report of what it says
 pub record IsPlayed (script text : List ℕ) (status : ℕ) : Type 0 where
   pub says : ScriptSays
-  pub script_is : script_of script ≡ Ok says
+  pub script_is : IsScript script says
   pub text_is : text ≡ report_text (result_said says)
   pub status_is : status ≡ status_of_result (result_said says)
 
@@ -40,9 +40,9 @@ abbrev pub AppendsReport : (script : List ℕ) → (status : ℕ) → Option (Li
 AppendsReport script status before after =
     (text : List ℕ) × IsPlayed script text status × Appends text before after
 
--- want of memory is left open
+-- the fault names the first bad line; out of memory is left open
 abbrev pub IsScriptFault : (script : List ℕ) → ToolFault → Type 0
-IsScriptFault script (faults.Script n) = script_of script ≡ Err n
+IsScriptFault script (faults.Script n) = IsFirstBad script n
 IsScriptFault script faults.Memory = ⊤
 IsScriptFault script _ = ⊥
 

@@ -1,6 +1,6 @@
 ghost use Rattle.std.specs.Prelude.{◌≡◌, ℕ, ◌<◌, ◌≤◌, ◌*◌, IfErr, IfOk, IfSome, Some, [], OnOk, length};
 ghost use Rattle.std.specs.Io.KnownBytes.{Keeps};
-ghost use Rattle.uug_script.specs.ScriptOf.{script_of};
+ghost use Rattle.uug_script.specs.IsScript.{IsFirstBad};
 ghost use Rattle.uug_tool.specs.Streams.{CountsFault};
 ghost use Rattle.uug_play.specs.Played.{AppendsReport, IsPlayFault};
 
@@ -21,7 +21,7 @@ pub fn play_within<A: Allocator + Copy, I: Input, O: Output>(
         (λ script. AppendsReport script status (O.written output.old) (O.written output.new))) }
     ensures within { OnOk result (IfSome (I.to_come input.old) (λ script. length script < limit * PIECE_SIZE)) }
     ensures script { (line : ℕ) → result ≡ Err (ToolFault.Script line)
-        → IfSome (I.to_come input.old) (λ script. script_of script ≡ Err line) }
+        → IfSome (I.to_come input.old) (λ script. IsFirstBad script line) }
     ensures nothing_written { (line : ℕ) → result ≡ Err (ToolFault.Script line)
         → Keeps (O.written output.old) (O.written output.new) }
     ensures read { result ≡ Err ToolFault.Read → CountsFault (I.fault_count input.old) (I.fault_count input.new) }
@@ -49,7 +49,7 @@ pub fn play_stream<A: Allocator + Copy, I: Input, O: Output>(
         (λ script. AppendsReport script status (O.written output.old) (O.written output.new))) }
     ensures within { OnOk result (IfSome (I.to_come input.old) (λ script. length script < READ_LIMIT * PIECE_SIZE)) }
     ensures script { (line : ℕ) → result ≡ Err (ToolFault.Script line)
-        → IfSome (I.to_come input.old) (λ script. script_of script ≡ Err line) }
+        → IfSome (I.to_come input.old) (λ script. IsFirstBad script line) }
     ensures nothing_written { (line : ℕ) → result ≡ Err (ToolFault.Script line)
         → Keeps (O.written output.old) (O.written output.new) }
     ensures read { result ≡ Err ToolFault.Read → CountsFault (I.fault_count input.old) (I.fault_count input.new) }

@@ -3,6 +3,7 @@
 
 use crate::streams::{SlowInput, SlowOutput};
 use std::alloc::Global;
+use std::fmt::Display;
 use std::process::Abort;
 use std::test::Fail;
 use uug_refusal::Refusing;
@@ -233,15 +234,38 @@ fn passes_on_want_of_memory(rt: HostRuntime) -> Result<(), Fail> {
     Ok(())
 }
 
+/// The text of what is shown is this one.
+fn reads_as(
+    rt: &(impl Abort + AllocGlobal),
+    shown: &impl Display,
+    expected: &str,
+) -> Result<(), Fail> {
+    let text = shown.to_string(rt.alloc())?;
+    assert_eq!(rt; text.as_str(), expected);
+    Ok(())
+}
+
 #[test]
 fn says_what_failed(rt: HostRuntime) -> Result<(), Fail> {
-    let texts = [
-        (ReadFailed.to_string(rt.alloc())?, "device fault"),
-        (WriteFailed::Device.to_string(rt.alloc())?, "device fault"),
-        (WriteFailed::Memory.to_string(rt.alloc())?, "out of memory"),
-    ];
-    for (text, expected) in &texts {
-        assert_eq!(rt; text.as_str(), *expected);
+    reads_as(&rt, &ReadFailed, "device fault")?;
+    reads_as(&rt, &WriteFailed::Device, "device fault")?;
+    reads_as(&rt, &WriteFailed::Memory, "out of memory")
+}
+
+// Each fault with the status that the program ends with, and what it says on standard error.
+#[test]
+fn says_why_a_tool_gave_up(rt: HostRuntime) -> Result<(), Fail> {
+    for (fault, status, text) in [
+        (ToolFault::Read, 3, "device fault"),
+        (ToolFault::Write, 3, "device fault"),
+        (ToolFault::Memory, 4, "out of memory"),
+        (ToolFault::Script(7), 2, "bad script at line 7"),
+        (ToolFault::Jobs(1), 2, "bad jobs at line 1"),
+        (ToolFault::Device, 3, "device fault"),
+        (ToolFault::Usage, 2, "bad usage"),
+    ] {
+        assert_eq!(rt; fault.status(), status);
+        reads_as(&rt, &fault, text)?;
     }
     Ok(())
 }

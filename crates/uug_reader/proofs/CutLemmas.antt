@@ -61,8 +61,3 @@ module _ (laws : PacketLaws) where
   pub some_spelled : (p : PacketValue) (n : ℕ) (s : List ℕ) → IsSpelling p (take n s) → 0 < n
   some_spelled p zero s h = absurd (laws.packet p [] [] h (inl tt))
   some_spelled p (suc n) s h = omega arith
-
-  -- bytes that don't wait are some
-  pub some_not_waiting : (s : List ℕ) → (Waits s → ⊥) → 0 < length s
-  some_not_waiting [] waits_not = absurd (waits_not (inl tt))
-  some_not_waiting (b ∷ s) waits_not = omega arith

@@ -1,12 +1,11 @@
 -- Laws of what is found first.
-use Rattle.std.proofs.Common.{◌≡◌, ℕ, ◌<◌, ◌≤◌, List, [], ◌∷◌, ◌++◌, length, take, drop, refl, sym, ap, ◌∙◌, arith, subst, length-append, length-take}
+use Rattle.std.proofs.Common.{◌≡◌, ℕ, ◌<◌, List, [], ◌∷◌, ◌++◌, length, take, drop, refl, sym, ap, ◌∙◌, arith, subst, length-append, length-take}
 use Rattle.std.proofs.lemmas.List.{take-append-drop, take-append-le}
 use Rattle.uug_packet.specs.Spelling.{IsSpelling}
 use Rattle.uug_packet.specs.Waits.{Waits}
 use Rattle.uug_reader.specs.declared.reader.TheConstants.{READER_SIZE}
 use Rattle.uug_reader.specs.Cut.{IsNoise, Part, packet, broken, noise, CutsOff, Item, found, bad, items_of}
 use Rattle.uug_reader.specs.Finding.{StandsFirst, PassesNoise, FindsNothing}
-use Rattle.uug_reader.proofs.CutLemmas.{some_not_waiting, some_spelled}
 use Rattle.uug_reader.proofs.ScanLemmas.{Finds-none}
 use Rattle.uug_reader.specs.PacketLaws.{PacketLaws}
 
@@ -26,14 +25,6 @@ module _ (laws : PacketLaws) where
   pub StandsFirst-not-noise : (item : Item) (n : ℕ) (s : List ℕ) → StandsFirst item n s → IsNoise s → ⊥
   StandsFirst-not-noise (found p) n s h is_noise = is_noise.no_packet (p, take n s, drop n s, h.0, sym (take-append-drop n s))
   StandsFirst-not-noise bad n s h is_noise = is_noise.not_broken h.0
-
-  pub StandsFirst-some : (item : Item) (n : ℕ) (s : List ℕ) → StandsFirst item n s → 0 < n
-  StandsFirst-some (found p) n s h = some_spelled laws p n s h.0
-  StandsFirst-some bad n s h = omega (arith, h.1)
-
-  pub StandsFirst-within : (item : Item) (n : ℕ) (s : List ℕ) → StandsFirst item n s → n ≤ length s
-  StandsFirst-within (found p) n s h = h.1
-  StandsFirst-within bad n s h = omega (arith, h.1, some_not_waiting laws s (laws.broken s h.0))
 
   pub StandsFirst-append : (s t : List ℕ) (item : Item) (n : ℕ) → StandsFirst item n s → StandsFirst item n (s ++ t)
   StandsFirst-append s t (found p) n h =

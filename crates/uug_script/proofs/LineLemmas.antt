@@ -42,7 +42,7 @@ not_last : (line part : List ℕ) (parts : List (List ℕ)) → without_empty_la
 not_last [] part parts = refl
 not_last (x ∷ xs) part parts = refl
 
-line_in_front : (line rest : List ℕ) → without_empty_last (line ∷ slice_split is_line_feed rest) ≡ line ∷ lines rest
+pub line_in_front : (line rest : List ℕ) → without_empty_last (line ∷ slice_split is_line_feed rest) ≡ line ∷ lines rest
 line_in_front line rest =
     let p = parts_not_empty rest in
     ap (λ parts. without_empty_last (line ∷ parts)) p.2 ∙ not_last line p.0 p.1 ∙ ap (λ parts. line ∷ without_empty_last parts) (sym p.2)

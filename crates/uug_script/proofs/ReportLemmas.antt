@@ -1,17 +1,9 @@
 -- The texts of a report are text.
 use Rattle.std.proofs.Common.{◌≡◌, ℕ, ◌+◌, ◌/◌, ◌%◌, ◌<◌, List, [], ◌∷◌, subst, sym, arith}
-use Rattle.std.proofs.lemmas.List.Elements.{All-weaker}
 use Rattle.std.proofs.lemmas.Str.{IsUtf8-from_ascii}
-use Rattle.std.proofs.lemmas.Str.Ascii.{IsAscii-nil, IsAscii-cons, IsAscii-from_all}
+use Rattle.std.proofs.lemmas.Str.Ascii.{IsAscii-nil, IsAscii-cons}
 use Rattle.std.specs.Str.{IsAscii, IsUtf8}
 use Rattle.uug_talk.specs.Mode.{mode_digits}
-use Rattle.uug_talk.specs.Name.{IsName, IsNameByte}
-
-below_ascii : (b : ℕ) → IsNameByte b → b < 128
-below_ascii b h = omega (arith, h.1)
-
-pub name_is_text : (bytes : List ℕ) → IsName bytes → IsUtf8 bytes
-name_is_text bytes h = IsUtf8-from_ascii bytes (IsAscii-from_all bytes (All-weaker IsNameByte (λ b. b < 128) below_ascii bytes h.printing))
 
 octal_is_ascii : (n : ℕ) → 48 + n % 8 < 128
 octal_is_ascii n = omega arith

@@ -13,5 +13,8 @@ mod script;
 
 pub use fault::ScriptFault;
 pub use line::{BYTES_MAX, LINE_MAX, TURNS_MAX};
-pub use report::{EndNumbers, SessionNumbers, ShownEnd, ShownReport, add_report};
+pub use lines::split_line;
+pub use report::{
+    EndNumbers, SessionNumbers, ShownEnd, ShownReport, add_report, phase_word, side_word,
+};
 pub use script::{Script, read_script};

@@ -9,7 +9,7 @@ ghost use Rattle.uug_script.specs.ReportShown.{end_shown, report_shown};
 use std::alloc::{AllocError, Allocator};
 use uug_line::{LineVerdict, Side};
 use uug_session::{End, Phase, Stored};
-use uug_talk::{Name, mode_digits};
+use uug_talk::mode_digits;
 
 /// What one end did in one session.
 #[derive(Clone, Copy, Debug)]
@@ -59,7 +59,8 @@ pub struct ShownReport<'a, A: Allocator> {
     pub verdict: LineVerdict,
 }
 
-fn side_word(side: Side) -> &'static str
+/// The word of an end: `caller` or `called`.
+pub fn side_word(side: Side) -> &'static str
     ensures { result.now ≡ side_word side }
 {
     match side {
@@ -84,7 +85,8 @@ fn end_word(end: End) -> &'static str
     }
 }
 
-fn phase_word(phase: Phase) -> &'static str
+/// The word of where a session stands; one that has ended stands for how it ended, as `done`.
+pub fn phase_word(phase: Phase) -> &'static str
     ensures { result.now ≡ phase_word phase }
 {
     match phase {
@@ -173,16 +175,6 @@ fn hex_text<A: Allocator>(alloc: A, bytes: &[u8]) -> Result<String<A>, AllocErro
     hex::encode(alloc, bytes)
 }
 
-/// A name is a text.
-fn name_text(name: &Name) -> &str
-    ensures { result.now ≡ name.now }
-{
-    let Ok(text) = str::from_utf8(name.as_bytes()) else {
-        unreachable!();
-    };
-    text
-}
-
 /// Appends the line of a stored file.
 fn add_stored_line<A: Allocator + Copy, B: Allocator>(
     alloc: A,
@@ -193,7 +185,7 @@ fn add_stored_line<A: Allocator + Copy, B: Allocator>(
     ensures { OnOk result (string_bytes text.new ≡ string_bytes text.old ++ stored_line side (kept_of file.now)) }
 {
     let side = side_word(side);
-    let name = name_text(&file.name);
+    let name = file.name.as_str();
     let digits = mode_digits(file.mode);
     let Ok(mode) = str::from_utf8(&digits) else {
         unreachable!();

@@ -1,5 +1,5 @@
 -- The choice of a job, job by job.
-use Rattle.std.proofs.Common.{◌≡◌, ℕ, ◌<◌, List, [], ◌∷◌, length, slice_get, Option, Some, None, refl, sym, ap, ◌∙◌, arith}
+use Rattle.std.proofs.Common.{◌≡◌, ℕ, ◌<◌, List, [], ◌∷◌, length, slice_get, Option, Some, None, refl, ap, ◌∙◌}
 use Rattle.uug_talk.specs.declared.order.Order.{Order}
 use Rattle.uug_session.specs.declared.job.Job.{Job}
 use Rattle.uug_session.specs.declared.job.Job.TheVariants as job
@@ -23,12 +23,6 @@ choice_is h (job.Send source target user temp) jobs =
     send_choice_by source target user temp (to_give h (fetched_by source temp)) (choice h jobs)
 choice_is h (job.Request source target user) jobs = refl
 
--- where no job is ahead
-pub none_ahead : (h : Holdings) (l : Lists) → l.ahead ≡ [] →
-    ((choice h l.ahead).next ≡ None) × (moved (choice h l.ahead).failing l ≡ l)
-none_ahead h l e =
-    (ap (λ z. (choice h z).next) e, ap (λ z. moved (choice h z).failing l) e)
-
 -- where the first job ahead can be offered
 first_offered : (h : Holdings) (l : Lists) (jobs : List Job) (j : Job) (o : Order) → slice_get jobs 0 ≡ Some j →
     offer h j ≡ Some o → ((choice h jobs).next ≡ Some o) × (moved (choice h jobs).failing l ≡ l)
@@ -47,19 +41,3 @@ pub record IsPassedOn (h : Holdings) (l : Lists) : Type 0 where
   pub next : (choice h (moved_once fail l).ahead).next ≡ (choice h l.ahead).next
   pub lists : moved (choice h (moved_once fail l).ahead).failing (moved_once fail l) ≡ moved (choice h l.ahead).failing l
   pub fewer : length (moved_once fail l).ahead < length l.ahead
-
-first_not_offered : (h : Holdings) (passed jobs struck failed : List Job) (j : Job) → slice_get jobs 0 ≡ Some j →
-    offer h j ≡ None → IsPassedOn h (record { passed = passed; ahead = jobs; struck = struck; failed = failed })
-first_not_offered h passed [] struck failed j e f = absurd cc
-first_not_offered h passed (i ∷ jobs) struck failed j e f =
-    let same : i ≡ j = cc in
-    let l : Lists = record { passed = passed; ahead = i ∷ jobs; struck = struck; failed = failed } in
-    let c = choice_is h i jobs ∙ ap (λ z. choice_by (offer h z) (choice h jobs)) same ∙ ap (λ z. choice_by z (choice h jobs)) f in
-    record {
-      next = sym (ap (λ z. z.next) c);
-      lists = sym (ap (λ z. moved z.failing l) c);
-      fewer = omega arith;
-    }
-
-pub is_not_offered : (h : Holdings) (l : Lists) (j : Job) → slice_get l.ahead 0 ≡ Some j → offer h j ≡ None → IsPassedOn h l
-is_not_offered h l j e f = first_not_offered h l.passed l.ahead l.struck l.failed j e f

@@ -8,9 +8,10 @@ use Rattle.uug_session.specs.Arriving.{Taker, Hearer, all_taken, takes_piece}
 use Rattle.uug_session.specs.EndStep.{Stage, Emitted, Identity}
 use Rattle.uug_session.specs.Engine.{EngineState, HasFailed, end_of, entry_of, with_stage}
 use Rattle.uug_session.specs.Holdings.{Kept, Holdings}
-use Rattle.uug_session.specs.Node.{NodeState}
+use Rattle.uug_session.specs.Node.{NodeState, struck_jobs}
 use Rattle.uug_session.specs.NodeArriving.{NodeEnd, node_taker, hearer_of, Course, GoesOn, TakesAll}
 use Rattle.uug_session.specs.TextsHeld.{TextsHeld}
+use Rattle.uug_session.proofs.OwnRequestLemmas.{same_then, then_keeps}
 
 -- a node, by how far its session has come
 abbrev pub at : Stage → EngineState → TextsHeld → Reading → NodeState
@@ -27,11 +28,12 @@ hearer_with bytes x = record { held = bytes; end = x }
 -- nothing was emitted, and no packet taken up
 pub quiet : (h : Holdings) (kept kept_after : List Kept) (failure : Type 0) (bytes : List ℕ) (before after : NodeState)
     → after.engine.outbox.entries ≡ before.engine.outbox.entries → after.engine.identity ≡ before.engine.identity → after.engine.own ≡ before.engine.own
+    → struck_jobs after ≡ struck_jobs before → kept_after ≡ kept
     → ((more : List ℕ) (said : List Emitted) (later : List Bool)
     → takes_piece (node_taker h before.engine.identity) (bytes ++ more) (hearer_of h kept said later before)
     ≡ takes_piece (node_taker h before.engine.identity) more (hearer_of h kept_after said later after))
     → GoesOn h kept kept_after failure bytes before after
-quiet h kept kept_after failure bytes before after entries identity own same = record {
+quiet h kept kept_after failure bytes before after entries identity own struck stored same = record {
   course = record {
     emitted = [];
     failures = [];
@@ -43,10 +45,11 @@ quiet h kept kept_after failure bytes before after entries identity own same = r
   goes_on = λ more said later.
       same more said later
       ∙ ap (λ (s : List Emitted). takes_piece (node_taker h before.engine.identity) more (hearer_of h kept_after s later after)) (sym (append-nil said));
+  requests = same_then (struck_jobs before) (struck_jobs after) kept kept_after struck stored;
 }
 
 pub stays : (h : Holdings) (kept : List Kept) (failure : Type 0) (n : NodeState) → GoesOn h kept kept failure [] n n
-stays h kept failure n = quiet h kept kept failure [] n n refl refl refl (λ more said later. refl)
+stays h kept failure n = quiet h kept kept failure [] n n refl refl refl refl refl (λ more said later. refl)
 
 both_courses : (failure : Type 0) (a b c : NodeState) → Course failure a b → Course failure b c → Course failure a c
 both_courses failure a b c first second = record {
@@ -74,6 +77,7 @@ joined h kept later_kept last_kept failure bytes others a b c first second = rec
       ∙ first.goes_on (others ++ more) said (second.course.failures ++ later)
       ∙ behind more (said ++ first.course.emitted) later
       ∙ ap (λ (s : List Emitted). takes_piece t more (hearer_of h last_kept s later c)) (append_assoc said first.course.emitted second.course.emitted);
+  requests = then_keeps (struck_jobs a) (struck_jobs b) (struck_jobs c) kept later_kept last_kept first.requests second.requests;
 } where
   t : Taker NodeEnd
   t = node_taker h a.engine.identity
@@ -100,7 +104,7 @@ weaker_course some more a b weaker c = record {
 pub counted_so : (h : Holdings) (kept kept_after : List Kept) (some more : Type 0) (bytes : List ℕ) (a b : NodeState) → (some → more)
     → GoesOn h kept kept_after some bytes a b → GoesOn h kept kept_after more bytes a b
 unfolding weaker_course
-counted_so h kept kept_after some more bytes a b weaker g = record { course = weaker_course some more a b weaker g.course; goes_on = g.goes_on }
+counted_so h kept kept_after some more bytes a b weaker g = record { course = weaker_course some more a b weaker g.course; goes_on = g.goes_on; requests = g.requests }
 
 -- ---- that the device failed stands in its count of faults
 

@@ -18,7 +18,7 @@ use Rattle.uug_session.specs.Choice.{choice, fetched_by}
 use Rattle.uug_session.specs.EarlierJobs.{behind, state_behind, reply_behind}
 use Rattle.uug_session.specs.Holdings.{File, Kept, Holdings, to_give}
 use Rattle.uug_session.specs.Jobs.{Lists, at_start, Move, pass, strike, fail, move_first, moved, moved_once}
-use Rattle.uug_session.specs.Machine.{State, commands, order_or_hang_up, goes_on, on_send, on_request, on_hang_up, on_order, on_given_file_done, on_last_hang_up, sends_file, on_send_yes, on_send_answer, on_sent_file_done, on_request_answer, on_hang_up_answer, on_nothing_more, on_text, keeps, on_sent_file, on_asked_file, on_file_of, on_file, on_whole, on_gathered, on_part, gathered_with, step, opening}
+use Rattle.uug_session.specs.Machine.{State, commands, order_or_hang_up, goes_on, on_send, on_request, on_hang_up, on_order, on_given_file_done, on_last_hang_up, sends_file, on_send_yes, on_send_answer, on_sent_file_done, on_sent_job_done, on_request_answer, on_hang_up_answer, on_nothing_more, on_text, keeps, on_sent_file, on_asked_file, on_file_of, on_file, on_whole, on_gathered, on_part, gathered_with, step, opening}
 use Rattle.uug_session.specs.Turns.{Side, caller, called, Said, the_answer}
 
 pub start_behind : (jobs x y : List Job) → behind x y (at_start jobs [] []) ≡ at_start jobs x y
@@ -125,6 +125,11 @@ sent_file_done_behind x y h (Ok answer.DoneNever) l = goes_on_after x y h fail l
 sent_file_done_behind x y h (Ok answer.DoneLater) l = goes_on_after x y h pass l []
 sent_file_done_behind x y h _ l = refl
 
+sent_job_done_behind : (x y : List Job) (h : Holdings) (jobs : List Job) (read : Result Answer BadText) (l : Lists) →
+    on_sent_job_done h jobs read (behind x y l) ≡ reply_behind x y (on_sent_job_done h jobs read l)
+sent_job_done_behind x y h (job.Send source target user temp ∷ jobs) read l = sent_file_done_behind x y h read l
+sent_job_done_behind x y h _ read l = refl
+
 request_answer_behind : (x y : List Job) (h : Holdings) (read : Result Answer BadText) (l : Lists) →
     on_request_answer h read (behind x y l) ≡ reply_behind x y (on_request_answer h read l)
 request_answer_behind x y h (Ok (answer.GiveYes mode)) l = refl
@@ -151,7 +156,7 @@ text_behind x y h awaits.Order text l = order_behind x y h (order_of text) l
 text_behind x y h awaits.GivenFileDone text l = given_file_behind x y (answer_of text) l
 text_behind x y h awaits.LastHangUp text l = last_hang_up_behind x y (answer_of text) l
 text_behind x y h awaits.SendAnswer text l = send_answer_behind x y h (answer_of text) l
-text_behind x y h awaits.SentFileDone text l = sent_file_done_behind x y h (answer_of text) l
+text_behind x y h awaits.SentFileDone text l = sent_job_done_behind x y h l.ahead (answer_of text) l
 text_behind x y h awaits.RequestAnswer text l = request_answer_behind x y h (answer_of text) l
 text_behind x y h awaits.HangUpAnswer text l = hang_up_answer_behind x y (answer_of text) l
 text_behind x y h awaits.NothingMore text l = nothing_more_behind x y (answer_of text) l

@@ -9,7 +9,7 @@ use Rattle.uug_link.specs.declared.outcome.Outcome.TheVariants.{Nothing, Up, Tak
 use Rattle.uug_link.specs.Follows.{answered, written}
 use Rattle.uug_link.specs.Outcomes.{MovesPhase}
 use Rattle.uug_link.specs.State.{State}
-use Rattle.uug_link.specs.Step.{Effect, Emission, OutcomeValue, up, taken, step, to_begin, to_close}
+use Rattle.uug_link.specs.Step.{Effect, Emission, OutcomeValue, taken, step, to_begin, to_close}
 use Rattle.uug_packet.specs.Packet.{PacketValue}
 use Rattle.uug_session.specs.declared.end.End.{End}
 use Rattle.uug_session.specs.declared.end.End.TheVariants as ends
@@ -33,9 +33,6 @@ packets_written (e ∷ es) = ap (λ (rest : List EntryValue). written e ∷ rest
 pub taken_is_up : (o : OutcomeValue) (before after : Phase) → o ≡ taken → MovesPhase o before after
     → (before ≡ phases.Up) × (after ≡ phases.Up)
 taken_is_up o before after e moves = subst (λ (x : OutcomeValue). MovesPhase x before after) e moves
-
-pub come_up : (o : OutcomeValue) (before after : Phase) → o ≡ up → MovesPhase o before after → after ≡ phases.Up
-come_up o before after e moves = (subst (λ (x : OutcomeValue). MovesPhase x before after) e moves).1
 
 -- ---- the session goes on
 
@@ -141,11 +138,11 @@ taken_failed k id e message talk outcome asked =
     ∙ ap (λ (b : Bool). takes_by b k id e message talk) asked
 
 -- an effect that is known
-pub takes_up : (h : Holdings) (kept kept_after : List Kept) (failure : Type 0) (device_failed : Bool) (p : PacketValue) (before after : EngineState)
+pub takes_up : (h : Holdings) (kept kept_after : List Kept) (counts : Bool → Type 0) (device_failed : Bool) (p : PacketValue) (before after : EngineState)
     (e : EndEffect Talk) → packet_effect h kept device_failed p before ≡ e → Does e (end_of h kept_after after) before after
-    → e.took ≡ true → (device_failed ≡ true → failure)
-    → TakesUp h kept kept_after failure p before after true
-takes_up h kept kept_after failure device_failed p before after e is does took device = record {
+    → e.took ≡ true → counts device_failed
+    → TakesUp h kept kept_after counts p before after true
+takes_up h kept kept_after counts device_failed p before after e is does took device = record {
   device_failed = device_failed;
   does = subst (λ (x : EndEffect Talk). Does x (end_of h kept_after after) before after) (sym is) does;
   answer = sym (ap (λ (x : EndEffect Talk). x.took) is ∙ took);
@@ -230,6 +227,3 @@ link_after P Nothing told = told
 link_after P Up told = told
 link_after P Taken told = told
 link_after P Closed told = told
-
-pub not_so : (P : Type 0) → false ≡ true → P
-not_so P e = absurd cc

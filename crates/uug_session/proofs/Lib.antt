@@ -14,6 +14,7 @@ mod FitLemmas
 mod FrontLemmas
 mod GreetingFacts
 mod InRangeLemmas
+mod KeeperLemmas
 mod LimitLemmas
 mod LinkEndLemmas
 mod LongTextLemmas
@@ -23,6 +24,7 @@ mod MachineMoveLemmas
 mod OfferLemmas
 mod OutgoingLemmas
 mod OwnEntryLemmas
+mod OwnRequestLemmas
 mod ReadBackLemmas
 mod SameJobsLemmas
 mod SayableLemmas
@@ -33,6 +35,7 @@ mod TalkLaws
 mod TextCallLemmas
 mod TextSearchFacts
 mod TextSearchLemmas
+mod TimeoutLemmas
 mod ToldFacts
 mod ToldLemmas
 mod TurnLemmas
@@ -54,6 +57,7 @@ pub mod NodeLemmas
 pub mod NodeSearchLemmas
 pub mod PiecesLemmas
 pub mod QueueLemmas
+mod RoomLemmas
 mod SaidByteLemmas
 pub mod SaidTextLemmas
 pub mod SpeakLemmas

@@ -82,10 +82,12 @@ pub record AreSentFileAnswers : Type 0 where
       replies first_failed awaits.SendAnswer (the_order order_of_second ∷ [])
   pub later : on_text has_x awaits.SentFileDone (codes "CN4") two ≡
       replies first_passed awaits.SendAnswer (the_order order_of_second ∷ [])
+  pub no_job : on_text has_x awaits.SentFileDone (codes "CY") (ahead []) ≡ replies (ahead []) awaits.Bad []
+  pub other_job : on_text has_x awaits.SentFileDone (codes "CY") (ahead (request ∷ [])) ≡ replies (ahead (request ∷ [])) awaits.Bad []
   pub out_of_turn : on_text has_x awaits.SentFileDone (codes "SY") two ≡ replies two awaits.Bad []
 
 pub sent_file_answers : AreSentFileAnswers
-sent_file_answers = record { done = refl; done_master = refl; never = refl; later = refl; out_of_turn = refl }
+sent_file_answers = record { done = refl; done_master = refl; never = refl; later = refl; no_job = refl; other_job = refl; out_of_turn = refl }
 
 abbrev pub asking : Lists
 asking = ahead (request ∷ send_nothing ∷ send ∷ [])

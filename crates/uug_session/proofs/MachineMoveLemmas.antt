@@ -16,7 +16,7 @@ use Rattle.uug_session.specs.declared.verdict.Verdict.{Verdict}
 use Rattle.uug_session.specs.Choice.{choice, fetched_by}
 use Rattle.uug_session.specs.Holdings.{File, Kept, Holdings, to_give}
 use Rattle.uug_session.specs.Jobs.{Lists, at_start, pending, Move, pass, strike, fail, moved, moved_once}
-use Rattle.uug_session.specs.Machine.{State, goes_on, on_send, on_request, on_hang_up, on_order, on_given_file_done, on_last_hang_up, sends_file, on_send_yes, on_send_answer, on_sent_file_done, on_request_answer, on_hang_up_answer, on_nothing_more, on_text, on_sent_file, on_asked_file, on_file_of, on_file, on_whole, on_gathered, on_part, gathered_with, opening, step}
+use Rattle.uug_session.specs.Machine.{State, goes_on, on_send, on_request, on_hang_up, on_order, on_given_file_done, on_last_hang_up, sends_file, on_send_yes, on_send_answer, on_sent_file_done, on_sent_job_done, on_request_answer, on_hang_up_answer, on_nothing_more, on_text, on_sent_file, on_asked_file, on_file_of, on_file, on_whole, on_gathered, on_part, gathered_with, opening, step}
 use Rattle.uug_session.specs.Party.{Party}
 use Rattle.uug_session.specs.Runs.{Progress, taking, taking_all, opened, progress_after}
 use Rattle.uug_session.specs.Sharing.{AreShared, OnlyMoves}
@@ -99,6 +99,11 @@ after_sent_file h (Ok answer.HangYes) l = stays l
 after_sent_file h (Ok answer.HangNo) l = stays l
 after_sent_file h (Err fault) l = stays l
 
+after_sent_job : (h : Holdings) (jobs : List Job) (r : Result Answer BadText) (l : Lists) → OnlyMoves l (on_sent_job_done h jobs r l).state.lists
+after_sent_job h [] r l = stays l
+after_sent_job h (job.Send source target user temp ∷ jobs) r l = after_sent_file h r l
+after_sent_job h (job.Request source target user ∷ jobs) r l = stays l
+
 after_request_answer : (h : Holdings) (r : Result Answer BadText) (l : Lists) → OnlyMoves l (on_request_answer h r l).state.lists
 after_request_answer h (Ok answer.SendYes) l = stays l
 after_request_answer h (Ok answer.SendNever) l = stays l
@@ -125,7 +130,7 @@ after_text h awaits.Order text l = after_order h (order_of text) l
 after_text h awaits.GivenFileDone text l = after_given_file (answer_of text) l
 after_text h awaits.LastHangUp text l = after_last_hang_up (answer_of text) l
 after_text h awaits.SendAnswer text l = after_send_answer h (answer_of text) l
-after_text h awaits.SentFileDone text l = after_sent_file h (answer_of text) l
+after_text h awaits.SentFileDone text l = after_sent_job h l.ahead (answer_of text) l
 after_text h awaits.RequestAnswer text l = after_request_answer h (answer_of text) l
 after_text h awaits.HangUpAnswer text l = after_hang_up_answer (answer_of text) l
 after_text h awaits.NothingMore text l = after_nothing_more (answer_of text) l

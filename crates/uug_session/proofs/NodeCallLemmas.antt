@@ -4,7 +4,7 @@ use Rattle.uug_reader.specs.Cut.{Item}
 use Rattle.uug_reader.specs.Reading.{Reading}
 use Rattle.uug_reader.specs.Search.{standing, search_of}
 use Rattle.uug_session.specs.EndStep.{Stage, hailing, linked, ended}
-use Rattle.uug_session.specs.Engine.{EngineState, HasFailed}
+use Rattle.uug_session.specs.Engine.{CountsFaults, EngineState, HasFailed}
 use Rattle.uug_session.specs.Holdings.{Kept, Holdings}
 use Rattle.uug_session.specs.ItemLaws.{ItemLaws}
 use Rattle.uug_session.specs.Node.{NodeState, ItemValue, text_item, packet_item, bad_item, IsLeft, offered_at, texts_searched, searched}
@@ -73,7 +73,8 @@ module _ (laws : ItemLaws) (h : Holdings) where
       (λ failure. searches_to laws h old.kept old.kept failure old.node new.node is refl)
       (subst ShowsWhatIsFound (sym is) (looked_shows old.node.engine.stage old.node.engine old.node.texts old.node.packets shows))
   one_call most (takes took) old new shows (some, counts, shown) = record {
-    goes_on = (takes_shown laws h old.node new.node old.kept new.kept (HasFailed most old.faults new.faults) took (λ is. shows) shown).0;
+    goes_on = (takes_shown laws h old.node new.node old.kept new.kept (CountsFaults most old.faults new.faults) (HasFailed most old.faults new.faults)
+        (λ failed. failed) took (λ is. shows) shown).0;
     counts = counts;
     shows = left_shows shown.0 old.node new.node shown.2.left;
   }

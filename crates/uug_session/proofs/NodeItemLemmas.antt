@@ -18,15 +18,17 @@ use Rattle.uug_session.specs.Finding.{Finding, finds, finds_packet, text_finding
 use Rattle.uug_session.specs.Holdings.{Kept, Holdings}
 use Rattle.uug_session.specs.ItemLaws.{ItemLaws}
 use Rattle.uug_session.specs.Keeper.{Keeper}
-use Rattle.uug_session.specs.Node.{NodeState, ItemValue, text_item, packet_item, bad_item, ShowsItem, TakesItem, TakesShown, IsAsBefore, IsLeft, bytes_at, shown_size_at, held_bytes, item_size, texts_searched, searched, effect_of, event_of}
+use Rattle.uug_session.specs.Node.{NodeState, ItemValue, text_item, packet_item, bad_item, ShowsItem, TakesItem, TakesShown, IsAsBefore, IsLeft, bytes_at, held_bytes, item_size, struck_jobs, texts_searched, searched, effect_of, event_of}
 use Rattle.uug_session.specs.NodeArriving.{NodeEnd, with_effect, node_taker, GoesOn, IsAtRest}
 use Rattle.uug_session.specs.NodeCalls.{ShowsWhatIsFound}
+use Rattle.uug_session.specs.OwnRequests.{KeepsWhatItAskedFor}
 use Rattle.uug_session.specs.Talk.{Talk, end_keeper}
 use Rattle.uug_session.specs.Talking.{talk_of}
 use Rattle.uug_session.specs.TextsHeld.{TextsHeld, TextSearch, text_waits, text_stands, text_too_long, search_text, ShowsText}
 use Rattle.uug_session.proofs.ArrivingLemmas.{held_fewer, held_same, found_event, found_packet}
 use Rattle.uug_session.proofs.PacketSearchLemmas.{Within, search_within, IsFoundAgain, search_again, read_stands}
 use Rattle.uug_session.proofs.CourseLemmas.{at, end_at, hearer_with, quiet, joined}
+use Rattle.uug_session.proofs.OwnRequestLemmas.{event_keeps}
 use Rattle.uug_session.proofs.NodeSearchLemmas.{searched_rests, searches}
 
 -- an answer that has nothing says what is so where there is nothing
@@ -90,16 +92,15 @@ same_bytes (hailing g) n after texts packets = ap (λ (r : TextsHeld). r.bytes) 
 same_bytes linked n after texts packets = ap (λ (r : Reading). r.bytes) packets
 same_bytes (ended how) n after texts packets = refl
 
-same_size : (s : Stage) (n after : NodeState) → after.texts ≡ n.texts → after.packets ≡ n.packets → shown_size_at s after ≡ shown_size_at s n
-same_size (hailing g) n after texts packets = ap (λ (r : TextsHeld). r.shown_size) texts
-same_size linked n after texts packets = ap (λ (r : Reading). r.shown_size) packets
-same_size (ended how) n after texts packets = refl
-
 -- the answers of the device that the item uses up
 abbrev failures_at : ItemValue → Bool → List Bool
 failures_at (text_item text) failed = []
 failures_at (packet_item p) failed = failed ∷ []
 failures_at bad_item failed = []
+
+if_failed : (failed : Bool) (counts : Bool → Type 0) (failure : Type 0) → (counts true → failure) → counts failed → failed ≡ true → failure
+if_failed true counts failure told count is = told count
+if_failed false counts failure told count is = absurd cc
 
 counted_at : (item : ItemValue) (failed : Bool) (failure : Type 0) → (failed ≡ true → failure) → All (λ f. f ≡ true → failure) (failures_at item failed)
 counted_at (text_item text) failed failure h = All-nil (λ f. f ≡ true → failure)
@@ -195,14 +196,14 @@ module _ (laws : ItemLaws) (h : Holdings) where
       (laws.findings.more linked packets.bytes more ∙ ap (found_with linked more) is)
   leads_behind (ended how) e texts packets item kept failed is shows more said later = absurd shows
 
-  takes_at : (s : Stage) (e : EngineState) (texts : TextsHeld) (packets : Reading) (item : ItemValue) (kept kept_after : List Kept) (failure : Type 0) (after : NodeState) (took : Bool)
+  takes_at : (s : Stage) (e : EngineState) (texts : TextsHeld) (packets : Reading) (item : ItemValue) (kept kept_after : List Kept) (counts : Bool → Type 0) (failure : Type 0) (after : NodeState) (took : Bool) → (counts true → failure)
       → finding s (bytes_at s (at s e texts packets)) ≡ shown_finding item texts packets → ShowsItem s texts packets item
-      → TakesItem h kept kept_after failure item (at s e texts packets) after took → GoesOn h kept kept_after failure [] (at s e texts packets) after
-  takes_at s e texts packets item kept kept_after failure after took is shows did = record {
+      → TakesItem h kept kept_after counts item (at s e texts packets) after took → GoesOn h kept kept_after failure [] (at s e texts packets) after
+  takes_at s e texts packets item kept kept_after counts failure after took told is shows did = record {
     course = record {
       emitted = effect.emitted;
       failures = failures_at item did.device_failed;
-      counted = counted_at item did.device_failed failure did.device;
+      counted = counted_at item did.device_failed failure (if_failed did.device_failed counts failure told did.device);
       entries = did.does.emitted;
       identity = did.does.identity;
       own = did.does.own;
@@ -215,6 +216,8 @@ module _ (laws : ItemLaws) (h : Holdings) where
         (leads_behind s e texts packets item kept did.device_failed is shows more said later)
         (ap (λ (x : EndState Talk). record { state = x; emitted = said ++ effect.emitted; failures = later }) did.does.end)
         (left_behind s e texts packets item kept kept_after did.device_failed after shows did.left did.does);
+    requests = subst (λ (x : EndState Talk). KeepsWhatItAskedFor (struck_jobs n) x.keeper.machine.lists.struck kept x.keeper.kept)
+        (sym did.does.end) (event_keeps h kept (event_of did.device_failed item) n.engine);
   } where
     n : NodeState
     n = at s e texts packets
@@ -227,10 +230,10 @@ module _ (laws : ItemLaws) (h : Holdings) where
   behind_fewer (packet_item p) bytes texts packets fewer = fewer.1
   behind_fewer bad_item bytes texts packets fewer = fewer
 
-  fewer_at : (s : Stage) (e : EngineState) (texts : TextsHeld) (packets : Reading) (item : ItemValue) (kept kept_after : List Kept) (failure : Type 0) (after : NodeState) (took : Bool)
+  fewer_at : (s : Stage) (e : EngineState) (texts : TextsHeld) (packets : Reading) (item : ItemValue) (kept kept_after : List Kept) (counts : Bool → Type 0) (after : NodeState) (took : Bool)
       → finding s (bytes_at s (at s e texts packets)) ≡ shown_finding item texts packets → ShowsItem s texts packets item
-      → TakesItem h kept kept_after failure item (at s e texts packets) after took → length (held_bytes after) < length (bytes_at s (at s e texts packets))
-  fewer_at s e texts packets item kept kept_after failure after took is shows did =
+      → TakesItem h kept kept_after counts item (at s e texts packets) after took → length (held_bytes after) < length (bytes_at s (at s e texts packets))
+  fewer_at s e texts packets item kept kept_after counts after took is shows did =
       let bytes = bytes_at s (at s e texts packets) in
       let behind = behind_item item texts packets in
       let left : held_bytes after ≡ held_in after.engine.stage behind = left_behind s e texts packets item kept kept_after did.device_failed after shows did.left did.does in
@@ -240,12 +243,12 @@ module _ (laws : ItemLaws) (h : Holdings) where
       omega arith
 
   -- the item that is shown is taken up
-  pub takes_shown : (n after : NodeState) (kept kept_after : List Kept) (failure : Type 0) (took : Bool) → (n.engine.stage ≡ linked → ShowsWhatIsFound n)
-      → TakesShown h kept kept_after failure n after took → GoesOn h kept kept_after failure [] n after × (length (held_bytes after) < length (held_bytes n))
-  takes_shown n after kept kept_after failure took sound shown =
+  pub takes_shown : (n after : NodeState) (kept kept_after : List Kept) (counts : Bool → Type 0) (failure : Type 0) → (counts true → failure) → (took : Bool) → (n.engine.stage ≡ linked → ShowsWhatIsFound n)
+      → TakesShown h kept kept_after counts n after took → GoesOn h kept kept_after failure [] n after × (length (held_bytes after) < length (held_bytes n))
+  takes_shown n after kept kept_after counts failure told took sound shown =
       let is = shown_is_found n.engine.stage n.engine n.texts n.packets shown.0 sound shown.1 in (
-        takes_at n.engine.stage n.engine n.texts n.packets shown.0 kept kept_after failure after took is shown.1 shown.2,
-        fewer_at n.engine.stage n.engine n.texts n.packets shown.0 kept kept_after failure after took is shown.1 shown.2,
+        takes_at n.engine.stage n.engine n.texts n.packets shown.0 kept kept_after counts failure after took told is shown.1 shown.2,
+        fewer_at n.engine.stage n.engine n.texts n.packets shown.0 kept kept_after counts after took is shown.1 shown.2,
       )
 
   -- ---- memory is refused
@@ -253,6 +256,7 @@ module _ (laws : ItemLaws) (h : Holdings) where
   pub refused : (n after : NodeState) (kept kept_after : List Kept) (failure : Type 0) → IsAsBefore h kept kept_after n after → GoesOn h kept kept_after failure [] n after
   refused n after kept kept_after failure same =
       quiet h kept kept_after failure [] n after (same.does.emitted ∙ append-nil n.engine.outbox.entries) same.does.identity same.does.own
+      (ap (λ (x : EndState Talk). x.keeper.machine.lists.struck) same.does.end) (ap (λ (x : EndState Talk). x.keeper.kept) same.does.end)
       (λ more said later.
       ap (λ (bs : List ℕ). takes_piece (node_taker h n.engine.identity) more (hearer_with bs (end_at h kept said later n.engine))) (sym held)
       ∙ ap (λ (x : EndState Talk). takes_piece (node_taker h n.engine.identity) more (hearer_with (held_bytes after) (record { state = x; emitted = said; failures = later }))) (sym same.does.end)) where
@@ -261,10 +265,6 @@ module _ (laws : ItemLaws) (h : Holdings) where
 
         held : held_bytes after ≡ held_bytes n
         held = ap (λ (s : Stage). bytes_at s after) stage ∙ same_bytes n.engine.stage n after same.texts same.packets
-
-  pub refused_shows : (n after : NodeState) (kept kept_after : List Kept) → IsAsBefore h kept kept_after n after → item_size after ≡ item_size n
-  refused_shows n after kept kept_after same =
-      ap (λ (s : Stage). shown_size_at s after) (ap (λ (x : EndState Talk). x.stage) same.does.end) ∙ same_size n.engine.stage n after same.texts same.packets
 
   -- ---- the next item, behind a search
 
@@ -308,11 +308,11 @@ module _ (laws : ItemLaws) (h : Holdings) where
   rests_behind n m is none =
       subst IsAtRest (sym is) (searched_rests laws h n (subst (λ (z : NodeState). item_size z ≡ 0) is none))
 
-  pub takes_next : (kept kept_after : List Kept) (failure : Type 0) (n m after : NodeState) (took : Bool) → m ≡ searched n
-      → TakesShown h kept kept_after failure m after took → GoesOn h kept kept_after failure [] n after × (length (held_bytes after) < length (held_bytes n))
-  takes_next kept kept_after failure n m after took is shown =
-      let both = takes_shown (searched n) after kept kept_after failure took (searched_shows n)
-      (subst (λ (z : NodeState). TakesShown h kept kept_after failure z after took) is shown) in (
+  pub takes_next : (kept kept_after : List Kept) (counts : Bool → Type 0) (failure : Type 0) → (counts true → failure) → (n m after : NodeState) (took : Bool) → m ≡ searched n
+      → TakesShown h kept kept_after counts m after took → GoesOn h kept kept_after failure [] n after × (length (held_bytes after) < length (held_bytes n))
+  takes_next kept kept_after counts failure told n m after took is shown =
+      let both = takes_shown (searched n) after kept kept_after counts failure told took (searched_shows n)
+      (subst (λ (z : NodeState). TakesShown h kept kept_after counts z after took) is shown) in (
         joined h kept kept kept_after failure [] [] n (searched n) after (searches laws h kept failure n) both.0,
         let fewer = searched_fewer n in omega (arith, both.1),
       )

@@ -1,9 +1,7 @@
 -- What a node shows and takes up.
 use Rattle.std.proofs.Common.{◌≡◌, ℕ, Bool, false, List, [], ◌++◌, ◌-◌, ◌≤◌, min, take, length, sym, subst, ap, ◌∙◌, refl, arith}
 use Rattle.std.proofs.lemmas.List.{take_all}
-use Rattle.uug_link.specs.Outcomes.{MayAnswer}
 use Rattle.uug_link.specs.State.{State}
-use Rattle.uug_link.specs.Step.{Effect, OutcomeValue, nothing, up, taken, closed, gave_up, halted, bad_found}
 use Rattle.uug_packet.specs.declared.packet.Packet.{Packet}
 use Rattle.uug_packet.specs.Packet.{PacketValue, shown}
 use Rattle.uug_reader.specs.declared.reader.TheConstants.{READER_SIZE}
@@ -14,11 +12,10 @@ use Rattle.uug_reader.specs.Shown.{item_of}
 use Rattle.uug_session.specs.declared.greeting.Greeted.{Greeted}
 use Rattle.uug_session.specs.declared.greeting.Greeted.TheVariants.{GoesOn, LinkBegins, Ended}
 use Rattle.uug_session.specs.declared.greeting.Greeting.{Greeting}
-use Rattle.uug_session.specs.EndStep.{Stage, hailing, linked, EndEffect, EndState, Emitted, EndEvent, Identity, bad_came, begins_link, behind_greeting, behind_link, broken_found, greeted_so, packet_found_whole, stage_step, text_found}
+use Rattle.uug_session.specs.EndStep.{Stage, hailing, linked, EndEffect, EndState, Emitted, EndEvent, Identity, begins_link, behind_greeting, greeted_so, packet_found_whole, stage_step, text_found}
 use Rattle.uug_session.specs.Engine.{Does, EngineState, TakesUp, bare, end_of}
 use Rattle.uug_session.specs.Greeting.{text_came}
 use Rattle.uug_session.specs.Holdings.{Kept, Holdings}
-use Rattle.uug_session.specs.Keeper.{Keeper}
 use Rattle.uug_session.specs.Node.{NodeState, ShowsItem, TakesItem, IsLeft, text_item, packet_item, bad_item, effect_of}
 use Rattle.uug_session.specs.Talk.{Talk, end_keeper}
 use Rattle.uug_session.specs.Talking.{Talking, talk_of}
@@ -29,21 +26,6 @@ pub shows_bad : (stage : Stage) (texts : TextsHeld) (packets : Reading) (f : Fou
     → Shows (item_of f) packets → ShowsItem stage texts packets bad_item
 shows_bad stage texts packets f at is shows =
     subst (λ (x : Stage). ShowsItem x texts packets bad_item) at (subst (λ (x : Found). Shows (item_of x) packets) is shows)
-
--- ---- a broken packet brings no message
-
-nothing_taken_by : (k : Keeper Talk) (id : Identity) (o : OutcomeValue) (e : Effect) (talk : Talk) → MayAnswer o bad_found
-    → (behind_link k id false o e [] talk).took ≡ false
-nothing_taken_by k id nothing e talk may = refl
-nothing_taken_by k id up e talk may = refl
-nothing_taken_by k id taken e talk may = absurd may
-nothing_taken_by k id closed e talk may = refl
-nothing_taken_by k id gave_up e talk may = refl
-nothing_taken_by k id halted e talk may = refl
-
-pub nothing_taken : (k : Keeper Talk) (id : Identity) (e : Effect) (talk : Talk) → MayAnswer e.outcome bad_found
-    → (behind_link k id false e.outcome e [] talk).took ≡ false
-nothing_taken k id e talk may = nothing_taken_by k id e.outcome e talk may
 
 -- ---- steps beside a spool
 
@@ -86,21 +68,20 @@ at_stage : (h : Holdings) (kept : List Kept) (event : EndEvent) (e : EngineState
 at_stage h kept event e stage at = ap (λ (x : Stage). stage_step (end_keeper e.identity.side h) e.identity x event (end_of h kept e)) at
 
 -- an effect that is known, of an item at which no device was asked
-takes_quietly : (h : Holdings) (kept kept_after : List Kept) (failure : Type 0) (before after : NodeState) (took : Bool)
-    (device_failed : Bool) (e : EndEffect Talk) (event : EndEvent) → effect_of h kept event before.engine ≡ e
+takes_quietly : (h : Holdings) (kept kept_after : List Kept) (before after : NodeState) (e : EndEffect Talk) (event : EndEvent) → effect_of h kept event before.engine ≡ e
     → Does e (end_of h kept_after after.engine) before.engine after.engine
     → Does (effect_of h kept event before.engine) (end_of h kept_after after.engine) before.engine after.engine
-takes_quietly h kept kept_after failure before after took device_failed e event is does =
+takes_quietly h kept kept_after before after e event is does =
     subst (λ (x : EndEffect Talk). Does x (end_of h kept_after after.engine) before.engine after.engine) (sym is) does
 
-pub takes_text : (h : Holdings) (kept : List Kept) (failure : Type 0) (greeting : Greeting) (text : List ℕ) (before after : NodeState)
+pub takes_text : (h : Holdings) (kept : List Kept) (counts : Bool → Type 0) (greeting : Greeting) (text : List ℕ) (before after : NodeState)
     → before.engine.stage ≡ hailing greeting → ShowsText text before.texts
     → Does (behind_greeting before.engine.identity (text_came before.engine.identity.me before.engine.identity.peer greeting text) before.engine.link before.engine.talking)
     (bare after.engine) before.engine after.engine
-    → IsLeft (text_item text) before after
+    → IsLeft (text_item text) before after → counts false
     → ShowsItem before.engine.stage before.texts before.packets (text_item text)
-    × TakesItem h kept kept failure (text_item text) before after false
-takes_text h kept failure greeting text before after at shows does left =
+    × TakesItem h kept kept counts (text_item text) before after false
+takes_text h kept counts greeting text before after at shows does left stands =
     let id = before.engine.identity in
     let step = text_came id.me id.peer greeting text in
     let is = at_stage h kept (text_found text) before.engine (hailing greeting) at in
@@ -108,48 +89,28 @@ takes_text h kept failure greeting text before after at shows does left =
       subst (λ (x : Stage). ShowsItem x before.texts before.packets (text_item text)) (sym at) shows,
       record {
         device_failed = false;
-        does = takes_quietly h kept kept failure before after false false _ (text_found text) is
+        does = takes_quietly h kept kept before after _ (text_found text) is
             (greeted_beside h kept id step.greeted _ before.engine.link before.engine after.engine does);
         answer = greeted_takes_nothing id step.greeted _ before.engine.link talk ∙ sym (ap (λ (x : EndEffect Talk). x.took) is);
-        device = λ never. absurd cc;
+        device = stands;
         left = left;
       },
     )
 
-pub takes_packet : (h : Holdings) (kept kept_after : List Kept) (failure : Type 0) (p : PacketValue) (before after : NodeState) (took : Bool)
+pub takes_packet : (h : Holdings) (kept kept_after : List Kept) (counts : Bool → Type 0) (p : PacketValue) (before after : NodeState) (took : Bool)
     → before.engine.stage ≡ linked → ShowsItem linked before.texts before.packets (packet_item p)
-    → TakesUp h kept kept_after failure p before.engine after.engine took
+    → TakesUp h kept kept_after counts p before.engine after.engine took
     → IsLeft (packet_item p) before after
     → ShowsItem before.engine.stage before.texts before.packets (packet_item p)
-    × TakesItem h kept kept_after failure (packet_item p) before after took
-takes_packet h kept kept_after failure p before after took at shows taken_up left =
+    × TakesItem h kept kept_after counts (packet_item p) before after took
+takes_packet h kept kept_after counts p before after took at shows taken_up left =
     let is = at_stage h kept (packet_found_whole taken_up.device_failed p) before.engine linked at in (
       subst (λ (x : Stage). ShowsItem x before.texts before.packets (packet_item p)) (sym at) shows,
       record {
         device_failed = taken_up.device_failed;
-        does = takes_quietly h kept kept_after failure before after took taken_up.device_failed _ (packet_found_whole taken_up.device_failed p) is taken_up.does;
+        does = takes_quietly h kept kept_after before after _ (packet_found_whole taken_up.device_failed p) is taken_up.does;
         answer = taken_up.answer ∙ sym (ap (λ (x : EndEffect Talk). x.took) is);
         device = taken_up.device;
-        left = left;
-      },
-    )
-
-pub takes_bad : (h : Holdings) (kept : List Kept) (failure : Type 0) (before after : NodeState)
-    → before.engine.stage ≡ linked → ShowsItem linked before.texts before.packets bad_item
-    → Does (bad_came (end_keeper before.engine.identity.side h) before.engine.identity before.engine.link (talk_of h kept before.engine.talking))
-    (end_of h kept after.engine) before.engine after.engine
-    → (bad_came (end_keeper before.engine.identity.side h) before.engine.identity before.engine.link (talk_of h kept before.engine.talking)).took ≡ false
-    → IsLeft bad_item before after
-    → ShowsItem before.engine.stage before.texts before.packets bad_item
-    × TakesItem h kept kept failure bad_item before after false
-takes_bad h kept failure before after at shows does none left =
-    let is = at_stage h kept broken_found before.engine linked at in (
-      subst (λ (x : Stage). ShowsItem x before.texts before.packets bad_item) (sym at) shows,
-      record {
-        device_failed = false;
-        does = takes_quietly h kept kept failure before after false false _ broken_found is does;
-        answer = sym none ∙ sym (ap (λ (x : EndEffect Talk). x.took) is);
-        device = λ never. absurd cc;
         left = left;
       },
     )

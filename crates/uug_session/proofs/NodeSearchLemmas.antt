@@ -13,12 +13,13 @@ use Rattle.uug_session.specs.Engine.{EngineState, with_stage}
 use Rattle.uug_session.specs.Finding.{finds_nothing, finds, text_finding, item_finding, finding, found_with, behind_long_text}
 use Rattle.uug_session.specs.Holdings.{Kept, Holdings}
 use Rattle.uug_session.specs.ItemLaws.{ItemLaws}
-use Rattle.uug_session.specs.Node.{NodeState, accepted, accepted_at, bytes_at, held_bytes, item_size, offered_at, offered, texts_searched, searched_at, searched}
+use Rattle.uug_session.specs.Node.{NodeState, accepted, accepted_at, bytes_at, held_bytes, item_size, offered_at, offered, struck_jobs, texts_searched, searched_at, searched}
 use Rattle.uug_session.specs.NodeArriving.{NodeEnd, node_taker, hearer_of, GoesOn, TakesAll, IsAtRest}
 use Rattle.uug_session.specs.TextsHeld.{TextsHeld, TextSearch, text_waits, text_stands, text_too_long, size_of_text, search_text}
 use Rattle.uug_session.proofs.ArrivingLemmas.{held_same, same_with, same_found, nothing_again, found_nothing, found_event, in_pieces}
 use Rattle.uug_session.proofs.PacketSearchLemmas.{Within, search_within, some_size, IsFoundAgain, search_again}
 use Rattle.uug_session.proofs.CourseLemmas.{at, end_at, hearer_with, quiet, joined}
+use Rattle.uug_session.proofs.OwnRequestLemmas.{takes_all_keeps}
 
 -- no more is taken of a piece than it has
 accepted_most_at : (s : Stage) (n : NodeState) (piece : List ℕ) → accepted_at s n piece ≤ length piece
@@ -49,7 +50,7 @@ held_stays (ended how) n = refl
 module _ (laws : ItemLaws) (h : Holdings) where
   pub offers : (kept : List Kept) (failure : Type 0) (bytes : List ℕ) (n : NodeState) → GoesOn h kept kept failure bytes n (offered bytes n)
   offers kept failure bytes n =
-      quiet h kept kept failure bytes n (offered bytes n) (ap (λ (e : EngineState). e.outbox.entries) engine) (ap (λ (e : EngineState). e.identity) engine) (ap (λ (e : EngineState). e.own) engine) same where
+      quiet h kept kept failure bytes n (offered bytes n) (ap (λ (e : EngineState). e.outbox.entries) engine) (ap (λ (e : EngineState). e.identity) engine) (ap (λ (e : EngineState). e.own) engine) (ap (λ (e : EngineState). e.talking.machine.lists.struck) engine) refl same where
         s : Stage
         s = n.engine.stage
 
@@ -154,19 +155,21 @@ module _ (laws : ItemLaws) (h : Holdings) where
 
   search_stays : (s : Stage) (n : NodeState) → ((searched_at s n).engine.outbox.entries ≡ n.engine.outbox.entries)
       × ((searched_at s n).engine.identity ≡ n.engine.identity) × ((searched_at s n).engine.own ≡ n.engine.own)
+      × (struck_jobs (searched_at s n) ≡ struck_jobs n)
   search_stays (hailing g) n = by_search (search_text n.texts.bytes) where
     by_search : (r : TextSearch) → ((texts_searched r n).engine.outbox.entries ≡ n.engine.outbox.entries)
         × ((texts_searched r n).engine.identity ≡ n.engine.identity) × ((texts_searched r n).engine.own ≡ n.engine.own)
-    by_search (text_waits rest) = (refl, refl, refl)
-    by_search (text_stands text others) = (refl, refl, refl)
-    by_search text_too_long = (refl, refl, refl)
-  search_stays linked n = (refl, refl, refl)
-  search_stays (ended how) n = (refl, refl, refl)
+        × (struck_jobs (texts_searched r n) ≡ struck_jobs n)
+    by_search (text_waits rest) = (refl, refl, refl, refl)
+    by_search (text_stands text others) = (refl, refl, refl, refl)
+    by_search text_too_long = (refl, refl, refl, refl)
+  search_stays linked n = (refl, refl, refl, refl)
+  search_stays (ended how) n = (refl, refl, refl, refl)
 
   pub searches : (kept : List Kept) (failure : Type 0) (n : NodeState) → GoesOn h kept kept failure [] n (searched n)
   searches kept failure n =
       let stay = search_stays n.engine.stage n in
-      quiet h kept kept failure [] n (searched n) stay.0 stay.1 stay.2
+      quiet h kept kept failure [] n (searched n) stay.0 stay.1 stay.2 stay.3 refl
       (λ more said later. search_leads n.engine.stage n.engine n.texts n.packets kept more said later)
 
   -- where no item is shown behind a search, nothing is found
@@ -222,4 +225,5 @@ module _ (laws : ItemLaws) (h : Holdings) where
         let t = node_taker h before.engine.identity in
         in_pieces laws.findings NodeEnd t bytes more (hearer_of h kept said (all.course.failures ++ later) before)
         ∙ ap (then_takes t more) (all.taken said later);
+    requests = takes_all_keeps h kept kept_after failure bytes before after all;
   }

@@ -22,7 +22,7 @@ use Rattle.uug_session.specs.declared.verdict.Verdict.TheVariants.{Yes, Never, L
 use Rattle.uug_session.specs.Choice.{Choice, choice, fetched_by, send_choice}
 use Rattle.uug_session.specs.Holdings.{File, Kept, Holdings, AreModes, to_give}
 use Rattle.uug_session.specs.Jobs.{Lists, pass, strike, fail, moved, moved_once}
-use Rattle.uug_session.specs.Machine.{Reply, goes_on, order_or_hang_up, on_send, on_request, on_hang_up, on_order, on_given_file_done, on_last_hang_up, sends_file, on_send_yes, on_send_answer, on_sent_file_done, on_request_answer, on_hang_up_answer, on_nothing_more, on_text, on_sent_file, on_asked_file, on_file_of, on_file}
+use Rattle.uug_session.specs.Machine.{Reply, goes_on, order_or_hang_up, on_send, on_request, on_hang_up, on_order, on_given_file_done, on_last_hang_up, sends_file, on_send_yes, on_send_answer, on_sent_file_done, on_sent_job_done, on_request_answer, on_hang_up_answer, on_nothing_more, on_text, on_sent_file, on_asked_file, on_file_of, on_file}
 use Rattle.uug_session.specs.Outgoing.{IsSayable, sayings_of}
 use Rattle.uug_session.specs.Reactions.{all_said, reply_of, said_before, said_by}
 use Rattle.uug_session.specs.Turns.{Said, the_order, the_answer, the_file}
@@ -120,6 +120,10 @@ module _ (h : Holdings) (modes : AreModes h) where
   sent_file_done (Ok answer.DoneLater) l = going_on (moved_once pass l) [] tt
   sent_file_done _ l = tt
 
+  sent_job_done : (jobs : List Job) (read : Result Answer BadText) (l : Lists) → CanAllBeSaid (on_sent_job_done h jobs read l).says
+  sent_job_done (job.Send source target user temp ∷ jobs) read l = sent_file_done read l
+  sent_job_done _ read l = tt
+
   request_answer : (read : Result Answer BadText) (l : Lists) → CanAllBeSaid (on_request_answer h read l).says
   request_answer (Ok (answer.GiveYes mode)) l = tt
   request_answer (Ok answer.GiveNever) l = going_on (moved_once fail l) [] tt
@@ -140,7 +144,7 @@ module _ (h : Holdings) (modes : AreModes h) where
   taking_text awaits.GivenFileDone text l = given_file_done (answer_of text) l
   taking_text awaits.LastHangUp text l = last_hang_up (answer_of text) l
   taking_text awaits.SendAnswer text l = send_answer (answer_of text) l
-  taking_text awaits.SentFileDone text l = sent_file_done (answer_of text) l
+  taking_text awaits.SentFileDone text l = sent_job_done l.ahead (answer_of text) l
   taking_text awaits.RequestAnswer text l = request_answer (answer_of text) l
   taking_text awaits.HangUpAnswer text l = hang_up_answer (answer_of text) l
   taking_text awaits.NothingMore text l = nothing_more (answer_of text) l

@@ -1,15 +1,13 @@
 -- An end sends what it has to say while there is room, and closes its link where all is over.
-use Rattle.std.proofs.Common.{◌≡◌, ◌<◌, ◌&&◌, ℕ, zero, suc, Bool, true, false, nat_lt, if◌then◌else◌, List, [], ◌∷◌, ◌++◌, length, map, Option, Some, None, ap, sym, ◌∙◌, IsTrue, ◌↔◌, refl, arith}
+use Rattle.std.proofs.Common.{◌≡◌, ◌<◌, ◌&&◌, ℕ, zero, suc, Bool, true, false, nat_lt, if◌then◌else◌, List, [], ◌∷◌, length, Option, None, ap, sym, ◌∙◌, IsTrue, ◌↔◌, refl, arith}
 use Rattle.std.proofs.lemmas.Bool.Decides.{nat_tests}
-use Rattle.std.proofs.lemmas.List.{append-nil, append_assoc, map-append}
+use Rattle.std.proofs.lemmas.List.{append-nil}
 use Rattle.uug_link.specs.declared.limits.TheConstants.{WINDOW_MAX}
 use Rattle.uug_link.specs.declared.phase.Phase.{Phase}
 use Rattle.uug_link.specs.declared.phase.Phase.TheVariants as phases
 use Rattle.uug_link.specs.Entries.{EntryValue}
-use Rattle.uug_link.specs.Follows.{written}
-use Rattle.uug_link.specs.State.{State, HasRoom, IsUp, is_halted}
-use Rattle.uug_link.specs.Step.{Emission, answers_halted, on_event, step, to_close, to_send}
-use Rattle.uug_session.specs.EndStep.{Sending, closes_by, has_room, in_front, is_up, sending_nothing, sends_by, sends_next, sends_up_to, speaks_by}
+use Rattle.uug_link.specs.State.{State, HasRoom, IsUp}
+use Rattle.uug_session.specs.EndStep.{Sending, closes_by, has_room, is_up, sending_nothing, sends_by, sends_next, sends_up_to, speaks_by}
 use Rattle.uug_session.specs.Engine.{EngineState, Spoken, after_sends, after_speaking, spoken_of, spoken_with}
 use Rattle.uug_session.specs.Holdings.{Kept, Holdings}
 use Rattle.uug_session.specs.Keeper.{Keeper}
@@ -80,46 +78,6 @@ says_nothing_more n h kept e after none sent =
     stays_so e.outbox.entries _ e.link talk (nothing_next (end_keeper e.identity.side h) n e.link talk none)
     ∙ ap so (sym (sent ∙ unsent talk none))
 
--- ---- one message goes out
-
-spoken_in_front : (entries : List EntryValue) (es : List Emission) (x : Sending Talk)
-    → spoken_with entries (in_front es x) ≡ spoken_with (entries ++ map written es) x
-spoken_in_front entries es x =
-    let so : List EntryValue → Spoken = λ all. record { link = x.link; talk = x.keeper; entries = all } in
-    ap so (ap (λ (more : List EntryValue). entries ++ more) (map-append written es x.emissions)
-    ∙ sym (append_assoc entries (map written es) (map written x.emissions)))
-
-sends_first : {C : Type 0} (k : Keeper C) (n : ℕ) (s : State) (c : C) (message : List ℕ)
-    → has_room s ≡ true → k.next c ≡ Some message
-    → sends_up_to (suc n) k s c ≡ in_front (step s (to_send message)).emitted (sends_up_to n k (step s (to_send message)).state (k.sent c))
-sends_first k n s c message room next =
-    ap (λ (b : Bool). sends_by b (sends_up_to n k) k s c) room
-    ∙ ap (λ (o : Option (List ℕ)). sends_next (sends_up_to n k) k o s c) next
-
-pub one_goes_out : (n : ℕ) (h : Holdings) (kept : List Kept) (e : EngineState) (link : State) (after : Talking) (entries : List EntryValue) (message : List ℕ)
-    → has_room e.link ≡ true → first_of (talk_of h kept e.talking).waiting ≡ Some message
-    → talk_of h kept after ≡ with_first_sent (talk_of h kept e.talking)
-    → link ≡ (step e.link (to_send message)).state
-    → entries ≡ e.outbox.entries ++ map written (step e.link (to_send message)).emitted
-    → after_sends (suc n) h kept e
-    ≡ spoken_with entries (sends_up_to n (end_keeper e.identity.side h) link (talk_of h kept after))
-one_goes_out n h kept e link after entries message room next sent moved emitted =
-    let k = end_keeper e.identity.side h in
-    let talk = talk_of h kept e.talking in
-    ap (spoken_with e.outbox.entries) (sends_first k n e.link talk message room next)
-    ∙ spoken_in_front e.outbox.entries _ _
-    ∙ ap (λ (all : List EntryValue). spoken_with all (sends_up_to n k (step e.link (to_send message)).state (with_first_sent talk))) (sym emitted)
-    ∙ ap (λ (s : State). spoken_with entries (sends_up_to n k s (with_first_sent talk))) (sym moved)
-    ∙ ap (λ (t : Talk). spoken_with entries (sends_up_to n k link t)) (sym sent)
-
--- the link emits one packet for it, and stays up
-sends_one_from : (phase : Phase) (s : State) (message : List ℕ) → s.phase ≡ phase → phase ≡ phases.Up
-    → length (step s (to_send message)).emitted ≡ 1
-sends_one_from phase s message e up = ap (λ (b : Bool). length (if b then answers_halted s else on_event (to_send message) s).emitted) (ap is_halted (e ∙ up))
-
-pub sends_one : (s : State) (message : List ℕ) → IsUp s → length (step s (to_send message)).emitted ≡ 1
-sends_one s message up = sends_one_from s.phase s message refl up
-
 -- ---- what the code asks of its conversation is what the definitions ask
 
 pub is_through_told : (h : Holdings) (kept : List Kept) (t : Talking) → talking_is_through t ≡ is_through (talk_of h kept t)
@@ -152,26 +110,6 @@ pub goes_on_open : (h : Holdings) (kept : List Kept) (e sent : EngineState) → 
 goes_on_open h kept e sent up is open_still =
     is ∙ sym (speaks_up h kept e up
     ∙ ap (λ (b : Bool). spoken_with e.outbox.entries (closes_by b (all_sent h kept e))) (through_then h kept e sent is ∙ open_still))
-
-pub closes_behind : (h : Holdings) (kept : List Kept) (e sent closed : EngineState) → IsUp e.link
-    → spoken_of h kept sent ≡ after_sends WINDOW_MAX h kept e → talking_is_through sent.talking ≡ true
-    → closed.link ≡ (step sent.link to_close).state
-    → closed.outbox.entries ≡ sent.outbox.entries ++ map written (step sent.link to_close).emitted
-    → closed.talking ≡ sent.talking
-    → spoken_of h kept closed ≡ after_speaking h kept e
-closes_behind h kept e sent closed up is through link emitted talking =
-    let x = all_sent h kept e in
-    let comes_to : State → Talking → List EntryValue → Spoken = λ s t es. record { link = s; talk = talk_of h kept t; entries = es } in
-    let close_of : Spoken → Spoken = λ y. record { link = (step y.link to_close).state; talk = y.talk; entries = y.entries ++ map written (step y.link to_close).emitted } in
-    let so : List EntryValue → Spoken = λ es. record { link = (step x.link to_close).state; talk = x.keeper; entries = es } in
-    ap (λ (s : State). comes_to s closed.talking closed.outbox.entries) link
-    ∙ ap (λ (t : Talking). comes_to (step sent.link to_close).state t closed.outbox.entries) talking
-    ∙ ap (λ (es : List EntryValue). comes_to (step sent.link to_close).state sent.talking es) emitted
-    ∙ ap close_of is
-    ∙ ap so (append_assoc e.outbox.entries (map written x.emissions) (map written (step x.link to_close).emitted)
-    ∙ ap (λ (es : List EntryValue). e.outbox.entries ++ es) (sym (map-append written x.emissions (step x.link to_close).emitted)))
-    ∙ sym (speaks_up h kept e up
-    ∙ ap (λ (b : Bool). spoken_with e.outbox.entries (closes_by b x)) (through_then h kept e sent is ∙ through))
 
 pub says_nothing_down : (h : Holdings) (kept : List Kept) (e : EngineState) → is_up e.link.phase ≡ false
     → spoken_of h kept e ≡ after_speaking h kept e

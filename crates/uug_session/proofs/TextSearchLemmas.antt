@@ -1,6 +1,6 @@
 -- What a search leaves goes on as the stream does, and the texts that are taken are its first.
 use Rattle.std.proofs.Common.{◌≡◌, ◌≢◌, ℕ, ◌-◌, ◌≤◌, false, List, [], ◌∷◌, ◌++◌, length, take, drop, Option, Some, None, refl, sym, ap, subst, ◌∙◌, append_assoc, arith, length-append, length-drop}
-use Rattle.std.proofs.lemmas.List.{append-nil, drop_at, take_all, drop_all, same_from_push}
+use Rattle.std.proofs.lemmas.List.{append-nil, drop_at, take_all, same_from_push}
 use Rattle.std.proofs.lemmas.List.Elements.{All-nil}
 use Rattle.uug_talk.specs.StreamTexts.{StreamTexts, TextsEnd, Rest, TooLong, StandBefore, EndsAs, HasTexts, texts_of, with_text, no_text}
 use Rattle.uug_talk.specs.Texts.{IsUnsettled, IsFirstText, Heard, Passing, Open, Whole, Holds, is_whole, waiting_of, hear}
@@ -153,9 +153,6 @@ module _ (laws : HearingLaws) where
         (reads_itself behind)
 
   -- ---- a search
-
-  no_end : (held : List ℕ) (used : ℕ) → used ≡ length held → drop (used - 0) held ≡ []
-  no_end held used all = drop_all (used - 0) held (omega (arith, all))
 
   leaves_text : (passed held text : List ℕ) (used : ℕ) → Passed passed held → hear Passing held ≡ Some (used, Whole text) → LeavesText passed held text (drop (used - size_of_text text) held)
   leaves_text passed held text used p e = record {

@@ -1,6 +1,5 @@
 -- A whole file, in the order in which the code goes about it.
 use Rattle.std.proofs.Common.{◌≡◌, ℕ, Bool, true, false, List, [], ◌∷◌, ◌++◌, Option, Some, None, refl, sym, ap, subst, ◌∙◌}
-use Rattle.std.proofs.lemmas.List.{append-nil}
 use Rattle.uug_session.specs.declared.awaits.Awaits.{Awaits}
 use Rattle.uug_session.specs.declared.awaits.Awaits.TheVariants as awaits
 use Rattle.uug_session.specs.declared.job.Job.{Job}
@@ -8,7 +7,7 @@ use Rattle.uug_session.specs.declared.job.Job.TheVariants as job
 use Rattle.uug_session.specs.declared.reaction.Reaction.{Reaction}
 use Rattle.uug_session.specs.Holdings.{Kept, Holdings, kept_file}
 use Rattle.uug_session.specs.Jobs.{Lists}
-use Rattle.uug_session.specs.Machine.{Reply, out_of_turn, on_sent_file, on_asked_file, on_file_of, on_file}
+use Rattle.uug_session.specs.Machine.{Reply, on_sent_file, on_asked_file, on_file_of, on_file}
 use Rattle.uug_session.specs.Reactions.{FileAwaited, IsKept, file_of_first, file_awaited, on_kept, kept_unless, reply_of}
 
 -- a reply that keeps these files
@@ -73,34 +72,6 @@ pub when_kept : (h : Holdings) (w : Awaits) (bytes : List ℕ) (old new : Lists)
     on_kept h w immovable old ≡ reply_of h new r [] → Replies h w bytes old new r before after
 when_kept h w bytes old new immovable r before after k o =
     kept_by h w bytes old new (file_awaited w old.ahead) immovable r before after refl k o
-
-not_asked : (h : Holdings) (jobs : List Job) (mode : ℕ) (bytes : List ℕ) (l : Lists) → file_of_first jobs mode ≡ None →
-    on_file_of h jobs mode bytes l ≡ out_of_turn l
-not_asked h [] mode bytes l e = refl
-not_asked h (job.Send source target user temp ∷ jobs) mode bytes l e = refl
-not_asked h (job.Request source target user ∷ jobs) mode bytes l e = absurd cc
-
-pub not_awaited : (h : Holdings) (w : Awaits) (bytes : List ℕ) (l : Lists) → file_awaited w l.ahead ≡ None →
-    on_file h w bytes l ≡ out_of_turn l
-not_awaited h (awaits.SentFile target mode) bytes l e = absurd cc
-not_awaited h (awaits.AskedFile mode) bytes l e = not_asked h l.ahead mode bytes l e
-not_awaited h _ bytes l e = refl
-
-none_by : (h : Holdings) (w : Awaits) (bytes : List ℕ) (l : Lists) (found : Option FileAwaited) (r : Reaction)
-    (before after : List Kept) → file_awaited w l.ahead ≡ found → IsKept h found bytes None before after →
-    out_of_turn l ≡ reply_of h l r [] → Replies h w bytes l l r before after
-none_by h w bytes l (Some file) r before after e k o = absurd k
-none_by h w bytes l None r before after e k o =
-    let is = not_awaited h w bytes l e in
-    record {
-      reply = is ∙ o ∙ ap (λ z. reply_of h l r z) (sym (ap (λ z. z.keeps) is));
-      kept = k ∙ sym (append-nil before) ∙ ap (λ z. before ++ z) (sym (ap (λ z. z.keeps) is));
-    }
-
-pub when_none : (h : Holdings) (w : Awaits) (bytes : List ℕ) (l : Lists) (r : Reaction)
-    (before after : List Kept) → IsKept h (file_awaited w l.ahead) bytes None before after →
-    out_of_turn l ≡ reply_of h l r [] → Replies h w bytes l l r before after
-when_none h w bytes l r before after k o = none_by h w bytes l (file_awaited w l.ahead) r before after refl k o
 
 -- the same, by what was told of the file, and by the holdings that are the same
 pub when_told : (h h_after : Holdings) (w : Awaits) (bytes : List ℕ) (old new : Lists) (told : Option Bool) (immovable : Bool) (r : Reaction)

@@ -139,13 +139,18 @@ packet_effect h kept device_failed p engine =
 abbrev pub HasFailed : (most faults faults_after : ℕ) → Type 0
 HasFailed most faults faults_after = (faults < faults_after) ⊎ (faults ≡ most)
 
+-- How the count of faults went, by whether the device failed: it rises where that did, and only there.
+abbrev pub CountsFaults : (most faults faults_after : ℕ) → (device_failed : Bool) → Type 0
+CountsFaults most faults faults_after true = HasFailed most faults faults_after
+CountsFaults most faults faults_after false = faults_after ≡ faults
+
 -- The packet was taken up as the step says, where the spool's device failed or did not, and the answer says whether its
--- message was taken. That the device failed stands in its count of faults.
-pub record TakesUp (h : Holdings) (kept kept_after : List Kept) (failure : Type 0) (p : PacketValue) (before after : EngineState) (took : Bool) : Type 0 where
+-- message was taken. Whether the device failed stands in its count of faults.
+pub record TakesUp (h : Holdings) (kept kept_after : List Kept) (counts : Bool → Type 0) (p : PacketValue) (before after : EngineState) (took : Bool) : Type 0 where
   pub device_failed : Bool
   pub does : Does (packet_effect h kept device_failed p before) (end_of h kept_after after) before after
   pub answer : took ≡ (packet_effect h kept device_failed p before).took
-  pub device : device_failed ≡ true → failure
+  pub device : counts device_failed
 
 -- ---- the next session
 

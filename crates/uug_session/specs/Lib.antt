@@ -30,6 +30,7 @@ pub mod NodeLoan
 pub mod Offers
 pub mod Outgoing
 pub mod OwnEntries
+pub mod OwnRequests
 pub mod Party
 pub mod Phases
 pub mod Reactions
@@ -37,6 +38,7 @@ pub mod ReadBack
 pub mod Runs
 pub mod Says
 pub mod Sessions
+pub mod Sending
 pub mod Sharing
 pub mod ShownItems
 pub mod Side

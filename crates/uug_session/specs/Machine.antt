@@ -131,6 +131,11 @@ on_sent_file_done h (Ok answer.DoneNever) l = goes_on h (moved_once fail l) []
 on_sent_file_done h (Ok answer.DoneLater) l = goes_on h (moved_once pass l) []
 on_sent_file_done h _ l = out_of_turn l
 
+-- it is that of the job in front
+abbrev pub on_sent_job_done : Holdings → List Job → Result Answer BadText → Lists → Reply
+on_sent_job_done h (job.Send source target user temp ∷ jobs) read l = on_sent_file_done h read l
+on_sent_job_done h _ read l = out_of_turn l
+
 abbrev pub on_request_answer : Holdings → Result Answer BadText → Lists → Reply
 on_request_answer h (Ok (answer.GiveYes mode)) l = replies l (awaits.AskedFile mode) []
 on_request_answer h (Ok answer.GiveNever) l = goes_on h (moved_once fail l) []
@@ -156,7 +161,7 @@ on_text h awaits.Order text l = on_order h (order_of text) l
 on_text h awaits.GivenFileDone text l = on_given_file_done (answer_of text) l
 on_text h awaits.LastHangUp text l = on_last_hang_up (answer_of text) l
 on_text h awaits.SendAnswer text l = on_send_answer h (answer_of text) l
-on_text h awaits.SentFileDone text l = on_sent_file_done h (answer_of text) l
+on_text h awaits.SentFileDone text l = on_sent_job_done h l.ahead (answer_of text) l
 on_text h awaits.RequestAnswer text l = on_request_answer h (answer_of text) l
 on_text h awaits.HangUpAnswer text l = on_hang_up_answer (answer_of text) l
 on_text h awaits.NothingMore text l = on_nothing_more (answer_of text) l

@@ -1,11 +1,12 @@
 -- One whole end, as what its parts are: all but its spool.
-use Rattle.std.specs.Prelude.{◌≡◌, ◌<◌, ℕ, ◌-◌, min, Bool, true, List, [], ◌++◌, length, drop}
+use Rattle.std.specs.Prelude.{◌≡◌, ◌<◌, ℕ, ◌-◌, min, Bool, List, [], ◌++◌, length, drop}
 use Rattle.uug_packet.specs.Packet.{PacketValue, shown}
 use Rattle.uug_reader.specs.Cut.{found, bad}
 use Rattle.uug_reader.specs.Reading.{Reading, Shows}
 use Rattle.uug_reader.specs.Search.{after_search}
 use Rattle.uug_reader.specs.declared.reader.TheConstants.{READER_SIZE}
 use Rattle.uug_session.specs.declared.item.Item.{Item}
+use Rattle.uug_session.specs.declared.job.Job.{Job}
 use Rattle.uug_session.specs.declared.item.Item.TheVariants as items
 use Rattle.uug_session.specs.declared.node.Node.{Node}
 use Rattle.uug_session.specs.declared.end.End.TheVariants as ends
@@ -23,6 +24,10 @@ pub record NodeState : Type 0 where
 
 abbrev pub node_of : {S A : Type 0} → Node S A → NodeState
 node_of n = record { engine = n.engine; texts = n.texts; packets = n.packets }
+
+-- the jobs that are done
+abbrev pub struck_jobs : NodeState → List Job
+struck_jobs n = n.engine.talking.machine.lists.struck
 
 -- ---- items
 
@@ -129,19 +134,19 @@ IsLeft bad_item before after =
     after.packets ≡ record { bytes = drop before.packets.shown_size before.packets.bytes; shown_size = 0 }
 
 -- The item was taken up as the step of its event says, where the spool's device failed or did not, and the answer says
--- whether a message was taken.
-pub record TakesItem (h : Holdings) (kept kept_after : List Kept) (failure : Type 0) (item : ItemValue) (before after : NodeState) (took : Bool) : Type 0 where
+-- whether a message was taken. Whether the device failed stands in its count of faults.
+pub record TakesItem (h : Holdings) (kept kept_after : List Kept) (counts : Bool → Type 0) (item : ItemValue) (before after : NodeState) (took : Bool) : Type 0 where
   pub device_failed : Bool
   pub does : Does (effect_of h kept (event_of device_failed item) before.engine) (end_of h kept_after after.engine) before.engine after.engine
   pub answer : took ≡ (effect_of h kept (event_of device_failed item) before.engine).took
-  pub device : device_failed ≡ true → failure
+  pub device : counts device_failed
   pub left : IsLeft item before after
 
 -- the item that is shown was taken up so
-abbrev pub TakesShown : (h : Holdings) (kept kept_after : List Kept) (failure : Type 0) (before after : NodeState) (took : Bool) → Type 0
-TakesShown h kept kept_after failure before after took = (item : ItemValue)
+abbrev pub TakesShown : (h : Holdings) (kept kept_after : List Kept) (counts : Bool → Type 0) (before after : NodeState) (took : Bool) → Type 0
+TakesShown h kept kept_after counts before after took = (item : ItemValue)
     × ShowsItem before.engine.stage before.texts before.packets item
-    × TakesItem h kept kept_after failure item before after took
+    × TakesItem h kept kept_after counts item before after took
 
 -- for want of memory nothing has changed, and the item is still there
 pub record IsAsBefore (h : Holdings) (kept kept_after : List Kept) (before after : NodeState) : Type 0 where

@@ -5,7 +5,8 @@ use Rattle.uug_session.specs.EndStep.{EndState, Emitted, EndEffect, Identity, pa
 use Rattle.uug_session.specs.Engine.{end_of, entry_of}
 use Rattle.uug_session.specs.Finding.{finds_nothing, finding}
 use Rattle.uug_session.specs.Holdings.{Kept, Holdings}
-use Rattle.uug_session.specs.Node.{NodeState, held_bytes}
+use Rattle.uug_session.specs.Node.{NodeState, held_bytes, struck_jobs}
+use Rattle.uug_session.specs.OwnRequests.{KeepsWhatItAskedFor}
 use Rattle.uug_session.specs.Talk.{Talk, end_keeper}
 
 -- ---- what takes up what is found
@@ -58,12 +59,13 @@ pub record Course (failure : Type 0) (before after : NodeState) : Type 0 where
   pub own : after.engine.own ≡ before.engine.own
 
 -- These bytes have come, and from here the node goes on with whatever more comes as it would have done had all of it come
--- at once: nothing is lost, nothing is taken up twice.
+-- at once: nothing is lost, nothing is taken up twice. What it asked for and has struck, it has kept.
 pub record GoesOn (h : Holdings) (kept kept_after : List Kept) (failure : Type 0) (bytes : List ℕ) (before after : NodeState) : Type 0 where
   pub course : Course failure before after
   pub goes_on : (more : List ℕ) (said : List Emitted) (later : List Bool)
       → takes_piece (node_taker h before.engine.identity) (bytes ++ more) (hearer_of h kept said (course.failures ++ later) before)
       ≡ takes_piece (node_taker h before.engine.identity) more (hearer_of h kept_after (said ++ course.emitted) later after)
+  pub requests : KeepsWhatItAskedFor (struck_jobs before) (struck_jobs after) kept kept_after
 
 -- These bytes have come, and all that is found in them was taken up.
 pub record TakesAll (h : Holdings) (kept kept_after : List Kept) (failure : Type 0) (bytes : List ℕ) (before after : NodeState) : Type 0 where

@@ -2,7 +2,7 @@
 use Rattle.std.specs.Prelude.{◌≡◌, ◌<◌, ◌≤◌, ℕ, Bool, List, [], ◌∷◌, ◌++◌}
 use Rattle.uug_reader.specs.Cut.{Item}
 use Rattle.uug_reader.specs.Search.{search_of, standing}
-use Rattle.uug_session.specs.Engine.{HasFailed}
+use Rattle.uug_session.specs.Engine.{CountsFaults}
 use Rattle.uug_session.specs.Holdings.{Kept, Holdings}
 use Rattle.uug_session.specs.Node.{NodeState, IsAsBefore, TakesShown, item_size, offered, searched}
 
@@ -32,7 +32,7 @@ Makes h most (offers bytes) old new = (new.node ≡ offered bytes old.node) × K
 Makes h most looks old new = (new.node ≡ searched old.node) × KeepsNothing old new
 Makes h most (takes took) old new =
     (0 < item_size old.node) × (old.faults ≤ new.faults)
-    × TakesShown h old.kept new.kept (HasFailed most old.faults new.faults) old.node new.node took
+    × TakesShown h old.kept new.kept (CountsFaults most old.faults new.faults) old.node new.node took
 Makes h most refuses old new =
     (0 < item_size old.node) × (new.faults ≡ old.faults) × IsAsBefore h old.kept new.kept old.node new.node
 

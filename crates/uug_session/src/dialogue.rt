@@ -134,7 +134,7 @@ impl<A: Allocator + Copy> Dialogue<A> {
             (talk_of (S.holdings spool.old) (S.kept spool.old) self.old)) }
         ensures same { OnErr result (self.new ≡ self.old) }
         ensures none_kept { OnErr result (S.kept spool.new ≡ S.kept spool.old) }
-        ensures memory { result ≡ Err FileFault.Memory → S.faults spool.new ≡ S.faults spool.old }
+        ensures stands { result ≢ Err FileFault.Device → S.faults spool.new ≡ S.faults spool.old }
         ensures asked { result ≡ Err FileFault.Device
             → asks_spool (S.holdings spool.old) self.old.machine message.now ≡ true }
         ensures device { result ≡ Err FileFault.Device
@@ -250,7 +250,7 @@ fn reaction_to<A: Allocator, S: Spool>(
     ensures jobs_stay { OnErr result (queue.new ≡ queue.old) }
     ensures none_gathered { OnErr result (gather.new ≡ gather.old) }
     ensures none_kept { OnErr result (S.kept spool.new ≡ S.kept spool.old) }
-    ensures memory { result ≡ Err FileFault.Memory → S.faults spool.new ≡ S.faults spool.old }
+    ensures stands { result ≢ Err FileFault.Device → S.faults spool.new ≡ S.faults spool.old }
     ensures asked { result ≡ Err FileFault.Device → asks_spool (S.holdings spool.old)
         (state_of queue.old awaits.now gather.old) message.now ≡ true }
     ensures device { result ≡ Err FileFault.Device

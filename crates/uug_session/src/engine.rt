@@ -3,9 +3,9 @@ ghost use Rattle.std.specs.Bool.{OnTrue, OnFalse};
 ghost use Rattle.uug_link.specs.Announced.{announced};
 ghost use Rattle.uug_link.specs.State.{IsUp, IsFresh};
 ghost use Rattle.uug_link.specs.Follows.{written};
-ghost use Rattle.uug_link.specs.Step.{step, packet_found, to_close, taken};
+ghost use Rattle.uug_link.specs.Step.{step, packet_found, timed_out, to_close, taken};
 ghost use Rattle.uug_packet.specs.Packet.{shown};
-ghost use Rattle.uug_session.specs.Engine.{BeginsSession, Does, HasFailed, IsHailing, StandsStill, TakesUp, after_sends, after_speaking, all_ahead, bare, end_of, entry_of, hung_up, packet_effect, spoken_of, stage_late, stage_of, with_outbox, with_stage};
+ghost use Rattle.uug_session.specs.Engine.{BeginsSession, CountsFaults, Does, IsHailing, StandsStill, TakesUp, after_sends, after_speaking, all_ahead, bare, end_of, entry_of, hung_up, packet_effect, spoken_of, stage_late, stage_of, with_outbox, with_stage};
 ghost use Rattle.uug_session.specs.EndStep.{bad_came, begins_link, ended, final_text, first_link, first_stage, first_words, greeted_so, hailing, hailing_step, how_it_ends, late, leave, linked, message_of, text_found, unmoved};
 ghost use Rattle.uug_session.specs.Side.{side_of};
 ghost use Rattle.uug_session.specs.Talk.{end_keeper};
@@ -195,7 +195,7 @@ impl<A: Allocator + Copy> Engine<A> {
         requires room { SAYINGS_MAX ≤ self.old.talking.outgoing.room }
         requires taken { (step self.old.link (packet_found (shown packet.now))).outcome ≡ taken }
         ensures ok { OnOk result (TakesUp (S.holdings spool.old) (S.kept spool.old) (S.kept spool.new)
-            (HasFailed u64.MAX (S.faults spool.old) (S.faults spool.new)) (shown packet.now) self.old self.new true) }
+            (CountsFaults u64.MAX (S.faults spool.old) (S.faults spool.new)) (shown packet.now) self.old self.new true) }
         ensures err { OnErr result (self.new ≡ self.old) }
         ensures none_kept { OnErr result (S.kept spool.new ≡ S.kept spool.old) }
         ensures faults { OnErr result (S.faults spool.new ≡ S.faults spool.old) }
@@ -264,7 +264,7 @@ impl<A: Allocator + Copy> Engine<A> {
     ) -> Result<bool, AllocError>
         requires linked { self.old.stage ≡ linked }
         ensures ok { IfOk result (λ took. TakesUp (S.holdings spool.old) (S.kept spool.old) (S.kept spool.new)
-            (HasFailed u64.MAX (S.faults spool.old) (S.faults spool.new)) (shown packet.now) self.old self.new took) }
+            (CountsFaults u64.MAX (S.faults spool.old) (S.faults spool.new)) (shown packet.now) self.old self.new took) }
         ensures err { OnErr result (Does (unmoved (end_of (S.holdings spool.old) (S.kept spool.old) self.old))
             (end_of (S.holdings spool.old) (S.kept spool.new) self.new) self.old self.new) }
         ensures faults { OnErr result (S.faults spool.new ≡ S.faults spool.old) }
@@ -308,6 +308,8 @@ impl<A: Allocator + Copy> Engine<A> {
         ensures ok { OnOk result (Does (stage_late self.old.identity (talking_has_parted self.old.talking) self.old.stage
             self.old.link self.old.talking) (bare self.new) self.old self.new) }
         ensures err { OnErr result (Does (unmoved (bare self.old)) (bare self.new) self.old self.new) }
+        ensures only_linked { OnErr result (self.old.stage ≡ linked) }
+        ensures only_speaking { OnErr result ((step self.old.link timed_out).emitted ≢ []) }
     {
         match self.stage {
             Stage::Hailing(greeting) => self.lead_to(greeting.on_timeout()),
@@ -319,6 +321,21 @@ impl<A: Allocator + Copy> Engine<A> {
 
     /// Nothing has come on a link for some time.
     fn late(&mut self) -> Result<(), AllocError>
+        requires linked { self.old.stage ≡ linked }
+        ensures ok { OnOk result (Does (late self.old.identity (talking_has_parted self.old.talking)
+            self.old.link self.old.talking) (bare self.new) self.old self.new) }
+        ensures err { OnErr result (Does (unmoved (bare self.old)) (bare self.new) self.old self.new) }
+        ensures speaks { OnErr result ((step self.old.link timed_out).emitted ≢ []) }
+    {
+        if self.link.speaks_when_late() {
+            return self.repeat();
+        }
+        self.stay_silent();
+        Ok(())
+    }
+
+    /// The same on a link that has something to repeat, or that ends.
+    fn repeat(&mut self) -> Result<(), AllocError>
         requires linked { self.old.stage ≡ linked }
         ensures ok { OnOk result (Does (late self.old.identity (talking_has_parted self.old.talking)
             self.old.link self.old.talking) (bare self.new) self.old self.new) }
@@ -337,6 +354,22 @@ impl<A: Allocator + Copy> Engine<A> {
             Err(LinkFault::Memory) => unreachable!(),
         }
         Ok(())
+    }
+
+    /// The same on a link that emits nothing. It takes no memory.
+    fn stay_silent(&mut self)
+        requires linked { self.old.stage ≡ linked }
+        requires silent { (step self.old.link timed_out).emitted ≡ [] }
+        ensures { Does (late self.old.identity (talking_has_parted self.old.talking)
+            self.old.link self.old.talking) (bare self.new) self.old self.new }
+    {
+        what_a_link_answers();
+        match self.link.on_timeout(&mut self.outbox) {
+            Ok(Outcome::Nothing) => {}
+            Err(LinkFault::Halted) => {}
+            Ok(Outcome::Up | Outcome::Taken | Outcome::Closed) => unreachable!(),
+            Err(LinkFault::Memory | LinkFault::GaveUp) => unreachable!(),
+        }
     }
 
     /// Takes up a text of the greeting.
@@ -426,6 +459,7 @@ impl<A: Allocator + Copy> Engine<A> {
     /// How many messages were sent and not acknowledged. In the greeting there is none.
     pub(crate) fn unacked(&self) -> usize
         ensures count { result ≡ length self.now.link.unacked }
+        ensures most { result ≤ WINDOW_MAX }
         ensures greeting { IsHailing self.now.stage → result ≡ 0 }
     {
         self.link.unacked()

@@ -26,6 +26,7 @@ mod place;
 mod queue;
 mod reaction;
 mod saying;
+pub mod sending_laws;
 mod sessions;
 mod side;
 mod spool;

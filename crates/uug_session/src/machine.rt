@@ -2,7 +2,7 @@ ghost use Rattle.std.specs.Prelude.{◌≡◌, ◌≤◌, [], IfOk};
 ghost use Rattle.uug_session.specs.Choice.{choice};
 ghost use Rattle.uug_session.specs.Jobs.{Lists, moved_once, pass, strike, fail};
 ghost use Rattle.uug_session.specs.Holdings.{Holdings};
-ghost use Rattle.uug_session.specs.Machine.{goes_on, on_send, on_request, on_hang_up, on_choice, on_order, on_given_file_done, on_last_hang_up, sends_file, on_send_yes, on_send_answer, on_sent_file_done, on_request_answer, on_hang_up_answer, on_nothing_more, on_text};
+ghost use Rattle.uug_session.specs.Machine.{goes_on, on_send, on_request, on_hang_up, on_choice, on_order, on_given_file_done, on_last_hang_up, sends_file, on_send_yes, on_send_answer, on_sent_file_done, on_sent_job_done, on_request_answer, on_hang_up_answer, on_nothing_more, on_text};
 ghost use Rattle.uug_session.specs.Holdings.{to_give};
 ghost use Rattle.uug_session.specs.Reactions.{reply_of, said_before, HasModeInRange, HasModeAnswered};
 ghost use Rattle.uug_talk.specs.Order.{HasMode};
@@ -48,7 +48,7 @@ pub(crate) fn on_text<A: Allocator, S: Spool>(
         Awaits::GivenFileDone => on_given_file_done(read_answer(text)),
         Awaits::LastHangUp => on_last_hang_up(read_answer(text)),
         Awaits::SendAnswer => on_send_answer(queue, spool, read_answer(text)),
-        Awaits::SentFileDone => on_sent_file_done(queue, spool, read_answer(text)),
+        Awaits::SentFileDone => on_sent_job_done(queue, spool, read_answer(text)),
         Awaits::RequestAnswer => on_request_answer(queue, spool, read_answer(text)),
         Awaits::HangUpAnswer => on_hang_up_answer(read_answer(text)),
         Awaits::NothingMore => on_nothing_more(read_answer(text)),
@@ -180,6 +180,22 @@ fn send_file<S: Spool>(spool: &S, name: &Name) -> Reaction
             says: Says::One(Saying::File(*name)),
         },
         None => Reaction::out_of_turn(),
+    }
+}
+
+// The file that was sent is that of the job in front.
+fn on_sent_job_done<A: Allocator, S: Spool>(
+    queue: &mut Queue<A>,
+    spool: &S,
+    answer: Result<Answer, BadText>,
+) -> Reaction
+    ensures reply { on_sent_job_done (S.holdings spool.now) queue.old.ahead answer queue.old
+        ≡ reply_of (S.holdings spool.now) queue.new result [] }
+    ensures mode { HasModeInRange result.awaits }
+{
+    match queue.first() {
+        Some(Job::Send { .. }) => on_sent_file_done(queue, spool, answer),
+        _ => Reaction::out_of_turn(),
     }
 }
 

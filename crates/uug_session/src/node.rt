@@ -1,5 +1,6 @@
 ghost use Rattle.std.specs.Prelude.{◌≡◌, ◌≢◌, ◌<◌, ◌≤◌, ℕ, [], length, take, true, false, OnOk, OnErr, IfOk, MatchOption, IsTrue};
-ghost use Rattle.uug_session.specs.Engine.{Does, HasFailed, IsHailing, bare, hung_up, stage_late, with_outbox, with_stage};
+ghost use Rattle.uug_link.specs.Step.{step, timed_out};
+ghost use Rattle.uug_session.specs.Engine.{CountsFaults, Does, IsHailing, bare, hung_up, stage_late, with_outbox, with_stage};
 ghost use Rattle.uug_session.specs.Node.{node_of, accepted, held_bytes, item_size, offered, searched, shown_item, IsAsBefore, LeavesRoom, ShowsItem, TakesShown};
 ghost use Rattle.uug_session.specs.NodeLoan.{EndsFound};
 ghost use Rattle.uug_session.specs.Phases.{phase_at};
@@ -16,7 +17,7 @@ use crate::spool::Spool;
 use crate::stage::Stage;
 use crate::texts::Texts;
 use std::alloc::{AllocError, Allocator};
-use uug_link::Outbox;
+use uug_link::{Outbox, WINDOW_MAX};
 use uug_reader::{Found, READER_SIZE, Reader};
 
 /// One whole end: what it knows of itself and the other, its jobs, its files, and how far its session has come. It reads
@@ -46,9 +47,10 @@ impl<S: Spool, A: Allocator + Copy> Node<S, A> {
         }
     }
 
-    /// How many bytes are held that were not read yet, 0 where the session is over.
+    /// How many bytes are held that were not read yet, at most `READER_SIZE`, and 0 where the session is over.
     pub fn waiting(&self) -> usize
-        ensures { result ≡ length (held_bytes (node_of self.now)) }
+        ensures len { result ≡ length (held_bytes (node_of self.now)) }
+        ensures most { result ≤ READER_SIZE }
     {
         match self.engine.stage() {
             Stage::Hailing(_) => self.texts.waiting(),
@@ -106,7 +108,7 @@ impl<S: Spool, A: Allocator + Copy> Node<S, A> {
         requires shown { 0 < item_size (node_of self.old) }
         ensures taken { IfOk result (λ took.
             TakesShown (S.holdings self.old.spool) (S.kept self.old.spool) (S.kept self.new.spool)
-            (HasFailed u64.MAX (S.faults self.old.spool) (S.faults self.new.spool)) (node_of self.old) (node_of self.new) took) }
+            (CountsFaults u64.MAX (S.faults self.old.spool) (S.faults self.new.spool)) (node_of self.old) (node_of self.new) took) }
         ensures err { OnErr result (IsAsBefore (S.holdings self.old.spool) (S.kept self.old.spool) (S.kept self.new.spool)
             (node_of self.old) (node_of self.new)) }
         ensures faults { OnErr result (S.faults self.new.spool ≡ S.faults self.old.spool) }
@@ -128,7 +130,7 @@ impl<S: Spool, A: Allocator + Copy> Node<S, A> {
         requires hailing { (node_of self.old).engine.stage ≡ hailing greeting }
         requires shown { 0 < (node_of self.old).texts.shown_size }
         ensures ok { OnOk result (TakesShown (S.holdings self.old.spool) (S.kept self.old.spool) (S.kept self.new.spool)
-            (HasFailed u64.MAX (S.faults self.old.spool) (S.faults self.new.spool)) (node_of self.old) (node_of self.new) false) }
+            (CountsFaults u64.MAX (S.faults self.old.spool) (S.faults self.new.spool)) (node_of self.old) (node_of self.new) false) }
         ensures err { OnErr result (IsAsBefore (S.holdings self.old.spool) (S.kept self.old.spool) (S.kept self.new.spool)
             (node_of self.old) (node_of self.new)) }
         ensures spool { self.new.spool ≡ self.old.spool }
@@ -149,7 +151,7 @@ impl<S: Spool, A: Allocator + Copy> Node<S, A> {
         requires linked { (node_of self.old).engine.stage ≡ linked }
         requires shown { 0 < (node_of self.old).packets.shown_size }
         ensures ok { IfOk result (λ took. TakesShown (S.holdings self.old.spool) (S.kept self.old.spool) (S.kept self.new.spool)
-            (HasFailed u64.MAX (S.faults self.old.spool) (S.faults self.new.spool)) (node_of self.old) (node_of self.new) took) }
+            (CountsFaults u64.MAX (S.faults self.old.spool) (S.faults self.new.spool)) (node_of self.old) (node_of self.new) took) }
         ensures err { OnErr result (IsAsBefore (S.holdings self.old.spool) (S.kept self.old.spool) (S.kept self.new.spool)
             (node_of self.old) (node_of self.new)) }
         ensures faults { OnErr result (S.faults self.new.spool ≡ S.faults self.old.spool) }
@@ -171,7 +173,8 @@ impl<S: Spool, A: Allocator + Copy> Node<S, A> {
         }
     }
 
-    /// Nothing has come for some time.
+    /// Nothing has come for some time. Memory is needed only where the link has begun and emits something: in the
+    /// greeting, and after the session's end, the answer is always Ok.
     pub fn on_timeout(&mut self) -> Result<(), AllocError>
         ensures ok { OnOk result (Does (stage_late (node_of self.old).engine.identity
             (talking_has_parted (node_of self.old).engine.talking) (node_of self.old).engine.stage
@@ -179,6 +182,8 @@ impl<S: Spool, A: Allocator + Copy> Node<S, A> {
             (bare (node_of self.new).engine) (node_of self.old).engine (node_of self.new).engine) }
         ensures err { OnErr result (Does (unmoved (bare (node_of self.old).engine)) (bare (node_of self.new).engine)
             (node_of self.old).engine (node_of self.new).engine) }
+        ensures only_linked { OnErr result ((node_of self.old).engine.stage ≡ linked) }
+        ensures only_speaking { OnErr result ((step (node_of self.old).engine.link timed_out).emitted ≢ []) }
         ensures bytes { ((node_of self.new).texts ≡ (node_of self.old).texts) × ((node_of self.new).packets ≡ (node_of self.old).packets) }
         ensures spool { self.new.spool ≡ self.old.spool }
     {
@@ -202,9 +207,10 @@ impl<S: Spool, A: Allocator + Copy> Node<S, A> {
         self.engine.phase()
     }
 
-    /// How many messages were sent and not acknowledged. In the greeting there is none.
+    /// How many messages were sent and not acknowledged, at most `WINDOW_MAX`. In the greeting there is none.
     pub fn unacked(&self) -> usize
         ensures count { result ≡ length (node_of self.now).engine.link.unacked }
+        ensures most { result ≤ WINDOW_MAX }
         ensures greeting { IsHailing (node_of self.now).engine.stage → result ≡ 0 }
     {
         self.engine.unacked()

@@ -2,12 +2,14 @@
 ghost use Rattle.std.specs.Prelude.{◌≡◌, ℕ, List};
 ghost use Rattle.uug_link.specs.Announced.{Announced};
 ghost use Rattle.uug_link.specs.Entries.{EntryValue};
+ghost use Rattle.uug_session.specs.declared.job.Job.{Job};
 ghost use Rattle.uug_session.specs.Engine.{BeginsSession, Does, EngineState, HasFailed, all_ahead, bare, end_of, entry_of, hung_up, stage_late, with_stage};
 ghost use Rattle.uug_session.specs.EndStep.{EndEvent, Identity, begins_session, line_lost, time_ran_out, unmoved};
 ghost use Rattle.uug_session.specs.Holdings.{Holdings, Kept};
 ghost use Rattle.uug_session.specs.Jobs.{Lists};
-ghost use Rattle.uug_session.specs.Node.{NodeState, effect_of};
+ghost use Rattle.uug_session.specs.Node.{NodeState, effect_of, struck_jobs};
 ghost use Rattle.uug_session.specs.NodeArriving.{GoesOn, TakesAll};
+ghost use Rattle.uug_session.specs.OwnRequests.{KeepsWhatItAskedFor};
 ghost use Rattle.uug_session.specs.Sharing.{HaveSameJobs, OnlyMoves, all_jobs};
 ghost use Rattle.uug_session.specs.Talk.{unopened};
 ghost use Rattle.uug_session.specs.Talking.{talking_has_parted};
@@ -42,4 +44,29 @@ pub fn jobs_stay_together()
         → HaveSameJobs before.engine.talking.machine.lists after.engine.talking.machine.lists }
     // The next session begins with the same ones.
     ensures again { (l : Lists) → all_jobs (all_ahead l) ≡ all_jobs l }
+{}
+
+/// Whatever the other end is and does: what an end has kept stays in front, and each Request job that it strikes has an
+/// entry of its own in what it has kept since.
+pub fn struck_requests_were_kept()
+    // Each event that happens to an end.
+    ensures event { (h : Holdings) (kept : List Kept) (event : EndEvent) (e : EngineState)
+        → KeepsWhatItAskedFor e.talking.machine.lists.struck (effect_of h kept event e).state.keeper.machine.lists.struck
+        kept (effect_of h kept event e).state.keeper.kept }
+    // All that is found in bytes that come, in whatever pieces.
+    ensures goes_on { (h : Holdings) (kept kept_after : List Kept) (most faults later : ℕ) (bytes : List ℕ)
+        (before after : NodeState) → GoesOn h kept kept_after (HasFailed most faults later) bytes before after
+        → KeepsWhatItAskedFor (struck_jobs before) (struck_jobs after) kept kept_after }
+    ensures taken { (h : Holdings) (kept kept_after : List Kept) (most faults later : ℕ) (bytes : List ℕ)
+        (before after : NodeState) → TakesAll h kept kept_after (HasFailed most faults later) bytes before after
+        → KeepsWhatItAskedFor (struck_jobs before) (struck_jobs after) kept kept_after }
+    // So it is from one call to the next: where nothing is struck and nothing kept, and where one call follows another.
+    ensures same { (struck struck_after : List Job) (kept kept_after : List Kept) → struck_after ≡ struck → kept_after ≡ kept
+        → KeepsWhatItAskedFor struck struck_after kept kept_after }
+    ensures later { (struck struck_then struck_after : List Job) (kept kept_then kept_after : List Kept)
+        → KeepsWhatItAskedFor struck struck_then kept kept_then
+        → KeepsWhatItAskedFor struck_then struck_after kept_then kept_after
+        → KeepsWhatItAskedFor struck struck_after kept kept_after }
+    // The next session begins with what was struck.
+    ensures again { (l : Lists) → (all_ahead l).struck ≡ l.struck }
 {}

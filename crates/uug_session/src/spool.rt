@@ -1,4 +1,4 @@
-ghost use Rattle.std.specs.Prelude.{◌≡◌, ℕ, ◌^◌, ◌-◌, ◌≤◌, ◌<◌, ◌⊎◌, List, [], ◌∷◌, ◌++◌, true, OnOk, OnErr, ◌↔◌};
+ghost use Rattle.std.specs.Prelude.{◌≡◌, ◌≢◌, ℕ, ◌^◌, ◌-◌, ◌≤◌, ◌<◌, ◌⊎◌, List, [], ◌∷◌, ◌++◌, true, OnOk, OnErr, ◌↔◌};
 ghost use Rattle.uug_session.specs.Holdings.{Holdings, Kept, AreModes, kept_file};
 ghost use Rattle.uug_session.specs.FileView.{shown_file};
 
@@ -54,7 +54,7 @@ pub trait Spool {
         ensures ok { OnOk result (kept self.new ≡ kept self.old ++ kept_file name.now mode bytes.now ∷ []) }
         ensures err { OnErr result (kept self.new ≡ kept self.old) }
         ensures refused { (result ≡ Err KeepFault.Refused) ↔ ((holdings self.old).immovable name.now ≡ true) }
-        ensures memory { result ≡ Err KeepFault.Memory → faults self.new ≡ faults self.old }
+        ensures stands { result ≢ Err KeepFault.Device → faults self.new ≡ faults self.old }
         ensures device { result ≡ Err KeepFault.Device
             → (faults self.old < faults self.new) ⊎ (faults self.old ≡ u64.MAX) }
         ensures count { faults self.old ≤ faults self.new };

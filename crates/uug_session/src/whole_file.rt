@@ -1,4 +1,4 @@
-ghost use Rattle.std.specs.Prelude.{◌≡◌, ◌≤◌, ◌<◌, ◌⊎◌, ◌++◌, ℕ, List, [], ◌∷◌, Bool, false, All, IfOk, OnOk, OnErr};
+ghost use Rattle.std.specs.Prelude.{◌≡◌, ◌≢◌, ◌≤◌, ◌<◌, ◌⊎◌, ◌++◌, ℕ, List, [], ◌∷◌, Bool, false, All, IfOk, OnOk, OnErr};
 ghost use Rattle.uug_session.specs.Holdings.{Kept, kept_file};
 ghost use Rattle.uug_session.specs.Machine.{on_file};
 ghost use Rattle.uug_session.specs.Outgoing.{IsSayable, sayings_of};
@@ -29,7 +29,7 @@ fn keep<S: Spool>(spool: &mut S, name: &Name, mode: u16, bytes: &[u8]) -> Result
         S.kept spool.new ≡ S.kept spool.old ++ kept_unless immovable (kept_file name.now mode bytes.now)) }
     ensures err { OnErr result (S.kept spool.new ≡ S.kept spool.old) }
     ensures only { OnErr result ((S.holdings spool.old).immovable name.now ≡ false) }
-    ensures memory { result ≡ Err FileFault.Memory → S.faults spool.new ≡ S.faults spool.old }
+    ensures stands { result ≢ Err FileFault.Device → S.faults spool.new ≡ S.faults spool.old }
     ensures device { result ≡ Err FileFault.Device
         → (S.faults spool.old < S.faults spool.new) ⊎ (S.faults spool.old ≡ u64.MAX) }
     ensures count { S.faults spool.old ≤ S.faults spool.new }
@@ -55,7 +55,7 @@ fn keep_awaited<A: Allocator, S: Spool>(
         immovable (S.kept spool.old) (S.kept spool.new)) }
     ensures err { OnErr result (S.kept spool.new ≡ S.kept spool.old) }
     ensures only { OnErr result (IsMovable (S.holdings spool.old) (file_awaited awaits.now queue.now.ahead)) }
-    ensures memory { result ≡ Err FileFault.Memory → S.faults spool.new ≡ S.faults spool.old }
+    ensures stands { result ≢ Err FileFault.Device → S.faults spool.new ≡ S.faults spool.old }
     ensures device { result ≡ Err FileFault.Device
         → (S.faults spool.old < S.faults spool.new) ⊎ (S.faults spool.old ≡ u64.MAX) }
     ensures count { S.faults spool.old ≤ S.faults spool.new }
@@ -120,7 +120,7 @@ pub(crate) fn on_file<A: Allocator, S: Spool>(
     ensures none_kept { OnErr result (S.kept spool.new ≡ S.kept spool.old) }
     // The spool was asked only where a file is awaited that can be put in its place.
     ensures only { OnErr result (IsMovable (S.holdings spool.old) (file_awaited awaits queue.old.ahead)) }
-    ensures memory { result ≡ Err FileFault.Memory → S.faults spool.new ≡ S.faults spool.old }
+    ensures stands { result ≢ Err FileFault.Device → S.faults spool.new ≡ S.faults spool.old }
     ensures device { result ≡ Err FileFault.Device
         → (S.faults spool.old < S.faults spool.new) ⊎ (S.faults spool.old ≡ u64.MAX) }
     ensures count { S.faults spool.old ≤ S.faults spool.new }

@@ -1,10 +1,13 @@
 -- Names as words.
-use Rattle.std.proofs.Common.{◌≡◌, ℕ, true, List, length, nat_lt, nat_le, Ok, Err, refl, sym, subst, ◌∙◌, arith}
+use Rattle.std.proofs.Common.{◌≡◌, ◌<◌, ℕ, true, List, length, nat_lt, nat_le, Ok, Err, refl, sym, subst, ◌∙◌, arith}
 use Rattle.std.proofs.lemmas.Bool.{false≢true}
 use Rattle.std.proofs.lemmas.Bool.Decides.{nat_tests}
 use Rattle.std.proofs.lemmas.List.Elements.{All-weaker}
 use Rattle.std.proofs.lemmas.List.Sums.{AllPass-from_list_all, list_all-from_AllPass}
+use Rattle.std.proofs.lemmas.Str.{IsUtf8-from_ascii}
+use Rattle.std.proofs.lemmas.Str.Ascii.{IsAscii-from_all}
 use Rattle.std.specs.List.{list_all}
+use Rattle.std.specs.Str.{IsUtf8}
 use Rattle.uug_talk.specs.declared.error.BadText.{BadText}
 use Rattle.uug_talk.specs.declared.error.BadText.TheVariants as fault
 use Rattle.uug_talk.specs.declared.name.TheConstants.{NAME_MAX}
@@ -49,3 +52,10 @@ no_name_from_err bytes d e =
 
 pub IsName-read : (bytes name : List ℕ) → name_read bytes ≡ Ok name → IsName bytes
 IsName-read bytes name e = let r = name_from_read bytes name e in subst IsName (sym r.1) r.0
+
+below_ascii : (b : ℕ) → IsNameByte b → b < 128
+below_ascii b h = omega (arith, h.1)
+
+-- a name is a text
+pub name_is_text : (bytes : List ℕ) → IsName bytes → IsUtf8 bytes
+name_is_text bytes h = IsUtf8-from_ascii bytes (IsAscii-from_all bytes (All-weaker IsNameByte (λ b. b < 128) below_ascii bytes h.printing))

@@ -199,9 +199,6 @@ from_test_3 a b behind more = cond ((a == 82) && (b == 89)) (given_mode more >>=
 abbrev from_test_2 : ℕ → ℕ → List ℕ → List (List ℕ) → Result Answer BadText
 from_test_2 a b behind more = cond ((a == 83) && (b == 78)) (Ok (third behind 50 SendNever SendLater)) (from_test_3 a b behind more)
 
-abbrev from_test_1 : ℕ → ℕ → List ℕ → List (List ℕ) → Result Answer BadText
-from_test_1 a b behind more = cond ((a == 83) && (b == 89)) (Ok SendYes) (from_test_2 a b behind more)
-
 refused_letters_by : (a b : ℕ) (behind : List ℕ) (more : List (List ℕ)) (d : BadText) → answer_by a b behind more ≡ Err d → RefusedLetters d ((a ∷ b ∷ behind) ∷ more)
 refused_letters_by a b behind more d whole =
     by_test {b = (a == 83) && (b == 89)} {x = Ok SendYes} {y = from_test_2 a b behind more} {z = Err d} whole (λ _ e. no_err e) (λ _ e.

@@ -76,4 +76,14 @@ impl Name {
     {
         &self.bytes[..self.len]
     }
+
+    /// The name as a text, of as many characters as the name has bytes.
+    pub fn as_str(&self) -> &str
+        ensures { result.now ≡ self.now }
+    {
+        let Ok(text) = str::from_utf8(self.as_bytes()) else {
+            unreachable!();
+        };
+        text
+    }
 }

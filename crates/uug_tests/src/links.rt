@@ -136,6 +136,9 @@ fn assert_holds<A: Allocator>(
 fn follow_row(rt: &impl Abort, heap: &Refusing<Global>, link: &mut Link, row: Row<'_>) {
     let (call, emits, answer, unacked) = row;
     let mut out = Outbox::new(heap);
+    if let Call::Timeout = call {
+        assert_eq!(rt; link.speaks_when_late(), !emits.is_empty());
+    }
     let requests = if emits.is_empty() { 0 } else { 2 };
     assert_eq!(rt; insist(rt, heap, call, link, &mut out), (answer, requests));
     assert_eq!(rt; link.unacked(), unacked);

@@ -14,7 +14,7 @@ use Rattle.uug_tool.specs.Listing.{line_of, lines_of, rest_line, listing_of}
 use Rattle.uug_tool.specs.Streams.{Appends, Moves}
 use Rattle.uug_tool.specs.declared.scan.TheConstants.{PIECE_SIZE}
 use Rattle.uug_tool.specs.Scan.{AddsLines, AppendsListing}
-use Rattle.uug_tool.proofs.StreamLemmas.{Appends-none, Appends-join}
+use Rattle.uug_tool.proofs.StreamLemmas.{Appends-join}
 
 pub lines_of-append : (items more : List Item) → lines_of (items ++ more) ≡ lines_of items ++ lines_of more
 lines_of-append [] more = refl
@@ -30,10 +30,6 @@ Steps = record {
   behind : (s others t : List ℕ) (items : List Item) → Finds s items others → Finds (s ++ t) items (others ++ t);
   fewer : (s others : List ℕ) (items : List Item) → Finds s items others → length others + length items ≤ length s;
 }
-
--- no item, no line
-pub AddsLines-none : Steps → (s x : List ℕ) → AddsLines s s x x
-AddsLines-none steps s x = ([], steps.none s, sym (append-nil x))
 
 -- items and then more items
 pub AddsLines-join : Steps → (s middle others x y z : List ℕ) → AddsLines s middle x y → AddsLines middle others y z → AddsLines s others x z
@@ -108,10 +104,6 @@ Progress reads None now held x y = ⊤
 Progress reads (Some bytes) now held x y =
     (rest : List ℕ) × (now ≡ Some rest) × (reads + length rest ≤ length bytes) × (length bytes ≤ length rest + reads * PIECE_SIZE)
     × (text : List ℕ) × AddsLines bytes (held ++ rest) [] text × Appends text x y
-
-pub Progress-none : Steps → (to_come x : Option (List ℕ)) → Progress 0 to_come to_come [] x x
-Progress-none steps None x = tt
-Progress-none steps (Some bytes) x = (bytes, refl, omega arith, omega arith, [], AddsLines-none steps bytes [], Appends-none x)
 
 -- a piece is read, and the lines of the parts of what is then held are written
 pub Progress-piece : Steps → (reads n : ℕ) (first now then : Option (List ℕ)) (held others buffer lines : List ℕ) (x y z : Option (List ℕ)) → Progress reads first now held x y → Moves n buffer now then → (n ≡ 0 → ⊥) → n ≤ length buffer → length buffer ≡ PIECE_SIZE → AddsLines (held ++ take n buffer) others [] lines → Appends lines y z → Progress (reads + 1) first then others x z

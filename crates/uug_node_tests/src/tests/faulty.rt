@@ -4,7 +4,7 @@ ghost use Rattle.std.specs.Prelude.{[], map};
 ghost use Rattle.uug_session.specs.MemoryHoldings.{holdings_of, kept_of, no_holdings};
 ghost use Rattle.uug_session.specs.StoredModes.{modes_in_range};
 
-use super::line::{Event, Line};
+use super::line::{Event, Hand, Line};
 use super::script::Wire::{Close, Rr};
 use super::script::assert_says;
 use super::{Left, MemoryNode, NOTHING, SEND, SENDER, Side, assert_ended, end, place};
@@ -89,7 +89,7 @@ fn recover(
     caller: &mut MemoryNode<Global>,
     called: &mut FaultyNode,
 ) -> Result<(), Fail> {
-    let mut line = Line::new(log, usize::MAX);
+    let mut line = Line::new(log, Hand::Whole);
     line.play(&[Event::Flow(6), Event::ToCalled], caller, called)?;
     assert_says(rt, log, called, &[Rr(2), Close])?;
     let files = called.spool().stored.as_slice();

@@ -17,10 +17,19 @@ pub(super) enum Event {
     Call,
 }
 
-/// A line, which hands bytes over in pieces of at most so many. A call that is refused memory is made once more.
+/// How an end takes up what comes.
+#[derive(Clone, Copy)]
+pub(super) enum Hand {
+    /// All by one call.
+    Whole,
+    /// Item by item, in pieces of at most so many bytes.
+    Pieces(usize),
+}
+
+/// A line, which hands bytes over. A call that is refused memory is made once more.
 #[derive(Drop)]
 pub(super) struct Line {
-    pub(super) piece: usize,
+    pub(super) hand: Hand,
     /// All that has gone out on it.
     pub(super) said: Vec<u8, Global>,
     pub(super) refused: Refused,
@@ -35,9 +44,9 @@ pub(super) struct Refused {
 }
 
 impl Line {
-    pub(super) fn new(alloc: Global, piece: usize) -> Self {
+    pub(super) fn new(alloc: Global, hand: Hand) -> Self {
         Line {
-            piece,
+            hand,
             said: Vec::new(alloc),
             refused: Refused::default(),
         }
@@ -101,9 +110,33 @@ impl Line {
         bytes: &[u8],
         to: &mut Node<S, A>,
     ) -> Result<(), Fail> {
+        match self.hand {
+            Hand::Whole => self.bring_whole(bytes, to),
+            Hand::Pieces(size) => self.bring_in_pieces(size, bytes, to),
+        }
+    }
+
+    fn bring_whole<S: Spool, A: Allocator + Copy>(
+        &mut self,
+        bytes: &[u8],
+        to: &mut Node<S, A>,
+    ) -> Result<(), Fail> {
+        if let Err(unfinished) = to.arrive(bytes) {
+            self.refused.items = self.refused.items.saturating_add(1);
+            to.arrive(&bytes[unfinished.used..])?;
+        }
+        Ok(())
+    }
+
+    fn bring_in_pieces<S: Spool, A: Allocator + Copy>(
+        &mut self,
+        size: usize,
+        bytes: &[u8],
+        to: &mut Node<S, A>,
+    ) -> Result<(), Fail> {
         let mut rest = bytes;
         for _ in 0..2_000_000 {
-            let used = to.offer(&rest[..rest.len().min(self.piece)]);
+            let used = to.offer(&rest[..rest.len().min(size)]);
             rest = &rest[used..];
             if to.next_found().is_some() {
                 if to.take_found().is_err() {

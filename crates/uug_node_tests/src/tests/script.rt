@@ -1,6 +1,6 @@
 //! An end over whose line a script speaks.
 
-use super::line::Line;
+use super::line::{Hand, Line};
 use super::{Given, Left, MemoryNode, Side, assert_lists, end};
 use arrayvec::ArrayVec;
 use std::alloc::{Allocator, Global};
@@ -182,7 +182,7 @@ fn follow(
     node: &mut MemoryNode<Global>,
     rows: &[Row<'_>],
 ) -> Result<(), Fail> {
-    let mut line = Line::new(log, usize::MAX);
+    let mut line = Line::new(log, Hand::Pieces(usize::MAX));
     for (comes, says) in rows {
         match comes {
             Act::Hear(wires) => line.bring(&spelled(log, wires)?, node)?,

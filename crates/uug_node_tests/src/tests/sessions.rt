@@ -1,6 +1,6 @@
 //! Sessions of two ends.
 
-use super::line::{Event, Line};
+use super::line::{Event, Hand, Line};
 use super::{
     Given, Left, MemoryNode, NO_WORK, NOTHING, SEND, SENDER, Side, Task, assert_ended, make, place,
     stock,
@@ -189,10 +189,10 @@ fn follow_from<'a>(
 /// Plays the session with bytes handed over whole and in pieces.
 fn follow_in_pieces(rt: &impl Abort, alloc: Global, session: &Session<'_>) -> Result<(), Fail> {
     let heap = Refusing::new(alloc, 0);
-    let mut whole = Line::new(alloc, usize::MAX);
+    let mut whole = Line::new(alloc, Hand::Whole);
     follow(rt, &heap, session, &mut whole, 0)?;
-    for piece in [1, 7] {
-        let mut line = Line::new(alloc, piece);
+    for size in [1, 7, usize::MAX] {
+        let mut line = Line::new(alloc, Hand::Pieces(size));
         follow(rt, &heap, session, &mut line, 0)?;
         assert_eq!(rt; line.said.as_slice(), whole.said.as_slice());
     }
@@ -216,7 +216,7 @@ fn refuse_each(
     line: &mut Line,
 ) -> Result<(), Fail> {
     let heap = Refusing::new(alloc, 0);
-    let mut whole = Line::new(alloc, usize::MAX);
+    let mut whole = Line::new(alloc, Hand::Whole);
     follow(rt, &heap, session, &mut whole, 0)?;
     for nth in 1..1000 {
         line.said.clear();
@@ -229,16 +229,21 @@ fn refuse_each(
     Err("an end of the requests".into())
 }
 
-// a call that answers want of memory where none was refused; a refused call that leaves something behind, or that can't be
-// made again
-#[test]
-fn makes_refused_calls_good(rt: HostRuntime) -> Result<(), Fail> {
-    let mut line = Line::new(rt.alloc(), usize::MAX);
+fn refuse_each_of_all(rt: &impl Abort, alloc: Global, hand: Hand) -> Result<(), Fail> {
+    let mut line = Line::new(alloc, hand);
     for session in SESSIONS {
-        refuse_each(&rt, rt.alloc(), session, &mut line)?;
+        refuse_each(rt, alloc, session, &mut line)?;
     }
     assert!(rt; line.refused.items > 0);
     assert!(rt; line.refused.timeouts > 0);
     assert!(rt; line.refused.calls > 0);
     Ok(())
+}
+
+// a call that answers want of memory where none was refused; a refused call that leaves something behind, or that can't be
+// made again; one that tells wrongly how much of a piece it has used
+#[test]
+fn makes_refused_calls_good(rt: HostRuntime) -> Result<(), Fail> {
+    refuse_each_of_all(&rt, rt.alloc(), Hand::Pieces(usize::MAX))?;
+    refuse_each_of_all(&rt, rt.alloc(), Hand::Whole)
 }

@@ -2,6 +2,7 @@
 
 use super::{BROKEN_OFF, SENT_TWICE};
 use crate::streams::{SlowInput, SlowOutput};
+use std::alloc::Global;
 use std::process::Abort;
 use std::test::Fail;
 use uug_play::{play_stream, play_within, read_whole};
@@ -17,10 +18,15 @@ fn script_in_reads(most: usize, reads: u32) -> SlowInput<'static> {
     }
 }
 
+/// What a player makes of an input that comes byte by byte.
+fn played_byte_by_byte(output: &mut MemoryOutput<Global>, alloc: Global) -> Result<u8, ToolFault> {
+    play_stream(alloc, &mut script_in_reads(1, 1000), output)
+}
+
 #[test]
 fn plays_what_comes_byte_by_byte(rt: HostRuntime) {
     let mut output = MemoryOutput::new(rt.alloc());
-    let result = play_stream(rt.alloc(), &mut script_in_reads(1, 1000), &mut output);
+    let result = played_byte_by_byte(&mut output, rt.alloc());
     assert_eq!(rt; result, Ok(0));
     assert_eq!(rt; output.bytes(), SENT_TWICE.as_bytes());
 }
@@ -36,19 +42,24 @@ fn reads_of_a_player(rt: &(impl Abort + AllocGlobal)) -> Result<u32, Fail> {
             return Ok(reads);
         }
         assert_eq!(rt; result, Err(ToolFault::Read));
+        assert_eq!(rt; input.faults(), 1, "read on");
         assert_eq!(rt; output.bytes().len(), 0);
     }
     Err("a player that is never done".into())
 }
 
-/// Lets each write fail in turn. How many writes it takes.
-fn writes_of_a_player(rt: &(impl Abort + AllocGlobal)) -> Result<u32, Fail> {
+/// Refuses each write in turn. How many writes it takes.
+fn writes_of_a_player(
+    rt: &(impl Abort + AllocGlobal),
+    refusal: WriteFailed,
+    fault: ToolFault,
+) -> Result<u32, Fail> {
     for writes in 0..100 {
         let mut input = MemoryInput::new(BROKEN_OFF.as_bytes());
         let mut output = SlowOutput {
             most: 10,
             writes,
-            refusal: WriteFailed::Device,
+            refusal,
             faults: 0,
         };
         let result = play_stream(rt.alloc(), &mut input, &mut output);
@@ -56,7 +67,8 @@ fn writes_of_a_player(rt: &(impl Abort + AllocGlobal)) -> Result<u32, Fail> {
             assert_eq!(rt; result, Ok(0));
             return Ok(writes);
         }
-        assert_eq!(rt; result, Err(ToolFault::Write));
+        assert_eq!(rt; result, Err(fault));
+        assert_eq!(rt; output.faults(), 1, "wrote on");
     }
     Err("a player that is never done".into())
 }
@@ -67,7 +79,14 @@ fn says_which_stream_failed(rt: HostRuntime) -> Result<(), Fail> {
     assert_eq!(rt; BROKEN_OFF.len(), 118);
     assert_eq!(rt; SENT_TWICE.len(), 290);
     assert_eq!(rt; reads_of_a_player(&rt)?, 13);
-    assert_eq!(rt; writes_of_a_player(&rt)?, 29);
+    assert_eq!(rt;
+        writes_of_a_player(&rt, WriteFailed::Device, ToolFault::Write)?,
+        29
+    );
+    assert_eq!(rt;
+        writes_of_a_player(&rt, WriteFailed::Memory, ToolFault::Memory)?,
+        29
+    );
     Ok(())
 }
 

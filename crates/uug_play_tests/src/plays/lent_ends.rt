@@ -1,10 +1,11 @@
 //! How the ends stand that a report lends. What this catches beyond the clauses: a wrong definition of where an end stands,
 //! and a run that always answers want of memory.
 
+use std::alloc::Global;
 use std::test::Fail;
-use uug_line::run;
+use uug_line::{Report, run};
 use uug_script::read_script;
-use uug_session::{End, Phase};
+use uug_session::{End, MemorySpool, Node, Phase};
 
 /// Scripts; and how far the caller is then and how many packets it has unacknowledged, and the called end.
 const SCRIPTS: [(&str, (Phase, usize), (Phase, usize)); 4] = [
@@ -33,21 +34,28 @@ const SCRIPTS: [(&str, (Phase, usize), (Phase, usize)); 4] = [
     ),
 ];
 
+/// What is reported of the script.
+fn report_of(alloc: Global, text: &str) -> Result<Report<Global>, Fail> {
+    let script = read_script(alloc, text.as_bytes())?;
+    Ok(run(alloc, script.setup, script.events.as_slice())?)
+}
+
+/// How far an end is, and how many packets it has unacknowledged.
+fn standing(end: &Node<MemorySpool<Global>, Global>) -> (Phase, usize) {
+    (end.phase(), end.unacked())
+}
+
+/// Where the caller and the called end stand after the script.
+fn standings_after(alloc: Global, text: &str) -> Result<((Phase, usize), (Phase, usize)), Fail> {
+    let report = report_of(alloc, text)?;
+    Ok((standing(report.caller()), standing(report.called())))
+}
+
 #[test]
 fn lends_the_ends_as_they_stand(rt: HostRuntime) -> Result<(), Fail> {
     for (text, caller, called) in SCRIPTS {
-        let script = read_script(rt.alloc(), text.as_bytes())?;
-        let report = run(rt.alloc(), script.setup, script.events.as_slice())?;
-        assert_eq!(rt;
-            (report.caller().phase(), report.caller().unacked()),
-            caller,
-            "the caller of {text}"
-        );
-        assert_eq!(rt;
-            (report.called().phase(), report.called().unacked()),
-            called,
-            "the called end of {text}"
-        );
+        let standings = standings_after(rt.alloc(), text)?;
+        assert_eq!(rt; standings, (caller, called), "after {text}");
     }
     Ok(())
 }

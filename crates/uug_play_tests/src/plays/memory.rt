@@ -4,8 +4,10 @@ use super::{BROKEN_OFF, SENT_TWICE};
 use std::alloc::Global;
 use std::process::Abort;
 use std::test::Fail;
+use uug_line::{RunFault, run};
 use uug_play::play_stream;
 use uug_refusal::Refusing;
+use uug_script::read_script;
 use uug_tool::{MemoryInput, MemoryOutput, ToolFault};
 
 /// Refuses each request of a player in turn, which then never writes. How many requests it makes.
@@ -27,6 +29,36 @@ fn requests_of_a_player(rt: &impl Abort, alloc: Global) -> Result<u64, Fail> {
         assert_eq!(rt; output.bytes().len(), 0);
     }
     Err("a player that is never done".into())
+}
+
+/// Runs the script, with the nth request of the run refused. Why the run gave up, if it did.
+fn refuse(heap: &Refusing<Global>, nth: u64) -> Result<Option<RunFault>, Fail> {
+    heap.refuse(0);
+    let script = read_script(heap, BROKEN_OFF.as_bytes())?;
+    heap.refuse(nth);
+    Ok(run(heap, script.setup, script.events.as_slice()).err())
+}
+
+/// Refuses each request of a run in turn. How many requests it makes.
+fn requests_of_a_run(rt: &impl Abort, alloc: Global) -> Result<u64, Fail> {
+    let heap = Refusing::new(alloc, 0);
+    for nth in 1..10_000 {
+        let fault = refuse(&heap, nth)?;
+        if !heap.was_refused() {
+            assert_eq!(rt; fault, None);
+            return Ok(nth - 1);
+        }
+        assert_eq!(rt; fault, Some(RunFault::Memory), "of request {nth}");
+        assert_eq!(rt; heap.requests(), nth, "went on after {nth}");
+    }
+    Err("a run that is never done".into())
+}
+
+#[test]
+fn gives_up_when_out_of_memory(rt: HostRuntime) -> Result<(), Fail> {
+    let requests = requests_of_a_run(&rt, rt.alloc())?;
+    assert!(rt; requests >= 15, "two ends and two sessions");
+    Ok(())
 }
 
 #[test]

@@ -2,6 +2,7 @@
 ghost use Rattle.std.specs.Prelude.{◌<◌};
 
 use std::alloc::Global;
+use std::process::Abort;
 use std::test::Fail;
 use uug_line::{EndReport, Event, Report, Side, run};
 use uug_script::read_script;
@@ -146,36 +147,30 @@ fn is_stored(end: &End, other: &End) -> bool {
     })
 }
 
+/// Whether both ends kept each promise in the report, where the caller and the called end had announced these windows.
+fn keeps_promises(report: &Report<Global>, caller: u8, called: u8) -> bool {
+    let sessions_are_right = report.sessions().iter().all(|session| {
+        is_right(&session.caller, &session.called, called)
+            && is_right(&session.called, &session.caller, caller)
+    });
+    sessions_are_right
+        && is_stored(report.caller(), report.called())
+        && is_stored(report.called(), report.caller())
+}
+
+/// Plays the list of this number. How many jobs of the caller were done.
+fn struck_in_list(rt: &(impl Abort + AllocGlobal), list: u32) -> Result<usize, Fail> {
+    let (caller, called) = windows_of_list(list as usize);
+    let report = report_of_list(rt.alloc(), list)?;
+    assert!(rt; keeps_promises(&report, caller, called), "in list {list}");
+    Ok(report.caller().queue().struck().len())
+}
+
 #[test]
 fn keeps_its_promises_on_noisy_lines(rt: HostRuntime) -> Result<(), Fail> {
     let mut struck = 0usize;
     for list in 0..LISTS {
-        let report = report_of_list(rt.alloc(), list)?;
-        let (caller, called) = windows_of_list(list as usize);
-        for session in report.sessions() {
-            assert!(rt;
-                is_right(&session.caller, &session.called, called),
-                "caller of {list}"
-            );
-            assert!(rt;
-                is_right(&session.called, &session.caller, caller),
-                "called of {list}"
-            );
-        }
-        assert!(rt;
-            is_stored(report.caller(), report.called()),
-            "jobs of {list}"
-        );
-        assert!(rt;
-            is_stored(report.called(), report.caller()),
-            "jobs of {list}"
-        );
-        struck = report
-            .caller()
-            .queue()
-            .struck()
-            .len()
-            .saturating_add(struck);
+        struck = struck_in_list(&rt, list)?.saturating_add(struck);
     }
     assert!(rt; struck >= LISTS as usize, "little was done: {struck} jobs");
     Ok(())

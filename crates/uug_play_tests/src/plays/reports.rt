@@ -18,7 +18,7 @@ const GIVEN_UP: &str =
     caller pending 0 struck 0 failed 1\ncalled pending 0 struck 0 failed 0\nverdict clean\n";
 
 /// Scripts, the reports of what they say, and the statuses.
-const SCRIPTS: [(&str, &str, u8); 12] = [
+const SCRIPTS: [(&str, &str, u8); 14] = [
     (
         "caller a 2 32\ncalled b 2 32\nfile caller x 0644 -\nsend caller x y u\nflow 20\n",
         SENT,
@@ -77,6 +77,34 @@ const SCRIPTS: [(&str, &str, u8); 12] = [
          flow 5\nflip called 01\nflow 1\ntimeout caller\nflow 20\n",
         SENT,
         0,
+    ),
+    // windows of seven: the command has come, and its answer is on the line
+    (
+        "caller a 7 32\ncalled b 7 32\nfile caller x 0644 \
+         0707070707070707070707070707070707070707070707070707070707070707\
+         0707070707070707070707070707070707070707070707070707070707070707\
+         0707070707070707070707070707070707070707070707070707070707070707\
+         0707070707070707070707070707070707070707070707070707070707070707\
+         0707070707070707070707070707070707070707070707070707070707070707\
+         0707070707070707070707070707070707070707070707070707070707070707\
+         07\nsend caller x y u\nflow 5\npass called 1000\n",
+        "session 1\ncaller sent 1 taken 0 most 1 talking\ncalled sent 1 taken 1 most 1 talking\n\
+         caller pending 1 struck 0 failed 0\ncalled pending 0 struck 0 failed 0\nverdict clean\n",
+        1,
+    ),
+    // with the answer seven messages of the file go out at once, and the eighth waits for room
+    (
+        "caller a 7 32\ncalled b 7 32\nfile caller x 0644 \
+         0707070707070707070707070707070707070707070707070707070707070707\
+         0707070707070707070707070707070707070707070707070707070707070707\
+         0707070707070707070707070707070707070707070707070707070707070707\
+         0707070707070707070707070707070707070707070707070707070707070707\
+         0707070707070707070707070707070707070707070707070707070707070707\
+         0707070707070707070707070707070707070707070707070707070707070707\
+         07\nsend caller x y u\nflow 5\npass called 1000\npass caller 1000\n",
+        "session 1\ncaller sent 8 taken 1 most 7 talking\ncalled sent 1 taken 1 most 1 talking\n\
+         caller pending 1 struck 0 failed 0\ncalled pending 0 struck 0 failed 0\nverdict clean\n",
+        1,
     ),
     // nothing comes to any end
     (

@@ -4,8 +4,8 @@ use Rattle.uug_line.specs.Shown.{lists_in}
 use Rattle.uug_line.proofs.live_end.LiveEnd.hear.Given as goal
 
 -- the rest of the piece is still to come
-abbrev pub invariant-loop : goal.invariant-loop
-invariant-loop g l = StillHears (lists_in l.others) l.piece l.rest (parts_of l.fn.self) (parts_of l.self)
+abbrev pub invariant-loop-self : goal.invariant-loop-self
+invariant-loop-self g l = StillHears (lists_in l.others) l.piece l.rest (parts_of l.fn.self) (parts_of l.self)
 
-abbrev pub decreases-loop : goal.decreases-loop
-decreases-loop g l = length l.rest
+abbrev pub decreases-loop-self : goal.decreases-loop-self
+decreases-loop-self g l = length l.rest

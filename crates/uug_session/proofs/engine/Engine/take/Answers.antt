@@ -7,13 +7,13 @@ use Rattle.uug_link.specs.Step.{Effect, step, packet_found, to_close}
 use Rattle.uug_packet.specs.Packet.{shown}
 use Rattle.uug_session.specs.declared.end.End.TheVariants as ends
 use Rattle.uug_session.specs.EndStep.{Identity, ends_so, goes_on, leave, message_of, then_closes}
-use Rattle.uug_session.specs.Engine.{Does, EngineState, HasFailed, TakesUp, after_speaking, end_of, entry_of, spoken_of, stage_of}
+use Rattle.uug_session.specs.Engine.{CountsFaults, Does, EngineState, TakesUp, after_speaking, end_of, entry_of, spoken_of, stage_of}
 use Rattle.uug_session.specs.Holdings.{Holdings, Kept}
 use Rattle.uug_session.specs.Runs.{is_bad}
 use Rattle.uug_session.specs.Side.{side_of}
 use Rattle.uug_session.specs.Talk.{Talk, asks_spool, end_keeper, taking}
 use Rattle.uug_session.specs.Talking.{Talking, talk_of}
-use Rattle.uug_session.proofs.EngineLemmas.{closed_behind, ends_does, goes_on_does, not_so, taken_bad, taken_failed, taken_well, takes_up}
+use Rattle.uug_session.proofs.EngineLemmas.{closed_behind, ends_does, goes_on_does, taken_bad, taken_failed, taken_well, takes_up}
 use Rattle.uug_session.proofs.SpeakLemmas.{has_parted_told}
 use Rattle.uug_session.proofs.engine.Engine.take.Goals as goal
 
@@ -22,7 +22,7 @@ returns-then-is_bad-clause-ok g c =
     let h = g.S.Spool.holdings c.args.spool.now in
     let kept = g.S.Spool.kept c.args.spool.now in
     let kept_after = g.S.Spool.kept c.take.new.spool in
-    let failure = HasFailed 18446744073709551615 (g.S.Spool.faults c.args.spool.now) (g.S.Spool.faults c.take.new.spool) in
+    let counts = CountsFaults 18446744073709551615 (g.S.Spool.faults c.args.spool.now) (g.S.Spool.faults c.take.new.spool) in
     let p = shown c.args.packet.now in
     let i = c.self.inside in
     let b : EngineState = record {
@@ -50,8 +50,8 @@ returns-then-is_bad-clause-ok g c =
     let done = c.break_off.ensures in
     let parted = c.has_parted-has_parted.result in
     let as_parted = c.has_parted-has_parted.ensures ∙ has_parted_told h kept i.dialogue in
-    subst (λ (x : EngineState). TakesUp h kept kept_after failure p x after true) c.self.view_is
-    (takes_up h kept kept_after failure false p b after (ends_so b.identity (k.has_parted talk) ends.BadTalk (then_closes e) (taking h (message_of p) talk) true)
+    subst (λ (x : EngineState). TakesUp h kept kept_after counts p x after true) c.self.view_is
+    (takes_up h kept kept_after counts false p b after (ends_so b.identity (k.has_parted talk) ends.BadTalk (then_closes e) (taking h (message_of p) talk) true)
     (taken_bad k b.identity e (message_of p) talk outcome (bad_as ∙ c.if-is_bad.true))
     (subst (λ (x : Bool). Does (ends_so b.identity x ends.BadTalk (then_closes e) (taking h (message_of p) talk) true) (end_of h kept_after after) b after) as_parted
     (ends_does b.identity parted ends.BadTalk (then_closes e) (taking h (message_of p) talk) (talk_of h kept_after after.talking) true b after
@@ -62,14 +62,14 @@ returns-then-is_bad-clause-ok g c =
     ∙ ap (λ (x : List EntryValue). x ++ map entry_of (leave parted b.identity.side))
     (closed_behind e a.link b.outbox.entries a.outbox.entries _ answered.link answered.emitted refl))
     (done.identity ∙ answered.still.identity) (done.own ∙ answered.still.own)))
-    refl (not_so failure))
+    refl (c.in-Ok.ensures.stands (λ is. absurd cc)))
 
 pub returns-else-is_bad-clause-ok : goal.returns-else-is_bad-clause-ok
 returns-else-is_bad-clause-ok g c =
     let h = g.S.Spool.holdings c.args.spool.now in
     let kept = g.S.Spool.kept c.args.spool.now in
     let kept_after = g.S.Spool.kept c.take.new.spool in
-    let failure = HasFailed 18446744073709551615 (g.S.Spool.faults c.args.spool.now) (g.S.Spool.faults c.take.new.spool) in
+    let counts = CountsFaults 18446744073709551615 (g.S.Spool.faults c.args.spool.now) (g.S.Spool.faults c.take.new.spool) in
     let p = shown c.args.packet.now in
     let i = c.self.inside in
     let b : EngineState = record {
@@ -95,21 +95,21 @@ returns-else-is_bad-clause-ok g c =
     ∙ sym c.is_bad.ensures in
     let after = c.speak.new.self in
     let spoken = subst (λ (x : Holdings). spoken_of x kept_after after ≡ after_speaking x kept_after a) c.in-Ok.ensures.holdings c.speak.ensures.spoken in
-    subst (λ (x : EngineState). TakesUp h kept kept_after failure p x after true) c.self.view_is
-    (takes_up h kept kept_after failure false p b after (goes_on k true e (taking h (message_of p) talk))
+    subst (λ (x : EngineState). TakesUp h kept kept_after counts p x after true) c.self.view_is
+    (takes_up h kept kept_after counts false p b after (goes_on k true e (taking h (message_of p) talk))
     (taken_well k b.identity e (message_of p) talk outcome (bad_as ∙ c.if-is_bad.false))
     (subst (λ (x : Talk). Does (goes_on k true e x) (end_of h kept_after after) b after) (ap (talk_of h kept_after) answered.talking ∙ told)
     (goes_on_does h kept_after true e b a after answered.link answered.emitted
     (answered.still.stage ∙ ap (λ (x : EngineState). x.stage) c.self.view_is ∙ c.requires.linked)
     answered.still.identity answered.still.own spoken c.speak.ensures.still))
-    refl (not_so failure))
+    refl (c.in-Ok.ensures.stands (λ is. absurd cc)))
 
 pub returns-in-Err-Device-clause-ok : goal.returns-in-Err-Device-clause-ok
 returns-in-Err-Device-clause-ok g c =
     let h = g.S.Spool.holdings c.args.spool.now in
     let kept = g.S.Spool.kept c.args.spool.now in
     let kept_after = g.S.Spool.kept c.take.new.spool in
-    let failure = HasFailed 18446744073709551615 (g.S.Spool.faults c.args.spool.now) (g.S.Spool.faults c.take.new.spool) in
+    let counts = CountsFaults 18446744073709551615 (g.S.Spool.faults c.args.spool.now) (g.S.Spool.faults c.take.new.spool) in
     let p = shown c.args.packet.now in
     let i = c.self.inside in
     let b : EngineState = record {
@@ -133,8 +133,8 @@ returns-in-Err-Device-clause-ok g c =
     let as_parted = c.has_parted-has_parted.ensures ∙ has_parted_told h kept i.dialogue in
     let told : talk_of h kept_after c.take.new.self ≡ talk =
     ap (talk_of h kept_after) failed.same ∙ ap (λ (x : List Kept). talk_of h x i.dialogue) failed.none_kept in
-    subst (λ (x : EngineState). TakesUp h kept kept_after failure p x after true) c.self.view_is
-    (takes_up h kept kept_after failure true p b after (ends_so b.identity (k.has_parted talk) ends.SpoolFault (then_closes e) talk true)
+    subst (λ (x : EngineState). TakesUp h kept kept_after counts p x after true) c.self.view_is
+    (takes_up h kept kept_after counts true p b after (ends_so b.identity (k.has_parted talk) ends.SpoolFault (then_closes e) talk true)
     (taken_failed k b.identity e (message_of p) talk outcome
     (ap (asks_spool h i.dialogue.machine) (sym c.message_of.ensures) ∙ failed.asked (ap Err c.in-Err-Device.field-0-is)))
     (subst (λ (x : Bool). Does (ends_so b.identity x ends.SpoolFault (then_closes e) talk true) (end_of h kept_after after) b after) as_parted
@@ -146,4 +146,4 @@ returns-in-Err-Device-clause-ok g c =
     ∙ ap (λ (x : List EntryValue). x ++ map entry_of (leave parted b.identity.side))
     (closed_behind e a.link b.outbox.entries a.outbox.entries _ answered.link answered.emitted refl))
     (done.identity ∙ answered.still.identity) (done.own ∙ answered.still.own)))
-    refl (λ _. failed.device (ap Err c.in-Err-Device.field-0-is)))
+    refl (failed.device (ap Err c.in-Err-Device.field-0-is)))

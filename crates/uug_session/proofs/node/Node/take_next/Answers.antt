@@ -1,5 +1,5 @@
 use Rattle.std.proofs.Common.{ap, subst, ◌<◌, [], length}
-use Rattle.uug_session.specs.Engine.{HasFailed}
+use Rattle.uug_session.specs.Engine.{CountsFaults, HasFailed}
 use Rattle.uug_session.specs.Node.{IsAsBefore, TakesShown, held_bytes, node_of}
 use Rattle.uug_session.specs.NodeArriving.{GoesOn}
 use Rattle.uug_session.proofs.NodeItemLemmas.{none_shown, refuses_next, rests_behind, searches_to, takes_next}
@@ -36,10 +36,12 @@ takes g c =
     let old = c.args.self.now in
     let found = c.search.new.self in
     let new = c.take_found.new.self in
-    takes_next c.item_laws.ensures (g.S.Spool.holdings old.spool) (g.S.Spool.kept old.spool) (g.S.Spool.kept new.spool) _
+    takes_next c.item_laws.ensures (g.S.Spool.holdings old.spool) (g.S.Spool.kept old.spool) (g.S.Spool.kept new.spool)
+    (CountsFaults 18446744073709551615 (g.S.Spool.faults old.spool) (g.S.Spool.faults new.spool))
+    (HasFailed 18446744073709551615 (g.S.Spool.faults old.spool) (g.S.Spool.faults new.spool)) (λ failed. failed)
     (node_of old) (node_of found) (node_of new) c.in_ok-take_found.field-0 c.search.ensures.found
     (subst (λ s. TakesShown (g.S.Spool.holdings s) (g.S.Spool.kept s) (g.S.Spool.kept new.spool)
-    (HasFailed 18446744073709551615 (g.S.Spool.faults s) (g.S.Spool.faults new.spool)) (node_of found) (node_of new) c.in_ok-take_found.field-0)
+    (CountsFaults 18446744073709551615 (g.S.Spool.faults s) (g.S.Spool.faults new.spool)) (node_of found) (node_of new) c.in_ok-take_found.field-0)
     c.search.ensures.spool c.in_ok-take_found.ensures.taken)
 
 pub returns-clause-goes_on : goal.returns-clause-goes_on

@@ -1,0 +1,148 @@
+#!/usr/bin/env bash
+# Measures `uucpair pair`: one folder sends 1 MiB, or 16 MiB as files of 1 MiB, to the other, with packets of 64 bytes and
+# a window of seven, over a clean line and over one on which packets are lost and changed. Beside it, where it is
+# installed, Taylor UUCP does the same: two `uucico`, joined by two pipes, with protocol g, the same packets and window.
+# Each file must come as it is, else this ends with status 1.
+#
+#   bench/pair.sh [ROUNDS]
+#
+# `cpu` is the processor's time in seconds, that of the programs and of the system on their behalf; `wall` is what goes by
+# on the clock. Each is the median of the rounds (5), in which the programs take turns; in brackets stand the least and
+# the greatest. The row `empty` has no job: it is what starting and ending takes.
+set -eu
+export LC_ALL=C
+rounds=${1:-5}
+mb=$((1 << 20))
+bench=$(dirname "$(readlink -f "$0")")
+uucpair=$bench/../uucpair
+uucico=$(PATH=$PATH:/usr/sbin:/usr/lib/uucp command -v uucico || true)
+work=$(mktemp -d)
+trap 'rm -rf "$work"' EXIT
+
+fail() {
+    echo "pair.sh: $*" >&2
+    exit 1
+}
+
+# new_folders FILES: what the two ends have before a run.
+new_folders() {
+    local i
+    rm -rf "$work"/{a,b,socket}
+    mkdir -p "$work"/{a,b}/{send,got}
+    for ((i = 0; i < $1; i++)); do
+        ln "$work/file$i" "$work/a/send/file$i"
+        echo "send file$i file$i u"
+    done >"$work/a/jobs"
+}
+
+# check_files FILES FOLDER: all are there, as they are.
+check_files() {
+    local i
+    for ((i = 0; i < $1; i++)); do
+        cmp "$work/file$i" "$2/file$i" || fail "file$i is another"
+    done
+}
+
+# run_pair FILES OPTION..: one run, timed.
+run_pair() {
+    local files=$1 TIMEFORMAT='%R %U %S'
+    shift
+    new_folders "$files"
+    { time "$uucpair" pair "$work/socket" "$work/a" "$work/b" "$@" >"$work/report" 2>"$work/errors"; } 2>>"$work/pair.times" ||
+        fail "uucpair failed: $(cat "$work/errors" "$work/report")"
+    check_files "$files" "$work/b/got"
+    [ ! -s "$work/a/jobs" ] || fail "jobs are left"
+}
+
+# uucico_end ME OTHER: the files of one end of Taylor UUCP. It runs as a user of its own, so all may write there.
+uucico_end() {
+    local here=$work/uucp/$1
+    mkdir -p "$here"/{spool,public}
+    {
+        echo "nodename $1"
+        echo "spool $here/spool"
+        echo "lockdir $here"
+        echo "pubdir $here/public"
+        echo "logfile $here/log"
+        echo "statfile $here/stats"
+        echo "debugfile $here/debug"
+        echo "sysfile $here/sys"
+        echo "portfile $here/port"
+    } >"$here/config"
+    {
+        echo "system $2"
+        echo "time any"
+        echo "port line"
+        echo 'chat ""'
+        echo "protocol g"
+        echo "protocol-parameter g window 7"
+        echo "protocol-parameter g packet-size 64"
+        echo "local-send /"
+        echo "remote-receive /"
+    } >"$here/sys"
+    printf 'port line\ntype stdin\n' >"$here/port"
+}
+
+# run_uucico FILES: one run, timed, of what was queued before.
+run_uucico() {
+    local i there=$work/uucp/there back=$work/uucp/back TIMEFORMAT='%R %U %S'
+    rm -rf "$work/uucp"
+    mkdir -p "$work/uucp"
+    uucico_end a b
+    uucico_end b a
+    mkfifo "$there" "$back"
+    chmod -R a+rwX "$work/uucp"
+    for ((i = 0; i < $1; i++)); do
+        uucp -I "$work/uucp/a/config" -r -C "$work/file$i" "b!$work/uucp/b/public/" || fail "uucp failed"
+    done
+    {
+        time {
+            "$uucico" -q -D -I "$work/uucp/b/config" <"$there" >"$back" 2>"$work/uucp/errors" &
+            "$uucico" -q -D -I "$work/uucp/a/config" -S b >"$there" <"$back" 2>>"$work/uucp/errors" || true
+            wait
+        }
+    } 2>>"$work/uucico.times"
+    grep -q 'packet/window 64/7' "$work/uucp/a/log" || fail "other packets: $(cat "$work/uucp/a/log")"
+    check_files "$1" "$work/uucp/b/public"
+}
+
+# median COLUMNS FILE: that of the sums, and in brackets the least and the greatest.
+median() {
+    awk -v columns="$1" '{ print columns == "cpu" ? $2 + $3 : $1 }' "$2" | sort -n |
+        awk '{ all[NR] = $1 } END { printf "%.3f (%.3f-%.3f)", all[int((NR + 1) / 2)], all[1], all[NR] }'
+}
+
+# row NAME FILES IS_BESIDE OPTION..: measures and prints a line.
+row() {
+    local name=$1 files=$2 is_beside=$3 theirs_cpu=- theirs_wall=-
+    shift 3
+    rm -f "$work"/*.times
+    for ((i = 0; i < rounds; i++)); do
+        run_pair "$files" "$@"
+        [ "$is_beside" = no ] || run_uucico "$files"
+    done
+    if [ "$is_beside" = yes ]; then
+        theirs_cpu=$(median cpu "$work/uucico.times")
+        theirs_wall=$(median wall "$work/uucico.times")
+    fi
+    printf '%-24s %9d  %-22s %-22s  %-22s %-22s\n' "$name" $((files * mb)) \
+        "$(median cpu "$work/pair.times")" "$(median wall "$work/pair.times")" "$theirs_cpu" "$theirs_wall"
+}
+
+chmod a+rx "$work"
+for ((i = 0; i < 16; i++)); do
+    head -c $mb /dev/urandom >"$work/file$i"
+done
+"$uucpair" scan </dev/null >/dev/null
+beside=yes
+[ -n "$uucico" ] || beside=no
+
+printf '%-24s %9s  %-45s  %s\n' "" "" uucpair "two uucico"
+printf '%-24s %9s  %-22s %-22s  %-22s %-22s\n' line bytes cpu wall cpu wall
+row empty 0 $beside
+row clean 1 $beside
+row clean 16 $beside
+row "drop 50" 1 no --drop-every 50
+row "flip 50" 1 no --flip-every 50
+row "drop 7, flip 11" 1 no --drop-every 7 --flip-every 11
+echo "all files came as they were"

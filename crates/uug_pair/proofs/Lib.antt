@@ -1,0 +1,7 @@
+pub mod FolderLemmas
+pub mod JobsTextLemmas
+pub mod NameLemmas
+mod OutgoingLemmas
+mod RoomLemmas
+pub mod StandardFacts
+pub mod PairLemmas

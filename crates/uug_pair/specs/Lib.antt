@@ -1,0 +1,11 @@
+pub mod FolderFiles
+pub mod Folders
+pub mod JobsText
+pub mod Keeping
+pub mod Noise
+pub mod Outgoing
+pub mod Pair
+pub mod PairReport
+pub mod Seats
+pub mod Sending
+pub mod Turns

@@ -1,0 +1,10 @@
+-- What reading a folder can come to.
+use Rattle.std.specs.Prelude.{⊤}
+use Rattle.uug_tool.specs.declared.fault.ToolFault.{ToolFault}
+use Rattle.uug_tool.specs.declared.fault.ToolFault.TheVariants as faults
+
+-- the faults of reading a folder: its device, and memory
+abbrev pub IsFolderFault : ToolFault → Type 0
+IsFolderFault faults.Memory = ⊤
+IsFolderFault faults.Device = ⊤
+IsFolderFault _ = ⊥

@@ -1,0 +1,98 @@
+//! Two ends over a line, from their first turn to the report.
+ghost use Rattle.std.specs.Prelude.{◌≡◌, ◌≤◌, ◌⊎◌, IfErr, IfOk, OnOk};
+ghost use Rattle.uug_session.specs.Engine.{HasFailed, IsEnded};
+ghost use Rattle.uug_session.specs.Jobs.{pending};
+ghost use Rattle.uug_tool.specs.Streams.{Appends, CountsFault};
+ghost use Rattle.uug_pair.specs.Folders.{holding};
+ghost use Rattle.uug_pair.specs.JobsText.{jobs_text};
+ghost use Rattle.uug_pair.specs.Pair.{IfWritten, IsPairFault, IsWhole, UnlessDevice, jobs_of_end, phase_of_end, report_text, status_of_phases};
+ghost use Rattle.uug_pair.specs.Seats.{seated, spool_in, KeepsJobs};
+ghost use Rattle.uug_pair.specs.Turns.{HasRoom};
+
+use crate::jobs_file::JobsFile;
+use crate::line::Line;
+use crate::noise::Noise;
+use crate::pair_end::PairEnd;
+use crate::pair_texts::PairTexts;
+use crate::turn_fault::TurnFault;
+use crate::turns::run_turns;
+use std::alloc::Allocator;
+use uug_session::{End, Phase, Spool};
+use uug_tool::{Output, ToolFault};
+
+/// Two ends take at most so many turns at a line. Then the pending jobs of each are written to its file, and the report
+/// to the output. The answer is the program's status: 0 where both sessions are done, and 1 where one is not. Of several
+/// faults the first is answered, and none of them keeps what comes behind it from being done, but want of memory before
+/// the first write.
+pub fn pair_over<S, T, L, J, K, O, A>(
+    alloc: A,
+    caller: &mut PairEnd<S, J, A>,
+    called: &mut PairEnd<T, K, A>,
+    line: &mut L,
+    noise: &mut Noise,
+    limit: u32,
+    output: &mut O,
+) -> Result<u8, ToolFault>
+where
+    S: Spool + Drop,
+    T: Spool + Drop,
+    L: Line,
+    J: JobsFile,
+    K: JobsFile,
+    O: Output,
+    A: Allocator + Copy,
+    requires { HasRoom (L.unread line.old) }
+    ensures caller_kept { KeepsJobs (S.kept (spool_in caller.old.seat)) (S.kept (spool_in caller.new.seat))
+        (seated caller.old.seat) (seated caller.new.seat) }
+    ensures called_kept { KeepsJobs (T.kept (spool_in called.old.seat)) (T.kept (spool_in called.new.seat))
+        (seated called.old.seat) (seated called.new.seat) }
+    ensures caller_over { IsEnded (seated caller.new.seat).engine.stage }
+    ensures called_over { IsEnded (seated called.new.seat).engine.stage }
+    // A file of jobs is as before, or has exactly those that are pending.
+    ensures caller_jobs { IsWhole (jobs_text (pending (jobs_of_end (seated caller.new.seat))))
+        (J.text caller.old.jobs) (J.text caller.new.jobs) }
+    ensures called_jobs { IsWhole (jobs_text (pending (jobs_of_end (seated called.new.seat))))
+        (K.text called.old.jobs) (K.text called.new.jobs) }
+    ensures caller_ok { OnOk result (J.text caller.new.jobs
+        ≡ holding (jobs_text (pending (jobs_of_end (seated caller.new.seat)))) (J.text caller.old.jobs)) }
+    ensures called_ok { OnOk result (K.text called.new.jobs
+        ≡ holding (jobs_text (pending (jobs_of_end (seated called.new.seat)))) (K.text called.old.jobs)) }
+    ensures report { OnOk result (Appends (report_text (seated caller.new.seat) (seated called.new.seat))
+        (O.written output.old) (O.written output.new)) }
+    ensures status { IfOk result (λ status. status
+        ≡ status_of_phases (phase_of_end (seated caller.new.seat)) (phase_of_end (seated called.new.seat))) }
+    // Where the line or a file has failed, that is answered, whatever fails later but memory.
+    ensures line_calm { IfWritten result (L.fault_count line.new ≡ L.fault_count line.old) }
+    ensures caller_calm { UnlessDevice result (J.fault_count caller.new.jobs ≡ J.fault_count caller.old.jobs) }
+    ensures called_calm { UnlessDevice result (K.fault_count called.new.jobs ≡ K.fault_count called.old.jobs) }
+    ensures device { result ≡ Err ToolFault.Device → HasFailed u64.MAX (L.fault_count line.old) (L.fault_count line.new)
+        ⊎ (HasFailed u64.MAX (J.fault_count caller.old.jobs) (J.fault_count caller.new.jobs)
+        ⊎ HasFailed u64.MAX (K.fault_count called.old.jobs) (K.fault_count called.new.jobs)) }
+    ensures write { result ≡ Err ToolFault.Write → CountsFault (O.fault_count output.old) (O.fault_count output.new) }
+    ensures no_other { IfErr result IsPairFault }
+{
+    match run_turns(&mut caller.seat, &mut called.seat, line, noise, limit) {
+        Ok(()) => {
+            let texts = PairTexts::new(alloc, caller.seat.node(), called.seat.node())?;
+            texts.write(&mut caller.jobs, &mut called.jobs, output)?;
+            Ok(status(caller.seat.node().phase(), called.seat.node().phase()))
+        }
+        Err(TurnFault::Line) => {
+            let texts = PairTexts::new(alloc, caller.seat.node(), called.seat.node())?;
+            // The line's fault came before all that this may meet.
+            let _ = texts.write(&mut caller.jobs, &mut called.jobs, output);
+            Err(ToolFault::Device)
+        }
+        Err(TurnFault::Memory) => Err(ToolFault::Memory),
+    }
+}
+
+/// 0 where both sessions are done, and 1 where one is not.
+fn status(caller: Phase, called: Phase) -> u8
+    ensures { result ≡ status_of_phases caller called }
+{
+    match (caller, called) {
+        (Phase::Ended(End::Done), Phase::Ended(End::Done)) => 0,
+        _ => 1,
+    }
+}

@@ -1,0 +1,71 @@
+//! What goes out of what an end has emitted.
+ghost use Rattle.std.specs.Prelude.{◌≡◌, ◌++◌, OnOk};
+ghost use Rattle.uug_link.specs.Entries.{shown_entry};
+ghost use Rattle.uug_pair.specs.Outgoing.{count_behind, count_with, flipped, outgoing_from, outgoing_of, outgoing_of_entry};
+
+use crate::fate::Fate;
+use crate::noise::Noise;
+use std::alloc::{AllocError, Allocator};
+use uug_link::{Entry, Outbox};
+
+/// Appends what goes out of all that an outbox holds. Each packet is counted, and no text.
+pub(crate) fn add_outgoing<A: Allocator + Copy>(
+    outgoing: &mut Vec<u8, A>,
+    outbox: &Outbox<A>,
+    noise: &mut Noise,
+) -> Result<(), AllocError>
+    ensures bytes { OnOk result (outgoing.new.items ≡ outgoing.old.items
+        ++ outgoing_from noise.old.drop_every noise.old.flip_every noise.old.count outbox.now.entries) }
+    ensures count { OnOk result (noise.new.count ≡ count_behind noise.old.count outbox.now.entries) }
+    ensures drop_every { noise.new.drop_every ≡ noise.old.drop_every }
+    ensures flip_every { noise.new.flip_every ≡ noise.old.flip_every }
+{
+    for i in 0..outbox.len() {
+        add_entry(outgoing, outbox.entry(i), noise)?;
+    }
+    Ok(())
+}
+
+/// Appends what goes out of an entry.
+fn add_entry<A: Allocator>(
+    outgoing: &mut Vec<u8, A>,
+    entry: Entry<'_>,
+    noise: &mut Noise,
+) -> Result<(), AllocError>
+    ensures bytes { OnOk result (outgoing.new.items ≡ outgoing.old.items
+        ++ outgoing_of_entry noise.old.drop_every noise.old.flip_every noise.old.count (shown_entry entry.entry)) }
+    ensures count { noise.new.count ≡ count_with noise.old.count (shown_entry entry.entry) }
+    ensures drop_every { noise.new.drop_every ≡ noise.old.drop_every }
+    ensures flip_every { noise.new.flip_every ≡ noise.old.flip_every }
+{
+    match entry {
+        Entry::Text(bytes) => outgoing.extend_from_slice(bytes),
+        Entry::Packet { bytes, .. } => add_packet(outgoing, bytes, noise.next()),
+    }
+}
+
+/// Appends what goes out of a packet.
+fn add_packet<A: Allocator>(
+    outgoing: &mut Vec<u8, A>,
+    packet: &[u8],
+    fate: Fate,
+) -> Result<(), AllocError>
+    ensures { OnOk result (outgoing.new.items ≡ outgoing.old.items ++ outgoing_of fate packet.now) }
+{
+    match fate {
+        Fate::Goes => outgoing.extend_from_slice(packet),
+        Fate::Lost => Ok(()),
+        Fate::Changed => add_flipped(outgoing, packet),
+    }
+}
+
+/// Appends a packet with the lowest bit of its last byte turned over.
+fn add_flipped<A: Allocator>(outgoing: &mut Vec<u8, A>, packet: &[u8]) -> Result<(), AllocError>
+    ensures { OnOk result (outgoing.new.items ≡ outgoing.old.items ++ flipped packet.now) }
+{
+    if let Some((last, front)) = packet.split_last() {
+        outgoing.extend_from_slice(front)?;
+        outgoing.push(*last ^ 1)?;
+    }
+    Ok(())
+}

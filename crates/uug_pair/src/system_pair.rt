@@ -1,0 +1,188 @@
+//! Two folders, and the socket between their ends.
+ghost use Rattle.std.specs.Prelude.{◌≡◌, ◌≤◌, ◌↔◌, ◌&&◌, false, IfErr, IfOk};
+ghost use Rattle.uug_talk.specs.Name.{IsName};
+ghost use Rattle.uug_tool.specs.Streams.{CountsFault};
+ghost use Rattle.uug_pair.specs.Noise.{is_in_range};
+ghost use Rattle.uug_pair.specs.Pair.{IsReadingFault, IsRunFault};
+ghost use Rattle.uug_pair.specs.Turns.{HasRoom};
+
+use crate::exchange::pair_over;
+use crate::folder_spool::FolderSpool;
+use crate::jobs_text::{JobsFault, read_jobs};
+use crate::line::Line;
+use crate::noise::Noise;
+use crate::pair_end::PairEnd;
+use crate::seat::Seat;
+use crate::sending::{read_jobs_text, read_send};
+use crate::system_folder::SystemFolder;
+use crate::system_jobs::SystemJobs;
+use crate::wire_line::WireLine;
+use std::alloc::{AllocError, Allocator};
+use std::net::Net;
+use std::os::unix::net::{UnixListener, UnixStream};
+use std::rt::Files;
+use std::{fs, io};
+use uug_line::Side;
+use uug_link::Announce;
+use uug_session::{Node, Place, Queue, Stored};
+use uug_talk::Name;
+use uug_tool::{Output, ToolFault};
+
+/// The most turns that two ends take.
+pub const TURNS_MAX: u32 = 1_000_000;
+
+/// The window that both ends announce.
+const WINDOW: u8 = 7;
+
+/// The packet size that both ends announce.
+const SIZE: usize = 64;
+
+/// An end over a folder of the system.
+type SystemEnd<'a, R, A> = PairEnd<FolderSpool<SystemFolder<'a, R, A>, A>, SystemJobs<'a, R, A>, A>;
+
+/// Runs the caller `a` over the folder `dir_a` and the called end `b` over `dir_b`, over a Unix socket that is made at the
+/// path `socket`. Every Nth packet is lost, and every Nth changed, for an N of its own each, if one is given. What stands
+/// in a folder is said in `docs/PROTOCOL.md`. The answer is the program's status.
+pub fn pair_run<A: Allocator + Copy, R: Files + Net + Alloc + Clone + Drop, O: Output>(
+    alloc: A,
+    rt: &R,
+    socket: &str,
+    dir_a: &str,
+    dir_b: &str,
+    drop_every: Option<u32>,
+    flip_every: Option<u32>,
+    output: &mut O,
+) -> Result<u8, ToolFault>
+    ensures usage { (result ≡ Err ToolFault.Usage) ↔ ((is_in_range drop_every && is_in_range flip_every) ≡ false) }
+    ensures status { IfOk result (λ status. status ≤ 1) }
+    ensures write { result ≡ Err ToolFault.Write → CountsFault (O.fault_count output.old) (O.fault_count output.new) }
+    ensures no_other { IfErr result IsRunFault }
+{
+    let Some(mut noise) = Noise::new(drop_every, flip_every) else {
+        return Err(ToolFault::Usage);
+    };
+    let (mut caller, mut called) = make_ends(alloc, rt, dir_a, dir_b, &mut noise)?;
+    let mut line = connect(rt, socket)?;
+    pair_over(
+        alloc,
+        &mut caller,
+        &mut called,
+        &mut line,
+        &mut noise,
+        TURNS_MAX,
+        output,
+    )
+}
+
+/// Both ends over their folders, as these stand.
+fn make_ends<'a, A: Allocator + Copy, R: Files + Alloc + Clone + Drop>(
+    alloc: A,
+    rt: &'a R,
+    dir_a: &str,
+    dir_b: &str,
+    noise: &mut Noise,
+) -> Result<(SystemEnd<'a, R, A>, SystemEnd<'a, R, A>), ToolFault>
+    ensures { IfErr result IsReadingFault }
+{
+    let caller_jobs = read_queue(alloc, rt, dir_a)?;
+    let called_jobs = read_queue(alloc, rt, dir_b)?;
+    let caller_files = read_send(alloc, rt, dir_a)?;
+    let called_files = read_send(alloc, rt, dir_b)?;
+    let caller = make_end(
+        alloc,
+        rt,
+        Side::Caller,
+        dir_a,
+        caller_jobs,
+        caller_files,
+        noise,
+    )?;
+    let called = make_end(
+        alloc,
+        rt,
+        Side::Called,
+        dir_b,
+        called_jobs,
+        called_files,
+        noise,
+    )?;
+    Ok((caller, called))
+}
+
+/// The jobs of the folder `dir`.
+fn read_queue<A: Allocator + Copy, R: Files>(
+    alloc: A,
+    rt: &R,
+    dir: &str,
+) -> Result<Queue<A>, ToolFault>
+    ensures no_other { IfErr result IsReadingFault }
+{
+    let text = read_jobs_text(alloc, rt, dir)?;
+    match read_jobs(alloc, text.as_slice()) {
+        Ok(queue) => Ok(queue),
+        Err(JobsFault::Bad(line)) => Err(ToolFault::Jobs(line)),
+        Err(JobsFault::Memory) => Err(ToolFault::Memory),
+    }
+}
+
+/// An end over the folder `dir`, with these jobs and these files to give.
+fn make_end<'a, A: Allocator + Copy, R: Files>(
+    alloc: A,
+    rt: &'a R,
+    side: Side,
+    dir: &str,
+    jobs: Queue<A>,
+    files: Vec<Stored<A>, A>,
+    noise: &mut Noise,
+) -> Result<SystemEnd<'a, R, A>, AllocError> {
+    let spool = FolderSpool::new(alloc, files, SystemFolder::new(alloc, rt, dir)?);
+    let made = match side {
+        Side::Caller => Node::caller(alloc, place(b"a", b"b"), jobs, spool),
+        Side::Called => Node::called(alloc, place(b"b", b"a"), jobs, spool),
+    };
+    let Ok(node) = made else {
+        return Err(AllocError);
+    };
+    Ok(PairEnd {
+        seat: Seat::new(alloc, node, noise)?,
+        jobs: SystemJobs::new(alloc, rt, dir)?,
+    })
+}
+
+/// Where an end of this name stands, whose other end has that name.
+fn place(me: &[u8], peer: &[u8]) -> Place
+    requires me { IsName me.now }
+    requires peer { IsName peer.now }
+{
+    let (Ok(me), Ok(peer), Ok(announce)) = (
+        Name::new(me),
+        Name::new(peer),
+        Announce::new(WINDOW, SIZE),
+    ) else {
+        unreachable!();
+    };
+    Place { me, peer, announce }
+}
+
+/// The line over a socket that is made at this path. When both ends have it the path is not needed any more, and is
+/// removed, as it is where they don't get it.
+fn connect<R: Files + Net>(rt: &R, socket: &str) -> Result<WireLine<UnixStream>, ToolFault>
+    ensures room { IfOk result (λ line. HasRoom (⟦<WireLine<UnixStream> as Line>⟧.unread line)) }
+    ensures no_other { IfErr result IsReadingFault }
+{
+    let Ok(listener) = UnixListener::bind(rt, socket) else {
+        return Err(ToolFault::Device);
+    };
+    let line = meet(rt, &listener, socket);
+    let _ = fs::remove_file(rt, socket);
+    line.map_err(|_| ToolFault::Device)
+}
+
+/// Both ends of a socket that listens at this path.
+fn meet<R: Net>(rt: &R, listener: &UnixListener, socket: &str) -> io::Result<WireLine<UnixStream>>
+    ensures { IfOk result (λ line. HasRoom (⟦<WireLine<UnixStream> as Line>⟧.unread line)) }
+{
+    let caller = UnixStream::connect(rt, socket)?;
+    let (called, _) = listener.accept()?;
+    Ok(WireLine::new(caller, called))
+}

@@ -1,0 +1,315 @@
+-- Whatever happens to an end, each Request job that it strikes has an entry of its own in what it has kept.
+use Rattle.std.proofs.Common.{◌≡◌, ℕ, nat_lt, Bool, true, false, List, [], ◌∷◌, ◌++◌, length, Option, Some, None, Result, Ok, Err, refl, sym, ap, subst, ◌∙◌, append_assoc}
+use Rattle.std.proofs.lemmas.List.{append-nil}
+use Rattle.uug_talk.specs.declared.answer.Answer.{Answer}
+use Rattle.uug_talk.specs.declared.answer.Answer.TheVariants as answer
+use Rattle.uug_talk.specs.declared.error.BadText.{BadText}
+use Rattle.uug_talk.specs.declared.order.Order.{Order}
+use Rattle.uug_talk.specs.declared.order.Order.TheVariants as order
+use Rattle.uug_talk.specs.Answer.{answer_of}
+use Rattle.uug_talk.specs.Gathering.{Kind, OfCommand, OfFile, Gathering, limit_of}
+use Rattle.uug_talk.specs.Order.{order_of}
+use Rattle.uug_session.specs.declared.awaits.Awaits.{Awaits}
+use Rattle.uug_session.specs.declared.awaits.Awaits.TheVariants as awaits
+use Rattle.uug_session.specs.declared.job.Job.{Job}
+use Rattle.uug_session.specs.declared.job.Job.TheVariants as job
+use Rattle.uug_session.specs.declared.verdict.Verdict.{Verdict}
+use Rattle.uug_session.specs.declared.verdict.Verdict.TheVariants.{Yes, Never, Later}
+use Rattle.uug_session.specs.Arriving.{Hearer, Came, takes_piece}
+use Rattle.uug_session.specs.Choice.{Choice, choice, fetched_by, send_choice}
+use Rattle.uug_session.specs.EndStep.{EndState, Identity, EndEvent, end_step}
+use Rattle.uug_session.specs.Engine.{EngineState, end_of}
+use Rattle.uug_session.specs.Holdings.{File, Kept, Holdings, to_give}
+use Rattle.uug_session.specs.Jobs.{Lists, pass, fail, move_first, moved, moved_once}
+use Rattle.uug_session.specs.Machine.{State, Reply, goes_on, on_send, on_request, on_hang_up, on_order, on_given_file_done, on_last_hang_up, sends_file, on_send_yes, on_send_answer, on_sent_job_done, on_request_answer, on_hang_up_answer, on_nothing_more, on_text, on_sent_file, on_asked_file, on_file_of, on_file, on_whole, on_gathered, on_part, gathered_with, opening, step}
+use Rattle.uug_session.specs.Node.{NodeState, effect_of, struck_jobs}
+use Rattle.uug_session.specs.NodeArriving.{NodeEnd, TakesAll, hearer_of, node_taker}
+use Rattle.uug_session.specs.OwnRequests.{OwnRequestEntries, none, not_asked_for, asked_for, sent, KeepsWhatItAskedFor}
+use Rattle.uug_session.specs.Talk.{Talk, end_keeper, opened_with, taking}
+use Rattle.uug_session.specs.Turns.{Side, caller, called, Said, the_answer}
+use Rattle.uug_session.proofs.KeeperLemmas.{piece_keeps, step_keeps, talk_in}
+
+-- ---- from one time to a later one
+
+pub nothing_new : (struck : List Job) (kept : List Kept) → KeepsWhatItAskedFor struck struck kept kept
+nothing_new struck kept = record {
+  struck_since = [];
+  kept_since = [];
+  strikes = sym (append-nil struck);
+  keeps = sym (append-nil kept);
+  own = none;
+}
+
+both_own : (s t : List Job) (k m : List Kept) → OwnRequestEntries s k → OwnRequestEntries t m → OwnRequestEntries (s ++ t) (k ++ m)
+both_own s t k m none later = later
+both_own s t k m (not_asked_for {s = s'} {e = e'} own) later = not_asked_for (both_own s' t e' m own later)
+both_own s t k m (asked_for {s = s'} {e = e'} named own) later = asked_for named (both_own s' t e' m own later)
+both_own s t k m (sent {s = s'} {e = e'} own) later = sent (both_own s' t e' m own later)
+
+pub then_keeps : (s t u : List Job) (k l m : List Kept) → KeepsWhatItAskedFor s t k l → KeepsWhatItAskedFor t u l m → KeepsWhatItAskedFor s u k m
+then_keeps s t u k l m first second = record {
+  struck_since = first.struck_since ++ second.struck_since;
+  kept_since = first.kept_since ++ second.kept_since;
+  strikes = second.strikes ∙ ap (λ js. js ++ second.struck_since) first.strikes ∙ append_assoc s first.struck_since second.struck_since;
+  keeps = second.keeps ∙ ap (λ es. es ++ second.kept_since) first.keeps ∙ append_assoc k first.kept_since second.kept_since;
+  own = both_own first.struck_since second.struck_since first.kept_since second.kept_since first.own second.own;
+}
+
+-- nothing was kept, and nothing was struck
+pub same_then : (s t : List Job) (k m : List Kept) → t ≡ s → m ≡ k → KeepsWhatItAskedFor s t k m
+same_then s t k m jobs entries = record {
+  struck_since = [];
+  kept_since = [];
+  strikes = jobs ∙ sym (append-nil s);
+  keeps = entries ∙ sym (append-nil k);
+  own = none;
+}
+
+-- ---- the next job is chosen
+
+abbrev lists : (passed ahead struck failed : List Job) → Lists
+lists passed ahead struck failed = record { passed = passed; ahead = ahead; struck = struck; failed = failed }
+
+send_fails : (source target user : List ℕ) (temp : Option (List ℕ)) (offered : Option File) (behind : Choice) (jobs p s f : List Job)
+    → ((failed : List Job) → (moved behind.failing (lists p jobs s failed)).struck ≡ s)
+    → (moved (send_choice source target user temp offered behind).failing (lists p (job.Send source target user temp ∷ jobs) s f)).struck ≡ s
+send_fails source target user temp None behind jobs p s f more = more (f ++ job.Send source target user temp ∷ [])
+send_fails source target user temp (Some file) behind jobs p s f more = refl
+
+choice_strikes_nothing : (h : Holdings) (jobs p s f : List Job) → (moved (choice h jobs).failing (lists p jobs s f)).struck ≡ s
+choice_strikes_nothing h [] p s f = refl
+choice_strikes_nothing h (job.Send source target user temp ∷ jobs) p s f =
+    send_fails source target user temp (to_give h (fetched_by source temp)) (choice h jobs) jobs p s f (λ failed. choice_strikes_nothing h jobs p s failed)
+choice_strikes_nothing h (job.Request source target user ∷ jobs) p s f = refl
+
+chosen : (h : Holdings) (l : Lists) → (moved (choice h l.ahead).failing l).struck ≡ l.struck
+chosen h l = choice_strikes_nothing h l.ahead l.passed l.struck l.failed
+
+-- ---- replies
+
+-- since these jobs were struck and nothing was kept
+abbrev KeepsIn : List Job → Reply → Type 0
+KeepsIn struck r = KeepsWhatItAskedFor struck r.state.lists.struck [] r.keeps
+
+quiet : (struck : List Job) → KeepsWhatItAskedFor struck struck [] []
+quiet struck = nothing_new struck []
+
+chooses : (h : Holdings) (l : Lists) (before : List Said) → KeepsIn l.struck (goes_on h l before)
+chooses h l before = same_then l.struck (moved (choice h l.ahead).failing l).struck [] [] (chosen h l) refl
+
+pass_strikes_nothing : (jobs : List Job) (l : Lists) → (move_first pass jobs l).struck ≡ l.struck
+pass_strikes_nothing [] l = refl
+pass_strikes_nothing (job ∷ jobs) l = refl
+
+fail_strikes_nothing : (jobs : List Job) (l : Lists) → (move_first fail jobs l).struck ≡ l.struck
+fail_strikes_nothing [] l = refl
+fail_strikes_nothing (job ∷ jobs) l = refl
+
+passes : (h : Holdings) (l : Lists) (before : List Said) → KeepsIn l.struck (goes_on h (moved_once pass l) before)
+passes h l before = subst (λ s. KeepsIn s (goes_on h (moved_once pass l) before)) (pass_strikes_nothing l.ahead l) (chooses h (moved_once pass l) before)
+
+fails : (h : Holdings) (l : Lists) (before : List Said) → KeepsIn l.struck (goes_on h (moved_once fail l) before)
+fails h l before = subst (λ s. KeepsIn s (goes_on h (moved_once fail l) before)) (fail_strikes_nothing l.ahead l) (chooses h (moved_once fail l) before)
+
+-- ---- commands
+
+after_send : (v : Verdict) (target : List ℕ) (mode : ℕ) (l : Lists) → KeepsIn l.struck (on_send v target mode l)
+after_send Yes target mode l = quiet l.struck
+after_send Never target mode l = quiet l.struck
+after_send Later target mode l = quiet l.struck
+
+after_request : (file : Option File) (l : Lists) → KeepsIn l.struck (on_request file l)
+after_request None l = quiet l.struck
+after_request (Some file) l = quiet l.struck
+
+after_hang_up : (next : Option Order) (l after : Lists) → after.struck ≡ l.struck → KeepsIn l.struck (on_hang_up next after)
+after_hang_up None l after same = same_then l.struck after.struck [] [] same refl
+after_hang_up (Some next) l after same = same_then l.struck after.struck [] [] same refl
+
+after_order : (h : Holdings) (r : Result Order BadText) (l : Lists) → KeepsIn l.struck (on_order h r l)
+after_order h (Ok (order.Send source target user temp mode)) l = after_send (h.verdict target) target mode l
+after_order h (Ok (order.Request source target user)) l = after_request (to_give h source) l
+after_order h (Ok order.HangUp) l = after_hang_up (choice h l.ahead).next l (moved (choice h l.ahead).failing l) (chosen h l)
+after_order h (Err fault) l = quiet l.struck
+
+-- ---- answers
+
+after_given_file : (r : Result Answer BadText) (l : Lists) → KeepsIn l.struck (on_given_file_done r l)
+after_given_file (Ok answer.DoneYes) l = quiet l.struck
+after_given_file (Ok answer.DoneYesMaster) l = quiet l.struck
+after_given_file (Ok answer.DoneNever) l = quiet l.struck
+after_given_file (Ok answer.DoneLater) l = quiet l.struck
+after_given_file _ l = quiet l.struck
+
+after_last_hang_up : (r : Result Answer BadText) (l : Lists) → KeepsIn l.struck (on_last_hang_up r l)
+after_last_hang_up (Ok answer.HangYes) l = quiet l.struck
+after_last_hang_up _ l = quiet l.struck
+
+after_sends_file : (file : Option File) (l : Lists) → KeepsIn l.struck (sends_file file l)
+after_sends_file None l = quiet l.struck
+after_sends_file (Some file) l = quiet l.struck
+
+after_send_yes : (h : Holdings) (jobs : List Job) (l : Lists) → KeepsIn l.struck (on_send_yes h jobs l)
+after_send_yes h (job.Send source target user temp ∷ jobs) l = after_sends_file (to_give h (fetched_by source temp)) l
+after_send_yes h _ l = quiet l.struck
+
+after_send_answer : (h : Holdings) (r : Result Answer BadText) (l : Lists) → KeepsIn l.struck (on_send_answer h r l)
+after_send_answer h (Ok answer.SendYes) l = after_send_yes h l.ahead l
+after_send_answer h (Ok answer.SendNever) l = fails h l []
+after_send_answer h (Ok answer.SendLater) l = passes h l []
+after_send_answer h _ l = quiet l.struck
+
+-- a Send job is struck, and nothing was kept
+one_sent : (source target user : List ℕ) (temp : Option (List ℕ)) (s after : List Job) → after ≡ s ++ job.Send source target user temp ∷ []
+    → KeepsWhatItAskedFor s after [] []
+one_sent source target user temp s after is = record {
+  struck_since = job.Send source target user temp ∷ [];
+  kept_since = [];
+  strikes = is;
+  keeps = refl;
+  own = sent none;
+}
+
+after_sent_job : (h : Holdings) (jobs p s f : List Job) (r : Result Answer BadText) → KeepsIn s (on_sent_job_done h jobs r (lists p jobs s f))
+after_sent_job h (job.Send source target user temp ∷ jobs) p s f (Ok answer.DoneYes) =
+    let struck = s ++ job.Send source target user temp ∷ [] in
+    one_sent source target user temp s (moved (choice h jobs).failing (lists p jobs struck f)).struck (choice_strikes_nothing h jobs p struck f)
+after_sent_job h (job.Send source target user temp ∷ jobs) p s f (Ok answer.DoneYesMaster) =
+    one_sent source target user temp s (s ++ job.Send source target user temp ∷ []) refl
+after_sent_job h (job.Send source target user temp ∷ jobs) p s f (Ok answer.DoneNever) = fails h (lists p (job.Send source target user temp ∷ jobs) s f) []
+after_sent_job h (job.Send source target user temp ∷ jobs) p s f (Ok answer.DoneLater) = passes h (lists p (job.Send source target user temp ∷ jobs) s f) []
+after_sent_job h (job.Send source target user temp ∷ jobs) p s f _ = quiet s
+after_sent_job h _ p s f r = quiet s
+
+after_request_answer : (h : Holdings) (r : Result Answer BadText) (l : Lists) → KeepsIn l.struck (on_request_answer h r l)
+after_request_answer h (Ok (answer.GiveYes mode)) l = quiet l.struck
+after_request_answer h (Ok answer.GiveNever) l = fails h l []
+after_request_answer h (Ok answer.GiveLater) l = passes h l []
+after_request_answer h _ l = quiet l.struck
+
+after_hang_up_answer : (r : Result Answer BadText) (l : Lists) → KeepsIn l.struck (on_hang_up_answer r l)
+after_hang_up_answer (Ok answer.HangYes) l = quiet l.struck
+after_hang_up_answer (Ok answer.HangNo) l = quiet l.struck
+after_hang_up_answer _ l = quiet l.struck
+
+after_nothing_more : (r : Result Answer BadText) (l : Lists) → KeepsIn l.struck (on_nothing_more r l)
+after_nothing_more (Ok answer.HangYes) l = quiet l.struck
+after_nothing_more _ l = quiet l.struck
+
+after_text : (h : Holdings) (a : Awaits) (text : List ℕ) (l : Lists) → KeepsIn l.struck (on_text h a text l)
+after_text h awaits.Order text l = after_order h (order_of text) l
+after_text h awaits.GivenFileDone text l = after_given_file (answer_of text) l
+after_text h awaits.LastHangUp text l = after_last_hang_up (answer_of text) l
+after_text h awaits.SendAnswer text l = after_send_answer h (answer_of text) l
+after_text h awaits.SentFileDone text l = after_sent_job h l.ahead l.passed l.struck l.failed (answer_of text)
+after_text h awaits.RequestAnswer text l = after_request_answer h (answer_of text) l
+after_text h awaits.HangUpAnswer text l = after_hang_up_answer (answer_of text) l
+after_text h awaits.NothingMore text l = after_nothing_more (answer_of text) l
+after_text h _ text l = quiet l.struck
+
+-- ---- files
+
+after_kept : (immovable : Bool) (file : Kept) (l : Lists) → KeepsIn l.struck (on_sent_file immovable file l)
+after_kept false file l = record {
+  struck_since = [];
+  kept_since = file ∷ [];
+  strikes = sym (append-nil l.struck);
+  keeps = refl;
+  own = not_asked_for none;
+}
+after_kept true file l = quiet l.struck
+
+after_asked : (h : Holdings) (immovable : Bool) (source target user bytes : List ℕ) (mode : ℕ) (jobs p s f : List Job)
+    → KeepsIn s (on_asked_file h immovable (record { name = target; mode = mode; bytes = bytes }) (lists p (job.Request source target user ∷ jobs) s f))
+after_asked h false source target user bytes mode jobs p s f = record {
+  struck_since = job.Request source target user ∷ [];
+  kept_since = record { name = target; mode = mode; bytes = bytes } ∷ [];
+  strikes = choice_strikes_nothing h jobs p (s ++ job.Request source target user ∷ []) f;
+  keeps = refl;
+  own = asked_for refl none;
+}
+after_asked h true source target user bytes mode jobs p s f = fails h (lists p (job.Request source target user ∷ jobs) s f) (the_answer answer.DoneNever ∷ [])
+
+after_file_of : (h : Holdings) (jobs p s f : List Job) (mode : ℕ) (bytes : List ℕ) → KeepsIn s (on_file_of h jobs mode bytes (lists p jobs s f))
+after_file_of h (job.Request source target user ∷ jobs) p s f mode bytes = after_asked h (h.immovable target) source target user bytes mode jobs p s f
+after_file_of h _ p s f mode bytes = quiet s
+
+after_file : (h : Holdings) (a : Awaits) (bytes : List ℕ) (l : Lists) → KeepsIn l.struck (on_file h a bytes l)
+after_file h (awaits.SentFile target mode) bytes l = after_kept (h.immovable target) (record { name = target; mode = mode; bytes = bytes }) l
+after_file h (awaits.AskedFile mode) bytes l = after_file_of h l.ahead l.passed l.struck l.failed mode bytes
+after_file h _ bytes l = quiet l.struck
+
+-- ---- messages
+
+after_whole : (kind : Kind) (h : Holdings) (a : Awaits) (bytes : List ℕ) (l : Lists) → KeepsIn l.struck (on_whole kind h a bytes l)
+after_whole OfCommand h a bytes l = after_text h a bytes l
+after_whole OfFile h a bytes l = after_file h a bytes l
+
+after_gathered : (whole : Bool) (kind : Kind) (h : Holdings) (s : State) (bytes : List ℕ) → KeepsIn s.lists.struck (on_gathered whole kind h s bytes)
+after_gathered false kind h s bytes = quiet s.lists.struck
+after_gathered true kind h s bytes = after_whole kind h s.awaits bytes s.lists
+
+after_part : (too_long : Bool) (g : Gathering) (h : Holdings) (s : State) → KeepsIn s.lists.struck (on_part too_long g h s)
+after_part true g h s = quiet s.lists.struck
+after_part false g h s = after_gathered g.whole g.kind h s g.bytes
+
+after_step : (h : Holdings) (s : State) (message : List ℕ) → KeepsIn s.lists.struck (step h s message)
+after_step h s message =
+    let g : Gathering = gathered_with s message in
+    after_part (nat_lt (limit_of g.kind) (length g.bytes)) g h s
+
+after_opening : (side : Side) (h : Holdings) (l : Lists) → KeepsIn l.struck (opening side h l)
+after_opening caller h l = chooses h l []
+after_opening called h l = quiet l.struck
+
+-- ---- an end
+
+-- with what was kept before
+behind_kept : (s t : List Job) (kept new : List Kept) → KeepsWhatItAskedFor s t [] new → KeepsWhatItAskedFor s t kept (kept ++ new)
+behind_kept s t kept new k = record {
+  struck_since = k.struck_since;
+  kept_since = k.kept_since;
+  strikes = k.strikes;
+  keeps = ap (λ es. kept ++ es) k.keeps;
+  own = k.own;
+}
+
+module _ (id : Identity) (h : Holdings) (struck : List Job) (kept : List Kept) where
+  abbrev Since : Talk → Type 0
+  Since talk = KeepsWhatItAskedFor struck talk.machine.lists.struck kept talk.kept
+
+  since_reply : (talk : Talk) (r : Reply) → Since talk → KeepsIn talk.machine.lists.struck r
+      → KeepsWhatItAskedFor struck r.state.lists.struck kept (talk.kept ++ r.keeps)
+  since_reply talk r is next =
+      let now = talk.machine.lists.struck in
+      then_keeps struck now r.state.lists.struck kept talk.kept (talk.kept ++ r.keeps) is
+      (behind_kept now r.state.lists.struck talk.kept r.keeps next)
+
+  opened_keeps : (size : ℕ) (talk : Talk) → Since talk → Since (opened_with id.side h size talk)
+  opened_keeps size talk is =
+      since_reply talk (opening id.side h talk.machine.lists) is (after_opening id.side h talk.machine.lists)
+
+  taking_keeps : (message : List ℕ) (talk : Talk) → Since talk → Since (taking h message talk)
+  taking_keeps message talk is = since_reply talk (step h talk.machine message) is (after_step h talk.machine message)
+
+  event_since : (event : EndEvent) (e : EndState Talk) → Since e.keeper → Since (end_step (end_keeper id.side h) id event e).state.keeper
+  event_since event e is =
+      step_keeps Talk (end_keeper id.side h) Since opened_keeps taking_keeps (λ talk same. same) id event e is
+
+  piece_since : (piece : List ℕ) (r : Hearer NodeEnd) → Since r.end.state.keeper → Since (talk_in (takes_piece (node_taker h id) piece r))
+  piece_since piece r is = piece_keeps id h Since event_since piece r is
+
+pub event_keeps : (h : Holdings) (kept : List Kept) (event : EndEvent) (e : EngineState)
+    → KeepsWhatItAskedFor e.talking.machine.lists.struck (effect_of h kept event e).state.keeper.machine.lists.struck
+    kept (effect_of h kept event e).state.keeper.kept
+event_keeps h kept event e =
+    let struck = e.talking.machine.lists.struck in
+    event_since e.identity h struck kept event (end_of h kept e) (nothing_new struck kept)
+
+pub takes_all_keeps : (h : Holdings) (kept kept_after : List Kept) (failure : Type 0) (bytes : List ℕ) (before after : NodeState)
+    → TakesAll h kept kept_after failure bytes before after
+    → KeepsWhatItAskedFor (struck_jobs before) (struck_jobs after) kept kept_after
+takes_all_keeps h kept kept_after failure bytes before after g =
+    let from : Hearer NodeEnd = hearer_of h kept [] (g.course.failures ++ []) before in
+    subst (λ (c : Came NodeEnd). KeepsWhatItAskedFor (struck_jobs before) (talk_in c).machine.lists.struck kept (talk_in c).kept) (g.taken [] [])
+    (piece_since before.engine.identity h (struck_jobs before) kept bytes from (nothing_new (struck_jobs before) kept))

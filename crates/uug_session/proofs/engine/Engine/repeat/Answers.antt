@@ -1,0 +1,37 @@
+use Rattle.std.proofs.Common.{◌++◌, map, subst, ap, ◌∙◌, refl, Ok}
+use Rattle.uug_link.specs.Announced.{announced}
+use Rattle.uug_link.specs.declared.outcome.Outcome.{Outcome}
+use Rattle.uug_link.specs.Follows.{Follows, answered, written}
+use Rattle.uug_link.specs.Step.{Effect, step, timed_out, nothing}
+use Rattle.uug_session.specs.EndStep.{late}
+use Rattle.uug_session.specs.Engine.{Does, EngineState, bare, stage_of}
+use Rattle.uug_session.specs.Side.{side_of}
+use Rattle.uug_session.specs.Talking.{talking_has_parted}
+use Rattle.uug_session.proofs.EngineLemmas.{late_by, quiet_does}
+use Rattle.uug_session.proofs.engine.Engine.repeat.Goals as goal
+
+pub returns-in-Ok-Nothing-clause-ok : goal.returns-in-Ok-Nothing-clause-ok
+returns-in-Ok-Nothing-clause-ok g c =
+    let i = c.self.inside in
+    let b : EngineState = record {
+      identity = record { side = side_of i.side; me = i.place.me; peer = i.place.peer };
+      own = announced i.place.announce;
+      stage = stage_of i.stage;
+      link = i.link;
+      talking = i.dialogue;
+      outbox = i.outbox;
+    } in
+    let m : EngineState = record {
+      identity = b.identity;
+      own = b.own;
+      stage = b.stage;
+      link = c.on_timeout.new.self;
+      talking = i.dialogue;
+      outbox = c.on_timeout.new.out;
+    } in
+    let e : Effect = step i.link timed_out in
+    let told = subst (λ (o : Outcome). Follows e i.link c.on_timeout.new.self c.reserve.new.self c.on_timeout.new.out (answered (Ok o)))
+    c.in-Ok-Nothing.field-0-is c.in-Ok-Nothing.ensures in
+    subst (λ (x : EngineState). Does (late x.identity (talking_has_parted x.talking) x.link x.talking) (bare m) x m) c.self.view_is
+    (late_by b.identity (talking_has_parted b.talking) nothing e b.talking (bare m) b m told.outcome
+    (quiet_does e b.talking b m (ap (λ (x : EngineState). x.stage) c.self.view_is ∙ c.requires.linked) told.state (told.emitted ∙ ap (λ x. x ++ map written e.emitted) c.reserve.ensures.entries) refl refl))

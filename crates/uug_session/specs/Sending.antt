@@ -1,0 +1,23 @@
+-- An end sends while there is room (this project's profile).
+use Rattle.std.specs.Prelude.{◌≡◌, false, List, None, ◌⊎◌, ⊤}
+use Rattle.uug_link.specs.State.{State}
+use Rattle.uug_session.specs.EndStep.{EndState, Stage, hailing, linked, ended, has_room, is_up}
+use Rattle.uug_session.specs.Engine.{EngineState, end_of}
+use Rattle.uug_session.specs.Holdings.{Holdings, Kept}
+use Rattle.uug_session.specs.Keeper.{Keeper}
+use Rattle.uug_session.specs.Talk.{end_keeper}
+
+-- by how far its session is: the link is not up in the greeting; on a link that is up the window lets no message more out,
+-- or none waits to be sent
+abbrev pub SaidAt : {C : Type 0} → Keeper C → Stage → State → C → Type 0
+SaidAt k (hailing greeting) s c = is_up s.phase ≡ false
+SaidAt k linked s c = (has_room s ≡ false) ⊎ (k.next c ≡ None)
+SaidAt k (ended how) s c = ⊤
+
+-- The end has said what it can.
+abbrev pub HasSaidWhatItCan : {C : Type 0} → Keeper C → EndState C → Type 0
+HasSaidWhatItCan k e = SaidAt k e.stage e.link e.keeper
+
+-- a node, with what its spool gives and has kept
+abbrev pub NodeHasSaidWhatItCan : Holdings → List Kept → EngineState → Type 0
+NodeHasSaidWhatItCan h kept e = HasSaidWhatItCan (end_keeper e.identity.side h) (end_of h kept e)

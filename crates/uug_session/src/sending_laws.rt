@@ -1,0 +1,27 @@
+//! That an end sends while there is room. The functions do nothing.
+ghost use Rattle.std.specs.Prelude.{◌≤◌, List};
+ghost use Rattle.uug_link.specs.Announced.{Announced};
+ghost use Rattle.uug_link.specs.declared.limits.TheConstants.{WINDOW_MAX};
+ghost use Rattle.uug_session.specs.EndStep.{EndEvent, EndState, Identity, begins_session, end_step};
+ghost use Rattle.uug_session.specs.Engine.{Does, EngineState, end_of};
+ghost use Rattle.uug_session.specs.Holdings.{Holdings, Kept};
+ghost use Rattle.uug_session.specs.Keeper.{Keeper};
+ghost use Rattle.uug_session.specs.Node.{effect_of};
+ghost use Rattle.uug_session.specs.Sending.{HasSaidWhatItCan, NodeHasSaidWhatItCan};
+
+/// After each event, on a link that is up, the window lets no message more out or none waits to be sent: whatever keeps the
+/// conversation, and for each window that can be announced, 1 to 7.
+pub fn an_end_sends_while_there_is_room<C>()
+    ensures first { (k : Keeper C) (id : Identity) (own : Announced) (c : C)
+        → HasSaidWhatItCan k (begins_session id own c).state }
+    ensures stays { (k : Keeper C) (id : Identity) (event : EndEvent) (e : EndState C)
+        → (end_step k id event e).state.link.window ≤ WINDOW_MAX
+        → HasSaidWhatItCan k e → HasSaidWhatItCan k (end_step k id event e).state }
+{}
+
+/// So does a node: what its calls say of a step (`Does`), whether it takes up an item or has waited too long, is such an event.
+pub fn a_node_sends_while_there_is_room()
+    ensures { (h : Holdings) (kept kept_after : List Kept) (event : EndEvent) (before after : EngineState)
+        → after.link.window ≤ WINDOW_MAX → Does (effect_of h kept event before) (end_of h kept_after after) before after
+        → NodeHasSaidWhatItCan h kept before → NodeHasSaidWhatItCan h kept_after after }
+{}
