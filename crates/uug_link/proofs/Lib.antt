@@ -21,4 +21,6 @@ pub mod ArrivalLemmas
 pub mod OutcomeLemmas
 pub mod TermsLemmas
 pub mod InRangeLemmas
+pub mod WrittenRuns
+pub mod CountsRuns
 pub mod TimeoutLemmas

@@ -44,7 +44,7 @@ pub record Front (e : End) (out : Wire) (taken : ℕ) (x : Flying) (xs : List Fl
   pub few : length e.sent ≤ out.acked + 7
   pub number : EachNumber (λ n. n % 8 ≡ taken % 8 → n ≡ taken) (x ∷ xs)
 
-front : (law : LawsBelow) (a b : Announced) (e f : End) (out : Wire) (acked taken : ℕ) (x : Flying) (xs : List Flying) →
+pub front : (law : LawsBelow) (a b : Announced) (e f : End) (out : Wire) (acked taken : ℕ) (x : Flying) (xs : List Flying) →
     Running law a b e f out (record { acked = acked; taken = taken; flight = x ∷ xs }) → Front e out taken x xs
 front law a b e f out acked taken x xs h =
     let m : Machine = machine a b e f out (record { acked = acked; taken = taken; flight = x ∷ xs }) in
@@ -174,7 +174,7 @@ heard_close a b e f out back _ h at =
 -- ---- packets of the window, at a link that is up
 
 -- the packet at the front acknowledges, at a link that is up
-acked_front : (law : LawsBelow) (a b : Announced) (e f : End) (out : Wire) (acked' taken : ℕ) (x : Flying) (xs : List Flying)
+pub acked_front : (law : LawsBelow) (a b : Announced) (e f : End) (out : Wire) (acked' taken : ℕ) (x : Flying) (xs : List Flying)
     (p : PacketValue) (y : ℕ) → Running law a b e f out (record { acked = acked'; taken = taken; flight = x ∷ xs }) →
     Front e out taken x xs → IsUp e.link → acknowledged_by p ≡ Some y → y ≡ ack_of x % 8 →
     Acked e.link (acknowledged y e.link) e.sent (ack_of x)
@@ -329,7 +329,7 @@ heard_data_up law a b e f out acked' taken (data_at n c ∷ xs) seq ack k messag
 -- ---- a packet is found
 
 -- how the packets of the window in flight begin
-in_front : (law : LawsBelow) (a b : Announced) (e f : End) (out back : Wire) (p : PacketValue) →
+pub in_front : (law : LawsBelow) (a b : Announced) (e f : End) (out back : Wire) (p : PacketValue) →
     Running law a b e f out back → IsNext e f p → is_of_window p ≡ true →
     AreWritten f.sent back.flight (p ∷ of_window (drop (suc e.passed) f.emitted))
 in_front law a b e f out back p h at is =

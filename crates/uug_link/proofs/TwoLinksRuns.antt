@@ -297,7 +297,7 @@ machine_runs law near far p w v run =
     )
 
 -- what holds of the near end holds of both
-of_two : (law : LawsBelow) (P : End → End → Announced → Type 0) →
+pub of_two : (law : LawsBelow) (P : End → End → Announced → Type 0) →
     ((a b : Announced) (e f : End) (out back : Wire) → Running law a b e f out back → P e f b) → AlwaysOfTwo P
 of_two law P from near far p w v run =
     let h = simulated law near far p w v run in

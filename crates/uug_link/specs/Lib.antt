@@ -11,6 +11,7 @@ pub mod Strays
 pub mod WindowMachine
 pub mod WindowBounds
 pub mod TwoLinks
+pub mod Counts
 pub mod Arrivals
 pub mod OnTheLine
 pub mod Moves

@@ -2,6 +2,7 @@
 ghost use Rattle.std.specs.Prelude.{◌≡◌, ◌≢◌, ◌↔◌, ℕ, suc, ◌+◌, ◌-◌, ◌%◌, ◌<◌, ◌≤◌, List, drop, length, slice_get, Some, None, MatchOption, IsTrue};
 ghost use Rattle.uug_link.specs.Announced.{Announced, announced};
 ghost use Rattle.uug_link.specs.Arrivals.{IsPlace, arrived, as_happenings, place_of, same_packet};
+ghost use Rattle.uug_link.specs.Counts.{AlwaysEmits, AreCounted, CanBeWritten};
 ghost use Rattle.uug_link.specs.InRange.{AreWellFormed, IsAnnouncement, IsInRange, MayMeet};
 ghost use Rattle.uug_link.specs.Moves.{AllMoveWith, MovesWith, ReadsBoth};
 ghost use Rattle.uug_link.specs.OnTheLine.{Reads};
@@ -180,3 +181,22 @@ pub fn arrivals()
         IsRun near far ends → IsPlace p ends.far.emitted ends.near.passed i →
         IsRun near far (record ends { near = arrived p i ends.near }) }
 {}
+
+/// What arrives in a run of two links, whatever was lost before it: it can be read, and none of it is stray.
+///
+/// So a message that was taken counts as acknowledged as soon as one packet behind it arrives, and what an end repeats is
+/// what the other still lacks: what a clean line needs to bring both to the end.
+pub fn what_two_links_emit_arrives()
+    // Each packet that an end has emitted can be written, and is read again as what it is.
+    ensures written { AlwaysEmits CanBeWritten }
+    // The numbers of both are counts of what was sent, taken and acknowledged.
+    ensures counted { AlwaysOfTwo (λ e other announced. AreCounted e other announced.window) }
+    // An acknowledgement that arrives at a link that is up counts: the packet behind that one is then the oldest.
+    ensures acknowledges { (near far : Announced) (ends : Ends) (p : PacketValue) (place y : ℕ) →
+        IsWindow near.window → IsWindow far.window → IsRun near far ends → IsUp ends.near.link →
+        ends.near.passed ≤ place → slice_get ends.far.emitted place ≡ Some p → acknowledgement p ≡ Some y →
+        (step ends.near.link (packet_found p)).state.oldest ≡ (y + 1) % 8 }
+{
+    the_window_is_safe();
+    no_peer_leads_a_link_astray();
+}

@@ -5,6 +5,7 @@ ghost use Rattle.uug_link.specs.Follows.{Follows, answered, done, written};
 ghost use Rattle.uug_link.specs.Reactions.{effect_of};
 ghost use Rattle.uug_link.specs.State.{caller_state, called_state, HasRoom, IsClosing, IsFresh, IsSound, IsUp};
 ghost use Rattle.uug_link.specs.Terms.{IsSize, IsWindow, size_of_code};
+ghost use Rattle.uug_link.specs.declared.limits.TheConstants.{TIMEOUTS_MAX};
 ghost use Rattle.uug_link.specs.Step.{step, taken, to_begin, packet_found, bad_found, timed_out, to_send, to_close};
 ghost use Rattle.uug_packet.specs.Packet.{shown};
 
@@ -176,6 +177,14 @@ impl Link {
         ensures most { result ≤ WINDOW_MAX }
     {
         self.unacked.len()
+    }
+
+    /// How many timeouts have passed in a row without progress; at the eighth the link gives up.
+    pub fn timeouts(&self) -> u8
+        ensures count { result ≡ self.now.timeouts }
+        ensures most { result ≤ TIMEOUTS_MAX }
+    {
+        self.status.timeouts.count()
     }
 
     /// The greatest number of packets that may be unacknowledged, 1 to 7, of a link that is up: the smaller of the two

@@ -26,6 +26,13 @@ impl Timeouts {
         }
     }
 
+    pub(crate) fn count(self) -> u8
+        ensures count { result ≡ self.count }
+        ensures most { result ≤ TIMEOUTS_MAX }
+    {
+        self.count
+    }
+
     /// One more, unless that ends the link.
     pub(crate) fn next(self) -> Option<Self>
         ensures { MatchOption result (TIMEOUTS_MAX ≤ self.count + 1)
