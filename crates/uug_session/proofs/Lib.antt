@@ -58,6 +58,7 @@ pub mod NodeSearchLemmas
 pub mod PiecesLemmas
 pub mod QueueLemmas
 mod RoomLemmas
+mod OverLemmas
 mod SaidByteLemmas
 pub mod SaidTextLemmas
 pub mod SpeakLemmas

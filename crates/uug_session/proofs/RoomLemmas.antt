@@ -37,7 +37,7 @@ full_by false n w full = refl
 full_has_no_room : (s : State) → s.window ≤ length s.unacked → has_room s ≡ false
 full_has_no_room s full = full_by (is_up s.phase) (length s.unacked) s.window full
 
-halted_is_down : (p : Phase) → is_halted p ≡ true → is_up p ≡ false
+pub halted_is_down : (p : Phase) → is_halted p ≡ true → is_up p ≡ false
 halted_is_down Fresh is = refl
 halted_is_down AwaitsInitA is = refl
 halted_is_down AwaitsInitB is = refl
@@ -179,7 +179,7 @@ link_said k id failed halted e message c within = goes_on_said k false e c withi
 -- ---- nothing has come for some time
 
 -- what the link does then, by whether it goes on
-abbrev late_effect : (lasts : Bool) → State → Effect
+abbrev pub late_effect : (lasts : Bool) → State → Effect
 late_effect lasts s =
     if lasts
     then record {
@@ -214,7 +214,7 @@ late_said k id parted halted e c said = said
 
 -- ---- the greeting
 
-begun_is_down : (halts : Bool) (s : State) → is_halted s.phase ≡ halts
+pub begun_is_down : (halts : Bool) (s : State) → is_halted s.phase ≡ halts
     → is_up (if halts then answers_halted s else on_event to_begin s).state.phase ≡ false
 begun_is_down true s is = halted_is_down s.phase is
 begun_is_down false s is = refl

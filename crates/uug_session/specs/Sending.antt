@@ -1,5 +1,5 @@
--- An end sends while there is room (this project's profile).
-use Rattle.std.specs.Prelude.{◌≡◌, false, List, None, ◌⊎◌, ⊤}
+-- An end sends while there is room, and closes where all is over (this project's profile).
+use Rattle.std.specs.Prelude.{◌≡◌, true, false, List, None, ◌⊎◌, ⊤}
 use Rattle.uug_link.specs.State.{State}
 use Rattle.uug_session.specs.EndStep.{EndState, Stage, hailing, linked, ended, has_room, is_up}
 use Rattle.uug_session.specs.Engine.{EngineState, end_of}
@@ -17,6 +17,16 @@ SaidAt k (ended how) s c = ⊤
 -- The end has said what it can.
 abbrev pub HasSaidWhatItCan : {C : Type 0} → Keeper C → EndState C → Type 0
 HasSaidWhatItCan k e = SaidAt k e.stage e.link e.keeper
+
+-- by how far its session is: where the link is up not all is said and taken yet
+abbrev pub GoesOnAt : {C : Type 0} → Keeper C → Stage → State → C → Type 0
+GoesOnAt k (hailing greeting) s c = is_up s.phase ≡ false
+GoesOnAt k linked s c = is_up s.phase ≡ true → k.is_over c ≡ false
+GoesOnAt k (ended how) s c = ⊤
+
+-- The end has closed its link where all is said and taken.
+abbrev pub HasClosedWhereItIsOver : {C : Type 0} → Keeper C → EndState C → Type 0
+HasClosedWhereItIsOver k e = GoesOnAt k e.stage e.link e.keeper
 
 -- a node, with what its spool gives and has kept
 abbrev pub NodeHasSaidWhatItCan : Holdings → List Kept → EngineState → Type 0

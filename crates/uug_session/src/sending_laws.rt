@@ -1,4 +1,4 @@
-//! That an end sends while there is room. The functions do nothing.
+//! That an end sends while there is room, and closes where all is over. The functions do nothing.
 ghost use Rattle.std.specs.Prelude.{◌≤◌, List};
 ghost use Rattle.uug_link.specs.Announced.{Announced};
 ghost use Rattle.uug_link.specs.declared.limits.TheConstants.{WINDOW_MAX};
@@ -7,7 +7,7 @@ ghost use Rattle.uug_session.specs.Engine.{Does, EngineState, end_of};
 ghost use Rattle.uug_session.specs.Holdings.{Holdings, Kept};
 ghost use Rattle.uug_session.specs.Keeper.{Keeper};
 ghost use Rattle.uug_session.specs.Node.{effect_of};
-ghost use Rattle.uug_session.specs.Sending.{HasSaidWhatItCan, NodeHasSaidWhatItCan};
+ghost use Rattle.uug_session.specs.Sending.{HasClosedWhereItIsOver, HasSaidWhatItCan, NodeHasSaidWhatItCan};
 
 /// After each event, on a link that is up, the window lets no message more out or none waits to be sent: whatever keeps the
 /// conversation, and for each window that can be announced, 1 to 7.
@@ -19,7 +19,15 @@ pub fn an_end_sends_while_there_is_room<C>()
         → HasSaidWhatItCan k e → HasSaidWhatItCan k (end_step k id event e).state }
 {}
 
-/// So does a node: what its calls say of a step (`Does`), whether it takes up an item or has waited too long, is such an event.
+/// After each event an end whose link is up has something to say or to take yet: where all is over it has closed.
+pub fn an_end_closes_where_all_is_over<C>()
+    ensures first { (k : Keeper C) (id : Identity) (own : Announced) (c : C)
+        → HasClosedWhereItIsOver k (begins_session id own c).state }
+    ensures stays { (k : Keeper C) (id : Identity) (event : EndEvent) (e : EndState C)
+        → HasClosedWhereItIsOver k e → HasClosedWhereItIsOver k (end_step k id event e).state }
+{}
+
+/// A node sends while there is room: what its calls say of a step (`Does`), whether it takes up an item or has waited too long, is such an event.
 pub fn a_node_sends_while_there_is_room()
     ensures { (h : Holdings) (kept kept_after : List Kept) (event : EndEvent) (before after : EngineState)
         → after.link.window ≤ WINDOW_MAX → Does (effect_of h kept event before) (end_of h kept_after after) before after
