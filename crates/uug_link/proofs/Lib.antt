@@ -23,4 +23,5 @@ pub mod TermsLemmas
 pub mod InRangeLemmas
 pub mod WrittenRuns
 pub mod CountsRuns
+pub mod OnTheWayLemmas
 pub mod TimeoutLemmas

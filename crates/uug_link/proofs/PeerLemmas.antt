@@ -83,14 +83,14 @@ oldest_left law s p sent k a y h =
     omega (arith, (law.numbers s p (in_bounds h)).oldest, law.next s p, kept, h.oldest, outstanding_count h)
 
 -- what else a link keeps stays
-record Beside (s t : State) : Type 0 where
-  expected : t.expected ≡ s.expected
-  phase : t.phase ≡ s.phase
-  window : t.window ≡ s.window
-  size_code : t.size_code ≡ s.size_code
-  own : t.own ≡ s.own
+pub record Beside (s t : State) : Type 0 where
+  pub expected : t.expected ≡ s.expected
+  pub phase : t.phase ≡ s.phase
+  pub window : t.window ≡ s.window
+  pub size_code : t.size_code ≡ s.size_code
+  pub own : t.own ≡ s.own
 
-beside : (y : ℕ) (s : State) → Beside s (acknowledged y s)
+pub beside : (y : ℕ) (s : State) → Beside s (acknowledged y s)
 beside y s = by (reach s y)
   where
     by : Reach s y → Beside s (acknowledged y s)

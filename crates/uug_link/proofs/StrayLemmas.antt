@@ -106,7 +106,7 @@ holds_effect P false e f h k = k
 holds_number : (P : List (List ℕ) → ℕ → Type 0) (x : ℕ) (s : State) → Holds P s → Holds P (on_number x s).state
 holds_number P x s h = holds_effect P (is_expected x s) _ _ h (holds_effect P s.told _ _ h h)
 
-up_step : (s : State) (p : PacketValue) → IsUp s → step s (packet_found p) ≡ on_packet p s
+pub up_step : (s : State) (p : PacketValue) → IsUp s → step s (packet_found p) ≡ on_packet p s
 up_step s p is =
     subst (λ (phase : Phase). (if is_halted phase then answers_halted s else on_packet p s) ≡ on_packet p s) (sym is) refl
 

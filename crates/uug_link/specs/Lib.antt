@@ -12,6 +12,7 @@ pub mod WindowMachine
 pub mod WindowBounds
 pub mod TwoLinks
 pub mod Counts
+pub mod OnTheWay
 pub mod Arrivals
 pub mod OnTheLine
 pub mod Moves

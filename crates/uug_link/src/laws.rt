@@ -1,14 +1,15 @@
 //! The laws of links and of the window machine: each is the contract of a function that does nothing.
-ghost use Rattle.std.specs.Prelude.{◌≡◌, ◌≢◌, ◌↔◌, ℕ, suc, ◌+◌, ◌-◌, ◌%◌, ◌<◌, ◌≤◌, List, drop, length, slice_get, Some, None, MatchOption, IsTrue};
+ghost use Rattle.std.specs.Prelude.{◌≡◌, ◌≢◌, ◌↔◌, ◌∷◌, ℕ, suc, ◌+◌, ◌-◌, ◌%◌, ◌<◌, ◌≤◌, List, drop, length, slice_get, Some, None, MatchOption, IsTrue};
 ghost use Rattle.uug_link.specs.Announced.{Announced, announced};
 ghost use Rattle.uug_link.specs.Arrivals.{IsPlace, arrived, as_happenings, place_of, same_packet};
 ghost use Rattle.uug_link.specs.Counts.{AlwaysEmits, AreCounted, CanBeWritten};
 ghost use Rattle.uug_link.specs.InRange.{AreWellFormed, IsAnnouncement, IsInRange, MayMeet};
 ghost use Rattle.uug_link.specs.Moves.{AllMoveWith, MovesWith, ReadsBoth};
 ghost use Rattle.uug_link.specs.OnTheLine.{Reads};
+ghost use Rattle.uug_link.specs.OnTheWay.{AreComing, Hears, IsTalk, Repeats, Sends, StillBring, emitted_by};
 ghost use Rattle.uug_link.specs.Outcomes.{FirstBySend, IsComing, MayAnswer, MovesPhase};
 ghost use Rattle.uug_link.specs.State.{IsFresh, IsUp, KnowsSize, KnowsWindow, State, called_state, caller_state};
-ghost use Rattle.uug_link.specs.Step.{Event, answers_halted, next_number, packet_found, step, to_begin, to_close, to_send, up};
+ghost use Rattle.uug_link.specs.Step.{Event, answers_halted, next_number, packet_found, step, timed_out, to_begin, to_close, to_send, up};
 ghost use Rattle.uug_link.specs.Strays.{HasNumbers, IsSmallerOf, StandsBehind, acknowledgement};
 ghost use Rattle.uug_link.specs.Terms.{IsWindow};
 ghost use Rattle.uug_link.specs.TwoLinks.{AllMayHappen, AllMayOccur, AlwaysOfTwo, End, Ends, Happening, IsFirst, IsFrontOf, IsRun, MayOccur, Occurrence, after_happenings, after_occurrence, first_ends, seen_from_far};
@@ -196,6 +197,29 @@ pub fn what_two_links_emit_arrives()
         IsWindow near.window → IsWindow far.window → IsRun near far ends → IsUp ends.near.link →
         ends.near.passed ≤ place → slice_get ends.far.emitted place ≡ Some p → acknowledgement p ≡ Some y →
         (step ends.near.link (packet_found p)).state.oldest ≡ (y + 1) % 8 }
+{
+    the_window_is_safe();
+    no_peer_leads_a_link_astray();
+}
+
+/// What a line brings where nothing on it is lost, between two links that are up: why both come to the end of what they
+/// have to say.
+pub fn a_clean_line_brings_all()
+    // A packet that arrives, whatever was lost before it, leaves the others on the way; it is taken where it is the expected
+    // one, what it acknowledges counts, and data is always answered.
+    ensures hears { (near far : Announced) (ends : Ends) (p : PacketValue) (ps : List PacketValue) (place : ℕ) →
+        IsWindow near.window → IsWindow far.window → IsRun near far ends → IsUp ends.near.link → IsTalk p →
+        AreComing ends.far ends.near (p ∷ ps) → IsPlace p ends.far.emitted ends.near.passed place →
+        AreComing ends.far (arrived p place ends.near) ps
+        × Hears p ends.near.link (arrived p place ends.near).link (emitted_by ends.near.link (packet_found p)) }
+    // So where the packets on the way bring and tell all, they do so behind it, in both directions.
+    ensures still { (p : PacketValue) (before after : State) (answer : List PacketValue) →
+        Hears p before after answer → StillBring p before after answer }
+    // A message that is sent is brought by its packet, and a timeout brings again what is outstanding.
+    ensures sends { (s : State) (message : List ℕ) → IsUp s → s.expected < 8 →
+        Sends s (step s (to_send message)).state (emitted_by s (to_send message)) }
+    ensures repeats { (s : State) → IsUp s → s.oldest < 8 → s.expected < 8 → length s.unacked ≤ WINDOW_MAX →
+        s.timeouts + 1 < TIMEOUTS_MAX → Repeats s (step s timed_out).state (emitted_by s timed_out) }
 {
     the_window_is_safe();
     no_peer_leads_a_link_astray();
