@@ -7,3 +7,4 @@ pub mod BrokenLemmas
 pub mod PrefixLemmas
 pub mod EncodeLemmas
 pub mod WellFormedLemmas
+pub mod AcknowledgeLemmas

@@ -1,9 +1,10 @@
-ghost use Rattle.std.specs.Prelude.{◌≡◌, ◌+◌, ◌-◌, ◌^◌, ◌<◌, ◌≤◌, ◌++◌, length, drop, replicate};
+ghost use Rattle.std.specs.Prelude.{◌≡◌, ℕ, List, ◌+◌, ◌-◌, ◌^◌, ◌<◌, ◌≤◌, ◌++◌, length, drop, replicate};
 ghost use Rattle.arrayvec.specs.ArrayVec.{array_vec_len};
 ghost use Rattle.uug_packet.specs.Field.{canonical_field, canonical_front, canonical_kind};
 ghost use Rattle.uug_packet.specs.Number.{number_of};
 ghost use Rattle.uug_packet.specs.Packet.{carry, control, shown, shown_control};
 ghost use Rattle.uug_packet.specs.Spelling.{canonical, control_byte, data_byte, header_of, IsSpelling, IsWritable};
+ghost use Rattle.uug_packet.specs.WellFormed.{IsWellFormed, IsWrittenCarry};
 
 use crate::checksum::{check, checksum_of};
 use crate::control::Control;
@@ -30,6 +31,17 @@ pub fn encode(packet: &Packet<'_>, out: &mut ArrayVec<u8, PACKET_MAX>)
             message,
         } => encode_data(*seq, *ack, *k, message, out),
     }
+}
+
+/// Changes the acknowledgement of the data packet that is written in the vector, and so its header alone.
+pub fn re_ack(written: &mut ArrayVec<u8, PACKET_MAX>, ack: Seq)
+    requires { IsWrittenCarry written.old.items }
+    ensures { (seq old k : ℕ) (message : List ℕ) → IsWellFormed (carry seq old k message) →
+        written.old.items ≡ canonical (carry seq old k message) →
+        written.new.items ≡ canonical (carry seq (number_of ack) k message) }
+{
+    let header = Header::at(written.as_slice());
+    set_header(header.acknowledging(ack), written);
 }
 
 fn encode_control(packet: Control, out: &mut ArrayVec<u8, PACKET_MAX>)

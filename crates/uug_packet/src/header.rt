@@ -1,8 +1,11 @@
-ghost use Rattle.std.specs.Prelude.{◌≡◌, ◌≤◌, ◌++◌, length, drop, MatchResult, IfOk};
+ghost use Rattle.std.specs.Prelude.{◌≡◌, ◌+◌, ◌*◌, ◌/◌, ◌≤◌, ◌++◌, bit_xor, length, drop, slice_index, MatchResult, IfOk};
 ghost use Rattle.uug_packet.specs.Decoded.{header_at};
-ghost use Rattle.uug_packet.specs.Spelling.{header_of};
+ghost use Rattle.uug_packet.specs.Number.{number_of};
+ghost use Rattle.uug_packet.specs.Spelling.{checksum_of, header_of};
 
+use crate::checksum::checksum_of;
 use crate::decoding::NoPacket;
+use crate::number::Seq;
 use byteorder::{ByteOrder, LittleEndian};
 
 /// The byte that each packet begins with, DLE.
@@ -55,6 +58,39 @@ impl Header {
                 })
             }
             _ => Err(NoPacket::Short),
+        }
+    }
+
+    /// The header in the first bytes, with nothing tested: they are those of a packet.
+    pub fn at(bytes: &[u8]) -> Self
+        requires { HEADER_SIZE ≤ length bytes.now }
+        ensures code { result.k ≡ slice_index bytes.now 1 }
+        ensures checksum { result.checksum ≡ slice_index bytes.now 2 + 256 * slice_index bytes.now 3 }
+        ensures control { result.control ≡ slice_index bytes.now 4 }
+    {
+        Header {
+            k: bytes[1],
+            checksum: LittleEndian::read_u16(&bytes[2..]),
+            control: bytes[CONTROL_PLACE],
+        }
+    }
+
+    /// The header of the same data packet with another acknowledgement.
+    ///
+    /// The checksum is taken from the check of the field mixed with the control byte, so that the check is had from it
+    /// without the field.
+    pub fn acknowledging(self, ack: Seq) -> Self
+        ensures code { result.k ≡ self.k }
+        ensures control { result.control ≡ 8 * (self.control / 8) + number_of ack }
+        ensures checksum { result.checksum ≡
+            checksum_of (bit_xor (bit_xor (checksum_of self.checksum) self.control) result.control) }
+    {
+        let control = 8 * (self.control / 8) + ack.value();
+        let check = checksum_of(self.checksum) ^ u16::from(self.control);
+        Header {
+            k: self.k,
+            checksum: checksum_of(check ^ u16::from(control)),
+            control,
         }
     }
 
