@@ -130,7 +130,9 @@ row() {
 }
 
 chmod a+rx "$work"
-for ((i = 0; i < 16; i++)); do
+# The file that travels over noisy lines has no piece of which an end could not see that it was changed.
+"$bench/../tools/seen_bytes.py" $mb >"$work/file0"
+for ((i = 1; i < 16; i++)); do
     head -c $mb /dev/urandom >"$work/file$i"
 done
 "$uucpair" scan </dev/null >/dev/null

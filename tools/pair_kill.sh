@@ -26,36 +26,6 @@ fail() {
     exit 1
 }
 
-# random_file SIZE: so many random bytes. One in about 1,460 packets of random bytes passes its checksum with the last bit
-# turned over, which no end can see; so each piece that travels in a packet is one that does not.
-random_file() {
-    python3 -c '
-import os, sys
-FIELD = 64
-
-def check(field):
-    first, second = 0xFFFF, 0
-    for place, byte in enumerate(field):
-        first = (((first << 1) | (first >> 15)) + byte) & 0xFFFF
-        second = (second + (first ^ (len(field) - place))) & 0xFFFF
-        if byte == 0 or first < byte:
-            first ^= second
-    return first
-
-def is_seen(piece):
-    missing = FIELD - len(piece)
-    field = piece if missing == 0 else bytes([missing]) + piece + bytes(missing - 1)
-    return check(field) != check(field[:-1] + bytes([field[-1] ^ 1]))
-
-left = int(sys.argv[1])
-while left > 0:
-    piece = os.urandom(min(left, FIELD))
-    if is_seen(piece):
-        sys.stdout.buffer.write(piece)
-        left -= len(piece)
-' "$1"
-}
-
 # Files of 0 to 6,000 bytes in both folders, and the jobs that bring each of them to the other one. Of four files two are
 # sent and two requested. A pipe among them, which is not to be opened.
 make_folders() {
@@ -64,7 +34,7 @@ make_folders() {
     mkfifo "$work/a/send/pipe"
     for ((i = 0; i < files; i++)); do
         from=$([ $((i % 2)) -eq 0 ] && echo a || echo b)
-        random_file $((i * 1367 % 6001)) >"$work/$from/send/file$i"
+        "$root/tools/seen_bytes.py" $((i * 1367 % 6001)) >"$work/$from/send/file$i"
         case $((i % 4)) in
         0) echo "send file$i got$i u" >>"$work/a.jobs" ;;
         1) echo "send file$i got$i u" >>"$work/b.jobs" ;;
