@@ -1,7 +1,8 @@
 -- The two ends of a session stay joined, and told by numbers each does the same.
 use Rattle.std.proofs.Common.{◌≡◌, ℕ, ◌≤◌, max, Bool, true, false, List, length, Option, Some, MatchOption, slice_get, ◌≢◌, refl, sym, ap, subst, arith}
 use Rattle.uug_link.specs.Arrivals.{IsPlace, place_of}
-use Rattle.uug_link.specs.State.{State}
+use Rattle.uug_link.specs.State.{IsUp, KnowsWindow, State}
+use Rattle.uug_link.specs.declared.limits.TheConstants.{WINDOW_MAX}
 use Rattle.uug_packet.specs.Packet.{PacketValue}
 use Rattle.uug_session.specs.Count.{Count, count_keeper}
 use Rattle.uug_session.specs.EndStep.{EndEffect, EndEvent, packet_found_whole, end_step, first_link, linked, message_of}
@@ -20,6 +21,8 @@ use Rattle.uug_line.proofs.Joining.{EndsJoined, HasPassed, IsSoundSession, Joine
 use Rattle.uug_line.proofs.LinkLemmas.{links_run}
 use Rattle.uug_line.specs.LowerLaws.{Laws}
 use Rattle.uug_line.proofs.MoveLemmas.{StandsThere}
+use Rattle.uug_line.proofs.SpeakingLemmas.{spoken_after}
+use Rattle.uug_line.specs.Speaking.{HasSpoken}
 use Rattle.uug_line.proofs.StepLemmas.{packet_step_alike, step_alike}
 use Rattle.uug_line.proofs.Steps.{IsNoPacket, count_player, talk_player}
 use Rattle.uug_line.proofs.TalkLemmas.{seen_at}
@@ -80,12 +83,21 @@ module _ (law : Laws) (setup : SetupValue) (brought : AtBoth Belongings) (sound 
       (law.unacked (at side setup).own (at (other side) setup).own (record { near = link_end m; far = link_end n })
       (sound.window side) (sound.window (other side)) (links_run setup side m n j.links)).0
 
+  -- on a link that is up the window is the one that the other end announced
+  window_within : (m n : Moment) → Joined setup brought side m n → IsUp m.link → m.link.window ≤ WINDOW_MAX
+  window_within m n j is =
+      let same = (law.window (at side setup).own (at (other side) setup).own (record { near = link_end m; far = link_end n })
+      (sound.window side) (sound.window (other side)) (links_run setup side m n j.links)).0
+      (subst KnowsWindow (sym is) tt) in
+      omega (arith, same, (sound.window (other side)).1)
+
   call_done : (e f : LineEnd Talk) (log : Log) (x : EndEffect Talk) (y : EndEffect Count) → EndsJoined setup brought side e f →
       log.most ≡ e.log.most → HasPassed log →
+      ((IsUp x.state.link → x.state.link.window ≤ WINDOW_MAX) → HasSpoken (end_keeper (session_side side) (at side setup).holdings) x.state) →
       DoesAlike (λ m. Joined setup brought side m (moment_of f)) (first_link (session_side side) (at side setup).own)
       (moment_with log e.state.link e.state.keeper) x y →
       DoneSo setup brought side f (after_call log e.line x) (after_call log e.line y)
-  call_done e f log x y joined most has_passed alike = record {
+  call_done e f log x y joined most has_passed spoken alike = record {
     joined = record {
       joined = alike.holds;
       near_hails = alike.hails;
@@ -96,6 +108,8 @@ module _ (law : Laws) (setup : SetupValue) (brought : AtBoth Belongings) (sound 
       far_most = joined.far_most;
       near_passed = has_passed;
       far_passed = joined.far_passed;
+      near_spoken = spoken (window_within (done_all (moment_with log e.state.link e.state.keeper) x) (moment_of f) alike.holds);
+      far_spoken = joined.far_spoken;
     };
     same = counted_call log e.line e.state.link e.state.keeper x y alike.same;
   }
@@ -108,6 +122,7 @@ module _ (law : Laws) (setup : SetupValue) (brought : AtBoth Belongings) (sound 
   does_joined e f event none joined =
       call_done e f e.log (end_step (end_keeper (session_side side) (at side setup).holdings) (identity setup side) event e.state)
       (end_step (count_keeper (seen_at setup brought side)) (identity setup side) event (counted_end e).state) joined refl joined.near_passed
+      (λ within. spoken_after (end_keeper (session_side side) (at side setup).holdings) (identity setup side) event e.state within joined.near_spoken)
       (step_alike law (session_side side) (at side setup).holdings (seen_at setup brought side)
       (λ m. Joined setup brought side m (moment_of f)) (StandsThere (moment_of f))
       (is_invariant law setup brought sound side (moment_of f)) (at side setup).own (at side setup).name
@@ -117,16 +132,17 @@ module _ (law : Laws) (setup : SetupValue) (brought : AtBoth Belongings) (sound 
 
   packet_done : (e f : LineEnd Talk) (p : PacketValue) (place : ℕ) (x : EndEffect Talk) (y : EndEffect Count) →
       EndsJoined setup brought side e f → x.took ≡ y.took →
+      ((IsUp x.state.link → x.state.link.window ≤ WINDOW_MAX) → HasSpoken (end_keeper (session_side side) (at side setup).holdings) x.state) →
       DoesAlike (λ m. Joined setup brought side m (moment_of f)) (first_link (session_side side) (at side setup).own)
       (found (moment_of e) place (taken_if x.took (message_of p) e.log.taken)) x y →
       DoneSo setup brought side f (after_call (took x.took (message_of p) (found_at place e.log)) e.line x)
       (after_call (took y.took (message_of p) (found_at place e.log)) e.line y)
-  packet_done e f p place x y joined tooks alike =
+  packet_done e f p place x y joined tooks spoken alike =
       let taken_so : Bool → Log = λ b. took b (message_of p) (found_at place e.log) in
       let log = taken_so x.took in
       subst (λ (b : Bool). DoneSo setup brought side f (after_call log e.line x) (after_call (taken_so b) e.line y)) tooks
       (call_done e f log x y joined (most_found x.took (message_of p) place e.log)
-      (passed_found x.took (message_of p) place e.log)
+      (passed_found x.took (message_of p) place e.log) spoken
       (subst (λ (m : Moment). DoesAlike (λ n. Joined setup brought side n (moment_of f))
       (first_link (session_side side) (at side setup).own) m x y)
       (moment_found x.took (message_of p) place e.log e.state.link e.state.keeper) alike))
@@ -145,4 +161,6 @@ module _ (law : Laws) (setup : SetupValue) (brought : AtBoth Belongings) (sound 
       (is_invariant law setup brought sound side (moment_of f)) (at side setup).own (at side setup).name
       (at (other side) setup).name (moment_of e) p place e.state.stage on_link
       (place_found law p f.log.packets e.log.passed place found_there) joined.joined in
-      packet_done e f p place x y joined (sym (ap (λ (z : EndEffect Count). z.took) alike.same)) alike
+      packet_done e f p place x y joined (sym (ap (λ (z : EndEffect Count). z.took) alike.same))
+      (λ within. spoken_after (end_keeper (session_side side) (at side setup).holdings) (identity setup side) event e.state within joined.near_spoken)
+      alike

@@ -8,7 +8,7 @@ use Rattle.uug_session.specs.declared.greeting.Greeting.{Greeting}
 use Rattle.uug_session.specs.EndStep.{hailing, first_link}
 use Rattle.uug_session.specs.Jobs.{at_start, pending}
 use Rattle.uug_session.specs.Party.{Party, IsSound}
-use Rattle.uug_session.specs.Talk.{Talk, unopened}
+use Rattle.uug_session.specs.Talk.{Talk, end_keeper, unopened}
 use Rattle.uug_session.specs.Told.{talk_behind}
 use Rattle.uug_session.specs.Turns.{Side as SessionSide}
 use Rattle.uug_session.specs.TwoEnds.{Talker, Two, Reached, first_talker, talker}
@@ -18,6 +18,7 @@ use Rattle.uug_line.specs.Belongings.{Belongings, SetupValue, party}
 use Rattle.uug_line.specs.LineEnd.{Log, LineEnd}
 use Rattle.uug_line.specs.LinkRun.{LinksRan}
 use Rattle.uug_line.specs.Sides.{other, session_side, AtBoth, at}
+use Rattle.uug_line.specs.Speaking.{HasSpoken}
 use Rattle.uug_line.specs.WereSent.{passed_at}
 use Rattle.uug_line.proofs.LinkRunLemmas.{first_of}
 
@@ -86,6 +87,10 @@ Hails setup side e = (g : Greeting) → e.state.stage ≡ hailing g → e.state.
 abbrev pub HasPassed : Log → Type 0
 HasPassed log = log.passed ≡ passed_at log.arrivals 0
 
+-- it has said what it can
+abbrev pub Spoken : SetupValue → Side → LineEnd Talk → Type 0
+Spoken setup side e = HasSpoken (end_keeper (session_side side) (at side setup).holdings) e.state
+
 pub record EndsJoined (setup : SetupValue) (brought : AtBoth Belongings) (side : Side) (e f : LineEnd Talk) : Type 0 where
   pub joined : Joined setup brought side (moment_of e) (moment_of f)
   pub near_hails : Hails setup side e
@@ -94,6 +99,8 @@ pub record EndsJoined (setup : SetupValue) (brought : AtBoth Belongings) (side :
   pub far_most : f.log.most ≤ (at side setup).own.window
   pub near_passed : HasPassed e.log
   pub far_passed : HasPassed f.log
+  pub near_spoken : Spoken setup side e
+  pub far_spoken : Spoken setup (other side) f
 
 -- ---- what a set-up's types say
 

@@ -41,5 +41,6 @@ mod VerdictLemmas
 mod RunLemmas
 mod SightingLemmas
 mod SpokenLemmas
+mod SpeakingLemmas
 mod TakenLemmas
 mod WideWindowFacts

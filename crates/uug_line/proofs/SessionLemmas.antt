@@ -5,13 +5,13 @@ use Rattle.uug_session.specs.EarlierJobs.{behind}
 use Rattle.uug_session.specs.EndStep.{first_link}
 use Rattle.uug_session.specs.Holdings.{Kept}
 use Rattle.uug_session.specs.Jobs.{Lists}
-use Rattle.uug_session.specs.Talk.{Talk}
+use Rattle.uug_session.specs.Talk.{Talk, end_keeper}
 use Rattle.uug_session.specs.Turns.{caller, called}
 use Rattle.uug_session.specs.TwoEnds.{IsFrontOf, Talker, at_first, first_two}
 use Rattle.uug_session.specs.View.{floor, kept_after, lists_after}
 use Rattle.uug_line.specs.declared.side.Side.{Side}
 use Rattle.uug_line.specs.declared.side.Side.TheVariants.{Caller, Called}
-use Rattle.uug_line.specs.Belongings.{Belongings, SetupValue, party}
+use Rattle.uug_line.specs.Belongings.{Belongings, SetupValue, identity, party}
 use Rattle.uug_line.specs.LineEnd.{LineEnd}
 use Rattle.uug_line.specs.Run.{first_end, parties}
 use Rattle.uug_line.specs.RunKeeper.{by_numbers, by_themselves, has_by, view_at}
@@ -19,6 +19,7 @@ use Rattle.uug_line.specs.Sides.{AtBoth, at, other, session_side}
 use Rattle.uug_line.specs.World.{count_of, counted_end}
 use Rattle.uug_line.proofs.Joining.{EndsJoined, IsSoundSession, IsTalk, Joined, Moment, link_end, moment_of}
 use Rattle.uug_line.proofs.LinkLemmas.{links_run, not_up}
+use Rattle.uug_line.proofs.SpeakingLemmas.{spoken_at_first}
 use Rattle.uug_line.proofs.LinkRunLemmas.{ran_from_far, ran_nowhere}
 use Rattle.uug_line.specs.LowerLaws.{Laws}
 use Rattle.uug_line.proofs.TalkLemmas.{IsToldAt, seen_at, talk_at, talker_at, told_at}
@@ -65,6 +66,8 @@ module _ (law : Laws) (setup : SetupValue) (brought : AtBoth Belongings) where
     far_most = joined.near_most;
     near_passed = joined.far_passed;
     far_passed = joined.near_passed;
+    near_spoken = joined.far_spoken;
+    far_spoken = joined.near_spoken;
   }
   turned Called e f joined = record {
     joined = joined_turned Called (moment_of e) (moment_of f) joined.joined;
@@ -74,6 +77,8 @@ module _ (law : Laws) (setup : SetupValue) (brought : AtBoth Belongings) where
     far_most = joined.near_most;
     near_passed = joined.far_passed;
     far_passed = joined.near_passed;
+    near_spoken = joined.far_spoken;
+    far_spoken = joined.near_spoken;
   }
 
   -- ---- a session starts
@@ -106,6 +111,10 @@ module _ (law : Laws) (setup : SetupValue) (brought : AtBoth Belongings) where
     far_most = omega arith;
     near_passed = refl;
     far_passed = refl;
+    near_spoken = spoken_at_first (end_keeper caller setup.at_caller.holdings) (identity setup Caller) setup.at_caller.own
+        (by_themselves.first brought.at_caller);
+    far_spoken = spoken_at_first (end_keeper called setup.at_called.holdings) (identity setup Called) setup.at_called.own
+        (by_themselves.first brought.at_called);
   }
 
 pub first_counted : (setup : SetupValue) (brought : AtBoth Belongings) (side : Side) →

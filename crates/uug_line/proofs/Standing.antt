@@ -27,6 +27,7 @@ use Rattle.uug_line.specs.Run.{Run, end_at, with_end_at, has_now, first_end, ses
 use Rattle.uug_line.specs.RunKeeper.{by_themselves, by_numbers}
 use Rattle.uug_line.specs.Sides.{AtBoth, at, at_each}
 use Rattle.uug_line.specs.SoundSetup.{IsSoundSetup}
+use Rattle.uug_line.specs.Speaking.{HaveSpoken}
 use Rattle.uug_line.specs.Taking.{line_taker}
 use Rattle.uug_line.specs.World.{report_of, counted_hearer, counted, run_of_ends, world, report_of_ends, report_of_world}
 use Rattle.uug_line.proofs.Hearing.{counted_came, end_of, taken_piece}
@@ -68,6 +69,8 @@ near_line setup brought side change h f j = record {
   far_most = j.far_most;
   near_passed = j.near_passed;
   far_passed = j.far_passed;
+  near_spoken = j.near_spoken;
+  far_spoken = j.far_spoken;
 }
 
 far_line : (setup : SetupValue) (brought : AtBoth Belongings) (side : Side) (change : List ℕ → List ℕ)
@@ -81,6 +84,8 @@ far_line setup brought side change e h j = record {
   far_most = j.far_most;
   near_passed = j.near_passed;
   far_passed = j.far_passed;
+  near_spoken = j.near_spoken;
+  far_spoken = j.far_spoken;
 }
 
 -- ---- a session's end by end
@@ -499,6 +504,10 @@ module _ (setup : SetupValue) (all_steps : (brought : AtBoth Belongings) → IsS
       passed : (side : Side) → HasPassed (end_at side run).end.log
       passed Caller = s.joined.near_passed
       passed Called = s.joined.far_passed
+
+  pub all_spoken : IsSoundSetup setup → (events : List Event) → HaveSpoken by_themselves setup (run_of_ends setup events)
+  all_spoken sound events Caller = (run_goes sound events).stands.joined.near_spoken
+  all_spoken sound events Called = (run_goes sound events).stands.joined.far_spoken
 
   pub all_own : IsSoundSetup setup → (events : List Event) (giver : Side) →
       OwnPlaces setup (report_of_ends setup events).belongings giver

@@ -24,6 +24,7 @@ pub mod SoundSetup
 pub mod Sightings
 pub mod Spelled
 pub mod StillHeld
+pub mod Speaking
 pub mod PastSessions
 pub mod Taking
 pub mod Told

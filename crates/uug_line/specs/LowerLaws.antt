@@ -3,7 +3,7 @@ use Rattle.std.specs.Prelude.{◌≡◌, ◌≢◌, ℕ, ◌≤◌, List, [], Al
 use Rattle.uug_link.specs.Announced.{Announced}
 use Rattle.uug_link.specs.Arrivals.{IsPlace, arrived, as_happenings, place_of}
 use Rattle.uug_link.specs.Outcomes.{FirstBySend, IsComing, MayAnswer, MovesPhase}
-use Rattle.uug_link.specs.State.{IsFresh, IsUp, KnowsSize, State}
+use Rattle.uug_link.specs.State.{IsFresh, IsUp, KnowsSize, KnowsWindow, State}
 use Rattle.uug_link.specs.Step.{Event, step, to_begin, to_close, to_send}
 use Rattle.uug_link.specs.TwoLinks.{AllMayHappen, AlwaysOfTwo, End, Ends, IsFirst, IsFrontOf, IsRun, MayOccur, Occurrence, after_happenings, after_occurrence, first_ends}
 use Rattle.uug_link.specs.declared.phase.Phase.TheVariants.{AwaitsInitA, Closing, Up}
@@ -31,6 +31,7 @@ pub record Laws : Type 0 where
   -- two links
   pub front : AlwaysOfTwo (λ e other announced. IsFrontOf e.taken other.sent)
   pub unacked : AlwaysOfTwo (λ e other announced. length e.link.unacked ≤ announced.window)
+  pub window : AlwaysOfTwo (λ e other announced. KnowsWindow e.link.phase → e.link.window ≡ announced.window)
   pub size : AlwaysOfTwo (λ e other announced. KnowsSize e.link.phase → e.link.size_code ≡ announced.size_code)
   pub first : (near far : Announced) (a b : State) → IsFirst near a → IsFirst far b → IsRun near far (first_ends a b)
   pub longer : (near far : Announced) (ends : Ends) (o : Occurrence) → IsRun near far ends → MayOccur ends o →

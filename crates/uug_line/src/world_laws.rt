@@ -17,6 +17,7 @@ ghost use Rattle.uug_line.specs.RunKeeper.{by_numbers, by_themselves};
 ghost use Rattle.uug_line.specs.SessionLaws.{SessionLaws};
 ghost use Rattle.uug_line.specs.Sides.{AtBoth, at};
 ghost use Rattle.uug_line.specs.SoundSetup.{IsSoundSetup};
+ghost use Rattle.uug_line.specs.Speaking.{HaveSpoken};
 ghost use Rattle.uug_line.specs.Told.{EndReportValue};
 ghost use Rattle.uug_line.specs.World.{counted, report_of_ends, report_of_world, run_of_ends, world};
 ghost use Rattle.uug_line.specs.MachineRun.{AllRanAsMachine, PresentRanAsMachine};
@@ -97,6 +98,16 @@ pub fn the_headline()
     // In the present session the links are those that the ends have now.
     ensures present { (setup : SetupValue) (events : List Event) → IsSoundSetup setup
         → PresentRanAsMachine setup (run_of_ends setup events) }
+{
+    laws_below();
+    session_laws();
+}
+
+/// Whatever happens on the line, each end has said what it can: on a link that is up the window lets no message more out or
+/// none waits to be sent, and there is something to say or to take yet.
+pub fn each_end_has_said_what_it_can()
+    ensures { (setup : SetupValue) (events : List Event) → IsSoundSetup setup
+        → HaveSpoken by_themselves setup (run_of_ends setup events) }
 {
     laws_below();
     session_laws();

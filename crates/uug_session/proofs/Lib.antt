@@ -57,8 +57,8 @@ pub mod NodeLemmas
 pub mod NodeSearchLemmas
 pub mod PiecesLemmas
 pub mod QueueLemmas
-mod RoomLemmas
-mod OverLemmas
+pub mod RoomLemmas
+pub mod OverLemmas
 mod SaidByteLemmas
 pub mod SaidTextLemmas
 pub mod SpeakLemmas

@@ -27,7 +27,7 @@ down_by : (up : Bool) (n w : ℕ) → up ≡ false → (if up then nat_lt n w el
 down_by true n w is = absurd cc
 down_by false n w is = refl
 
-down_has_no_room : (s : State) → is_up s.phase ≡ false → has_room s ≡ false
+pub down_has_no_room : (s : State) → is_up s.phase ≡ false → has_room s ≡ false
 down_has_no_room s is = down_by (is_up s.phase) (length s.unacked) s.window is
 
 full_by : (up : Bool) (n w : ℕ) → w ≤ n → (if up then nat_lt n w else false) ≡ false

@@ -10,6 +10,7 @@ returns c = record {
   firsts = c.what_a_link_answers.ensures.firsts;
   front = c.two_links_run_as_the_machine.ensures.front;
   unacked = c.two_links_run_as_the_machine.ensures.unacked;
+  window = c.two_links_run_as_the_machine.ensures.window;
   size = c.two_links_run_as_the_machine.ensures.size;
   first = c.runs_of_two_links.ensures.first;
   longer = c.runs_of_two_links.ensures.longer;
