@@ -1,6 +1,7 @@
 -- What the ends of a run have found in all bytes that came to them.
 use Rattle.std.proofs.Common.{◌≡◌, ◌↔◌, inl, inr, ℕ, zero, suc, ◌<◌, Bool, true, false, ◌&&◌, List, [], ◌∷◌, ◌++◌, length, take, drop, Option, Some, None, refl, sym, ap, subst, ◌∙◌, append_assoc, arith}
 use Rattle.std.proofs.lemmas.List.{append-nil}
+use Rattle.uug_link.specs.Announced.{Announced}
 use Rattle.uug_link.specs.Arrivals.{IsPlace, place_of}
 use Rattle.uug_link.specs.Step.{Effect, OutcomeValue, nothing, up, taken, closed, gave_up, halted, step, packet_found, bad_found}
 use Rattle.uug_packet.specs.Bytes.{AreBytes}
@@ -15,7 +16,7 @@ use Rattle.uug_session.specs.declared.end.End.TheVariants as ends
 use Rattle.uug_session.specs.declared.greeting.Greeting.{Greeting}
 use Rattle.uug_session.specs.Greeting.{greeting_at_first}
 use Rattle.uug_session.specs.Arriving.{Taker, Hearer, held_in, holds, Came, all_taken, stopped, takes_if, takes_up, takes_up_to, takes_piece}
-use Rattle.uug_session.specs.EndStep.{EndEffect, EndEvent, EndState, Identity, time_ran_out, line_lost, text_found, long_text_found, packet_found_whole, broken_found, Stage, hailing, linked, ended, message_of, behind_link, takes_by, talks_by, stage_step, end_step}
+use Rattle.uug_session.specs.EndStep.{EndEffect, EndEvent, EndState, Identity, time_ran_out, line_lost, text_found, long_text_found, packet_found_whole, broken_found, Stage, hailing, linked, ended, message_of, behind_link, takes_by, talks_by, begins_session, stage_step, end_step}
 use Rattle.uug_session.specs.Finding.{Finding, finds_nothing, finds, finds_packet, text_finding, item_finding, finding, behind_long_text, FindingLaws}
 use Rattle.uug_session.specs.Keeper.{Keeper}
 use Rattle.uug_session.specs.TextsFound.{Taken}
@@ -28,13 +29,13 @@ use Rattle.uug_line.specs.declared.side.Side.{Side}
 use Rattle.uug_line.specs.declared.side.Side.TheVariants.{Caller, Called}
 use Rattle.uug_line.specs.declared.verdict.LineVerdict.{LineVerdict}
 use Rattle.uug_line.specs.declared.verdict.LineVerdict.TheVariants.{Clean, Fooled}
-use Rattle.uug_line.specs.Belongings.{Belongings, SetupValue, identity, renewed}
-use Rattle.uug_line.specs.Delivered.{GreetsOn, LinkBeganWith, nothing_came, comes, while_clean, comes_with, came_in, packets_among, IsLeft, HasHeard, HasHeardAt, HasScanned}
+use Rattle.uug_line.specs.Belongings.{Belongings, SetupValue, renewed}
+use Rattle.uug_line.specs.Delivered.{EndedOnLink, GreetsOn, LinkBeganWith, event_of, nothing_came, comes, while_clean, comes_with, came_in, packets_among, IsLeft, HasHeard, HasHeardAt, HasScanned}
 use Rattle.uug_line.specs.Fooled.{FindsNothingMore}
 use Rattle.uug_line.specs.Report.{report_of_end}
 use Rattle.uug_line.specs.Run.{Run, end_at, player, has_now, first_run, session_begins, flipped, with_line_to, hears_next, after_hearing, calls, hung_up, after_event, unless_fooled, goes_through, run_of}
 use Rattle.uug_line.specs.RunKeeper.{RunKeeper}
-use Rattle.uug_line.specs.Sides.{AtBoth, at, at_each, session_side}
+use Rattle.uug_line.specs.Sides.{AtBoth, at, at_each}
 use Rattle.uug_line.specs.LineEnd.{LineEnd, Player, does, called_with, found_at, packets_in, took}
 use Rattle.uug_line.specs.Taking.{takes_sent, line_taker, packet_taken_up, with_packet}
 use Rattle.uug_line.specs.WereSent.{HavePlaces, passed_at}
@@ -63,12 +64,12 @@ pub record HeardLaws : Type 0 where
 
 -- ---- what an end has heard, and how many packets were found or gone past
 
-pub record HearsSo (id : Identity) (came : List ℕ) (stage : Stage) (held arrivals : List ℕ) (passed : ℕ) (emitted : List PacketValue) : Type 0 where
-  pub heard : HasHeard id came stage held arrivals emitted
+pub record HearsSo {C : Type 0} (p : Player C) (came : List ℕ) (now : EndState C) (held arrivals : List ℕ) (passed : ℕ) (emitted : List PacketValue) : Type 0 where
+  pub heard : HasHeard p came now held arrivals emitted
   pub past : passed ≡ passed_at arrivals 0
 
-abbrev pub Hears : {C : Type 0} → Identity → (came : List ℕ) → Hearer (LineEnd C) → (emitted : List PacketValue) → Type 0
-Hears id came h emitted = HearsSo id came h.end.state.stage h.held h.end.log.arrivals h.end.log.passed emitted
+abbrev pub Hears : {C : Type 0} → Player C → (came : List ℕ) → Hearer (LineEnd C) → (emitted : List PacketValue) → Type 0
+Hears p came h emitted = HearsSo p came h.end.state h.held h.end.log.arrivals h.end.log.passed emitted
 
 packets_joined : (items more : List Item) → packets_among (items ++ more) ≡ packets_among items ++ packets_among more
 packets_joined [] more = refl
@@ -76,9 +77,9 @@ packets_joined (found p ∷ items) more = ap (λ (ps : List PacketValue). p ∷ 
 packets_joined (bad ∷ items) more = packets_joined items more
 
 -- the other end emits more
-pub emits_more : (id : Identity) (came : List ℕ) (stage : Stage) (held arrivals : List ℕ) (passed : ℕ) (emitted more : List PacketValue)
-    → HearsSo id came stage held arrivals passed emitted → HearsSo id came stage held arrivals passed (emitted ++ more)
-emits_more id came stage held arrivals passed emitted more x = record {
+pub emits_more : {C : Type 0} (p : Player C) (came : List ℕ) (now : EndState C) (held arrivals : List ℕ) (passed : ℕ) (emitted more : List PacketValue)
+    → HearsSo p came now held arrivals passed emitted → HearsSo p came now held arrivals passed (emitted ++ more)
+emits_more p came now held arrivals passed emitted more x = record {
   heard = record {
     texts = x.heard.texts;
     begins = x.heard.begins;
@@ -92,23 +93,37 @@ emits_more id came stage held arrivals passed emitted more x = record {
   past = x.past;
 }
 
+-- a call has ended an end that was on its link
+over_by_call : {C : Type 0} (p : Player C) (event : EndEvent) (e : EndState C) (items : List Item) → UsesNoBytes event → e.stage ≡ linked
+    → EndedOnLink p items (end_step p.keeper p.identity event e).state
+over_by_call p time_ran_out e items uses on = inr (inl (record { before = e; on_link = on; step = refl }))
+over_by_call p line_lost e items uses on = inr (inr (record { before = e; on_link = on; step = refl }))
+over_by_call p (text_found text) e items uses on = absurd uses
+over_by_call p long_text_found e items uses on = absurd uses
+over_by_call p (packet_found_whole failed q) e items uses on = absurd uses
+over_by_call p broken_found e items uses on = absurd uses
+
 -- the stage moves, and no bytes are used
-left_then : (id : Identity) (s t : Stage) (texts : List (List ℕ)) (items : List Item) (others came held : List ℕ) → StaysOrEnds s t
-    → IsLeft id s texts items others came held → IsLeft id t texts items others came (held_in t held)
-left_then id (hailing g) (ended how) texts items others came held stays left = inl (left.0, inl (g.awaited, left.2))
-left_then id linked (ended how) texts items others came held stays left = inr left.1
-left_then id (ended so) (ended how) texts items others came held stays left =
-    subst (λ (e : End). IsLeft id (ended e) texts items others came []) stays left
-left_then id (hailing g) (hailing h) texts items others came held stays left =
-    (left.0, left.1, subst (GreetsOn id texts) stays left.2)
-left_then id linked linked texts items others came held stays left = left
-left_then id (hailing g) linked texts items others came held stays left = absurd stays
-left_then id linked (hailing h) texts items others came held stays left = absurd stays
-left_then id (ended how) (hailing h) texts items others came held stays left = absurd stays
-left_then id (ended how) linked texts items others came held stays left = absurd stays
+left_then : {C : Type 0} (p : Player C) (event : EndEvent) (e : EndState C) (s t : Stage) (texts : List (List ℕ)) (items : List Item)
+    (others came held : List ℕ) → UsesNoBytes event → e.stage ≡ s → StaysOrEnds s t → IsLeft p s e texts items others came held
+    → IsLeft p t (end_step p.keeper p.identity event e).state texts items others came (held_in t held)
+left_then p event e (hailing g) (ended how) texts items others came held uses is stays left = inl (left.0, inl (g.awaited, left.2))
+left_then p event e linked (ended how) texts items others came held uses is stays left =
+    inr (left.1, over_by_call p event e items uses is)
+left_then p event e (ended so) (ended how) texts items others came held uses is stays left =
+    let same : (end_step p.keeper p.identity event e).state ≡ e = ap (λ t. (stage_step p.keeper p.identity t event e).state) is in
+    subst (λ now. IsLeft p (ended how) now texts items others came []) (sym same)
+    (subst (λ (h : End). IsLeft p (ended h) e texts items others came []) stays left)
+left_then p event e (hailing g) (hailing h) texts items others came held uses is stays left =
+    (left.0, left.1, subst (GreetsOn p.identity texts) stays left.2)
+left_then p event e linked linked texts items others came held uses is stays left = left
+left_then p event e (hailing g) linked texts items others came held uses is stays left = absurd stays
+left_then p event e linked (hailing h) texts items others came held uses is stays left = absurd stays
+left_then p event e (ended how) (hailing h) texts items others came held uses is stays left = absurd stays
+left_then p event e (ended how) linked texts items others came held uses is stays left = absurd stays
 
 pub called_hears : {C : Type 0} (p : Player C) (event : EndEvent) (h : Hearer (LineEnd C)) (came : List ℕ) (emitted : List PacketValue)
-    → UsesNoBytes event → Hears p.identity came h emitted → Hears p.identity came (called_with p event h) emitted
+    → UsesNoBytes event → Hears p came h emitted → Hears p came (called_with p event h) emitted
 called_hears p event h came emitted uses x = record {
   heard = record {
     texts = x.heard.texts;
@@ -120,8 +135,8 @@ called_hears p event h came emitted uses x = record {
     places = x.heard.places;
     left =
         let s = h.end.state.stage in
-        left_then p.identity s (end_step p.keeper p.identity event h.end.state).state.stage x.heard.texts x.heard.items x.heard.others came h.held
-        (call_stays p.keeper p.identity s event h.end.state refl uses) x.heard.left;
+        left_then p event h.end.state s (end_step p.keeper p.identity event h.end.state).state.stage x.heard.texts x.heard.items
+        x.heard.others came h.held uses refl (call_stays p.keeper p.identity s event h.end.state refl uses) x.heard.left;
   };
   past = x.past;
 }
@@ -208,12 +223,12 @@ module _ (steps : FindingLaws) (laws : HeardLaws) (place_is : PlaceIs) {C : Type
   taker = line_taker p emitted
 
   abbrev HearsUpTo : ℕ → Type 0
-  HearsUpTo n = (h : Hearer (LineEnd C)) → length h.held < n → Hears p.identity came h emitted → Hears p.identity came (hearer_of (takes_up_to n taker h)) emitted
+  HearsUpTo n = (h : Hearer (LineEnd C)) → length h.held < n → Hears p came h emitted → Hears p came (hearer_of (takes_up_to n taker h)) emitted
 
   -- so the end stands with these bytes, told by its stage
-  held_at : (stage s : Stage) (texts : List (List ℕ)) (items : List Item) (others bytes : List ℕ) → stage ≡ s
-      → IsLeft p.identity s texts items others came (held_in s bytes) → IsLeft p.identity stage texts items others came (held_in stage bytes)
-  held_at stage s texts items others bytes is left = subst (λ t. IsLeft p.identity t texts items others came (held_in t bytes)) (sym is) left
+  held_at : (now : EndState C) (s : Stage) (texts : List (List ℕ)) (items : List Item) (others bytes : List ℕ) → now.stage ≡ s
+      → IsLeft p s now texts items others came (held_in s bytes) → IsLeft p now.stage now texts items others came (held_in now.stage bytes)
+  held_at now s texts items others bytes is left = subst (λ t. IsLeft p t now texts items others came (held_in t bytes)) (sym is) left
 
   nothing_among : (items : List Item) (arrivals : List ℕ) → items ≡ [] → HavePlaces (packets_among items) arrivals emitted 0 → HavePlaces [] arrivals emitted 0
   nothing_among items arrivals is places = subst (λ (l : List Item). HavePlaces (packets_among l) arrivals emitted 0) is places
@@ -221,16 +236,16 @@ module _ (steps : FindingLaws) (laws : HeardLaws) (place_is : PlaceIs) {C : Type
   -- ---- in the greeting
 
   -- wherever the text leads
-  left_behind_text : (t : Stage) (texts : List (List ℕ)) (behind : List ℕ) → StandBefore texts behind came → StandsBehind p.identity texts t
-      → IsLeft p.identity t texts [] behind came (held_in t behind)
-  left_behind_text (hailing g) texts behind stand stands = (refl, laws.right_behind texts came behind stand, stands)
-  left_behind_text linked texts behind stand stands = (refl, stands)
-  left_behind_text (ended how) texts behind stand stands = inl (refl, inr stands)
+  left_behind_text : (t : Stage) (now : EndState C) (texts : List (List ℕ)) (behind : List ℕ) → StandBefore texts behind came
+      → StandsBehind p.identity texts t → IsLeft p t now texts [] behind came (held_in t behind)
+  left_behind_text (hailing g) now texts behind stand stands = (refl, laws.right_behind texts came behind stand, stands)
+  left_behind_text linked now texts behind stand stands = (refl, stands)
+  left_behind_text (ended how) now texts behind stand stands = inl (refl, inr stands)
 
   by_text : (n : ℕ) → HearsUpTo n → (h : Hearer (LineEnd C)) (g : Greeting) → h.end.state.stage ≡ hailing g → length h.held < suc n
-      → (x : Hears p.identity came h emitted) → (x.heard.items ≡ []) × Taken x.heard.texts came h.held × GreetsOn p.identity x.heard.texts g.awaited
+      → (x : Hears p came h emitted) → (x.heard.items ≡ []) × Taken x.heard.texts came h.held × GreetsOn p.identity x.heard.texts g.awaited
       → (search : TextSearch) → search_text h.held ≡ search
-      → Hears p.identity came (hearer_of (takes_up (takes_up_to n taker) taker (text_finding h.held search) h.end)) emitted
+      → Hears p came (hearer_of (takes_up (takes_up_to n taker) taker (text_finding h.held search) h.end)) emitted
   by_text n more h g is enough x (none, front, on) (text_waits rest) e =
       let waits : Taken x.heard.texts came rest = laws.texts_wait x.heard.texts came h.held rest front e in record {
         heard = record {
@@ -241,7 +256,7 @@ module _ (steps : FindingLaws) (laws : HeardLaws) (place_is : PlaceIs) {C : Type
           others = waits.passed ++ rest;
           link = laws.none (waits.passed ++ rest);
           places = nothing_among x.heard.items h.end.log.arrivals none x.heard.places;
-          left = held_at h.end.state.stage (hailing g) x.heard.texts [] (waits.passed ++ rest) rest is (refl, waits, on);
+          left = held_at h.end.state (hailing g) x.heard.texts [] (waits.passed ++ rest) rest is (refl, waits, on);
         };
         past = x.past;
       }
@@ -269,7 +284,7 @@ module _ (steps : FindingLaws) (laws : HeardLaws) (place_is : PlaceIs) {C : Type
           others = behind;
           link = laws.none behind;
           places = nothing_among x.heard.items h.end.log.arrivals none x.heard.places;
-          left = left_behind_text y.state.stage texts behind stand stands;
+          left = left_behind_text y.state.stage y.state texts behind stand stands;
         };
         past = x.past;
       })
@@ -294,7 +309,7 @@ module _ (steps : FindingLaws) (laws : HeardLaws) (place_is : PlaceIs) {C : Type
           others = front.passed ++ h.held;
           link = laws.none (front.passed ++ h.held);
           places = nothing_among x.heard.items h.end.log.arrivals none x.heard.places;
-          left = held_at y.state.stage (ended ends.BadTalk) x.heard.texts [] (front.passed ++ h.held) behind over
+          left = held_at y.state (ended ends.BadTalk) x.heard.texts [] (front.passed ++ h.held) behind over
               (inl (refl, inl (g.awaited, on)));
         };
         past = x.past;
@@ -302,19 +317,27 @@ module _ (steps : FindingLaws) (laws : HeardLaws) (place_is : PlaceIs) {C : Type
 
   -- ---- on the link
 
-  bytes_held : (h : Hearer (LineEnd C)) (x : Hears p.identity came h emitted) → x.heard.others ≡ h.held → AreBytes h.held
+  bytes_held : (h : Hearer (LineEnd C)) (x : Hears p came h emitted) → x.heard.others ≡ h.held → AreBytes h.held
   bytes_held h x same =
       subst AreBytes same
       (laws.item_bytes x.heard.begins x.heard.others x.heard.items x.heard.link
       (laws.text_bytes x.heard.texts x.heard.begins came x.heard.greeting all))
 
+  -- by where the item leads
+  left_behind_item : (t : Stage) (now : EndState C) (texts : List (List ℕ)) (items : List Item) (behind : List ℕ) → StaysOrEnds linked t
+      → LinkBeganWith p.identity texts → EndedOnLink p items now → IsLeft p t now texts items behind came (held_in t behind)
+  left_behind_item (hailing g) now texts items behind stays began over = absurd stays
+  left_behind_item linked now texts items behind stays began over = (refl, began)
+  left_behind_item (ended how) now texts items behind stays began over = inr (began, over)
+
   -- an item is taken up, and the end stands behind it
-  behind_item : (n : ℕ) → HearsUpTo n → (h : Hearer (LineEnd C)) → length h.held < suc n → (x : Hears p.identity came h emitted)
+  behind_item : (n : ℕ) → HearsUpTo n → (h : Hearer (LineEnd C)) → h.end.state.stage ≡ linked → length h.held < suc n → (x : Hears p came h emitted)
       → x.heard.others ≡ h.held → LinkBeganWith p.identity x.heard.texts → (item : Item) (size : ℕ) (from : List ℕ) → search_of h.held ≡ standing item size from
       → length (drop size from) < length h.held → (y : LineEnd C) → StaysOrEnds linked y.state.stage
+      → (end_step p.keeper p.identity (event_of item) h.end.state).state ≡ y.state
       → HavePlaces (packets_among (x.heard.items ++ item ∷ [])) y.log.arrivals emitted 0 → y.log.passed ≡ passed_at y.log.arrivals 0
-      → Hears p.identity came (hearer_of (takes_up_to n taker (holds taker (drop size from) y))) emitted
-  behind_item n more h enough x same began item size from e fewer y stays places past =
+      → Hears p came (hearer_of (takes_up_to n taker (holds taker (drop size from) y))) emitted
+  behind_item n more h on enough x same began item size from e fewer y stays step places past =
       let behind = drop size from in
       let stands = (laws.stands h.held from item size (bytes_held h x same)).0 e in
       let here : Finds h.held (item ∷ []) behind = laws.more h.held from behind [] (item ∷ []) stands.0 (laws.item from item size stands.1) in
@@ -329,13 +352,18 @@ module _ (steps : FindingLaws) (laws : HeardLaws) (place_is : PlaceIs) {C : Type
           link = laws.more x.heard.begins h.held behind x.heard.items (item ∷ [])
               (subst (Finds x.heard.begins x.heard.items) same x.heard.link) here;
           places = places;
-          left = left_then p.identity linked y.state.stage x.heard.texts items behind came behind stays (refl, began);
+          left = left_behind_item y.state.stage y.state x.heard.texts items behind stays began (inl (record {
+            earlier = x.heard.items;
+            last = item;
+            item = refl;
+            ends = record { before = h.end.state; on_link = on; step = step };
+          }));
         };
         past = past;
       })
 
   -- a packet has its place
-  packet_placed : (q : PacketValue) (place : ℕ) (h : Hearer (LineEnd C)) (x : Hears p.identity came h emitted)
+  packet_placed : (q : PacketValue) (place : ℕ) (h : Hearer (LineEnd C)) (x : Hears p came h emitted)
       → place_of q emitted h.end.log.passed ≡ Some place
       → HavePlaces (packets_among (x.heard.items ++ found q ∷ [])) (h.end.log.arrivals ++ place ∷ []) emitted 0
   packet_placed q place h x at =
@@ -343,7 +371,7 @@ module _ (steps : FindingLaws) (laws : HeardLaws) (place_is : PlaceIs) {C : Type
       (next_place (packets_among x.heard.items) emitted h.end.log.arrivals q place 0 x.heard.places
       (subst (λ n. IsPlace q emitted n place) x.past (place_is_there place_is q emitted h.end.log.passed place at)))
 
-  took_arrivals : (t : Bool) (q : PacketValue) (place : ℕ) (h : Hearer (LineEnd C)) → (x : Hears p.identity came h emitted)
+  took_arrivals : (t : Bool) (q : PacketValue) (place : ℕ) (h : Hearer (LineEnd C)) → (x : Hears p came h emitted)
       → place_of q emitted h.end.log.passed ≡ Some place → (effect : EndEffect C) → effect.took ≡ t
       → HavePlaces (packets_among (x.heard.items ++ found q ∷ [])) (with_packet q place h.end effect).log.arrivals emitted 0
       × ((with_packet q place h.end effect).log.passed ≡ passed_at (with_packet q place h.end effect).log.arrivals 0)
@@ -361,10 +389,10 @@ module _ (steps : FindingLaws) (laws : HeardLaws) (place_is : PlaceIs) {C : Type
       same_passed true = refl
       same_passed false = refl
 
-  by_place : (n : ℕ) → HearsUpTo n → (h : Hearer (LineEnd C)) → h.end.state.stage ≡ linked → length h.held < suc n → (x : Hears p.identity came h emitted)
+  by_place : (n : ℕ) → HearsUpTo n → (h : Hearer (LineEnd C)) → h.end.state.stage ≡ linked → length h.held < suc n → (x : Hears p came h emitted)
       → x.heard.others ≡ h.held → LinkBeganWith p.identity x.heard.texts → (q : PacketValue) (size : ℕ) (from : List ℕ) → search_of h.held ≡ standing (found q) size from
       → (place : Option ℕ) → place_of q emitted h.end.log.passed ≡ place
-      → Hears p.identity came (hearer_of (takes_if (takes_up_to n taker) taker (takes_sent p q place h.end) from (drop size from) h.end)) emitted
+      → Hears p came (hearer_of (takes_if (takes_up_to n taker) taker (takes_sent p q place h.end) from (drop size from) h.end)) emitted
   by_place n more h on enough x same began q size from e None at =
       let stands = (laws.stands h.held from (found q) size (bytes_held h x same)).0 e in record {
         heard = record {
@@ -377,20 +405,20 @@ module _ (steps : FindingLaws) (laws : HeardLaws) (place_is : PlaceIs) {C : Type
               (laws.more x.heard.begins h.held from x.heard.items []
               (subst (Finds x.heard.begins x.heard.items) same x.heard.link) stands.0);
           places = x.heard.places;
-          left = held_at h.end.state.stage linked x.heard.texts x.heard.items from from on (refl, began);
+          left = held_at h.end.state linked x.heard.texts x.heard.items from from on (refl, began);
         };
         past = x.past;
       }
   by_place n more h on enough x same began q size from e (Some place) at =
       let effect = end_step p.keeper p.identity (packet_found_whole false q) h.end.state in
       let placed = took_arrivals effect.took q place h x at effect refl in
-      behind_item n more h enough x same began (found q) size from e
+      behind_item n more h on enough x same began (found q) size from e
       (packet_takes steps linked h.held from (drop size from) q (ap item_finding e))
-      (packet_taken_up p q place h.end) (packet_stays p.keeper p.identity q h.end.state on) placed.0 placed.1
+      (packet_taken_up p q place h.end) (packet_stays p.keeper p.identity q h.end.state on) refl placed.0 placed.1
 
-  by_item : (n : ℕ) → HearsUpTo n → (h : Hearer (LineEnd C)) → h.end.state.stage ≡ linked → length h.held < suc n → (x : Hears p.identity came h emitted)
+  by_item : (n : ℕ) → HearsUpTo n → (h : Hearer (LineEnd C)) → h.end.state.stage ≡ linked → length h.held < suc n → (x : Hears p came h emitted)
       → x.heard.others ≡ h.held → LinkBeganWith p.identity x.heard.texts → (search : Search) → search_of h.held ≡ search
-      → Hears p.identity came (hearer_of (takes_up (takes_up_to n taker) taker (item_finding search) h.end)) emitted
+      → Hears p came (hearer_of (takes_up (takes_up_to n taker) taker (item_finding search) h.end)) emitted
   by_item n more h on enough x same began (waiting rest) e =
       let waits = (laws.waits h.held rest (bytes_held h x same)).0 e in record {
         heard = record {
@@ -403,29 +431,29 @@ module _ (steps : FindingLaws) (laws : HeardLaws) (place_is : PlaceIs) {C : Type
               (laws.more x.heard.begins h.held rest x.heard.items []
               (subst (Finds x.heard.begins x.heard.items) same x.heard.link) waits.0);
           places = x.heard.places;
-          left = held_at h.end.state.stage linked x.heard.texts x.heard.items rest rest on (refl, began);
+          left = held_at h.end.state linked x.heard.texts x.heard.items rest rest on (refl, began);
         };
         past = x.past;
       }
   by_item n more h on enough x same began (standing (found q) size from) e =
       by_place n more h on enough x same began q size from e (place_of q emitted h.end.log.passed) refl
   by_item n more h on enough x same began (standing bad size from) e =
-      behind_item n more h enough x same began bad size from e
+      behind_item n more h on enough x same began bad size from e
       (event_takes steps linked h.held (drop size from) broken_found (ap item_finding e))
-      (does p broken_found h.end) (broken_stays p.keeper p.identity h.end.state on)
+      (does p broken_found h.end) (broken_stays p.keeper p.identity h.end.state on) refl
       (subst (λ (ps : List PacketValue). HavePlaces ps h.end.log.arrivals emitted 0)
       (sym (packets_joined x.heard.items (bad ∷ []) ∙ append-nil (packets_among x.heard.items))) x.heard.places) x.past
 
   -- ---- by how far the end has come
 
-  by_stage : (n : ℕ) → HearsUpTo n → (h : Hearer (LineEnd C)) → length h.held < suc n → (x : Hears p.identity came h emitted) → (s : Stage)
-      → h.end.state.stage ≡ s → Hears p.identity came (hearer_of (takes_up (takes_up_to n taker) taker (finding s h.held) h.end)) emitted
+  by_stage : (n : ℕ) → HearsUpTo n → (h : Hearer (LineEnd C)) → length h.held < suc n → (x : Hears p came h emitted) → (s : Stage)
+      → h.end.state.stage ≡ s → Hears p came (hearer_of (takes_up (takes_up_to n taker) taker (finding s h.held) h.end)) emitted
   by_stage n more h enough x (hailing g) is =
-      by_text n more h g is enough x (subst (λ s. IsLeft p.identity s x.heard.texts x.heard.items x.heard.others came h.held) is x.heard.left)
+      by_text n more h g is enough x (subst (λ s. IsLeft p s h.end.state x.heard.texts x.heard.items x.heard.others came h.held) is x.heard.left)
       (search_text h.held) refl
   by_stage n more h enough x linked is =
-      let left : IsLeft p.identity linked x.heard.texts x.heard.items x.heard.others came h.held =
-      subst (λ s. IsLeft p.identity s x.heard.texts x.heard.items x.heard.others came h.held) is x.heard.left in
+      let left : IsLeft p linked h.end.state x.heard.texts x.heard.items x.heard.others came h.held =
+      subst (λ s. IsLeft p s h.end.state x.heard.texts x.heard.items x.heard.others came h.held) is x.heard.left in
       by_item n more h is enough x left.0 left.1 (search_of h.held) refl
   by_stage n more h enough x (ended how) is = record {
     heard = record {
@@ -436,8 +464,8 @@ module _ (steps : FindingLaws) (laws : HeardLaws) (place_is : PlaceIs) {C : Type
       others = x.heard.others;
       link = x.heard.link;
       places = x.heard.places;
-      left = held_at h.end.state.stage (ended how) x.heard.texts x.heard.items x.heard.others [] is
-          (subst (λ s. IsLeft p.identity s x.heard.texts x.heard.items x.heard.others came h.held) is x.heard.left);
+      left = held_at h.end.state (ended how) x.heard.texts x.heard.items x.heard.others [] is
+          (subst (λ s. IsLeft p s h.end.state x.heard.texts x.heard.items x.heard.others came h.held) is x.heard.left);
     };
     past = x.past;
   }
@@ -454,12 +482,12 @@ stand_more (text ∷ texts) rest stream more (front, behind, e, first, later) =
     (front, behind ++ more, ap (λ s. s ++ more) e ∙ append_assoc front behind more, first, stand_more texts rest behind more later)
 
 -- with the piece behind what is held
-with_piece : HeardLaws → (id : Identity) (before piece : List ℕ) (stage s : Stage) (held arrivals : List ℕ) (passed : ℕ) (emitted : List PacketValue)
-    → stage ≡ s → HearsSo id before stage held arrivals passed emitted
-    → HearsSo id (before ++ piece) stage (held_in stage (held ++ piece)) arrivals passed emitted
-with_piece laws id before piece stage (hailing g) held arrivals passed emitted is x =
-    let left : IsLeft id (hailing g) x.heard.texts x.heard.items x.heard.others before held =
-    subst (λ t. IsLeft id t x.heard.texts x.heard.items x.heard.others before held) is x.heard.left in
+with_piece : HeardLaws → {C : Type 0} (p : Player C) (before piece : List ℕ) (now : EndState C) (s : Stage) (held arrivals : List ℕ)
+    (passed : ℕ) (emitted : List PacketValue) → now.stage ≡ s → HearsSo p before now held arrivals passed emitted
+    → HearsSo p (before ++ piece) now (held_in now.stage (held ++ piece)) arrivals passed emitted
+with_piece laws p before piece now (hailing g) held arrivals passed emitted is x =
+    let left : IsLeft p (hailing g) now x.heard.texts x.heard.items x.heard.others before held =
+    subst (λ t. IsLeft p t now x.heard.texts x.heard.items x.heard.others before held) is x.heard.left in
     let whole : Taken x.heard.texts (before ++ piece) (held ++ piece) = laws.texts_more x.heard.texts before held piece left.1 in
     let begins = whole.passed ++ (held ++ piece) in record {
       heard = record {
@@ -470,13 +498,13 @@ with_piece laws id before piece stage (hailing g) held arrivals passed emitted i
         others = begins;
         link = laws.none begins;
         places = subst (λ (l : List Item). HavePlaces (packets_among l) arrivals emitted 0) left.0 x.heard.places;
-        left = subst (λ t. IsLeft id t x.heard.texts [] begins (before ++ piece) (held_in t (held ++ piece))) (sym is) (refl, whole, left.2);
+        left = subst (λ t. IsLeft p t now x.heard.texts [] begins (before ++ piece) (held_in t (held ++ piece))) (sym is) (refl, whole, left.2);
       };
       past = x.past;
     }
-with_piece laws id before piece stage linked held arrivals passed emitted is x =
-    let left : IsLeft id linked x.heard.texts x.heard.items x.heard.others before held =
-    subst (λ t. IsLeft id t x.heard.texts x.heard.items x.heard.others before held) is x.heard.left in record {
+with_piece laws p before piece now linked held arrivals passed emitted is x =
+    let left : IsLeft p linked now x.heard.texts x.heard.items x.heard.others before held =
+    subst (λ t. IsLeft p t now x.heard.texts x.heard.items x.heard.others before held) is x.heard.left in record {
       heard = record {
         texts = x.heard.texts;
         begins = x.heard.begins ++ piece;
@@ -485,12 +513,12 @@ with_piece laws id before piece stage linked held arrivals passed emitted is x =
         others = x.heard.others ++ piece;
         link = laws.behind x.heard.begins x.heard.others piece x.heard.items x.heard.link;
         places = x.heard.places;
-        left = subst (λ t. IsLeft id t x.heard.texts x.heard.items (x.heard.others ++ piece) (before ++ piece) (held_in t (held ++ piece))) (sym is)
+        left = subst (λ t. IsLeft p t now x.heard.texts x.heard.items (x.heard.others ++ piece) (before ++ piece) (held_in t (held ++ piece))) (sym is)
             (ap (λ (l : List ℕ). l ++ piece) left.0, left.1);
       };
       past = x.past;
     }
-with_piece laws id before piece stage (ended how) held arrivals passed emitted is x = record {
+with_piece laws p before piece now (ended how) held arrivals passed emitted is x = record {
   heard = record {
     texts = x.heard.texts;
     begins = x.heard.begins ++ piece;
@@ -499,91 +527,98 @@ with_piece laws id before piece stage (ended how) held arrivals passed emitted i
     others = x.heard.others ++ piece;
     link = laws.behind x.heard.begins x.heard.others piece x.heard.items x.heard.link;
     places = x.heard.places;
-    left = subst (λ t. IsLeft id t x.heard.texts x.heard.items (x.heard.others ++ piece) (before ++ piece) (held_in t (held ++ piece))) (sym is)
-        (subst (λ t. IsLeft id t x.heard.texts x.heard.items x.heard.others before held) is x.heard.left);
+    left = subst (λ t. IsLeft p t now x.heard.texts x.heard.items (x.heard.others ++ piece) (before ++ piece) (held_in t (held ++ piece))) (sym is)
+        (subst (λ t. IsLeft p t now x.heard.texts x.heard.items x.heard.others before held) is x.heard.left);
   };
   past = x.past;
 }
 
 pub hears_piece : (steps : FindingLaws) (laws : HeardLaws) (place_is : PlaceIs) {C : Type 0} (p : Player C) (emitted : List PacketValue)
-    (before piece : List ℕ) (h : Hearer (LineEnd C)) → AreBytes (before ++ piece) → Hears p.identity before h emitted
-    → Hears p.identity (before ++ piece) (hearer_of (takes_piece (line_taker p emitted) piece h)) emitted
+    (before piece : List ℕ) (h : Hearer (LineEnd C)) → AreBytes (before ++ piece) → Hears p before h emitted
+    → Hears p (before ++ piece) (hearer_of (takes_piece (line_taker p emitted) piece h)) emitted
 hears_piece steps laws place_is p emitted before piece h all x =
     let held = holds (line_taker p emitted) (h.held ++ piece) h.end in
     hears_up_to steps laws place_is p emitted (before ++ piece) all (suc (length held.held)) held (omega arith)
-    (with_piece laws p.identity before piece h.end.state.stage h.end.state.stage h.held h.end.log.arrivals h.end.log.passed emitted refl x)
+    (with_piece laws p before piece h.end.state h.end.state.stage h.held h.end.log.arrivals h.end.log.passed emitted refl x)
 
 -- ---- a run
 
 -- what both ends have heard, where bytes came to them
-pub record BothHear {C : Type 0} (setup : SetupValue) (came : AtBoth (List ℕ)) (x y : Hearer (LineEnd C)) : Type 0 where
-  pub near : AreBytes came.at_caller → Hears (identity setup Caller) came.at_caller x y.end.log.packets
-  pub far : AreBytes came.at_called → Hears (identity setup Called) came.at_called y x.end.log.packets
+pub record BothHear {C : Type 0} (p q : Player C) (came : AtBoth (List ℕ)) (x y : Hearer (LineEnd C)) : Type 0 where
+  pub near : AreBytes came.at_caller → Hears p came.at_caller x y.end.log.packets
+  pub far : AreBytes came.at_called → Hears q came.at_called y x.end.log.packets
 
-abbrev pub RunHears : {C : Type 0} → SetupValue → (came : AtBoth (List ℕ)) → Run C → Type 0
-RunHears setup came run = BothHear setup came run.ends.at_caller run.ends.at_called
+abbrev pub RunHears : {C : Type 0} → RunKeeper C → SetupValue → (came : AtBoth (List ℕ)) → Run C → Type 0
+RunHears k setup came run =
+    BothHear (player k setup run Caller) (player k setup run Called) came run.ends.at_caller run.ends.at_called
 
 module _ (steps : FindingLaws) (laws : HeardLaws) (place_is : PlaceIs) {C : Type 0} (k : RunKeeper C) (setup : SetupValue) where
-  begins_heard : (past : List (AtBoth EndReportValue)) (brought : AtBoth Belongings) → RunHears setup nothing_came (session_begins k setup past brought)
-  begins_heard past brought = record { near = λ all. first Caller; far = λ all. first Called } where
-    first : (side : Side) {emitted : List PacketValue}
-        → HearsSo (identity setup side) [] (hailing (greeting_at_first (session_side side))) [] [] 0 emitted
-    first side = record {
-      heard = record {
-        texts = [];
-        begins = [];
-        greeting = refl;
-        items = [];
-        others = [];
-        link = laws.none [];
-        places = tt;
-        left = (
-          refl,
-          laws.right_behind [] [] [] refl,
-          record { greeting = greeting_at_first (session_side side); goes_on = refl; awaits = refl },
-        );
-      };
-      past = refl;
-    }
+  -- an end with which nothing has happened yet
+  first_heard : (p : Player C) (own : Announced) (c : C) {emitted : List PacketValue}
+      → HearsSo p [] (begins_session p.identity own c).state [] [] 0 emitted
+  first_heard p own c = record {
+    heard = record {
+      texts = [];
+      begins = [];
+      greeting = refl;
+      items = [];
+      others = [];
+      link = laws.none [];
+      places = tt;
+      left = (
+        refl,
+        laws.right_behind [] [] [] refl,
+        record { greeting = greeting_at_first p.identity.side; goes_on = refl; awaits = refl },
+      );
+    };
+    past = refl;
+  }
 
-  line_heard : (side : Side) (change : List ℕ → List ℕ) (came : AtBoth (List ℕ)) (run : Run C) → RunHears setup came run
-      → RunHears setup came (with_line_to side change run)
+  begins_heard : (past : List (AtBoth EndReportValue)) (brought : AtBoth Belongings) → RunHears k setup nothing_came (session_begins k setup past brought)
+  begins_heard past brought =
+      let run = session_begins k setup past brought in record {
+        near = λ all. first_heard (player k setup run Caller) setup.at_caller.own (k.first brought.at_caller);
+        far = λ all. first_heard (player k setup run Called) setup.at_called.own (k.first brought.at_called);
+      }
+
+  line_heard : (side : Side) (change : List ℕ → List ℕ) (came : AtBoth (List ℕ)) (run : Run C) → RunHears k setup came run
+      → RunHears k setup came (with_line_to side change run)
   line_heard Caller change came run b = record { near = b.near; far = b.far }
   line_heard Called change came run b = record { near = b.near; far = b.far }
 
-  call_heard : (side : Side) (event : EndEvent) (came : AtBoth (List ℕ)) (run : Run C) → UsesNoBytes event → RunHears setup came run
-      → RunHears setup came (calls k setup side event run)
+  call_heard : (side : Side) (event : EndEvent) (came : AtBoth (List ℕ)) (run : Run C) → UsesNoBytes event → RunHears k setup came run
+      → RunHears k setup came (calls k setup side event run)
   call_heard Caller event came run uses b =
       let x = run.ends.at_caller in
       let y = run.ends.at_called in
       let p = player k setup run Caller in record {
         near = λ all. called_hears p event x came.at_caller y.end.log.packets uses (b.near all);
-        far = λ all. emits_more (identity setup Called) came.at_called y.end.state.stage y.held y.end.log.arrivals y.end.log.passed x.end.log.packets
+        far = λ all. emits_more (player k setup run Called) came.at_called y.end.state y.held y.end.log.arrivals y.end.log.passed x.end.log.packets
             (packets_in (end_step p.keeper p.identity event x.end.state).emitted) (b.far all);
       }
   call_heard Called event came run uses b =
       let x = run.ends.at_caller in
       let y = run.ends.at_called in
       let p = player k setup run Called in record {
-        near = λ all. emits_more (identity setup Caller) came.at_caller x.end.state.stage x.held x.end.log.arrivals x.end.log.passed y.end.log.packets
+        near = λ all. emits_more (player k setup run Caller) came.at_caller x.end.state x.held x.end.log.arrivals x.end.log.passed y.end.log.packets
             (packets_in (end_step p.keeper p.identity event y.end.state).emitted) (b.near all);
         far = λ all. called_hears p event y came.at_called x.end.log.packets uses (b.far all);
       }
 
   after_caller : (number n : ℕ) (came : AtBoth (List ℕ)) (run : Run C) (c : Came (LineEnd C))
-      → BothHear setup came (hearer_of c) run.ends.at_called
-      → RunHears setup came (after_hearing number Caller c (with_line_to Caller (drop n) run))
+      → BothHear (player k setup run Caller) (player k setup run Called) came (hearer_of c) run.ends.at_called
+      → RunHears k setup came (after_hearing number Caller c (with_line_to Caller (drop n) run))
   after_caller number n came run (all_taken h) b = record { near = b.near; far = b.far }
   after_caller number n came run (stopped h) b = record { near = b.near; far = b.far }
 
   after_called : (number n : ℕ) (came : AtBoth (List ℕ)) (run : Run C) (c : Came (LineEnd C))
-      → BothHear setup came run.ends.at_caller (hearer_of c)
-      → RunHears setup came (after_hearing number Called c (with_line_to Called (drop n) run))
+      → BothHear (player k setup run Caller) (player k setup run Called) came run.ends.at_caller (hearer_of c)
+      → RunHears k setup came (after_hearing number Called c (with_line_to Called (drop n) run))
   after_called number n came run (all_taken h) b = record { near = b.near; far = b.far }
   after_called number n came run (stopped h) b = record { near = b.near; far = b.far }
 
-  pass_heard : (number : ℕ) (side : Side) (n : ℕ) (came : AtBoth (List ℕ)) (run : Run C) → RunHears setup came run
-      → RunHears setup (comes (Pass side n) run came) (after_event k setup number (Pass side n) run)
+  pass_heard : (number : ℕ) (side : Side) (n : ℕ) (came : AtBoth (List ℕ)) (run : Run C) → RunHears k setup came run
+      → RunHears k setup (comes (Pass side n) run came) (after_event k setup number (Pass side n) run)
   pass_heard number Caller n came run b =
       let x = run.ends.at_caller in
       let y = run.ends.at_called in
@@ -592,8 +627,8 @@ module _ (steps : FindingLaws) (laws : HeardLaws) (place_is : PlaceIs) {C : Type
       after_caller number n (comes (Pass Caller n) run came) run (hears_next k setup Caller n run) (record {
         near = λ all. hears_piece steps laws place_is p y.end.log.packets came.at_caller piece x all
             (b.near (laws.front_bytes came.at_caller piece all));
-        far = far_piece p y.end.log.packets (λ ps. AreBytes came.at_called → Hears (identity setup Called) came.at_called y ps)
-            (λ emitted more far all. emits_more (identity setup Called) came.at_called y.end.state.stage y.held y.end.log.arrivals y.end.log.passed emitted more (far all))
+        far = far_piece p y.end.log.packets (λ ps. AreBytes came.at_called → Hears (player k setup run Called) came.at_called y ps)
+            (λ emitted more far all. emits_more (player k setup run Called) came.at_called y.end.state y.held y.end.log.arrivals y.end.log.passed emitted more (far all))
             piece x b.far;
       })
   pass_heard number Called n came run b =
@@ -602,15 +637,15 @@ module _ (steps : FindingLaws) (laws : HeardLaws) (place_is : PlaceIs) {C : Type
       let p = player k setup run Called in
       let piece = take n x.end.line in
       after_called number n (comes (Pass Called n) run came) run (hears_next k setup Called n run) (record {
-        near = far_piece p x.end.log.packets (λ ps. AreBytes came.at_caller → Hears (identity setup Caller) came.at_caller x ps)
-            (λ emitted more near all. emits_more (identity setup Caller) came.at_caller x.end.state.stage x.held x.end.log.arrivals x.end.log.passed emitted more (near all))
+        near = far_piece p x.end.log.packets (λ ps. AreBytes came.at_caller → Hears (player k setup run Caller) came.at_caller x ps)
+            (λ emitted more near all. emits_more (player k setup run Caller) came.at_caller x.end.state x.held x.end.log.arrivals x.end.log.passed emitted more (near all))
             piece y b.near;
         far = λ all. hears_piece steps laws place_is p x.end.log.packets came.at_called piece y all
             (b.far (laws.front_bytes came.at_called piece all));
       })
 
-  event_heard : (number : ℕ) (event : Event) (came : AtBoth (List ℕ)) (run : Run C) → RunHears setup came run
-      → RunHears setup (comes event run came) (after_event k setup number event run)
+  event_heard : (number : ℕ) (event : Event) (came : AtBoth (List ℕ)) (run : Run C) → RunHears k setup came run
+      → RunHears k setup (comes event run came) (after_event k setup number event run)
   event_heard number (Pass side n) came run b = pass_heard number side n came run b
   event_heard number (Drop side n) came run b = line_heard side (drop n) came run b
   event_heard number (Flip side mask) came run b = line_heard side (flipped mask) came run b
@@ -622,26 +657,26 @@ module _ (steps : FindingLaws) (laws : HeardLaws) (place_is : PlaceIs) {C : Type
       (at_each (λ side. renewed (has_now k setup run side)))
 
   heard_unless : (verdict : LineVerdict) (more : Run C → Run C) (with_more : AtBoth (List ℕ) → AtBoth (List ℕ)) (came : AtBoth (List ℕ)) (run : Run C)
-      → RunHears setup came run → RunHears setup (with_more came) (more run) → RunHears setup (while_clean verdict with_more came) (unless_fooled verdict more run)
+      → RunHears k setup came run → RunHears k setup (with_more came) (more run) → RunHears k setup (while_clean verdict with_more came) (unless_fooled verdict more run)
   heard_unless Clean more with_more came run b later = later
   heard_unless (Fooled number side) more with_more came run b later = b
 
-  all_heard : (number : ℕ) (events : List Event) (came : AtBoth (List ℕ)) (run : Run C) → RunHears setup came run
-      → RunHears setup (comes_with k setup number events run came) (goes_through k setup number events run)
+  all_heard : (number : ℕ) (events : List Event) (came : AtBoth (List ℕ)) (run : Run C) → RunHears k setup came run
+      → RunHears k setup (comes_with k setup number events run came) (goes_through k setup number events run)
   all_heard number [] came run b = b
   all_heard number (event ∷ events) came run b =
       heard_unless run.verdict (λ before. goes_through k setup (suc number) events (after_event k setup number event before))
       (λ so_far. comes_with k setup (suc number) events (after_event k setup number event run) (comes event run so_far)) came run b
       (all_heard (suc number) events (comes event run came) (after_event k setup number event run) (event_heard number event came run b))
 
-  run_heard : (events : List Event) → RunHears setup (came_in k setup events) (run_of k setup events)
+  run_heard : (events : List Event) → RunHears k setup (came_in k setup events) (run_of k setup events)
   run_heard events =
       all_heard 0 events nothing_came (first_run k setup) (begins_heard [] (at_each (λ side. renewed (at side setup).belongings)))
 
   -- ---- for readers
 
   pub heard_at : (events : List Event) (side : Side) → AreBytes (at side (came_in k setup events))
-      → HasHeardAt setup (at side (came_in k setup events)) (run_of k setup events) side
+      → HasHeardAt k setup (at side (came_in k setup events)) (run_of k setup events) side
   heard_at events Caller all = ((run_heard events).near all).heard
   heard_at events Called all = ((run_heard events).far all).heard
 
@@ -656,13 +691,14 @@ module _ (steps : FindingLaws) (laws : HeardLaws) (place_is : PlaceIs) {C : Type
 
   pub scanned_at : (events : List Event) (side : Side) → AreBytes (at side (came_in k setup events))
       → FindsNothingMore (end_at side (run_of k setup events))
-      → (heard : HasHeardAt setup (at side (came_in k setup events)) (run_of k setup events) side)
-      → HasScanned setup (at side (came_in k setup events)) (run_of k setup events) side heard
+      → (heard : HasHeardAt k setup (at side (came_in k setup events)) (run_of k setup events) side)
+      → HasScanned k setup (at side (came_in k setup events)) (run_of k setup events) side heard
   scanned_at events side all none heard on =
       let h = end_at side (run_of k setup events) in
       let came = at side (came_in k setup events) in
-      let left : IsLeft (identity setup side) linked heard.texts heard.items heard.others came h.held =
-      subst (λ s. IsLeft (identity setup side) s heard.texts heard.items heard.others came h.held) on heard.left in
+      let p = player k setup (run_of k setup events) side in
+      let left : IsLeft p linked h.end.state heard.texts heard.items heard.others came h.held =
+      subst (λ s. IsLeft p s h.end.state heard.texts heard.items heard.others came h.held) on heard.left in
       let same : heard.others ≡ h.held = left.0 in
       let link : Finds heard.begins heard.items h.held = subst (Finds heard.begins heard.items) same heard.link in
       let are : AreBytes h.held = laws.item_bytes heard.begins h.held heard.items link (laws.text_bytes heard.texts heard.begins came heard.greeting all) in

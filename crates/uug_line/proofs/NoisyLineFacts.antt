@@ -6,12 +6,15 @@ use Rattle.uug_packet.specs.Decoded.{header_at, decoded}
 use Rattle.uug_packet.specs.Packet.{rj, rr, init_c, init_b, init_a, control}
 use Rattle.uug_packet.specs.Spelling.{canonical}
 use Rattle.uug_session.specs.declared.end.End.TheVariants.{Done, BadTalk, GaveUp, HungUp}
+use Rattle.uug_session.specs.declared.greeting.AwaitedText.TheVariants.{Admission}
 use Rattle.uug_session.specs.MemoryHoldings.{no_holdings}
+use Rattle.uug_session.specs.Says.{written_text}
 use Rattle.uug_line.specs.declared.event.Event.{Event}
 use Rattle.uug_line.specs.declared.event.Event.TheVariants.{Pass, Drop, Flip, Timeout, HangUp, Call}
 use Rattle.uug_line.specs.declared.side.Side.TheVariants.{Caller, Called}
 use Rattle.uug_line.specs.declared.verdict.LineVerdict.TheVariants.{Clean, Fooled}
-use Rattle.uug_line.specs.Belongings.{Belongings, SetupValue}
+use Rattle.uug_line.specs.Belongings.{Belongings, SetupValue, identity}
+use Rattle.uug_line.specs.Delivered.{GreetsOn, came_in}
 use Rattle.uug_session.specs.declared.phase.Phase.TheVariants.{Hail, Talking, Ended}
 use Rattle.uug_line.specs.RunKeeper.{by_numbers}
 use Rattle.uug_line.specs.World.{world, report_of_ends, report_of_world}
@@ -175,6 +178,37 @@ pub long_text_comes : ComeTo idle (inserted_then (0x10 ∷ replicate 257 0x61) (
   verdict = Clean;
 })
 long_text_comes = record { themselves = refl; numbers = refl; same = refl }
+
+-- ---- the line breaks in the greeting: the caller has heard the called end's name alone, and what comes then counts for nothing
+
+abbrev broken_in_greeting : List Event
+broken_in_greeting = Pass Caller all ∷ HangUp Caller ∷ flow 3
+
+pub hangs_up_in_greeting : ComeTo (sends_to no_holdings) broken_in_greeting (record {
+  sessions = at_ends (talks 0 0 0 (Ended HungUp)) (talks 0 0 0 Hail) ∷ [];
+  ends = at_ends (owns 1 0 0 []) nothing_left;
+  verdict = Clean;
+})
+hangs_up_in_greeting = record { themselves = refl; numbers = refl; same = refl }
+
+-- the job is offered in the session behind it
+pub goes_on_after_hang_up : ComeTo (sends_to no_holdings) (broken_in_greeting ++ Call ∷ flow 20) (record {
+  sessions = at_ends (talks 0 0 0 (Ended HungUp)) (talks 0 0 0 (Ended HungUp))
+      ∷ at_ends (talks 4 3 1 (Ended Done)) (talks 3 4 1 (Ended Done)) ∷ [];
+  ends = at_ends (owns 0 1 0 []) (owns 0 0 0 (file y [] ∷ []));
+  verdict = Clean;
+})
+unfolding check header_at decoded
+goes_on_after_hang_up = record { themselves = refl; numbers = refl; same = refl }
+
+-- of the texts that came its greeting has used this one, and would have gone on
+abbrev called_name : List ℕ
+called_name = codes "Shere=b"
+
+pub used_the_name_alone : ((came_in by_numbers idle broken_in_greeting).at_caller
+    ≡ written_text called_name ++ written_text (codes "ROK") ++ written_text (codes "Pg"))
+    × GreetsOn (identity idle Caller) (called_name ∷ []) Admission
+used_the_name_alone = (refl, record { greeting = record { awaited = Admission; timeouts = 0 }; goes_on = refl; awaits = refl })
 
 -- ---- what was put off is offered again in a session to come
 

@@ -1,5 +1,5 @@
 -- The bytes that came to the ends of a line in a session, and what each has found in them (this project's profile).
-use Rattle.std.specs.Prelude.{◌≡◌, ℕ, suc, List, [], ◌∷◌, ◌++◌, length, take, ◌⊎◌}
+use Rattle.std.specs.Prelude.{◌≡◌, ℕ, suc, false, List, [], ◌∷◌, ◌++◌, length, take, ◌⊎◌}
 use Rattle.uug_packet.specs.Packet.{PacketValue}
 use Rattle.uug_reader.specs.Cut.{Item, found, bad}
 use Rattle.uug_reader.specs.Scan.{Finds, IsScan}
@@ -7,7 +7,7 @@ use Rattle.uug_session.specs.declared.end.End.{End}
 use Rattle.uug_session.specs.declared.greeting.AwaitedText.{AwaitedText}
 use Rattle.uug_session.specs.declared.greeting.Greeted.TheVariants.{Ended, GoesOn, LinkBegins}
 use Rattle.uug_session.specs.declared.greeting.Greeting.{Greeting}
-use Rattle.uug_session.specs.EndStep.{Identity, Stage, hailing, linked, ended}
+use Rattle.uug_session.specs.EndStep.{EndEvent, EndState, Identity, Stage, hailing, linked, ended, end_step, packet_found_whole, broken_found, time_ran_out, line_lost}
 use Rattle.uug_session.specs.Greeting.{greeting_at_first}
 use Rattle.uug_session.specs.TextsFound.{Taken}
 use Rattle.uug_session.specs.WholeGreeting.{GreetingRun, texts_came}
@@ -17,8 +17,9 @@ use Rattle.uug_line.specs.declared.event.Event.TheVariants.{Pass, Drop, Flip, In
 use Rattle.uug_line.specs.declared.side.Side.{Side}
 use Rattle.uug_line.specs.declared.verdict.LineVerdict.{LineVerdict}
 use Rattle.uug_line.specs.declared.verdict.LineVerdict.TheVariants.{Clean, Fooled}
-use Rattle.uug_line.specs.Belongings.{SetupValue, identity}
-use Rattle.uug_line.specs.Run.{Run, end_at, after_event, first_run}
+use Rattle.uug_line.specs.Belongings.{SetupValue}
+use Rattle.uug_line.specs.LineEnd.{Player}
+use Rattle.uug_line.specs.Run.{Run, end_at, after_event, first_run, player}
 use Rattle.uug_line.specs.RunKeeper.{RunKeeper}
 use Rattle.uug_line.specs.Sides.{other, AtBoth, at, with_at}
 use Rattle.uug_line.specs.WereSent.{HavePlaces}
@@ -86,18 +87,44 @@ pub record GreetingFailed (id : Identity) (texts : List (List ℕ)) (how : End) 
 abbrev pub EndedInGreeting : Identity → (texts : List (List ℕ)) → End → Type 0
 EndedInGreeting id texts how = ((awaited : AwaitedText) × GreetsOn id texts awaited) ⊎ GreetingFailed id texts how
 
+-- what an item is to the end that takes it up
+abbrev pub event_of : Item → EndEvent
+event_of (found packet) = packet_found_whole false packet
+event_of bad = broken_found
+
+-- with this event, and not before, an end that was on its link has ended, and stands so
+pub record EndedWith {C : Type 0} (p : Player C) (event : EndEvent) (now : EndState C) : Type 0 where
+  pub before : EndState C
+  pub on_link : before.stage ≡ linked
+  pub step : (end_step p.keeper p.identity event before).state ≡ now
+
+-- with the last of these items
+pub record EndedWithLast {C : Type 0} (p : Player C) (items : List Item) (now : EndState C) : Type 0 where
+  pub earlier : List Item
+  pub last : Item
+  pub item : items ≡ earlier ++ last ∷ []
+  pub ends : EndedWith p (event_of last) now
+
+-- An end whose session ended on its link has ended with the last of its items; or it was still there behind all of them, and
+-- ended by a timeout or a hang-up.
+abbrev pub EndedOnLink : {C : Type 0} → Player C → List Item → EndState C → Type 0
+EndedOnLink p items now = EndedWithLast p items now ⊎ EndedWith p time_ran_out now ⊎ EndedWith p line_lost now
+
 -- By how far the end has come: in the greeting there are no items, and the texts of what is held go on as those of all
 -- bytes do; on the link, which began with the last text, just the bytes behind the last item are held; and an end whose
--- session is over has ended in its greeting, without items, or behind such a text.
-abbrev pub IsLeft : Identity → Stage → (texts : List (List ℕ)) → List Item → (others came held : List ℕ) → Type 0
-IsLeft id (hailing greeting) texts items others came held =
-    (items ≡ []) × Taken texts came held × GreetsOn id texts greeting.awaited
-IsLeft id linked texts items others came held = (others ≡ held) × LinkBeganWith id texts
-IsLeft id (ended how) texts items others came held = ((items ≡ []) × EndedInGreeting id texts how) ⊎ LinkBeganWith id texts
+-- session is over has ended in its greeting, without items, or on its link.
+abbrev pub IsLeft : {C : Type 0} → Player C → Stage → EndState C → (texts : List (List ℕ)) → List Item →
+    (others came held : List ℕ) → Type 0
+IsLeft p (hailing greeting) now texts items others came held =
+    (items ≡ []) × Taken texts came held × GreetsOn p.identity texts greeting.awaited
+IsLeft p linked now texts items others came held = (others ≡ held) × LinkBeganWith p.identity texts
+IsLeft p (ended how) now texts items others came held =
+    ((items ≡ []) × EndedInGreeting p.identity texts how) ⊎ (LinkBeganWith p.identity texts × EndedOnLink p items now)
 
--- An end that is so called has found texts in all bytes that came to it, and then, from where they end, items of the link. The
--- packets of these, and no others, are written down, each at its place among those that the other end emitted.
-pub record HasHeard (id : Identity) (came : List ℕ) (stage : Stage) (held arrivals : List ℕ) (emitted : List PacketValue) : Type 0 where
+-- An end has found texts in all bytes that came to it, and then, from where they end, items of the link. The packets of these,
+-- and no others, are written down, each at its place among those that the other end emitted.
+pub record HasHeard {C : Type 0} (p : Player C) (came : List ℕ) (now : EndState C) (held arrivals : List ℕ)
+    (emitted : List PacketValue) : Type 0 where
   pub texts : List (List ℕ)
   pub begins : List ℕ
   pub greeting : StandBefore texts begins came
@@ -105,16 +132,16 @@ pub record HasHeard (id : Identity) (came : List ℕ) (stage : Stage) (held arri
   pub others : List ℕ
   pub link : Finds begins items others
   pub places : HavePlaces (packets_among items) arrivals emitted 0
-  pub left : IsLeft id stage texts items others came held
+  pub left : IsLeft p now.stage now texts items others came held
 
 -- the end on the side, of these bytes
-abbrev pub HasHeardAt : {C : Type 0} → SetupValue → (came : List ℕ) → Run C → Side → Type 0
-HasHeardAt setup came run side =
+abbrev pub HasHeardAt : {C : Type 0} → RunKeeper C → SetupValue → (came : List ℕ) → Run C → Side → Type 0
+HasHeardAt k setup came run side =
     let h = end_at side run in
-    HasHeard (identity setup side) came h.end.state.stage h.held h.end.log.arrivals (end_at (other side) run).end.log.packets
+    HasHeard (player k setup run side) came h.end.state h.held h.end.log.arrivals (end_at (other side) run).end.log.packets
 
 -- On a link nothing more than its items stands in all bytes since it began, and what waits is held.
-abbrev pub HasScanned : {C : Type 0} → (setup : SetupValue) → (came : List ℕ) → (run : Run C) → (side : Side) →
-    HasHeardAt setup came run side → Type 0
-HasScanned setup came run side heard =
+abbrev pub HasScanned : {C : Type 0} → (k : RunKeeper C) → (setup : SetupValue) → (came : List ℕ) → (run : Run C) → (side : Side) →
+    HasHeardAt k setup came run side → Type 0
+HasScanned k setup came run side heard =
     (end_at side run).end.state.stage ≡ linked → IsScan heard.begins heard.items (end_at side run).held

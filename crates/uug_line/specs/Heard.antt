@@ -11,9 +11,9 @@ use Rattle.uug_line.specs.World.{run_of_ends}
 -- of the bytes that have then come to it in the session
 abbrev pub HasHeardBehind : SetupValue → List Event → Side → Type 0
 HasHeardBehind setup events side =
-    HasHeardAt setup (at side (came_in by_themselves setup events)) (run_of_ends setup events) side
+    HasHeardAt by_themselves setup (at side (came_in by_themselves setup events)) (run_of_ends setup events) side
 
 -- on a link, the whole scan of them
 abbrev pub HasScannedBehind : SetupValue → List Event → Side → Type 0
 HasScannedBehind setup events side = (heard : HasHeardBehind setup events side)
-    → HasScanned setup (at side (came_in by_themselves setup events)) (run_of_ends setup events) side heard
+    → HasScanned by_themselves setup (at side (came_in by_themselves setup events)) (run_of_ends setup events) side heard

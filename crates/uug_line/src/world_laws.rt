@@ -159,14 +159,19 @@ pub fn what_comes_is_bytes()
 fn what_is_found_in_bytes()
     ensures heard { (setup : SetupValue) (events : List Event) (side : Side)
         → AreBytes (at side (came_in by_themselves setup events))
-        → HasHeardAt setup (at side (came_in by_themselves setup events)) (run_of_ends setup events) side }
+        → HasHeardAt by_themselves setup (at side (came_in by_themselves setup events))
+        (run_of_ends setup events) side }
     ensures scanned { (setup : SetupValue) (events : List Event) (side : Side)
-        → AreBytes (at side (came_in by_themselves setup events)) → (run_of_ends setup events).verdict ≡ Clean
-        → (heard : HasHeardAt setup (at side (came_in by_themselves setup events)) (run_of_ends setup events) side)
-        → HasScanned setup (at side (came_in by_themselves setup events)) (run_of_ends setup events) side heard }
+        → AreBytes (at side (came_in by_themselves setup events))
+        → (run_of_ends setup events).verdict ≡ Clean
+        → (heard : HasHeardAt by_themselves setup (at side (came_in by_themselves setup events))
+        (run_of_ends setup events) side)
+        → HasScanned by_themselves setup (at side (came_in by_themselves setup events))
+        (run_of_ends setup events) side heard }
     ensures world { (setup : SetupValue) (events : List Event) (side : Side)
         → AreBytes (at side (came_in by_numbers setup events))
-        → HasHeardAt setup (at side (came_in by_numbers setup events)) (world setup events) side }
+        → HasHeardAt by_numbers setup (at side (came_in by_numbers setup events)) (world setup events)
+        side }
 {
     arrivals();
     what_is_found_stays();
@@ -183,15 +188,20 @@ fn what_is_found_in_bytes()
 pub fn an_end_finds_what_came()
     ensures heard { (setup : SetupValue) (events : List Event) (side : Side) → IsSoundSetup setup → IsSetupOfBytes setup
         → AreOfBytes events
-        → HasHeardAt setup (at side (came_in by_themselves setup events)) (run_of_ends setup events) side }
+        → HasHeardAt by_themselves setup (at side (came_in by_themselves setup events))
+        (run_of_ends setup events) side }
     // Where the run did not stop, an end on its link has found the whole scan of them.
     ensures scanned { (setup : SetupValue) (events : List Event) (side : Side) → IsSoundSetup setup → IsSetupOfBytes setup
         → AreOfBytes events → (run_of_ends setup events).verdict ≡ Clean
-        → (heard : HasHeardAt setup (at side (came_in by_themselves setup events)) (run_of_ends setup events) side)
-        → HasScanned setup (at side (came_in by_themselves setup events)) (run_of_ends setup events) side heard }
+        → (heard : HasHeardAt by_themselves setup (at side (came_in by_themselves setup events))
+        (run_of_ends setup events) side)
+        → HasScanned by_themselves setup (at side (came_in by_themselves setup events))
+        (run_of_ends setup events) side heard }
     // So it is in the world.
     ensures world { (setup : SetupValue) (events : List Event) (side : Side) → IsSoundSetup setup → IsSetupOfBytes setup
-        → AreOfBytes events → HasHeardAt setup (at side (came_in by_numbers setup events)) (world setup events) side }
+        → AreOfBytes events
+        → HasHeardAt by_numbers setup (at side (came_in by_numbers setup events)) (world setup events)
+        side }
 {
     what_comes_is_bytes();
     what_is_found_in_bytes();
