@@ -58,7 +58,7 @@ text_is laws text stream (text_stands first others) is shows =
 
 -- ---- at each stage
 
-none_at_end : (how : End) (texts : TextsHeld) (packets : Reading) (item : ItemValue) → ShowsItem (ended how) texts packets item → ⊥
+pub none_at_end : (how : End) (texts : TextsHeld) (packets : Reading) (item : ItemValue) → ShowsItem (ended how) texts packets item → ⊥
 none_at_end how texts packets (text_item text) shows = shows
 none_at_end how texts packets (packet_item p) shows = shows
 none_at_end how texts packets bad_item shows = shows

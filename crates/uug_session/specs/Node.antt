@@ -25,6 +25,10 @@ pub record NodeState : Type 0 where
 abbrev pub node_of : {S A : Type 0} → Node S A → NodeState
 node_of n = record { engine = n.engine; texts = n.texts; packets = n.packets }
 
+-- its files
+abbrev pub spool_of : {S A : Type 0} → Node S A → S
+spool_of n = n.spool
+
 -- the jobs that are done
 abbrev pub struck_jobs : NodeState → List Job
 struck_jobs n = n.engine.talking.machine.lists.struck

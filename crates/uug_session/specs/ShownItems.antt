@@ -1,8 +1,11 @@
 -- What a node shows as its next item, beside what is found next in the bytes that it holds (this project's profile).
-use Rattle.std.specs.Prelude.{◌≡◌, List, ℕ, drop}
+use Rattle.std.specs.Prelude.{◌≡◌, ◌↔◌, List, ℕ, ◌++◌, drop, ⊤}
+use Rattle.uug_reader.specs.Cut.{found, bad}
+use Rattle.uug_reader.specs.Finding.{FindsFirst, FindsNothing, PassesNoise}
+use Rattle.uug_talk.specs.Texts.{IsFirstText}
 use Rattle.uug_session.specs.declared.end.End.TheVariants as ends
 use Rattle.uug_session.specs.declared.greeting.Greeting.{Greeting}
-use Rattle.uug_session.specs.EndStep.{hailing, ended, broken_found, long_text_found, text_found}
+use Rattle.uug_session.specs.EndStep.{Stage, hailing, linked, ended, broken_found, long_text_found, text_found}
 use Rattle.uug_session.specs.Engine.{with_stage}
 use Rattle.uug_session.specs.Finding.{Finding, finding, finds, finds_nothing, finds_packet}
 use Rattle.uug_session.specs.Node.{ItemValue, NodeState, ShowsItem, bad_item, held_bytes, item_size, packet_item, text_item}
@@ -29,3 +32,34 @@ pub data NothingFound (before after : NodeState) : Type 0 where
   is_too_long : (g : Greeting) (behind : List ℕ) → before.engine.stage ≡ hailing g
       → finding before.engine.stage (held_bytes before) ≡ finds long_text_found behind
       → after.engine ≡ with_stage (ended ends.BadTalk) before.engine → NothingFound before after
+
+-- ---- what stands first in the bytes held
+
+-- the first text of the greeting, or behind noise the first item of the link
+abbrev pub StandsNext : Stage → ItemValue → (bytes : List ℕ) → Type 0
+StandsNext (hailing g) (text_item text) bytes =
+    (front : List ℕ) × (behind : List ℕ) × (bytes ≡ front ++ behind) × IsFirstText front text
+StandsNext linked (packet_item p) bytes = FindsFirst bytes (found p)
+StandsNext linked bad_item bytes = FindsFirst bytes bad
+StandsNext _ _ bytes = ⊥
+
+-- no text is whole in front of the place at which one is too long, or all is noise and a rest that waits
+abbrev pub NothingStands : Stage → (bytes : List ℕ) → Type 0
+NothingStands (hailing g) bytes =
+    (front behind text : List ℕ) → bytes ≡ front ++ behind → ¬ IsFirstText front text
+NothingStands linked bytes = FindsNothing bytes
+NothingStands (ended how) bytes = ⊤
+
+abbrev pub IsFirstItem : ItemValue → NodeState → Type 0
+IsFirstItem item n = StandsNext n.engine.stage item (held_bytes n)
+
+abbrev pub HoldsNoItem : NodeState → Type 0
+HoldsNoItem n = NothingStands n.engine.stage (held_bytes n)
+
+-- Only noise of the link is passed over, and it is all but a rest that waits where no item is shown then.
+pub record PassesNoiseAt (before after : NodeState) : Type 0 where
+  pub noise : PassesNoise before.packets.bytes after.packets.bytes
+  pub none : item_size after ≡ 0 ↔ FindsNothing before.packets.bytes
+
+abbrev pub PassesNoiseOnLink : (before after : NodeState) → Type 0
+PassesNoiseOnLink before after = before.engine.stage ≡ linked → PassesNoiseAt before after

@@ -1,7 +1,8 @@
 //! A node takes up the bytes that come to it.
-ghost use Rattle.std.specs.Prelude.{◌≡◌, ◌<◌, ◌≤◌, [], length, take, true, false, IfErr, OnErr, OnOk, Ok};
+ghost use Rattle.std.specs.Prelude.{◌≡◌, ◌<◌, ◌≤◌, [], length, take, true, false};
+ghost use Rattle.std.specs.Prelude.{IfErr, OnErr, OnOk, Ok};
 ghost use Rattle.uug_session.specs.Engine.{HasFailed};
-ghost use Rattle.uug_session.specs.Node.{HasRoom, held_bytes, item_size, node_of};
+ghost use Rattle.uug_session.specs.Node.{HasRoom, held_bytes, item_size, node_of, spool_of};
 ghost use Rattle.uug_session.specs.NodeArriving.{GoesOn, IsAtRest, TakesAll};
 
 use crate::arriving_laws::item_laws;
@@ -22,14 +23,17 @@ impl<S: Spool, A: Allocator + Copy> Node<S, A> {
     /// Takes up the item that stands first in the bytes held, and says whether there was one. Without memory for that it
     /// is still there.
     fn take_next(&mut self) -> Result<bool, AllocError>
-        ensures goes_on { GoesOn (S.holdings self.old.spool) (S.kept self.old.spool) (S.kept self.new.spool)
-            (HasFailed u64.MAX (S.faults self.old.spool) (S.faults self.new.spool)) [] (node_of self.old) (node_of self.new) }
-        ensures fewer { result ≡ Ok true → length (held_bytes (node_of self.new)) < length (held_bytes (node_of self.old)) }
+        ensures goes_on { GoesOn (S.holdings (spool_of self.old))
+            (S.kept (spool_of self.old)) (S.kept (spool_of self.new))
+            (HasFailed u64.MAX (S.faults (spool_of self.old)) (S.faults (spool_of self.new)))
+            [] (node_of self.old) (node_of self.new) }
+        ensures fewer { result ≡ Ok true
+            → length (held_bytes (node_of self.new)) < length (held_bytes (node_of self.old)) }
         ensures rest { result ≡ Ok false → IsAtRest (node_of self.new) }
         ensures room { result ≡ Ok false → HasRoom (node_of self.new) }
         ensures shown { OnErr result (0 < item_size (node_of self.new)) }
-        ensures holdings { S.holdings self.new.spool ≡ S.holdings self.old.spool }
-        ensures count { S.faults self.old.spool ≤ S.faults self.new.spool }
+        ensures holdings { S.holdings (spool_of self.new) ≡ S.holdings (spool_of self.old) }
+        ensures count { S.faults (spool_of self.old) ≤ S.faults (spool_of self.new) }
     {
         item_laws();
         self.search();
@@ -43,13 +47,15 @@ impl<S: Spool, A: Allocator + Copy> Node<S, A> {
     /// Takes up all that is found in the bytes held, one item after the other. Without memory for an item it is still
     /// there, and those in front of it were taken up.
     fn take_all_found(&mut self) -> Result<(), AllocError>
-        ensures goes_on { GoesOn (S.holdings self.old.spool) (S.kept self.old.spool) (S.kept self.new.spool)
-            (HasFailed u64.MAX (S.faults self.old.spool) (S.faults self.new.spool)) [] (node_of self.old) (node_of self.new) }
+        ensures goes_on { GoesOn (S.holdings (spool_of self.old))
+            (S.kept (spool_of self.old)) (S.kept (spool_of self.new))
+            (HasFailed u64.MAX (S.faults (spool_of self.old)) (S.faults (spool_of self.new)))
+            [] (node_of self.old) (node_of self.new) }
         ensures rest { OnOk result (IsAtRest (node_of self.new)) }
         ensures room { OnOk result (HasRoom (node_of self.new)) }
         ensures shown { OnErr result (0 < item_size (node_of self.new)) }
-        ensures holdings { S.holdings self.new.spool ≡ S.holdings self.old.spool }
-        ensures count { S.faults self.old.spool ≤ S.faults self.new.spool }
+        ensures holdings { S.holdings (spool_of self.new) ≡ S.holdings (spool_of self.old) }
+        ensures count { S.faults (spool_of self.old) ≤ S.faults (spool_of self.new) }
     {
         while self.take_next()? {}
         Ok(())
@@ -59,16 +65,18 @@ impl<S: Spool, A: Allocator + Copy> Node<S, A> {
     /// end. Without memory for an item, that item is still there, and those in front of it were taken up; nothing is lost
     /// where the bytes from `used` on are then handed in again.
     pub fn arrive(&mut self, piece: &[u8]) -> Result<(), Unfinished>
-        ensures taken { OnOk result (TakesAll (S.holdings self.old.spool) (S.kept self.old.spool) (S.kept self.new.spool)
-            (HasFailed u64.MAX (S.faults self.old.spool) (S.faults self.new.spool)) piece.now (node_of self.old) (node_of self.new)) }
+        ensures taken { OnOk result (TakesAll (S.holdings (spool_of self.old))
+            (S.kept (spool_of self.old)) (S.kept (spool_of self.new))
+            (HasFailed u64.MAX (S.faults (spool_of self.old)) (S.faults (spool_of self.new)))
+            piece.now (node_of self.old) (node_of self.new)) }
         ensures used { IfErr result (λ unfinished. unfinished.used ≤ length piece.now) }
-        ensures unfinished { IfErr result (λ unfinished.
-            GoesOn (S.holdings self.old.spool) (S.kept self.old.spool) (S.kept self.new.spool)
-            (HasFailed u64.MAX (S.faults self.old.spool) (S.faults self.new.spool))
+        ensures unfinished { IfErr result (λ unfinished. GoesOn (S.holdings (spool_of self.old))
+            (S.kept (spool_of self.old)) (S.kept (spool_of self.new))
+            (HasFailed u64.MAX (S.faults (spool_of self.old)) (S.faults (spool_of self.new)))
             (take unfinished.used piece.now) (node_of self.old) (node_of self.new)) }
         ensures shown { OnErr result (0 < item_size (node_of self.new)) }
-        ensures holdings { S.holdings self.new.spool ≡ S.holdings self.old.spool }
-        ensures count { S.faults self.old.spool ≤ S.faults self.new.spool }
+        ensures holdings { S.holdings (spool_of self.new) ≡ S.holdings (spool_of self.old) }
+        ensures count { S.faults (spool_of self.old) ≤ S.faults (spool_of self.new) }
     {
         item_laws();
         let mut used = 0;

@@ -1,13 +1,20 @@
-ghost use Rattle.std.specs.Prelude.{◌≡◌, ◌≢◌, ◌<◌, ◌≤◌, ℕ, [], length, take, true, false, OnOk, OnErr, IfOk, MatchOption, IsTrue};
+ghost use Rattle.std.specs.Prelude.{◌≡◌, ◌≢◌, ◌↔◌, ◌<◌, ◌≤◌, ℕ, [], length, take, true, false};
+ghost use Rattle.std.specs.Prelude.{OnOk, OnErr, IfOk, IfSome, IsNone, MatchOption};
 ghost use Rattle.uug_link.specs.Step.{step, timed_out};
-ghost use Rattle.uug_session.specs.Engine.{CountsFaults, Does, IsHailing, bare, hung_up, stage_late, with_outbox, with_stage};
-ghost use Rattle.uug_session.specs.Node.{node_of, accepted, held_bytes, item_size, offered, searched, shown_item, IsAsBefore, LeavesRoom, ShowsItem, TakesShown};
+ghost use Rattle.uug_session.specs.Engine.{CountsFaults, Does, IsHailing, bare, hung_up};
+ghost use Rattle.uug_session.specs.Engine.{stage_late, with_outbox, with_stage};
+ghost use Rattle.uug_session.specs.Node.{node_of, spool_of, accepted, held_bytes, item_size};
+ghost use Rattle.uug_session.specs.Node.{offered, searched, shown_item};
+ghost use Rattle.uug_session.specs.Node.{HasRoom, IsAsBefore, LeavesRoom, TakesShown};
+ghost use Rattle.uug_session.specs.ShownItems.{HoldsNoItem, IsFirstItem, IsShown};
+ghost use Rattle.uug_session.specs.ShownItems.{PassesNoiseOnLink};
 ghost use Rattle.uug_session.specs.NodeLoan.{EndsFound};
 ghost use Rattle.uug_session.specs.Phases.{phase_at};
 ghost use Rattle.uug_session.specs.Talking.{talking_has_parted};
 ghost use Rattle.std.specs.Borrow.{sem};
 ghost use Rattle.uug_session.specs.EndStep.{hailing, linked, unmoved};
 
+use crate::arriving_laws::item_laws;
 use crate::engine::Engine;
 use crate::greeting::Greeting;
 use crate::item::Item;
@@ -15,6 +22,7 @@ use crate::phase::Phase;
 use crate::queue::Queue;
 use crate::spool::Spool;
 use crate::stage::Stage;
+use crate::text_laws::text_search_finds_the_first;
 use crate::texts::Texts;
 use std::alloc::{AllocError, Allocator};
 use uug_link::{Outbox, WINDOW_MAX};
@@ -38,7 +46,7 @@ impl<S: Spool, A: Allocator + Copy> Node<S, A> {
     pub fn offer(&mut self, piece: &[u8]) -> usize
         ensures count { result ≡ accepted (node_of self.old) piece.now }
         ensures bytes { node_of self.new ≡ offered (take result piece.now) (node_of self.old) }
-        ensures spool { self.new.spool ≡ self.old.spool }
+        ensures spool { spool_of self.new ≡ spool_of self.old }
     {
         match self.engine.stage() {
             Stage::Hailing(_) => self.texts.push(piece),
@@ -62,7 +70,7 @@ impl<S: Spool, A: Allocator + Copy> Node<S, A> {
     /// What was found and is shown, which stands first among the bytes held.
     pub(crate) fn showing(&self) -> Option<Item<'_>>
         ensures { MatchOption result (item_size (node_of self.now) ≡ 0)
-            (λ item. ShowsItem (node_of self.now).engine.stage (node_of self.now).texts (node_of self.now).packets (shown_item item)) }
+            (λ item. IsShown (shown_item item) (node_of self.now)) }
     {
         match self.engine.stage() {
             Stage::Hailing(_) => Some(Item::Text(self.texts.showing()?)),
@@ -78,8 +86,9 @@ impl<S: Spool, A: Allocator + Copy> Node<S, A> {
     /// is over.
     pub(crate) fn search(&mut self)
         ensures found { node_of self.new ≡ searched (node_of self.old) }
+        ensures passes { PassesNoiseOnLink (node_of self.old) (node_of self.new) }
         ensures room { LeavesRoom (node_of self.new) }
-        ensures spool { self.new.spool ≡ self.old.spool }
+        ensures spool { spool_of self.new ≡ spool_of self.old }
     {
         match self.engine.stage() {
             Stage::Hailing(_) => {
@@ -95,10 +104,16 @@ impl<S: Spool, A: Allocator + Copy> Node<S, A> {
     }
 
     /// Shows the first item in the bytes held, which stays until it is taken: a text in the greeting, a packet or a broken
-    /// one on the link. What is passed over in front is taken away. At a text that is too long the session is over.
+    /// one on the link. What is passed over in front is taken away. At a text that is too long the session is over. After
+    /// `None` at least one byte fits.
     pub fn next_found(&mut self) -> Option<Item<'_>>
+        ensures none { IsNone result ↔ HoldsNoItem (node_of self.old) }
+        ensures first { IfSome result (λ item. IsFirstItem (shown_item item) (node_of self.old)) }
+        ensures room { IsNone result → HasRoom (searched (node_of self.old)) }
         ensures* after { sem 𝓛 (EndsFound S.row A.row A.Allocator self.entry result) }
     {
+        item_laws();
+        text_search_finds_the_first();
         self.search();
         self.showing()
     }
@@ -106,14 +121,17 @@ impl<S: Spool, A: Allocator + Copy> Node<S, A> {
     /// Takes up the item that is shown, and takes its bytes away. The answer is true exactly where its message was taken.
     pub fn take_found(&mut self) -> Result<bool, AllocError>
         requires shown { 0 < item_size (node_of self.old) }
-        ensures taken { IfOk result (λ took.
-            TakesShown (S.holdings self.old.spool) (S.kept self.old.spool) (S.kept self.new.spool)
-            (CountsFaults u64.MAX (S.faults self.old.spool) (S.faults self.new.spool)) (node_of self.old) (node_of self.new) took) }
-        ensures err { OnErr result (IsAsBefore (S.holdings self.old.spool) (S.kept self.old.spool) (S.kept self.new.spool)
+        ensures taken { IfOk result (λ took. TakesShown (S.holdings (spool_of self.old))
+            (S.kept (spool_of self.old)) (S.kept (spool_of self.new))
+            (CountsFaults u64.MAX (S.faults (spool_of self.old)) (S.faults (spool_of self.new)))
+            (node_of self.old) (node_of self.new) took) }
+        ensures err { OnErr result (IsAsBefore (S.holdings (spool_of self.old))
+            (S.kept (spool_of self.old)) (S.kept (spool_of self.new))
             (node_of self.old) (node_of self.new)) }
-        ensures faults { OnErr result (S.faults self.new.spool ≡ S.faults self.old.spool) }
-        ensures holdings { S.holdings self.new.spool ≡ S.holdings self.old.spool }
-        ensures count { S.faults self.old.spool ≤ S.faults self.new.spool }
+        ensures faults { OnErr result
+            (S.faults (spool_of self.new) ≡ S.faults (spool_of self.old)) }
+        ensures holdings { S.holdings (spool_of self.new) ≡ S.holdings (spool_of self.old) }
+        ensures count { S.faults (spool_of self.old) ≤ S.faults (spool_of self.new) }
     {
         match self.engine.stage() {
             Stage::Hailing(greeting) => {
@@ -129,11 +147,14 @@ impl<S: Spool, A: Allocator + Copy> Node<S, A> {
     fn take_text(&mut self, greeting: Greeting) -> Result<(), AllocError>
         requires hailing { (node_of self.old).engine.stage ≡ hailing greeting }
         requires shown { 0 < (node_of self.old).texts.shown_size }
-        ensures ok { OnOk result (TakesShown (S.holdings self.old.spool) (S.kept self.old.spool) (S.kept self.new.spool)
-            (CountsFaults u64.MAX (S.faults self.old.spool) (S.faults self.new.spool)) (node_of self.old) (node_of self.new) false) }
-        ensures err { OnErr result (IsAsBefore (S.holdings self.old.spool) (S.kept self.old.spool) (S.kept self.new.spool)
+        ensures ok { OnOk result (TakesShown (S.holdings (spool_of self.old))
+            (S.kept (spool_of self.old)) (S.kept (spool_of self.new))
+            (CountsFaults u64.MAX (S.faults (spool_of self.old)) (S.faults (spool_of self.new)))
+            (node_of self.old) (node_of self.new) false) }
+        ensures err { OnErr result (IsAsBefore (S.holdings (spool_of self.old))
+            (S.kept (spool_of self.old)) (S.kept (spool_of self.new))
             (node_of self.old) (node_of self.new)) }
-        ensures spool { self.new.spool ≡ self.old.spool }
+        ensures spool { spool_of self.new ≡ spool_of self.old }
     {
         let Some(text) = self.texts.showing() else {
             unreachable!();
@@ -150,13 +171,17 @@ impl<S: Spool, A: Allocator + Copy> Node<S, A> {
     fn take_packet(&mut self) -> Result<bool, AllocError>
         requires linked { (node_of self.old).engine.stage ≡ linked }
         requires shown { 0 < (node_of self.old).packets.shown_size }
-        ensures ok { IfOk result (λ took. TakesShown (S.holdings self.old.spool) (S.kept self.old.spool) (S.kept self.new.spool)
-            (CountsFaults u64.MAX (S.faults self.old.spool) (S.faults self.new.spool)) (node_of self.old) (node_of self.new) took) }
-        ensures err { OnErr result (IsAsBefore (S.holdings self.old.spool) (S.kept self.old.spool) (S.kept self.new.spool)
+        ensures ok { IfOk result (λ took. TakesShown (S.holdings (spool_of self.old))
+            (S.kept (spool_of self.old)) (S.kept (spool_of self.new))
+            (CountsFaults u64.MAX (S.faults (spool_of self.old)) (S.faults (spool_of self.new)))
+            (node_of self.old) (node_of self.new) took) }
+        ensures err { OnErr result (IsAsBefore (S.holdings (spool_of self.old))
+            (S.kept (spool_of self.old)) (S.kept (spool_of self.new))
             (node_of self.old) (node_of self.new)) }
-        ensures faults { OnErr result (S.faults self.new.spool ≡ S.faults self.old.spool) }
-        ensures holdings { S.holdings self.new.spool ≡ S.holdings self.old.spool }
-        ensures count { S.faults self.old.spool ≤ S.faults self.new.spool }
+        ensures faults { OnErr result
+            (S.faults (spool_of self.new) ≡ S.faults (spool_of self.old)) }
+        ensures holdings { S.holdings (spool_of self.new) ≡ S.holdings (spool_of self.old) }
+        ensures count { S.faults (spool_of self.old) ≤ S.faults (spool_of self.new) }
     {
         match self.packets.showing() {
             Some(Found::Packet(packet)) => {
@@ -180,29 +205,34 @@ impl<S: Spool, A: Allocator + Copy> Node<S, A> {
             (talking_has_parted (node_of self.old).engine.talking) (node_of self.old).engine.stage
             (node_of self.old).engine.link (node_of self.old).engine.talking)
             (bare (node_of self.new).engine) (node_of self.old).engine (node_of self.new).engine) }
-        ensures err { OnErr result (Does (unmoved (bare (node_of self.old).engine)) (bare (node_of self.new).engine)
-            (node_of self.old).engine (node_of self.new).engine) }
+        ensures err { OnErr result (Does (unmoved (bare (node_of self.old).engine))
+            (bare (node_of self.new).engine) (node_of self.old).engine (node_of self.new).engine) }
         ensures only_linked { OnErr result ((node_of self.old).engine.stage ≡ linked) }
-        ensures only_speaking { OnErr result ((step (node_of self.old).engine.link timed_out).emitted ≢ []) }
-        ensures bytes { ((node_of self.new).texts ≡ (node_of self.old).texts) × ((node_of self.new).packets ≡ (node_of self.old).packets) }
-        ensures spool { self.new.spool ≡ self.old.spool }
+        ensures only_speaking { OnErr result
+            ((step (node_of self.old).engine.link timed_out).emitted ≢ []) }
+        ensures bytes { ((node_of self.new).texts ≡ (node_of self.old).texts)
+            × ((node_of self.new).packets ≡ (node_of self.old).packets) }
+        ensures spool { spool_of self.new ≡ spool_of self.old }
     {
         self.engine.on_timeout()
     }
 
     /// The line is gone: the session is over. Nothing is emitted.
     pub fn hang_up(&mut self)
-        ensures stage { (node_of self.new).engine ≡ with_stage (hung_up (talking_has_parted (node_of self.old).engine.talking)
+        ensures stage { (node_of self.new).engine
+            ≡ with_stage (hung_up (talking_has_parted (node_of self.old).engine.talking)
             (node_of self.old).engine.stage) (node_of self.old).engine }
-        ensures bytes { ((node_of self.new).texts ≡ (node_of self.old).texts) × ((node_of self.new).packets ≡ (node_of self.old).packets) }
-        ensures spool { self.new.spool ≡ self.old.spool }
+        ensures bytes { ((node_of self.new).texts ≡ (node_of self.old).texts)
+            × ((node_of self.new).packets ≡ (node_of self.old).packets) }
+        ensures spool { spool_of self.new ≡ spool_of self.old }
     {
         self.engine.hang_up();
     }
 
     /// How far the session has come.
     pub fn phase(&self) -> Phase
-        ensures { result ≡ phase_at (node_of self.now).engine.stage (node_of self.now).engine.link.phase }
+        ensures { result
+            ≡ phase_at (node_of self.now).engine.stage (node_of self.now).engine.link.phase }
     {
         self.engine.phase()
     }
@@ -226,10 +256,13 @@ impl<S: Spool, A: Allocator + Copy> Node<S, A> {
     /// Takes all that was emitted away. What it takes without memory gets no less.
     pub fn clear_outbox(&mut self)
         ensures entries { (node_of self.new).engine.outbox.entries ≡ [] }
-        ensures spare { (node_of self.old).engine.outbox.spare ≤ (node_of self.new).engine.outbox.spare }
-        ensures rest { (node_of self.new).engine ≡ with_outbox (node_of self.new).engine.outbox (node_of self.old).engine }
-        ensures bytes { ((node_of self.new).texts ≡ (node_of self.old).texts) × ((node_of self.new).packets ≡ (node_of self.old).packets) }
-        ensures spool { self.new.spool ≡ self.old.spool }
+        ensures spare { (node_of self.old).engine.outbox.spare
+            ≤ (node_of self.new).engine.outbox.spare }
+        ensures rest { (node_of self.new).engine
+            ≡ with_outbox (node_of self.new).engine.outbox (node_of self.old).engine }
+        ensures bytes { ((node_of self.new).texts ≡ (node_of self.old).texts)
+            × ((node_of self.new).packets ≡ (node_of self.old).packets) }
+        ensures spool { spool_of self.new ≡ spool_of self.old }
     {
         self.engine.clear_outbox();
     }
@@ -243,7 +276,7 @@ impl<S: Spool, A: Allocator + Copy> Node<S, A> {
 
     /// The files.
     pub fn spool(&self) -> &S
-        ensures { result.now ≡ self.now.spool }
+        ensures { result.now ≡ spool_of self.now }
     {
         &self.spool
     }

@@ -3,7 +3,7 @@ ghost use Rattle.uug_link.specs.Announced.{announced};
 ghost use Rattle.uug_reader.specs.Reading.{fresh};
 ghost use Rattle.uug_session.specs.Engine.{BeginsSession, Does, IsEnded, all_ahead, bare};
 ghost use Rattle.uug_session.specs.EndStep.{unmoved};
-ghost use Rattle.uug_session.specs.Node.{node_of};
+ghost use Rattle.uug_session.specs.Node.{node_of, spool_of};
 ghost use Rattle.uug_session.specs.Sessions.{HoldsNothing};
 ghost use Rattle.uug_session.specs.Side.{side_of};
 ghost use Rattle.uug_session.specs.TextsHeld.{nothing_held};
@@ -47,10 +47,11 @@ impl<S: Spool, A: Allocator + Copy> Node<S, A> {
     /// The end that calls, whose first session begins. It waits for the called end's name, and all pending jobs are to be
     /// offered.
     pub fn caller(alloc: A, place: Place, queue: Queue<A>, spool: S) -> Result<Self, NotMade<S, A>>
-        ensures session { IfOk result (λ node. BeginsSession (record { side = caller; me = place.me; peer = place.peer })
+        ensures session { IfOk result (λ node. BeginsSession
+            (record { side = caller; me = place.me; peer = place.peer })
             (announced place.announce) (all_ahead queue) [] (node_of node).engine) }
         ensures nothing_held { IfOk result (λ node. HoldsNothing (node_of node)) }
-        ensures spool { IfOk result (λ node. node.spool ≡ spool) }
+        ensures spool { IfOk result (λ node. spool_of node ≡ spool) }
         ensures place_back { IfErr result (λ refused. refused.place ≡ place) }
         ensures jobs_back { IfErr result (λ refused. refused.queue ≡ queue) }
         ensures spool_back { IfErr result (λ refused. refused.spool ≡ spool) }
@@ -60,10 +61,11 @@ impl<S: Spool, A: Allocator + Copy> Node<S, A> {
 
     /// The end that is called, whose first session begins. It says its name, and all pending jobs are to be offered.
     pub fn called(alloc: A, place: Place, queue: Queue<A>, spool: S) -> Result<Self, NotMade<S, A>>
-        ensures session { IfOk result (λ node. BeginsSession (record { side = called; me = place.me; peer = place.peer })
+        ensures session { IfOk result (λ node. BeginsSession
+            (record { side = called; me = place.me; peer = place.peer })
             (announced place.announce) (all_ahead queue) [] (node_of node).engine) }
         ensures nothing_held { IfOk result (λ node. HoldsNothing (node_of node)) }
-        ensures spool { IfOk result (λ node. node.spool ≡ spool) }
+        ensures spool { IfOk result (λ node. spool_of node ≡ spool) }
         ensures place_back { IfErr result (λ refused. refused.place ≡ place) }
         ensures jobs_back { IfErr result (λ refused. refused.queue ≡ queue) }
         ensures spool_back { IfErr result (λ refused. refused.spool ≡ spool) }
@@ -76,15 +78,17 @@ impl<S: Spool, A: Allocator + Copy> Node<S, A> {
     /// says. Without memory for that nothing has changed.
     pub fn call_again(&mut self) -> Result<(), AllocError>
         requires ended { IsEnded (node_of self.old).engine.stage }
-        ensures session { OnOk result (BeginsSession (node_of self.old).engine.identity (node_of self.old).engine.own
-            (all_ahead (node_of self.old).engine.talking.machine.lists) (node_of self.old).engine.outbox.entries
-            (node_of self.new).engine) }
+        ensures session { OnOk result (BeginsSession (node_of self.old).engine.identity
+            (node_of self.old).engine.own
+            (all_ahead (node_of self.old).engine.talking.machine.lists)
+            (node_of self.old).engine.outbox.entries (node_of self.new).engine) }
         ensures nothing_held { OnOk result (HoldsNothing (node_of self.new)) }
-        ensures spool { self.new.spool ≡ self.old.spool }
-        ensures err { OnErr result (Does (unmoved (bare (node_of self.old).engine)) (bare (node_of self.new).engine)
-            (node_of self.old).engine (node_of self.new).engine) }
+        ensures spool { spool_of self.new ≡ spool_of self.old }
+        ensures err { OnErr result (Does (unmoved (bare (node_of self.old).engine))
+            (bare (node_of self.new).engine) (node_of self.old).engine (node_of self.new).engine) }
         ensures texts_stay { OnErr result ((node_of self.new).texts ≡ (node_of self.old).texts) }
-        ensures packets_stay { OnErr result ((node_of self.new).packets ≡ (node_of self.old).packets) }
+        ensures packets_stay { OnErr result
+            ((node_of self.new).packets ≡ (node_of self.old).packets) }
     {
         self.engine.reserve_first_words()?;
         self.engine.restart();
@@ -101,10 +105,11 @@ impl<S: Spool, A: Allocator + Copy> Node<S, A> {
         queue: Queue<A>,
         spool: S,
     ) -> Result<Self, NotMade<S, A>>
-        ensures session { IfOk result (λ node. BeginsSession (record { side = side_of side; me = place.me; peer = place.peer })
+        ensures session { IfOk result (λ node. BeginsSession
+            (record { side = side_of side; me = place.me; peer = place.peer })
             (announced place.announce) (all_ahead queue) [] (node_of node).engine) }
         ensures nothing_held { IfOk result (λ node. HoldsNothing (node_of node)) }
-        ensures spool { IfOk result (λ node. node.spool ≡ spool) }
+        ensures spool { IfOk result (λ node. spool_of node ≡ spool) }
         ensures place_back { IfErr result (λ refused. refused.place ≡ place) }
         ensures jobs_back { IfErr result (λ refused. refused.queue ≡ queue) }
         ensures spool_back { IfErr result (λ refused. refused.spool ≡ spool) }
