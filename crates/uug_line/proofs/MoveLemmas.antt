@@ -289,7 +289,7 @@ module _ (setup : SetupValue) (brought : AtBoth Belongings) (side : Side) (far :
       taken_message p m.taken may ∙ ap (λ (l : List (List ℕ)). l ++ message ∷ []) (sym j.near_taken) in
       let acted : Acted setup brought side (takes message) j.two =
       acts setup brought side (takes message) j.two j.reached
-      (front.0, j.far_sent ∙ sym front.1 ∙ ap (λ (l : List (List ℕ)). l ++ front.0) grown) in
+      (front.0, ap (λ (l : List (List ℕ)). l ++ front.0) (sym grown) ∙ front.1 ∙ sym j.far_sent) in
       record {
         links = runs;
         two = acted.then_two;

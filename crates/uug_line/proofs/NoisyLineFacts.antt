@@ -179,7 +179,8 @@ pub long_text_comes : ComeTo idle (inserted_then (0x10 ∷ replicate 257 0x61) (
 })
 long_text_comes = record { themselves = refl; numbers = refl; same = refl }
 
--- ---- the line breaks in the greeting: the caller has heard the called end's name alone, and what comes then counts for nothing
+-- ---- the line breaks in the greeting: the caller has heard the called end's name alone, and what comes then counts
+-- for nothing
 
 abbrev broken_in_greeting : List Event
 broken_in_greeting = Pass Caller all ∷ HangUp Caller ∷ flow 3
@@ -208,7 +209,8 @@ called_name = codes "Shere=b"
 pub used_the_name_alone : ((came_in by_numbers idle broken_in_greeting).at_caller
     ≡ written_text called_name ++ written_text (codes "ROK") ++ written_text (codes "Pg"))
     × GreetsOn (identity idle Caller) (called_name ∷ []) Admission
-used_the_name_alone = (refl, record { greeting = record { awaited = Admission; timeouts = 0 }; goes_on = refl; awaits = refl })
+used_the_name_alone =
+    (refl, record { greeting = record { awaited = Admission; timeouts = 0 }; goes_on = refl; awaits = refl })
 
 -- ---- what was put off is offered again in a session to come
 

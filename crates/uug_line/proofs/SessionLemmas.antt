@@ -7,7 +7,7 @@ use Rattle.uug_session.specs.Holdings.{Kept}
 use Rattle.uug_session.specs.Jobs.{Lists}
 use Rattle.uug_session.specs.Talk.{Talk, end_keeper}
 use Rattle.uug_session.specs.Turns.{caller, called}
-use Rattle.uug_session.specs.TwoEnds.{IsFrontOf, Talker, at_first, first_two}
+use Rattle.uug_session.specs.TwoEnds.{Talker, at_first, first_two}
 use Rattle.uug_session.specs.View.{floor, kept_after, lists_after}
 use Rattle.uug_line.specs.declared.side.Side.{Side}
 use Rattle.uug_line.specs.declared.side.Side.TheVariants.{Caller, Called}
@@ -165,11 +165,10 @@ module _ (law : Laws) (setup : SetupValue) (brought : AtBoth Belongings) (sound 
   -- what it has taken is a front of what the other has sent
   pub front : (side : Side) (e f : LineEnd Talk) → EndsJoined setup brought side e f → IsFrontOf e.log.taken f.log.sent
   front side e f joined =
-      let front_and_rest = (law.front (at side setup).own (at (other side) setup).own
+      (law.front (at side setup).own (at (other side) setup).own
       (record { near = link_end (moment_of e); far = link_end (moment_of f) })
       (sound.window side) (sound.window (other side))
-      (links_run setup side (moment_of e) (moment_of f) joined.joined.links)).0 in
-      (front_and_rest.0, sym front_and_rest.1)
+      (links_run setup side (moment_of e) (moment_of f) joined.joined.links)).0
 
   -- and it has sent no more than it may
   pub to_floor : (side : Side) (e f : LineEnd Talk) → EndsJoined setup brought side e f →

@@ -105,8 +105,8 @@ pub record EndedWithLast {C : Type 0} (p : Player C) (items : List Item) (now : 
   pub item : items ≡ earlier ++ last ∷ []
   pub ends : EndedWith p (event_of last) now
 
--- An end whose session ended on its link has ended with the last of its items; or it was still there behind all of them, and
--- ended by a timeout or a hang-up.
+-- An end whose session ended on its link has ended with the last of its items; or it was still there behind all of
+-- them, and ended by a timeout or a hang-up.
 abbrev pub EndedOnLink : {C : Type 0} → Player C → List Item → EndState C → Type 0
 EndedOnLink p items now = EndedWithLast p items now ⊎ EndedWith p time_ran_out now ⊎ EndedWith p line_lost now
 
@@ -121,8 +121,8 @@ IsLeft p linked now texts items others came held = (others ≡ held) × LinkBega
 IsLeft p (ended how) now texts items others came held =
     ((items ≡ []) × EndedInGreeting p.identity texts how) ⊎ (LinkBeganWith p.identity texts × EndedOnLink p items now)
 
--- An end has found texts in all bytes that came to it, and then, from where they end, items of the link. The packets of these,
--- and no others, are written down, each at its place among those that the other end emitted.
+-- An end has found texts in all bytes that came to it, and then, from where they end, items of the link. The packets of
+-- these, and no others, are written down, each at its place among those that the other end emitted.
 pub record HasHeard {C : Type 0} (p : Player C) (came : List ℕ) (now : EndState C) (held arrivals : List ℕ)
     (emitted : List PacketValue) : Type 0 where
   pub texts : List (List ℕ)
@@ -138,10 +138,11 @@ pub record HasHeard {C : Type 0} (p : Player C) (came : List ℕ) (now : EndStat
 abbrev pub HasHeardAt : {C : Type 0} → RunKeeper C → SetupValue → (came : List ℕ) → Run C → Side → Type 0
 HasHeardAt k setup came run side =
     let h = end_at side run in
-    HasHeard (player k setup run side) came h.end.state h.held h.end.log.arrivals (end_at (other side) run).end.log.packets
+    HasHeard (player k setup run side) came h.end.state h.held h.end.log.arrivals
+    (end_at (other side) run).end.log.packets
 
 -- On a link nothing more than its items stands in all bytes since it began, and what waits is held.
-abbrev pub HasScanned : {C : Type 0} → (k : RunKeeper C) → (setup : SetupValue) → (came : List ℕ) → (run : Run C) → (side : Side) →
-    HasHeardAt k setup came run side → Type 0
+abbrev pub HasScanned : {C : Type 0} → (k : RunKeeper C) → (setup : SetupValue) → (came : List ℕ) → (run : Run C) →
+    (side : Side) → HasHeardAt k setup came run side → Type 0
 HasScanned k setup came run side heard =
     (end_at side run).end.state.stage ≡ linked → IsScan heard.begins heard.items (end_at side run).held

@@ -16,4 +16,5 @@ HasHeardBehind setup events side =
 -- on a link, the whole scan of them
 abbrev pub HasScannedBehind : SetupValue → List Event → Side → Type 0
 HasScannedBehind setup events side = (heard : HasHeardBehind setup events side)
-    → HasScanned by_themselves setup (at side (came_in by_themselves setup events)) (run_of_ends setup events) side heard
+    → HasScanned by_themselves setup (at side (came_in by_themselves setup events)) (run_of_ends setup events) side
+    heard

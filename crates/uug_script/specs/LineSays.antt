@@ -9,6 +9,7 @@ use Rattle.uug_session.specs.Holdings.{kept_file}
 use Rattle.uug_session.specs.declared.job.Job.TheVariants.{Send, Request}
 use Rattle.uug_talk.specs.Mode.{IsModeWord, octal_value}
 use Rattle.uug_talk.specs.Name.{IsName}
+use Rattle.uug_talk.specs.Order.{AreNames}
 use Rattle.uug_talk.specs.Words.{words}
 use Rattle.uug_line.specs.declared.event.Event.TheVariants.{Pass, Drop, Flip, Insert, Timeout, HangUp, Call}
 use Rattle.uug_script.specs.declared.fields.TheConstants.{MODE_DIGITS}
@@ -42,9 +43,6 @@ pub data WritesBytes : List ℕ → List ℕ → Type 0 where
 abbrev pub NamesCopy : List (List ℕ) → Option (List ℕ) → Type 0
 NamesCopy more None = more ≡ []
 NamesCopy more (Some temp) = IsName temp × (more ≡ temp ∷ [])
-
-abbrev pub AreNames : List ℕ → List ℕ → List ℕ → Type 0
-AreNames source target user = IsName source × IsName target × IsName user
 
 pub data LineSays : List (List ℕ) → LineMeaning → Type 0 where
   blank : LineSays [] nothing

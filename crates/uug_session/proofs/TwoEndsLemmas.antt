@@ -2,6 +2,7 @@
 use Rattle.std.proofs.Common.{◌≡◌, ℕ, zero, suc, ◌≤◌, List, [], ◌∷◌, ◌++◌, length, take, drop, refl, sym, ap, subst, ◌∙◌, arith}
 use Rattle.std.proofs.lemmas.List.{append_assoc, length-append, take-append-drop}
 use Rattle.std.proofs.Math.Seq.{take-append_seam, drop-append_seam}
+use Rattle.uug_link.specs.TwoLinks.{IsFrontOf}
 use Rattle.uug_session.specs.Holdings.{Kept}
 use Rattle.uug_session.specs.Jobs.{Move}
 use Rattle.uug_session.specs.Machine.{step}
@@ -9,7 +10,7 @@ use Rattle.uug_session.specs.Messages.{Message, conversation_messages}
 use Rattle.uug_session.specs.Party.{Party}
 use Rattle.uug_session.specs.Runs.{Progress, taking, taking_all, progress_after, progress_at, IsAt}
 use Rattle.uug_session.specs.Turns.{Side, caller, called, other, all_messages}
-use Rattle.uug_session.specs.TwoEnds.{Talker, progress_of, Two, sends, takes, IsFrontOf, after_act, Reached, at_first, after, IsTold}
+use Rattle.uug_session.specs.TwoEnds.{Talker, progress_of, Two, sends, takes, after_act, Reached, at_first, after, IsTold}
 use Rattle.uug_session.specs.View.{Seen, seen, view, conversation_view, own_messages, others_messages, floor, party}
 
 -- ---- what one end says the other hears
@@ -30,13 +31,13 @@ others_are_own me (m ∷ ms) =
 -- ---- fronts
 
 front_take : (front whole : List (List ℕ)) → IsFrontOf front whole → front ≡ take (length front) whole
-front_take front whole f = sym (ap (take (length front)) f.1 ∙ take-append_seam front f.0)
+front_take front whole f = sym (ap (take (length front)) (sym f.1) ∙ take-append_seam front f.0)
 
 front_of_front : (a b c : List (List ℕ)) → IsFrontOf a b → IsFrontOf b c → IsFrontOf a c
-front_of_front a b c f g = (f.0 ++ g.0, g.1 ∙ ap (λ z. z ++ g.0) f.1 ∙ append_assoc a f.0 g.0)
+front_of_front a b c f g = (f.0 ++ g.0, sym (append_assoc a f.0 g.0) ∙ ap (λ z. z ++ g.0) f.1 ∙ g.1)
 
 front_take_of : (n : ℕ) (whole : List (List ℕ)) → IsFrontOf (take n whole) whole
-front_take_of n whole = (drop n whole, sym (take-append-drop n whole))
+front_take_of n whole = (drop n whole, take-append-drop n whole)
 
 front_length : (front whole : List (List ℕ)) → IsFrontOf front whole → length front ≤ length whole
 front_length front whole f = omega (arith, ap length f.1, length-append front f.0)

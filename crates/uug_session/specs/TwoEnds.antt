@@ -1,6 +1,7 @@
 -- Two ends that hear each other: each sends what it has to say, in order, and takes what the other has sent, in order.
 -- Nothing is said of when it does (this project's profile).
 use Rattle.std.specs.Prelude.{◌≡◌, ℕ, ◌≤◌, List, [], ◌∷◌, ◌++◌, length, take, drop}
+use Rattle.uug_link.specs.TwoLinks.{IsFrontOf}
 use Rattle.uug_session.specs.Holdings.{Kept}
 use Rattle.uug_session.specs.Machine.{State, Reply, step}
 use Rattle.uug_session.specs.Party.{Party}
@@ -49,10 +50,6 @@ first_two a b = record { caller_end = first_talker caller a; called_end = first_
 pub data Act : Type 0 where
   sends : Act
   takes : (message : List ℕ) → Act
-
--- the front of a list
-abbrev pub IsFrontOf : List (List ℕ) → List (List ℕ) → Type 0
-IsFrontOf front whole = (rest : List (List ℕ)) × (whole ≡ front ++ rest)
 
 -- there is a message that waits; what was taken, with this message, is a front of what the other end has sent
 abbrev pub Permits : Act → (own others : Talker) → Type 0
