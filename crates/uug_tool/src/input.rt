@@ -21,7 +21,8 @@ pub trait Input {
     fn read(&mut self, buffer: &mut [u8]) -> Result<usize, ReadFailed>
         requires { 0 < length buffer.old }
         ensures within { IfOk result (λ n. n ≤ length buffer.old) }
-        ensures moves { IfOk result (λ n. Moves n buffer.new (to_come self.old) (to_come self.new)) }
+        ensures moves { IfOk result (λ n.
+            Moves n buffer.new (to_come self.old) (to_come self.new)) }
         ensures refused { OnErr result (Keeps (to_come self.old) (to_come self.new)) }
         ensures fault { OnErr result (CountsFault (fault_count self.old) (fault_count self.new)) }
         ensures grows { fault_count self.old ≤ fault_count self.new };

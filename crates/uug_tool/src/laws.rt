@@ -9,7 +9,8 @@ use uug_reader::laws::one_scan;
 /// Each stream of bytes has one listing, as it has one scan.
 pub fn one_listing()
     ensures some { (s : List ℕ) → AreBytes s → (text : List ℕ) × IsListing s text }
-    ensures only { (s text other : List ℕ) → IsListing s text → IsListing s other → text ≡ other }
+    ensures only { (s text other : List ℕ) → IsListing s text → IsListing s other
+        → text ≡ other }
 {
     one_scan();
 }

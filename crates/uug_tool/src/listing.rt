@@ -10,7 +10,8 @@ use uug_reader::Found;
 
 /// Appends the line of a control packet.
 fn add_control_line<A: Allocator>(lines: &mut String<A>, control: Control) -> Result<(), AllocError>
-    ensures { OnOk result (string_bytes lines.new ≡ string_bytes lines.old ++ ended (control_text (shown_control control))) }
+    ensures { OnOk result
+        (string_bytes lines.new ≡ string_bytes lines.old ++ ended (control_text (shown_control control))) }
 {
     match control {
         Control::Close => lines.push_str("CLOSE\n"),
@@ -31,7 +32,8 @@ fn add_data_line<A: Allocator>(
     size: usize,
     valid: usize,
 ) -> Result<(), AllocError>
-    ensures { OnOk result (string_bytes lines.new ≡ string_bytes lines.old ++ ended (data_text seq ack size valid)) }
+    ensures { OnOk result
+        (string_bytes lines.new ≡ string_bytes lines.old ++ ended (data_text seq ack size valid)) }
 {
     write!(lines, "DATA {seq} ACK {ack} SIZE {size} VALID {valid}\n")
 }
@@ -42,7 +44,8 @@ fn add_packet_line<A: Allocator>(
     packet: &Packet<'_>,
 ) -> Result<(), AllocError>
     requires { HasSize (found (shown packet.now)) }
-    ensures { OnOk result (string_bytes lines.new ≡ string_bytes lines.old ++ line_of (found (shown packet.now))) }
+    ensures { OnOk result
+        (string_bytes lines.new ≡ string_bytes lines.old ++ line_of (found (shown packet.now))) }
 {
     match packet {
         Packet::Control(control) => add_control_line(lines, *control),
@@ -64,7 +67,8 @@ fn add_packet_line<A: Allocator>(
 /// Appends the line of what was found.
 pub fn add_line<A: Allocator>(lines: &mut String<A>, found: &Found<'_>) -> Result<(), AllocError>
     requires { HasSize (item_of found.now) }
-    ensures { OnOk result (string_bytes lines.new ≡ string_bytes lines.old ++ line_of (item_of found.now)) }
+    ensures { OnOk result
+        (string_bytes lines.new ≡ string_bytes lines.old ++ line_of (item_of found.now)) }
 {
     match found {
         Found::Packet(packet) => add_packet_line(lines, packet),
@@ -74,7 +78,8 @@ pub fn add_line<A: Allocator>(lines: &mut String<A>, found: &Found<'_>) -> Resul
 
 /// Appends the last line of a listing: how many bytes wait at the end.
 pub fn add_rest_line<A: Allocator>(lines: &mut String<A>, waiting: usize) -> Result<(), AllocError>
-    ensures { OnOk result (string_bytes lines.new ≡ string_bytes lines.old ++ waiting_line waiting) }
+    ensures { OnOk result
+        (string_bytes lines.new ≡ string_bytes lines.old ++ waiting_line waiting) }
 {
     write!(lines, "REST {waiting}\n")
 }

@@ -1,7 +1,7 @@
 ghost use Rattle.std.specs.Prelude.{◌≡◌, ℕ, ◌<◌, ◌≤◌, List, Option, length, take, IfOk, OnOk, OnErr, IfErr};
 ghost use Rattle.std.specs.Io.KnownBytes.{Keeps};
 ghost use Rattle.uug_tool.specs.Fault.{StopsWriting};
-ghost use Rattle.uug_tool.specs.Streams.{Appends, CountsFault};
+ghost use Rattle.uug_tool.specs.Streams.{Appends, AppendsFront, CountsFault};
 
 use crate::fault::ToolFault;
 use thiserror::Error;
@@ -29,7 +29,8 @@ pub trait Output {
     fn write(&mut self, piece: &[u8]) -> Result<usize, WriteFailed>
         requires { 0 < length piece.now }
         ensures within { IfOk result (λ n. (0 < n) × (n ≤ length piece.now)) }
-        ensures appends { IfOk result (λ n. Appends (take n piece.now) (written self.old) (written self.new)) }
+        ensures appends { IfOk result (λ n.
+            Appends (take n piece.now) (written self.old) (written self.new)) }
         ensures refused { OnErr result (Keeps (written self.old) (written self.new)) }
         ensures fault { result ≡ Err WriteFailed.Device
             → CountsFault (fault_count self.old) (fault_count self.new) }
@@ -40,10 +41,14 @@ pub trait Output {
         ensures { result ≡ fault_count self.now };
 }
 
-/// Appends the whole piece, in as many writes as it takes.
+/// Appends the whole piece, in as many writes as it takes; where one is refused, a front of the piece.
 pub fn write_all<O: Output>(output: &mut O, piece: &[u8]) -> Result<(), ToolFault>
-    ensures appends { OnOk result (Appends piece.now (O.written output.old) (O.written output.new)) }
-    ensures fault { IfErr result (StopsWriting (O.fault_count output.old) (O.fault_count output.new)) }
+    ensures appends { OnOk result
+        (Appends piece.now (O.written output.old) (O.written output.new)) }
+    ensures begins { OnErr result
+        (AppendsFront piece.now (O.written output.old) (O.written output.new)) }
+    ensures fault { IfErr result
+        (StopsWriting (O.fault_count output.old) (O.fault_count output.new)) }
     ensures grows { O.fault_count output.old ≤ O.fault_count output.new }
 {
     let mut rest = piece;

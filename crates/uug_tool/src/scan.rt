@@ -1,8 +1,8 @@
 //! The listing of a stream of bytes.
-ghost use Rattle.std.specs.Prelude.{◌≡◌, ◌<◌, ◌≤◌, ◌*◌, ◌++◌, OnOk, IfErr, IfSome, Some, [], length, string_bytes};
+ghost use Rattle.std.specs.Prelude.{◌≡◌, ◌<◌, ◌≤◌, ◌*◌, ◌++◌, OnOk, IfErr, IfSome, length, string_bytes};
 ghost use Rattle.uug_packet.specs.Waits.{Waits};
 ghost use Rattle.uug_tool.specs.Scan.{AddsLines, AppendsListing, IsScanFault};
-ghost use Rattle.uug_tool.specs.Streams.{CountsFault};
+ghost use Rattle.uug_tool.specs.Streams.{CountsFault, ReadsAll};
 
 use crate::fault::ToolFault;
 use crate::input::Input;
@@ -25,7 +25,8 @@ fn list_items<A: Allocator>(
 ) -> Result<(), AllocError>
     ensures waits { OnOk result (Waits reader.new.bytes) }
     ensures room { OnOk result (length reader.new.bytes < READER_SIZE) }
-    ensures lists { OnOk result (AddsLines reader.old.bytes reader.new.bytes (string_bytes lines.old) (string_bytes lines.new)) }
+    ensures lists { OnOk result (AddsLines reader.old.bytes reader.new.bytes
+        (string_bytes lines.old) (string_bytes lines.new)) }
 {
     found_in_steps();
     while let Some(found) = reader.find() {
@@ -45,7 +46,8 @@ fn list_piece<A: Allocator>(
     requires room { length reader.old.bytes < READER_SIZE }
     ensures waits { OnOk result (Waits reader.new.bytes) }
     ensures room { OnOk result (length reader.new.bytes < READER_SIZE) }
-    ensures lists { OnOk result (AddsLines (reader.old.bytes ++ piece.now) reader.new.bytes (string_bytes lines.old) (string_bytes lines.new)) }
+    ensures lists { OnOk result (AddsLines (reader.old.bytes ++ piece.now) reader.new.bytes
+        (string_bytes lines.old) (string_bytes lines.new)) }
 {
     found_in_steps();
     let mut rest = piece;
@@ -64,13 +66,17 @@ pub fn scan_within<A: Allocator, I: Input, O: Output>(
     output: &mut O,
     limit: u32,
 ) -> Result<(), ToolFault>
-    ensures whole { OnOk result (IfSome (I.to_come input.old) (λ _. I.to_come input.new ≡ Some [])) }
+    ensures whole { OnOk result (ReadsAll (I.to_come input.old) (I.to_come input.new)) }
     ensures listing { OnOk result (IfSome (I.to_come input.old)
         (λ bytes. AppendsListing bytes (O.written output.old) (O.written output.new))) }
-    ensures within { OnOk result (IfSome (I.to_come input.old) (λ bytes. length bytes < limit * PIECE_SIZE)) }
-    ensures read { result ≡ Err ToolFault.Read → CountsFault (I.fault_count input.old) (I.fault_count input.new) }
-    ensures write { result ≡ Err ToolFault.Write → CountsFault (O.fault_count output.old) (O.fault_count output.new) }
-    ensures device { result ≡ Err ToolFault.Device → IfSome (I.to_come input.old) (λ bytes. limit ≤ length bytes) }
+    ensures within { OnOk result (IfSome (I.to_come input.old)
+        (λ bytes. length bytes < limit * PIECE_SIZE)) }
+    ensures read { result ≡ Err ToolFault.Read
+        → CountsFault (I.fault_count input.old) (I.fault_count input.new) }
+    ensures write { result ≡ Err ToolFault.Write
+        → CountsFault (O.fault_count output.old) (O.fault_count output.new) }
+    ensures device { result ≡ Err ToolFault.Device
+        → IfSome (I.to_come input.old) (λ bytes. limit ≤ length bytes) }
     ensures no_other { IfErr result IsScanFault }
 {
     found_in_steps();
@@ -98,13 +104,17 @@ pub fn scan_stream<A: Allocator, I: Input, O: Output>(
     input: &mut I,
     output: &mut O,
 ) -> Result<(), ToolFault>
-    ensures whole { OnOk result (IfSome (I.to_come input.old) (λ _. I.to_come input.new ≡ Some [])) }
+    ensures whole { OnOk result (ReadsAll (I.to_come input.old) (I.to_come input.new)) }
     ensures listing { OnOk result (IfSome (I.to_come input.old)
         (λ bytes. AppendsListing bytes (O.written output.old) (O.written output.new))) }
-    ensures within { OnOk result (IfSome (I.to_come input.old) (λ bytes. length bytes < READ_LIMIT * PIECE_SIZE)) }
-    ensures read { result ≡ Err ToolFault.Read → CountsFault (I.fault_count input.old) (I.fault_count input.new) }
-    ensures write { result ≡ Err ToolFault.Write → CountsFault (O.fault_count output.old) (O.fault_count output.new) }
-    ensures device { result ≡ Err ToolFault.Device → IfSome (I.to_come input.old) (λ bytes. READ_LIMIT ≤ length bytes) }
+    ensures within { OnOk result (IfSome (I.to_come input.old)
+        (λ bytes. length bytes < READ_LIMIT * PIECE_SIZE)) }
+    ensures read { result ≡ Err ToolFault.Read
+        → CountsFault (I.fault_count input.old) (I.fault_count input.new) }
+    ensures write { result ≡ Err ToolFault.Write
+        → CountsFault (O.fault_count output.old) (O.fault_count output.new) }
+    ensures device { result ≡ Err ToolFault.Device
+        → IfSome (I.to_come input.old) (λ bytes. READ_LIMIT ≤ length bytes) }
     ensures no_other { IfErr result IsScanFault }
 {
     scan_within(alloc, input, output, READ_LIMIT)
