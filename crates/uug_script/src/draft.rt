@@ -69,8 +69,11 @@ impl<A: Allocator + Copy> EndDraft<A> {
     }
 
     fn set_place(&mut self, name: Name, announce: Announce) -> Result<(), LineFault>
-        ensures ok { OnOk result (end_added (placed_line name (announced announce)) (said_of_end self.old) ≡ Some (said_of_end self.new)) }
-        ensures fault { IfErr result (λ fault. Refuses fault (end_added (placed_line name (announced announce)) (said_of_end self.old))) }
+        ensures ok { OnOk result
+            (end_added (placed_line name (announced announce)) (said_of_end self.old)
+            ≡ Some (said_of_end self.new)) }
+        ensures fault { IfErr result (λ fault. Refuses fault
+            (end_added (placed_line name (announced announce)) (said_of_end self.old))) }
     {
         if self.place.is_some() {
             return Err(LineFault::Bad);
@@ -80,8 +83,11 @@ impl<A: Allocator + Copy> EndDraft<A> {
     }
 
     fn add_file(&mut self, alloc: A, name: Name, mode: Mode, hex: &[u8]) -> Result<(), LineFault>
-        ensures ok { OnOk result (file_added name mode.bits hex.now (said_of_end self.old) ≡ Some (said_of_end self.new)) }
-        ensures fault { IfErr result (λ fault. Refuses fault (file_added name mode.bits hex.now (said_of_end self.old))) }
+        ensures ok { OnOk result
+            (file_added name mode.bits hex.now (said_of_end self.old)
+            ≡ Some (said_of_end self.new)) }
+        ensures fault { IfErr result (λ fault.
+            Refuses fault (file_added name mode.bits hex.now (said_of_end self.old))) }
     {
         let bytes = decode_bytes(alloc, hex)?;
         self.spool.add_file(name, mode.bits, bytes.as_slice())?;
@@ -89,8 +95,10 @@ impl<A: Allocator + Copy> EndDraft<A> {
     }
 
     fn add_job(&mut self, job: Job) -> Result<(), LineFault>
-        ensures ok { OnOk result (end_added (job_line job) (said_of_end self.old) ≡ Some (said_of_end self.new)) }
-        ensures fault { IfErr result (λ fault. Refuses fault (end_added (job_line job) (said_of_end self.old))) }
+        ensures ok { OnOk result
+            (end_added (job_line job) (said_of_end self.old) ≡ Some (said_of_end self.new)) }
+        ensures fault { IfErr result (λ fault.
+            Refuses fault (end_added (job_line job) (said_of_end self.old))) }
     {
         match self.queue.add(job) {
             Ok(()) => Ok(()),
@@ -101,8 +109,10 @@ impl<A: Allocator + Copy> EndDraft<A> {
 
     /// Adds what a line says of the end.
     fn add(&mut self, alloc: A, line: &EndLine<'_>) -> Result<(), LineFault>
-        ensures ok { OnOk result (end_line_added line.now (said_of_end self.old) ≡ Some (said_of_end self.new)) }
-        ensures fault { IfErr result (λ fault. Refuses fault (end_line_added line.now (said_of_end self.old))) }
+        ensures ok { OnOk result
+            (end_line_added line.now (said_of_end self.old) ≡ Some (said_of_end self.new)) }
+        ensures fault { IfErr result (λ fault.
+            Refuses fault (end_line_added line.now (said_of_end self.old))) }
     {
         match line {
             EndLine::Place(name, announce) => self.set_place(*name, *announce),
@@ -171,8 +181,10 @@ impl<A: Allocator + Copy> Draft<A> {
 
     /// Adds what a line says.
     fn add(&mut self, alloc: A, line: &Line<'_>) -> Result<(), LineFault>
-        ensures ok { OnOk result (line_added line.now (said_by self.old) ≡ Some (said_by self.new)) }
-        ensures fault { IfErr result (λ fault. Refuses fault (line_added line.now (said_by self.old))) }
+        ensures ok { OnOk result
+            (line_added line.now (said_by self.old) ≡ Some (said_by self.new)) }
+        ensures fault { IfErr result (λ fault.
+            Refuses fault (line_added line.now (said_by self.old))) }
     {
         match line {
             Line::Nothing => Ok(()),
@@ -185,8 +197,10 @@ impl<A: Allocator + Copy> Draft<A> {
 
     /// Adds what a line of the script says. A bad line is refused, and what was said is then of no more use.
     pub(crate) fn add_text(&mut self, alloc: A, line: &[u8]) -> Result<(), LineFault>
-        ensures ok { OnOk result (text_added line.now (said_by self.old) ≡ Some (said_by self.new)) }
-        ensures fault { IfErr result (λ fault. Refuses fault (text_added line.now (said_by self.old))) }
+        ensures ok { OnOk result
+            (text_added line.now (said_by self.old) ≡ Some (said_by self.new)) }
+        ensures fault { IfErr result (λ fault.
+            Refuses fault (text_added line.now (said_by self.old))) }
     {
         match &read_line(line) {
             Some(line) => self.add(alloc, line),

@@ -8,9 +8,11 @@ ghost use Rattle.uug_script.specs.ScriptOf.{script_of};
 
 /// A text is one script, or has one first bad line: what it is, is read of it, and what is read of it, it is.
 pub fn one_reading_of_scripts()
-    ensures script { (text : List ℕ) (script : ScriptSays) → IsScript text script → script_of text ≡ Ok script }
+    ensures script { (text : List ℕ) (script : ScriptSays) →
+        IsScript text script → script_of text ≡ Ok script }
     ensures bad { (text : List ℕ) (n : ℕ) → IsFirstBad text n → script_of text ≡ Err n }
-    ensures read_script { (text : List ℕ) (script : ScriptSays) → script_of text ≡ Ok script → IsScript text script }
+    ensures read_script { (text : List ℕ) (script : ScriptSays) →
+        script_of text ≡ Ok script → IsScript text script }
     ensures read_bad { (text : List ℕ) (n : ℕ) → script_of text ≡ Err n → IsFirstBad text n }
 {}
 

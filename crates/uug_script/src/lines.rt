@@ -4,8 +4,10 @@ ghost use Rattle.uug_script.specs.Lines.{is_line_feed, lines};
 
 /// The first line of a text, without its line feed, and what stands after it, or `None` where the text is empty.
 pub fn split_line(text: &[u8]) -> Option<(&[u8], &[u8])>
-    ensures lines { MatchOption result (lines text.now ≡ []) (λ found. lines text.now ≡ found.0.now ∷ lines found.1.now) }
-    ensures shorter { MatchOption result (text.now ≡ []) (λ found. length found.1.now + 1 ≤ length text.now) }
+    ensures lines { MatchOption result (lines text.now ≡ [])
+        (λ found. lines text.now ≡ found.0.now ∷ lines found.1.now) }
+    ensures shorter { MatchOption result (text.now ≡ [])
+        (λ found. length found.1.now + 1 ≤ length text.now) }
 {
     if text.is_empty() {
         return None;

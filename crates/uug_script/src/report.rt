@@ -1,5 +1,5 @@
 //! The text of a report.
-ghost use Rattle.std.specs.Prelude.{◌≡◌, ◌≤◌, ◌++◌, OnOk, IfOk, map, string_bytes};
+ghost use Rattle.std.specs.Prelude.{◌≡◌, ◌≤◌, ◌++◌, OnErr, OnOk, IfOk, map, string_bytes};
 ghost use Rattle.uug_session.specs.MemoryHoldings.{kept_of};
 ghost use Rattle.uug_talk.specs.Mode.{mode_digits};
 ghost use Rattle.uug_script.specs.Fields.{side_word};
@@ -124,7 +124,8 @@ fn add_session<A: Allocator>(
     number: usize,
     session: SessionNumbers,
 ) -> Result<(), AllocError>
-    ensures { OnOk result (string_bytes text.new ≡ string_bytes text.old ++ session_text number session) }
+    ensures { OnOk result
+        (string_bytes text.new ≡ string_bytes text.old ++ session_text number session) }
 {
     write!(text, "session {number}\n")?;
     add_end_line(text, Side::Caller, session.caller)?;
@@ -136,7 +137,8 @@ fn add_sessions<A: Allocator>(
     text: &mut String<A>,
     sessions: &[SessionNumbers],
 ) -> Result<(), AllocError>
-    ensures { OnOk result (string_bytes text.new ≡ string_bytes text.old ++ sessions_text 1 sessions.now) }
+    ensures { OnOk result
+        (string_bytes text.new ≡ string_bytes text.old ++ sessions_text 1 sessions.now) }
 {
     for (i, session) in sessions.iter().enumerate() {
         add_session(text, i + 1, *session)?;
@@ -150,7 +152,8 @@ fn add_jobs_line<A: Allocator, B: Allocator>(
     side: Side,
     end: &ShownEnd<'_, B>,
 ) -> Result<(), AllocError>
-    ensures { OnOk result (string_bytes text.new ≡ string_bytes text.old ++ jobs_line side (end_shown end.now)) }
+    ensures { OnOk result
+        (string_bytes text.new ≡ string_bytes text.old ++ jobs_line side (end_shown end.now)) }
 {
     let side = side_word(side);
     let ShownEnd {
@@ -182,7 +185,8 @@ fn add_stored_line<A: Allocator + Copy, B: Allocator>(
     side: Side,
     file: &Stored<B>,
 ) -> Result<(), AllocError>
-    ensures { OnOk result (string_bytes text.new ≡ string_bytes text.old ++ stored_line side (kept_of file.now)) }
+    ensures { OnOk result
+        (string_bytes text.new ≡ string_bytes text.old ++ stored_line side (kept_of file.now)) }
 {
     let side = side_word(side);
     let name = file.name.as_str();
@@ -201,7 +205,9 @@ fn add_stored<A: Allocator + Copy, B: Allocator>(
     side: Side,
     files: &[Stored<B>],
 ) -> Result<(), AllocError>
-    ensures { OnOk result (string_bytes text.new ≡ string_bytes text.old ++ stored_text side (map kept_of files.now)) }
+    ensures { OnOk result
+        (string_bytes text.new
+        ≡ string_bytes text.old ++ stored_text side (map kept_of files.now)) }
 {
     for file in files {
         add_stored_line(alloc, text, side, file)?;
@@ -225,19 +231,34 @@ fn add_verdict_line<A: Allocator>(
     }
 }
 
-/// Appends the text of a report: the sessions, then what became of the jobs of the caller and of the called end, then
-/// the files that they stored, and last the verdict.
+/// The text of a report: the sessions, then what became of the jobs of the caller and of the called end, then the files
+/// that they stored, and last the verdict.
+fn report_text<A: Allocator + Copy, B: Allocator>(
+    alloc: A,
+    report: &ShownReport<'_, B>,
+) -> Result<String<A>, AllocError>
+    ensures { IfOk result (λ text. string_bytes text ≡ report_text (report_shown report.now)) }
+{
+    let mut text = String::new(alloc);
+    add_sessions(&mut text, report.sessions)?;
+    add_jobs_line(&mut text, Side::Caller, &report.caller)?;
+    add_jobs_line(&mut text, Side::Called, &report.called)?;
+    add_stored(alloc, &mut text, Side::Caller, report.caller.stored)?;
+    add_stored(alloc, &mut text, Side::Called, report.called.stored)?;
+    add_verdict_line(&mut text, report.verdict)?;
+    Ok(text)
+}
+
+/// Appends the text of a report. Out of memory leaves the string as it was.
 pub fn add_report<A: Allocator + Copy, B: Allocator>(
     alloc: A,
     text: &mut String<A>,
     report: &ShownReport<'_, B>,
 ) -> Result<(), AllocError>
-    ensures { OnOk result (string_bytes text.new ≡ string_bytes text.old ++ report_text (report_shown report.now)) }
+    ensures ok { OnOk result
+        (string_bytes text.new ≡ string_bytes text.old ++ report_text (report_shown report.now)) }
+    ensures err { OnErr result (string_bytes text.new ≡ string_bytes text.old) }
 {
-    add_sessions(text, report.sessions)?;
-    add_jobs_line(text, Side::Caller, &report.caller)?;
-    add_jobs_line(text, Side::Called, &report.called)?;
-    add_stored(alloc, text, Side::Caller, report.caller.stored)?;
-    add_stored(alloc, text, Side::Called, report.called.stored)?;
-    add_verdict_line(text, report.verdict)
+    let report = report_text(alloc, report)?;
+    text.push_str(report.as_str())
 }

@@ -6,7 +6,7 @@ use Rattle.uug_play.proofs.played.shown.Goals as goal
 
 pub returns-clause-text : goal.returns-clause-text
 returns-clause-text g c =
-    text_is _ _ _ _ c.new-text.ensures.bytes c.in_ok-add_report.ensures
+    text_is _ _ _ _ c.new-text.ensures.bytes c.in_ok-add_report.ensures.ok
     (result_is c.args.report.now.told _ (map session_shown c.sessions.result.now) (end_shown c.shown_end.result)
     (end_shown c.shown_end-2.result) (owned_by c.caller.result.now) (owned_by c.called.result.now) c.verdict.result
     (c.deref.ensures.value ∙ c.in_ok-sessions.ensures) c.sessions.ensures.sessions c.shown_end.ensures c.caller.ensures.has c.shown_end-2.ensures
