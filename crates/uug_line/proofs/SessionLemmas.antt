@@ -1,6 +1,7 @@
 -- Two joined ends seen from the other side, at a session's start, and what they have come to by numbers.
 use Rattle.std.proofs.Common.{◌≡◌, inl, inr, ℕ, ◌≤◌, true, List, ◌++◌, length, refl, sym, ap, subst, ◌∙◌, arith}
 use Rattle.uug_link.specs.declared.phase.Phase.TheVariants as phases
+use Rattle.uug_link.specs.TwoLinks.{IsFrontOf}
 use Rattle.uug_session.specs.EarlierJobs.{behind}
 use Rattle.uug_session.specs.EndStep.{first_link}
 use Rattle.uug_session.specs.Holdings.{Kept}
