@@ -8,7 +8,7 @@
 set -eu
 export LC_ALL=C
 root=$(dirname "$(dirname "$(readlink -f "$0")")")
-program=${1:-$root/uucpair}
+program=${1:-}
 work=$(mktemp -d)
 trap 'rm -rf "$work"' EXIT
 passed=0
@@ -35,6 +35,11 @@ check() {
     [ "$status" -eq "$expected" ] || echo "status $status, not $expected: $(cat "$work/said")"
 }
 
+if [ -z "$program" ]; then
+    # builds it where that is needed
+    "$root/uucpair" scan </dev/null >/dev/null
+    program=$root/uucpair
+fi
 for name in $(ls "$root/examples" | sed -n 's/\.\(script\|report\)$//p' | sort -u); do
     fault=$(check "$name")
     if [ -z "$fault" ]; then
