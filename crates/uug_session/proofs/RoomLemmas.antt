@@ -58,7 +58,7 @@ room_is_live Halted room is = absurd cc
 -- ---- sending
 
 -- nothing more goes out, or nothing more is to be said
-abbrev SaidAll : {C : Type 0} → Keeper C → Sending C → Type 0
+abbrev pub SaidAll : {C : Type 0} → Keeper C → Sending C → Type 0
 SaidAll k x = (has_room x.link ≡ false) ⊎ (k.next x.keeper ≡ None)
 
 sent_so : (message : List ℕ) (s : State) → has_room s ≡ true → step s (to_send message) ≡ on_send message s
@@ -87,7 +87,7 @@ said_by n k s c false is within more = inl is
 said_by n k s c true is within more = said_next n k s c (k.next c) refl is within more
 
 -- as many messages as the window lets out are tried
-said_up_to : {C : Type 0} (n : ℕ) (k : Keeper C) (s : State) (c : C) → s.window ≤ length s.unacked + n
+pub said_up_to : {C : Type 0} (n : ℕ) (k : Keeper C) (s : State) (c : C) → s.window ≤ length s.unacked + n
     → SaidAll k (sends_up_to n k s c)
 said_up_to zero k s c within = inl (full_has_no_room s (omega (arith, within)))
 said_up_to (suc n) k s c within = said_by n k s c (has_room s) refl within (said_up_to n k)
@@ -122,7 +122,7 @@ closed_window : (halts : Bool) (s : State) → (if halts then answers_halted s e
 closed_window true s = refl
 closed_window false s = refl
 
-closed_has_no_room : (halts : Bool) (s : State) → is_halted s.phase ≡ halts
+pub closed_has_no_room : (halts : Bool) (s : State) → is_halted s.phase ≡ halts
     → has_room (if halts then answers_halted s else on_event to_close s).state ≡ false
 closed_has_no_room true s is = down_has_no_room s (halted_is_down s.phase is)
 closed_has_no_room false s is = refl
@@ -193,7 +193,7 @@ late_room_by : (lasts : Bool) (s : State) → has_room s ≡ false → has_room 
 late_room_by true s none = none
 late_room_by false s none = refl
 
-late_room : (halts : Bool) (s : State) → has_room s ≡ false
+pub late_room : (halts : Bool) (s : State) → has_room s ≡ false
     → has_room (if halts then answers_halted s else on_event timed_out s).state ≡ false
 late_room true s none = none
 late_room false s none = late_room_by (nat_lt (s.timeouts + 1) TIMEOUTS_MAX) s none
