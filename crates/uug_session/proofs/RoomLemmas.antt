@@ -122,7 +122,7 @@ closed_window : (halts : Bool) (s : State) → (if halts then answers_halted s e
 closed_window true s = refl
 closed_window false s = refl
 
-pub closed_has_no_room : (halts : Bool) (s : State) → is_halted s.phase ≡ halts
+closed_has_no_room : (halts : Bool) (s : State) → is_halted s.phase ≡ halts
     → has_room (if halts then answers_halted s else on_event to_close s).state ≡ false
 closed_has_no_room true s is = down_has_no_room s (halted_is_down s.phase is)
 closed_has_no_room false s is = refl
@@ -193,7 +193,7 @@ late_room_by : (lasts : Bool) (s : State) → has_room s ≡ false → has_room 
 late_room_by true s none = none
 late_room_by false s none = refl
 
-pub late_room : (halts : Bool) (s : State) → has_room s ≡ false
+late_room : (halts : Bool) (s : State) → has_room s ≡ false
     → has_room (if halts then answers_halted s else on_event timed_out s).state ≡ false
 late_room true s none = none
 late_room false s none = late_room_by (nat_lt (s.timeouts + 1) TIMEOUTS_MAX) s none
