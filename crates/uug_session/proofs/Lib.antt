@@ -62,6 +62,7 @@ pub mod RoomLemmas
 pub mod OverLemmas
 mod SaidByteLemmas
 pub mod SaidTextLemmas
+mod SaysLemmas
 pub mod SpeakLemmas
 pub mod TextsHeldLemmas
 pub mod WholeGreetingLemmas

@@ -1,7 +1,6 @@
 -- The item that a node shows is the first one in the bytes that it held.
-use Rattle.std.proofs.Common.{◌≡◌, ◌↔◌, ℕ, List, ◌++◌, length, take, drop, ap, sym, subst, ◌∙◌, refl, arith, append_assoc, MatchOption, Option, Some, None, IsNone, IfSome}
+use Rattle.std.proofs.Common.{◌≡◌, ◌↔◌, ℕ, List, ◌++◌, take, drop, ap, sym, subst, ◌∙◌, refl, arith, append_assoc, MatchOption, Option, Some, None, IsNone, IfSome}
 use Rattle.std.proofs.lemmas.List.{take-append-drop}
-use Rattle.uug_reader.specs.Reading.{Reading}
 use Rattle.uug_talk.specs.Texts.{IsFirstText}
 use Rattle.uug_session.specs.declared.end.End.TheVariants as ends
 use Rattle.uug_session.specs.declared.greeting.Greeting.{Greeting}

@@ -58,7 +58,7 @@ room_is_live Halted room is = absurd cc
 -- ---- sending
 
 -- nothing more goes out, or nothing more is to be said
-abbrev SaidAll : {C : Type 0} → Keeper C → Sending C → Type 0
+abbrev pub SaidAll : {C : Type 0} → Keeper C → Sending C → Type 0
 SaidAll k x = (has_room x.link ≡ false) ⊎ (k.next x.keeper ≡ None)
 
 sent_so : (message : List ℕ) (s : State) → has_room s ≡ true → step s (to_send message) ≡ on_send message s
@@ -87,7 +87,7 @@ said_by n k s c false is within more = inl is
 said_by n k s c true is within more = said_next n k s c (k.next c) refl is within more
 
 -- as many messages as the window lets out are tried
-said_up_to : {C : Type 0} (n : ℕ) (k : Keeper C) (s : State) (c : C) → s.window ≤ length s.unacked + n
+pub said_up_to : {C : Type 0} (n : ℕ) (k : Keeper C) (s : State) (c : C) → s.window ≤ length s.unacked + n
     → SaidAll k (sends_up_to n k s c)
 said_up_to zero k s c within = inl (full_has_no_room s (omega (arith, within)))
 said_up_to (suc n) k s c within = said_by n k s c (has_room s) refl within (said_up_to n k)

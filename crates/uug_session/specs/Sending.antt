@@ -1,6 +1,6 @@
 -- An end sends while there is room, and closes where all is over (this project's profile).
-use Rattle.std.specs.Prelude.{◌≡◌, true, false, List, None, ◌⊎◌, ⊤}
-use Rattle.uug_link.specs.State.{State}
+use Rattle.std.specs.Prelude.{◌≡◌, true, false, List, [], None, ◌⊎◌, ⊤}
+use Rattle.uug_link.specs.State.{State, HasRoom}
 use Rattle.uug_session.specs.EndStep.{EndState, Stage, hailing, linked, ended, has_room, is_up}
 use Rattle.uug_session.specs.Engine.{EngineState, end_of}
 use Rattle.uug_session.specs.Holdings.{Holdings, Kept}
@@ -31,3 +31,7 @@ HasClosedWhereItIsOver k e = GoesOnAt k e.stage e.link e.keeper
 -- a node, with what its spool gives and has kept
 abbrev pub NodeHasSaidWhatItCan : Holdings → List Kept → EngineState → Type 0
 NodeHasSaidWhatItCan h kept e = HasSaidWhatItCan (end_keeper e.identity.side h) (end_of h kept e)
+
+-- The same of an end without what its spool holds: on a link that has begun and has room nothing is left to be said.
+abbrev pub SaysWhatItCan : EngineState → Type 0
+SaysWhatItCan e = e.stage ≡ linked → HasRoom e.link → e.talking.outgoing.sayings ≡ []

@@ -4,6 +4,7 @@ ghost use Rattle.std.specs.Prelude.{IfErr, OnErr, OnOk, Ok};
 ghost use Rattle.uug_session.specs.Engine.{HasFailed};
 ghost use Rattle.uug_session.specs.Node.{HasRoom, held_bytes, item_size, node_of, spool_of};
 ghost use Rattle.uug_session.specs.NodeArriving.{GoesOn, IsAtRest, TakesAll};
+ghost use Rattle.uug_session.specs.Sending.{SaysWhatItCan};
 
 use crate::arriving_laws::item_laws;
 use crate::node::Node;
@@ -32,6 +33,8 @@ impl<S: Spool, A: Allocator + Copy> Node<S, A> {
         ensures rest { result ≡ Ok false → IsAtRest (node_of self.new) }
         ensures room { result ≡ Ok false → HasRoom (node_of self.new) }
         ensures shown { OnErr result (0 < item_size (node_of self.new)) }
+        ensures says { SaysWhatItCan (node_of self.old).engine
+            → SaysWhatItCan (node_of self.new).engine }
         ensures holdings { S.holdings (spool_of self.new) ≡ S.holdings (spool_of self.old) }
         ensures count { S.faults (spool_of self.old) ≤ S.faults (spool_of self.new) }
     {
@@ -54,6 +57,8 @@ impl<S: Spool, A: Allocator + Copy> Node<S, A> {
         ensures rest { OnOk result (IsAtRest (node_of self.new)) }
         ensures room { OnOk result (HasRoom (node_of self.new)) }
         ensures shown { OnErr result (0 < item_size (node_of self.new)) }
+        ensures says { SaysWhatItCan (node_of self.old).engine
+            → SaysWhatItCan (node_of self.new).engine }
         ensures holdings { S.holdings (spool_of self.new) ≡ S.holdings (spool_of self.old) }
         ensures count { S.faults (spool_of self.old) ≤ S.faults (spool_of self.new) }
     {
@@ -75,6 +80,8 @@ impl<S: Spool, A: Allocator + Copy> Node<S, A> {
             (HasFailed u64.MAX (S.faults (spool_of self.old)) (S.faults (spool_of self.new)))
             (take unfinished.used piece.now) (node_of self.old) (node_of self.new)) }
         ensures shown { OnErr result (0 < item_size (node_of self.new)) }
+        ensures says { SaysWhatItCan (node_of self.old).engine
+            → SaysWhatItCan (node_of self.new).engine }
         ensures holdings { S.holdings (spool_of self.new) ≡ S.holdings (spool_of self.old) }
         ensures count { S.faults (spool_of self.old) ≤ S.faults (spool_of self.new) }
     {

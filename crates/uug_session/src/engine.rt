@@ -7,6 +7,7 @@ ghost use Rattle.uug_link.specs.Step.{step, packet_found, timed_out, to_close, t
 ghost use Rattle.uug_packet.specs.Packet.{shown};
 ghost use Rattle.uug_session.specs.Engine.{BeginsSession, CountsFaults, Does, IsHailing, StandsStill, TakesUp, after_sends, after_speaking, all_ahead, bare, end_of, entry_of, hung_up, packet_effect, spoken_of, stage_late, stage_of, with_outbox, with_stage};
 ghost use Rattle.uug_session.specs.EndStep.{bad_came, begins_link, ended, final_text, first_link, first_stage, first_words, greeted_so, hailing, hailing_step, how_it_ends, late, leave, linked, message_of, text_found, unmoved};
+ghost use Rattle.uug_session.specs.Sending.{SaysWhatItCan};
 ghost use Rattle.uug_session.specs.Side.{side_of};
 ghost use Rattle.uug_session.specs.Talk.{end_keeper};
 ghost use Rattle.uug_session.specs.Phases.{phase_at};
@@ -98,6 +99,7 @@ impl<A: Allocator + Copy> Engine<A> {
         requires spare { WINDOW_MAX ≤ self.old.outbox.spare }
         ensures sent { spoken_of (S.holdings spool.now) (S.kept spool.now) self.new
             ≡ after_sends WINDOW_MAX (S.holdings spool.now) (S.kept spool.now) self.old }
+        ensures says { self.old.link.window ≤ WINDOW_MAX → SaysWhatItCan self.new }
         ensures still { StandsStill self.old self.new }
         ensures up { IsUp self.old.link → IsUp self.new.link }
         ensures spare { self.old.outbox.spare ≤ self.new.outbox.spare + WINDOW_MAX }
@@ -114,6 +116,7 @@ impl<A: Allocator + Copy> Engine<A> {
         requires spare { WINDOW_MAX + 1 ≤ self.old.outbox.spare }
         ensures spoken { spoken_of (S.holdings spool.now) (S.kept spool.now) self.new
             ≡ after_speaking (S.holdings spool.now) (S.kept spool.now) self.old }
+        ensures says { SaysWhatItCan self.new }
         ensures still { StandsStill self.old self.new }
     {
         if !self.link.is_up() {
@@ -168,8 +171,9 @@ impl<A: Allocator + Copy> Engine<A> {
         requires spare { EMITTED_MAX ≤ self.old.outbox.spare }
         requires room { SAYINGS_MAX ≤ self.old.talking.outgoing.room }
         requires not_taken { (step self.old.link (packet_found (shown packet.now))).outcome ≢ taken }
-        ensures { Does (packet_effect (S.holdings spool.now) (S.kept spool.now) false (shown packet.now) self.old)
+        ensures does { Does (packet_effect (S.holdings spool.now) (S.kept spool.now) false (shown packet.now) self.old)
             (end_of (S.holdings spool.now) (S.kept spool.now) self.new) self.old self.new }
+        ensures says { SaysWhatItCan self.new }
     {
         what_a_link_answers();
         match self.link.on_packet(packet, &mut self.outbox) {
@@ -196,6 +200,7 @@ impl<A: Allocator + Copy> Engine<A> {
         requires taken { (step self.old.link (packet_found (shown packet.now))).outcome ≡ taken }
         ensures ok { OnOk result (TakesUp (S.holdings spool.old) (S.kept spool.old) (S.kept spool.new)
             (CountsFaults u64.MAX (S.faults spool.old) (S.faults spool.new)) (shown packet.now) self.old self.new true) }
+        ensures says { OnOk result (SaysWhatItCan self.new) }
         ensures err { OnErr result (self.new ≡ self.old) }
         ensures none_kept { OnErr result (S.kept spool.new ≡ S.kept spool.old) }
         ensures faults { OnErr result (S.faults spool.new ≡ S.faults spool.old) }
@@ -265,6 +270,7 @@ impl<A: Allocator + Copy> Engine<A> {
         requires linked { self.old.stage ≡ linked }
         ensures ok { IfOk result (λ took. TakesUp (S.holdings spool.old) (S.kept spool.old) (S.kept spool.new)
             (CountsFaults u64.MAX (S.faults spool.old) (S.faults spool.new)) (shown packet.now) self.old self.new took) }
+        ensures says { OnOk result (SaysWhatItCan self.new) }
         ensures err { OnErr result (Does (unmoved (end_of (S.holdings spool.old) (S.kept spool.old) self.old))
             (end_of (S.holdings spool.old) (S.kept spool.new) self.new) self.old self.new) }
         ensures faults { OnErr result (S.faults spool.new ≡ S.faults spool.old) }
@@ -288,6 +294,7 @@ impl<A: Allocator + Copy> Engine<A> {
         ensures ok { OnOk result (Does (bad_came (end_keeper self.old.identity.side (S.holdings spool.now)) self.old.identity
             self.old.link (talk_of (S.holdings spool.now) (S.kept spool.now) self.old.talking))
             (end_of (S.holdings spool.now) (S.kept spool.now) self.new) self.old self.new) }
+        ensures says { OnOk result (SaysWhatItCan self.new) }
         ensures err { OnErr result (Does (unmoved (bare self.old)) (bare self.new) self.old self.new) }
         ensures nothing_taken { (bad_came (end_keeper self.old.identity.side (S.holdings spool.now)) self.old.identity
             self.old.link (talk_of (S.holdings spool.now) (S.kept spool.now) self.old.talking)).took ≡ false }
@@ -377,6 +384,7 @@ impl<A: Allocator + Copy> Engine<A> {
         requires hailing { self.old.stage ≡ hailing greeting }
         ensures ok { OnOk result (Does (hailing_step self.old.identity greeting (text_found text.now) (bare self.old))
             (bare self.new) self.old self.new) }
+        ensures says { OnOk result (SaysWhatItCan self.new) }
         ensures err { OnErr result (Does (unmoved (bare self.old)) (bare self.new) self.old self.new) }
     {
         self.outbox.reserve(EMITTED_MAX)?;
@@ -396,8 +404,9 @@ impl<A: Allocator + Copy> Engine<A> {
     fn lead_to(&mut self, greeted: Greeted)
         requires hailing { IsHailing self.old.stage }
         requires spare { greeted ≡ Greeted.LinkBegins → WINDOW_MAX ≤ self.old.outbox.spare }
-        ensures { Does (greeted_so self.old.identity greeted [] self.old.link self.old.talking)
+        ensures does { Does (greeted_so self.old.identity greeted [] self.old.link self.old.talking)
             (bare self.new) self.old self.new }
+        ensures says { SaysWhatItCan self.new }
     {
         match greeted {
             Greeted::GoesOn(greeting) => self.stage = Stage::Hailing(greeting),
@@ -410,8 +419,9 @@ impl<A: Allocator + Copy> Engine<A> {
     fn begin_link(&mut self)
         requires hailing { IsHailing self.old.stage }
         requires spare { WINDOW_MAX ≤ self.old.outbox.spare }
-        ensures { Does (begins_link self.old.identity.side self.old.link self.old.talking [])
+        ensures does { Does (begins_link self.old.identity.side self.old.link self.old.talking [])
             (bare self.new) self.old self.new }
+        ensures says { SaysWhatItCan self.new }
     {
         self.stage = Stage::Linked;
         match self.side {

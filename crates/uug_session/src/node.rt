@@ -10,6 +10,7 @@ ghost use Rattle.uug_session.specs.ShownItems.{HoldsNoItem, IsFirstItem, IsShown
 ghost use Rattle.uug_session.specs.ShownItems.{PassesNoiseOnLink};
 ghost use Rattle.uug_session.specs.NodeLoan.{EndsFound};
 ghost use Rattle.uug_session.specs.Phases.{phase_at};
+ghost use Rattle.uug_session.specs.Sending.{SaysWhatItCan};
 ghost use Rattle.uug_session.specs.Talking.{talking_has_parted};
 ghost use Rattle.std.specs.Borrow.{sem};
 ghost use Rattle.uug_session.specs.EndStep.{hailing, linked, unmoved};
@@ -125,6 +126,7 @@ impl<S: Spool, A: Allocator + Copy> Node<S, A> {
             (S.kept (spool_of self.old)) (S.kept (spool_of self.new))
             (CountsFaults u64.MAX (S.faults (spool_of self.old)) (S.faults (spool_of self.new)))
             (node_of self.old) (node_of self.new) took) }
+        ensures says { OnOk result (SaysWhatItCan (node_of self.new).engine) }
         ensures err { OnErr result (IsAsBefore (S.holdings (spool_of self.old))
             (S.kept (spool_of self.old)) (S.kept (spool_of self.new))
             (node_of self.old) (node_of self.new)) }
@@ -151,6 +153,7 @@ impl<S: Spool, A: Allocator + Copy> Node<S, A> {
             (S.kept (spool_of self.old)) (S.kept (spool_of self.new))
             (CountsFaults u64.MAX (S.faults (spool_of self.old)) (S.faults (spool_of self.new)))
             (node_of self.old) (node_of self.new) false) }
+        ensures says { OnOk result (SaysWhatItCan (node_of self.new).engine) }
         ensures err { OnErr result (IsAsBefore (S.holdings (spool_of self.old))
             (S.kept (spool_of self.old)) (S.kept (spool_of self.new))
             (node_of self.old) (node_of self.new)) }
@@ -175,6 +178,7 @@ impl<S: Spool, A: Allocator + Copy> Node<S, A> {
             (S.kept (spool_of self.old)) (S.kept (spool_of self.new))
             (CountsFaults u64.MAX (S.faults (spool_of self.old)) (S.faults (spool_of self.new)))
             (node_of self.old) (node_of self.new) took) }
+        ensures says { OnOk result (SaysWhatItCan (node_of self.new).engine) }
         ensures err { OnErr result (IsAsBefore (S.holdings (spool_of self.old))
             (S.kept (spool_of self.old)) (S.kept (spool_of self.new))
             (node_of self.old) (node_of self.new)) }
@@ -207,6 +211,8 @@ impl<S: Spool, A: Allocator + Copy> Node<S, A> {
             (bare (node_of self.new).engine) (node_of self.old).engine (node_of self.new).engine) }
         ensures err { OnErr result (Does (unmoved (bare (node_of self.old).engine))
             (bare (node_of self.new).engine) (node_of self.old).engine (node_of self.new).engine) }
+        ensures says { SaysWhatItCan (node_of self.old).engine
+            → SaysWhatItCan (node_of self.new).engine }
         ensures only_linked { OnErr result ((node_of self.old).engine.stage ≡ linked) }
         ensures only_speaking { OnErr result
             ((step (node_of self.old).engine.link timed_out).emitted ≢ []) }

@@ -16,8 +16,8 @@ use Rattle.uug_session.proofs.EngineLemmas.{by_outcome, ends_does, goes_on_does}
 use Rattle.uug_session.proofs.SpeakLemmas.{has_parted_told}
 use Rattle.uug_session.proofs.engine.Engine.hear.Goals as goal
 
-pub returns-in-Ok-Nothing : goal.returns-in-Ok-Nothing
-returns-in-Ok-Nothing g c =
+pub returns-in-Ok-Nothing-clause-does : goal.returns-in-Ok-Nothing-clause-does
+returns-in-Ok-Nothing-clause-does g c =
     let h = g.S.Spool.holdings c.args.spool.now in
     let kept = g.S.Spool.kept c.args.spool.now in
     let p = shown c.args.packet.now in
@@ -47,8 +47,8 @@ returns-in-Ok-Nothing g c =
     (goes_on_does h kept false e b m after told.state told.emitted
     (ap (λ (x : EngineState). x.stage) c.self.view_is ∙ c.requires.linked) refl refl c.speak.ensures.spoken c.speak.ensures.still))
 
-pub returns-in-Ok-Up : goal.returns-in-Ok-Up
-returns-in-Ok-Up g c =
+pub returns-in-Ok-Up-clause-does : goal.returns-in-Ok-Up-clause-does
+returns-in-Ok-Up-clause-does g c =
     let h = g.S.Spool.holdings c.args.spool.now in
     let kept = g.S.Spool.kept c.args.spool.now in
     let p = shown c.args.packet.now in
@@ -83,8 +83,8 @@ returns-in-Ok-Up g c =
     (goes_on_does h kept false e b m after told.state told.emitted
     (ap (λ (x : EngineState). x.stage) c.self.view_is ∙ c.requires.linked) refl refl c.speak-in-Ok-Up.ensures.spoken c.speak-in-Ok-Up.ensures.still)))
 
-pub returns-in-Ok-Closed : goal.returns-in-Ok-Closed
-returns-in-Ok-Closed g c =
+pub returns-in-Ok-Closed-clause-does : goal.returns-in-Ok-Closed-clause-does
+returns-in-Ok-Closed-clause-does g c =
     let h = g.S.Spool.holdings c.args.spool.now in
     let kept = g.S.Spool.kept c.args.spool.now in
     let p = shown c.args.packet.now in

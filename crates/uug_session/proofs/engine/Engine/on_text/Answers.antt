@@ -36,4 +36,4 @@ returns-clause-ok g c =
     (subst (λ (x : Greeted). Does (greeted_so b.identity x (map says_text greeted.says) i.link i.dialogue) (bare after) b after) c.in_ok-greeted.ensures.greeted
     (greeted_does b.identity c.in_ok-greeted.greeted greeted.says i.link i.dialogue (bare after) b m after
     (c.in_ok-greeted.ensures.says.added ∙ ap (λ (x : List EntryValue). x ++ map entry_of_text greeted.says) c.reserve.ensures.entries)
-    refl refl c.lead_to.ensures))
+    refl refl c.lead_to.ensures.does))

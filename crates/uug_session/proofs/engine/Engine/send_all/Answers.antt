@@ -2,6 +2,7 @@ use Rattle.std.proofs.Common.{◌≡◌, ◌-◌, ◌+◌, ℕ, zero, suc, ap, r
 use Rattle.uug_link.specs.declared.limits.TheConstants.{WINDOW_MAX}
 use Rattle.uug_session.specs.Engine.{after_sends}
 use Rattle.uug_session.specs.Talking.{talk_of}
+use Rattle.uug_session.proofs.SaysLemmas.{sends_say}
 use Rattle.uug_session.proofs.SpeakLemmas.{stays_so}
 use Rattle.uug_session.proofs.engine.Engine.send_all.Goals as goal
 
@@ -34,3 +35,20 @@ returns-clause-sent g c =
     let none_left : zero ≡ WINDOW_MAX - c.loop-sent._sent = omega (arith, c.loop-sent-test.false) in
     sym (stays_so e.outbox.entries _ e.link (talk_of h kept e.talking) refl)
     ∙ ap (λ (n : ℕ). after_sends n h kept e) none_left ∙ c.loop-sent.invariant.sends
+
+pub returns-then-not-send_next-clause-says : goal.returns-then-not-send_next-clause-says
+returns-then-not-send_next-clause-says g c within =
+    let h = g.S.Spool.holdings c.args.spool.now in
+    let kept = g.S.Spool.kept c.args.spool.now in
+    sends_say h kept c.args.self.now c.send_next.new.self within
+    (sym (c.if-not-send_next.ensures.done (WINDOW_MAX - c.loop-sent._sent)) ∙ c.loop-sent.invariant.sends)
+
+pub returns-clause-says : goal.returns-clause-says
+returns-clause-says g c within =
+    let h = g.S.Spool.holdings c.args.spool.now in
+    let kept = g.S.Spool.kept c.args.spool.now in
+    let e = c.loop-sent.self in
+    let none_left : zero ≡ WINDOW_MAX - c.loop-sent._sent = omega (arith, c.loop-sent-test.false) in
+    sends_say h kept c.args.self.now e within
+    (sym (stays_so e.outbox.entries _ e.link (talk_of h kept e.talking) refl)
+    ∙ ap (λ (n : ℕ). after_sends n h kept e) none_left ∙ c.loop-sent.invariant.sends)

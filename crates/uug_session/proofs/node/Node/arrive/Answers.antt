@@ -1,9 +1,11 @@
 use Rattle.std.proofs.Common.{◌≡◌, ◌+◌, ◌-◌, ◌<◌, ◌≤◌, ap, arith, drop, length, length-drop, length-take, refl, subst, sym, take, ◌∙◌}
 use Rattle.std.proofs.lemmas.List.{take_all}
 use Rattle.uug_session.specs.Engine.{HasFailed}
-use Rattle.uug_session.specs.Node.{node_of}
+use Rattle.uug_session.specs.Node.{NodeState, node_of}
 use Rattle.uug_session.specs.NodeArriving.{GoesOn}
 use Rattle.uug_session.proofs.CourseLemmas.{stays, takes_further}
+use Rattle.uug_session.specs.Sending.{SaysWhatItCan}
+use Rattle.uug_session.proofs.SaysLemmas.{offered_says}
 use Rattle.uug_session.proofs.NodeSearchLemmas.{accepted_most, offers_more, takes_all_of}
 use Rattle.uug_session.proofs.node.Node.arrive.Goals as goal
 
@@ -12,6 +14,7 @@ loop-self-init g c = record {
   same = refl;
   used = omega arith;
   goes_on = stays (g.S.Spool.holdings c.args.self.now.spool) (g.S.Spool.kept c.args.self.now.spool) _ (node_of c.args.self.now);
+  says = λ says. says;
   holdings = refl;
   count = omega arith;
 }
@@ -69,6 +72,8 @@ loop-self-preserved g c =
       goes_on = subst (λ s. GoesOn (g.S.Spool.holdings old.spool) (g.S.Spool.kept old.spool) (g.S.Spool.kept s)
           (HasFailed 18446744073709551615 (g.S.Spool.faults old.spool) (g.S.Spool.faults s)) (take (c.loop-self.used + c.offer-used.result) piece) (node_of old) (node_of new))
           (sym c.offer-used.ensures.spool) offered;
+      says = λ says. subst (λ (n : NodeState). SaysWhatItCan n.engine) (sym c.offer-used.ensures.bytes)
+          (offered_says _ (node_of found) (c.take_all_found.ensures.says (c.loop-self.invariant.says says)));
       holdings = ap (g.S.Spool.holdings) c.offer-used.ensures.spool ∙ c.take_all_found.ensures.holdings ∙ c.loop-self.invariant.holdings;
       count = subst (λ s. g.S.Spool.faults old.spool ≤ g.S.Spool.faults s) (sym c.offer-used.ensures.spool) (omega (arith, c.loop-self.invariant.count, c.take_all_found.ensures.count));
     }

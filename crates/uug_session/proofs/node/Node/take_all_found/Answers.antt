@@ -6,6 +6,7 @@ use Rattle.uug_session.proofs.node.Node.take_all_found.Goals as goal
 pub loop-init : goal.loop-init
 loop-init g c = record {
   goes_on = stays (g.S.Spool.holdings c.args.self.now.spool) (g.S.Spool.kept c.args.self.now.spool) _ (node_of c.args.self.now);
+  says = λ says. says;
   holdings = refl;
   count = omega arith;
 }
@@ -28,6 +29,7 @@ loop-preserved g c =
       goes_on = goes_further (g.S.Spool.holdings old.spool) (g.S.Spool.holdings at.spool) (g.S.Spool.kept old.spool) (g.S.Spool.kept at.spool) (g.S.Spool.kept new.spool)
           18446744073709551615 (g.S.Spool.faults old.spool) (g.S.Spool.faults at.spool) (g.S.Spool.faults new.spool) [] [] (node_of old) (node_of at) (node_of new)
           c.loop.invariant.holdings c.loop.invariant.count c.take_next.ensures.count c.loop.invariant.goes_on c.take_next.ensures.goes_on;
+      says = λ says. c.take_next.ensures.says (c.loop.invariant.says says);
       holdings = c.take_next.ensures.holdings ∙ c.loop.invariant.holdings;
       count = omega (arith, c.loop.invariant.count, c.take_next.ensures.count);
     }

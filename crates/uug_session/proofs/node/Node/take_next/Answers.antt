@@ -1,8 +1,10 @@
-use Rattle.std.proofs.Common.{ap, subst, ◌<◌, [], length}
+use Rattle.std.proofs.Common.{ap, subst, sym, ◌<◌, [], length}
 use Rattle.uug_session.specs.Engine.{CountsFaults, HasFailed}
-use Rattle.uug_session.specs.Node.{IsAsBefore, TakesShown, held_bytes, node_of}
+use Rattle.uug_session.specs.Sending.{SaysWhatItCan}
+use Rattle.uug_session.specs.Node.{IsAsBefore, NodeState, TakesShown, held_bytes, node_of}
 use Rattle.uug_session.specs.NodeArriving.{GoesOn}
 use Rattle.uug_session.proofs.NodeItemLemmas.{none_shown, refuses_next, rests_behind, searches_to, takes_next}
+use Rattle.uug_session.proofs.SaysLemmas.{refused_says, searched_says}
 use Rattle.uug_session.proofs.node.Node.take_next.Goals as goal
 
 pub returns-then-is_none-clause-goes_on : goal.returns-then-is_none-clause-goes_on
@@ -26,6 +28,15 @@ returns-in_err-take_found-clause-goes_on g c =
     (node_of old) (node_of found) (node_of new) c.search.ensures.found
     (subst (λ s. IsAsBefore (g.S.Spool.holdings s) (g.S.Spool.kept s) (g.S.Spool.kept new.spool) (node_of found) (node_of new))
     c.search.ensures.spool c.in_err-take_found.ensures.err)
+
+pub returns-in_err-take_found-clause-says : goal.returns-in_err-take_found-clause-says
+returns-in_err-take_found-clause-says g c says =
+    let old = c.args.self.now in
+    let found = c.search.new.self in
+    let new = c.take_found.new.self in
+    refused_says (g.S.Spool.holdings found.spool) (g.S.Spool.kept found.spool) (g.S.Spool.kept new.spool) (node_of found) (node_of new)
+    c.in_err-take_found.ensures.err
+    (subst (λ (n : NodeState). SaysWhatItCan n.engine) (sym c.search.ensures.found) (searched_says (node_of old) says))
 
 takes : (g : _) (c : goal.In_ok-take_found g)
     → GoesOn (g.S.Spool.holdings c.args.self.now.spool) (g.S.Spool.kept c.args.self.now.spool) (g.S.Spool.kept c.take_found.new.self.spool)

@@ -20,6 +20,7 @@ returns-in_ok-took-in-Some-Packet g c =
     (reading_is c.drop_found.new.self (drop n.packets.shown_size n.packets.bytes) 0 c.drop_found.ensures.bytes c.drop_found.ensures.shown) in
     record {
       ok = (packet_item (shown p), t.0, t.1);
+      says = c.in_ok-took-in-Some-Packet.ensures.says;
       err = tt;
       faults = tt;
       holdings = c.on_packet.ensures.holdings;
