@@ -1,5 +1,6 @@
 -- Where an item lies among bytes: this crate's own, which no crate above needs.
-use Rattle.std.specs.Prelude.{ℕ, ◌-◌, ◌<◌, ◌≤◌, List, length, take, drop, MatchOption, IfSome, Option, Some, None, ⊤}
+use Rattle.std.specs.Prelude.{◌≡◌, ℕ, ◌-◌, ◌<◌, ◌≤◌, List, length, take, drop, MatchOption, IfSome, Option, Some, None, ⊤}
+use Rattle.circular_buffer.specs.Buffer.{Buffer}
 use Rattle.uug_packet.specs.Number.{number_of}
 use Rattle.uug_packet.specs.Packet.{control, carry, shown, shown_control}
 use Rattle.uug_packet.specs.Spelling.{IsSpelling}
@@ -21,6 +22,12 @@ item_at (places.Data seq ack k start end) bytes =
     found (carry (number_of seq) (number_of ack) k (take (end - start) (drop start bytes)))
 item_at places.Bad bytes = bad
 
+-- the item of that place, with its message laid beside
+abbrev pub item_beside : Place → List ℕ → Item
+item_beside (places.Control c) beside = found (control (shown_control c))
+item_beside (places.Data seq ack k start end) beside = found (carry (number_of seq) (number_of ack) k beside)
+item_beside places.Bad beside = bad
+
 abbrev pub LiesIn : Place → List ℕ → Type 0
 LiesIn (places.Control c) bytes = ⊤
 LiesIn (places.Data seq ack k start end) bytes = (start ≤ end) × (end ≤ length bytes)
@@ -37,6 +44,16 @@ pub record IsFirst (standing : Standing) (bytes : List ℕ) : Type 0 where
 abbrev pub StandsThere : Option Standing → List ℕ → Type 0
 StandsThere first bytes = MatchOption first (Waits bytes) (λ standing. IsFirst standing bytes)
 
+-- the item with its message laid beside stands first
+pub record IsBeside (standing : Standing) (beside bytes : List ℕ) : Type 0 where
+  pub stands : StandsFirst (item_beside standing.place beside) standing.size bytes
+  pub some : 0 < standing.size
+  pub within : standing.size ≤ length bytes
+
+-- the bytes wait, or that item stands first
+abbrev pub StandsBeside : Option Standing → List ℕ → List ℕ → Type 0
+StandsBeside first beside bytes = MatchOption first (Waits bytes) (λ standing. IsBeside standing beside bytes)
+
 abbrev pub size_of : Option Standing → ℕ
 size_of None = 0
 size_of (Some standing) = standing.size
@@ -45,12 +62,11 @@ size_of (Some standing) = standing.size
 abbrev pub left : ℕ → Option Standing → List ℕ → Reading
 left passed first bytes = record { bytes = drop passed bytes; shown_size = size_of first }
 
--- a reader's buffer, of which so many bytes were dropped, and the item shown
-pub record Holds (buffer : List ℕ) (capacity dropped : ℕ) (shown : Option Standing) : Type 0 where
-  pub within : dropped ≤ length buffer
-  pub fits : length buffer ≤ READER_SIZE
-  pub room : READER_SIZE ≤ capacity
-  pub first : IfSome shown (λ standing. IsFirst standing (drop dropped buffer))
+-- a reader's ring, what is laid beside it, and the item shown
+pub record Holds (ring : Buffer ℕ) (beside : List ℕ) (shown : Option Standing) : Type 0 where
+  pub room : ring.capacity ≡ READER_SIZE
+  pub fits : length ring.items ≤ READER_SIZE
+  pub first : IfSome shown (λ standing. IsBeside standing beside ring.items)
 
 -- the first part of the bytes
 abbrev pub BeginsWith : FirstPart → List ℕ → Type 0

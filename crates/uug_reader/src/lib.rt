@@ -6,6 +6,7 @@ pub mod laws;
 mod packet_laws;
 mod place;
 mod reader;
+mod ring;
 mod search;
 
 pub use found::Found;

@@ -1,10 +1,14 @@
 //! Where an item lies among the bytes that it stands first in.
 ghost use Rattle.std.specs.Prelude.{◌≡◌};
-ghost use Rattle.uug_reader.specs.Place.{item_at, LiesIn};
+ghost use Rattle.uug_reader.specs.Place.{item_beside};
 ghost use Rattle.uug_reader.specs.Shown.{item_of};
 
 use crate::found::Found;
-use uug_packet::{Control, Packet, Seq};
+use arrayvec::ArrayVec;
+use uug_packet::{Control, PACKET_MAX, Packet, Seq};
+
+/// Where the message of the item shown is laid, since a ring may hold it in two pieces. It has room for a whole packet.
+pub type Beside = ArrayVec<u8, PACKET_MAX>;
 
 /// The item that stands first.
 #[derive(Clone, Copy)]
@@ -31,24 +35,17 @@ pub enum Place {
     Bad,
 }
 
-/// The item in that place of the bytes.
-pub fn show(bytes: &[u8], place: Place) -> Found<'_>
-    requires { LiesIn place bytes.now }
-    ensures { item_of result ≡ item_at place bytes.now }
+/// The item of that place, with the message laid beside.
+pub fn show(beside: &[u8], place: Place) -> Found<'_>
+    ensures { item_of result ≡ item_beside place beside.now }
 {
     match place {
         Place::Control(control) => Found::Packet(Packet::Control(control)),
-        Place::Data {
+        Place::Data { seq, ack, k, .. } => Found::Packet(Packet::Carry {
             seq,
             ack,
             k,
-            start,
-            end,
-        } => Found::Packet(Packet::Carry {
-            seq,
-            ack,
-            k,
-            message: &bytes[start..end],
+            message: beside,
         }),
         Place::Bad => Found::Bad,
     }

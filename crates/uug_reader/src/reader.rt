@@ -1,9 +1,10 @@
-ghost use Rattle.std.specs.Prelude.{◌≡◌, ◌+◌, ◌-◌, ◌<◌, ◌≤◌, min, [], ◌++◌, length, take, drop, IfOk, vec_capacity};
+ghost use Rattle.std.specs.Prelude.{◌≡◌, ◌-◌, ◌<◌, ◌≤◌, min, [], ◌++◌, length, take, drop, IfOk};
 
 use crate::found::Found;
 use crate::packet_laws::packet_laws;
-use crate::place::{Standing, show};
-use crate::search::search_again;
+use crate::place::{Beside, Standing, show};
+use crate::ring::{drop_front, find_first};
+use circular_buffer::HeapCircularBuffer;
 use std::alloc::{AllocError, Allocator, Global};
 use std::marker::Model;
 use uug_packet::PACKET_MAX;
@@ -15,24 +16,23 @@ pub const READER_SIZE: usize = PACKET_MAX;
 /// cut into pieces.
 #[derive(Drop)]
 pub struct Reader<A: Allocator = Global> {
-    /// The bytes held, and in front of them some that were dropped.
-    buffer: Vec<u8, A>,
-    /// How many bytes at the front of the buffer were dropped.
-    dropped: usize,
+    /// The bytes held.
+    ring: HeapCircularBuffer<u8, A>,
+    /// The message of the item shown.
+    beside: Beside,
     /// The item shown, which stands first among the bytes held.
     shown: Option<Standing>,
 }
 
 impl<A: Allocator> Model for Reader<A> {
-    ghost use Rattle.std.specs.Prelude.{drop, vec_capacity};
     ghost use Rattle.uug_reader.specs.Reading.{Reading};
     ghost use Rattle.uug_reader.specs.Place.{Holds, size_of};
 
     ghost Value = { Reading };
 
-    ghost view = { λ r. record { bytes = drop r.dropped r.buffer.items; shown_size = size_of r.shown } };
+    ghost view = { λ r. record { bytes = r.ring.items; shown_size = size_of r.shown } };
 
-    ghost invariant = { λ r. Holds r.buffer.items (vec_capacity r.buffer) r.dropped r.shown };
+    ghost invariant = { λ r. Holds r.ring r.beside.items r.shown };
 }
 
 impl<A: Allocator> Reader<A> {
@@ -52,8 +52,8 @@ impl<A: Allocator> Reader<A> {
         ensures shown { IfOk result (λ reader. reader.shown_size ≡ 0) }
     {
         Ok(Reader {
-            buffer: Vec::with_capacity(alloc, READER_SIZE)?,
-            dropped: 0,
+            ring: HeapCircularBuffer::with_capacity(alloc, READER_SIZE)?,
+            beside: Beside::new(),
             shown: None,
         })
     }
@@ -65,11 +65,7 @@ impl<A: Allocator> Reader<A> {
         ensures shown { self.new.shown_size ≡ self.old.shown_size }
     {
         packet_laws();
-        let room = READER_SIZE - (self.buffer.len() - self.dropped);
-        let count = piece.len().min(room);
-        self.dropped = make_room(&mut self.buffer, self.dropped, count);
-        append(&mut self.buffer, &piece[..count]);
-        count
+        self.ring.fill_from_slice(piece)
     }
 
     /// Drops what is no part of an item from the front, up to the first item, and says whether there is one. That
@@ -82,10 +78,9 @@ impl<A: Allocator> Reader<A> {
         ensures exact { self.new ≡ after_search self.old.bytes }
     {
         packet_laws();
-        let search = search_again(&self.buffer[self.dropped..], self.shown);
-        self.dropped += search.passed;
-        self.shown = search.first;
-        search.first.is_some()
+        let first = find_first(&mut self.ring, &mut self.beside, self.shown);
+        self.shown = first;
+        first.is_some()
     }
 
     /// The item shown, which stands first among the bytes held.
@@ -93,7 +88,7 @@ impl<A: Allocator> Reader<A> {
         ensures { MatchOption result (self.now.shown_size ≡ 0) (λ found. Shows (item_of found) self.now) }
     {
         let standing = self.shown?;
-        Some(show(&self.buffer[self.dropped..], standing.place))
+        Some(show(self.beside.as_slice(), standing.place))
     }
 
     /// Searches, and shows the first item, which stays. It is the same in each call until it is dropped. After `None`
@@ -116,7 +111,7 @@ impl<A: Allocator> Reader<A> {
         ensures shown { self.new.shown_size ≡ 0 }
     {
         if let Some(standing) = self.shown.take() {
-            self.dropped += standing.size;
+            drop_front(&mut self.ring, standing.size);
         }
     }
 
@@ -125,7 +120,7 @@ impl<A: Allocator> Reader<A> {
         ensures len { result ≡ length self.now.bytes }
         ensures most { result ≤ READER_SIZE }
     {
-        self.buffer.len() - self.dropped
+        self.ring.len()
     }
 
     /// Takes all bytes away.
@@ -133,39 +128,7 @@ impl<A: Allocator> Reader<A> {
         ensures bytes { self.new.bytes ≡ [] }
         ensures shown { self.new.shown_size ≡ 0 }
     {
-        self.buffer.clear();
-        self.dropped = 0;
+        self.ring.clear();
         self.shown = None;
-    }
-}
-
-/// Moves the bytes held to the front of the buffer, where so many more would not fit behind them, and says how many
-/// are dropped in front of them then.
-fn make_room<A: Allocator>(buffer: &mut Vec<u8, A>, dropped: usize, count: usize) -> usize
-    requires within { dropped ≤ length buffer.old.items }
-    requires fits { length buffer.old.items - dropped + count ≤ READER_SIZE }
-    requires most { length buffer.old.items ≤ READER_SIZE }
-    ensures within { result ≤ length buffer.new.items }
-    ensures room { length buffer.new.items + count ≤ READER_SIZE }
-    ensures held { drop result buffer.new.items ≡ drop dropped buffer.old.items }
-    ensures capacity { vec_capacity buffer.new ≡ vec_capacity buffer.old }
-{
-    if READER_SIZE - buffer.len() < count {
-        buffer.drain(..dropped);
-        return 0;
-    }
-    dropped
-}
-
-/// Appends bytes that fit.
-fn append<A: Allocator>(buffer: &mut Vec<u8, A>, bytes: &[u8])
-    requires fits { length buffer.old.items + length bytes.now ≤ READER_SIZE }
-    requires room { READER_SIZE ≤ vec_capacity buffer.old }
-    ensures items { buffer.new.items ≡ buffer.old.items ++ bytes.now }
-    ensures fits { length buffer.new.items ≤ READER_SIZE }
-    ensures room { READER_SIZE ≤ vec_capacity buffer.new }
-{
-    if buffer.extend_from_slice(bytes).is_err() {
-        unreachable!();
     }
 }

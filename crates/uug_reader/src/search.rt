@@ -1,13 +1,12 @@
 //! The search for the first item in some bytes.
-ghost use Rattle.std.specs.Prelude.{◌≡◌, ◌≢◌, ◌-◌, ◌<◌, ◌≤◌, ◌↔◌, IfSome, IsTrue, slice_index, MatchOption, length, take, drop};
+ghost use Rattle.std.specs.Prelude.{◌≡◌, ◌≢◌, ◌-◌, ◌<◌, ◌≤◌, ◌↔◌, IsTrue, slice_index, MatchOption, length, take, drop};
 ghost use Rattle.uug_packet.specs.declared.header.TheConstants.{CONTROL_K};
 ghost use Rattle.uug_packet.specs.Packet.{shown};
 ghost use Rattle.uug_packet.specs.Spelling.{IsSpelling};
 ghost use Rattle.uug_packet.specs.Waits.{Waits};
 ghost use Rattle.uug_reader.specs.Cut.{found};
 ghost use Rattle.uug_reader.specs.Finding.{PassesNoise};
-ghost use Rattle.uug_reader.specs.Search.{after_search};
-ghost use Rattle.uug_reader.specs.Place.{BeginsWith, IsFirst, item_at, left, LiesIn, StandsThere};
+ghost use Rattle.uug_reader.specs.Place.{BeginsWith, item_at, LiesIn, StandsThere};
 
 use crate::packet_laws::packet_laws;
 use crate::place::{Place, Standing};
@@ -80,7 +79,7 @@ fn place_of(packet: &Packet<'_>, bytes: &[u8], size: usize) -> Place
 }
 
 /// Passes over the noise in front, and says what stands first behind it.
-fn search_in(bytes: &[u8]) -> Search
+pub fn search_in(bytes: &[u8]) -> Search
     ensures within { result.passed ≤ length bytes.now }
     ensures passes { PassesNoise bytes.now (drop result.passed bytes.now) }
     ensures stands { StandsThere result.first (drop result.passed bytes.now) }
@@ -110,23 +109,5 @@ fn search_in(bytes: &[u8]) -> Search
     Search {
         passed,
         first: None,
-    }
-}
-
-/// What stands first: the item that is shown, or else what a search finds.
-pub fn search_again(bytes: &[u8], shown: Option<Standing>) -> Search
-    requires { IfSome shown (λ standing. IsFirst standing bytes.now) }
-    ensures within { result.passed ≤ length bytes.now }
-    ensures passes { PassesNoise bytes.now (drop result.passed bytes.now) }
-    ensures stands { StandsThere result.first (drop result.passed bytes.now) }
-    ensures exact { after_search bytes.now ≡ left result.passed result.first bytes.now }
-{
-    packet_laws();
-    if shown.is_none() {
-        return search_in(bytes);
-    }
-    Search {
-        passed: 0,
-        first: shown,
     }
 }

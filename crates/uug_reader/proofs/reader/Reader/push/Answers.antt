@@ -1,7 +1,10 @@
+use Rattle.std.proofs.Common.{arith, length-take, take}
 use Rattle.uug_reader.proofs.PlaceLemmas.{Holds-pushed}
 use Rattle.uug_reader.proofs.reader.Reader.push.Goals as goal
 
 pub invariant_of-self : goal.invariant_of-self
 invariant_of-self g c =
-    Holds-pushed c.packet_laws.ensures _ c.make_room-self-inside.new.buffer.items _ _ _ _ _ c.make_room-self-inside.result c.self.inside.shown c.self.invariant
-    c.make_room-self-inside.ensures.within c.make_room-self-inside.ensures.held c.append.ensures.fits c.append.ensures.items c.append.ensures.room
+    let fill = c.fill_from_slice in
+    Holds-pushed c.packet_laws.ensures c.self.inside.ring fill.new.self c.self.inside.beside.items
+    (take fill.result c.args.piece.now) c.self.inside.shown c.self.invariant fill.ensures.items
+    (omega (arith, fill.ensures.count, length-take fill.result c.args.piece.now, c.self.invariant.fits, c.self.invariant.room))
