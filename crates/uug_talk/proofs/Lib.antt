@@ -1,4 +1,5 @@
 pub mod AnswerLemmas
+pub mod CallLemmas
 pub mod ChunkLemmas
 pub mod FirstTextLemmas
 pub mod GatherLemmas
@@ -7,6 +8,7 @@ pub mod HearLemmas
 pub mod JoinedLemmas
 pub mod ModeLemmas
 pub mod NameLemmas
+pub mod NumberLemmas
 pub mod OrderLemmas
 pub mod RefusedLemmas
 pub mod ResultLemmas

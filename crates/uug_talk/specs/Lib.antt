@@ -1,4 +1,5 @@
 pub mod Answer
+pub mod Call
 pub mod Chunks
 pub mod Gathering
 pub mod Hail
@@ -7,6 +8,7 @@ pub mod Held
 pub mod MessagesLeft
 pub mod Mode
 pub mod Name
+pub mod Number
 pub mod Order
 pub mod Refusal
 pub mod StreamTexts

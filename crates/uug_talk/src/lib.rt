@@ -3,6 +3,7 @@
 #![tactic(auto)]
 
 mod answer;
+mod call;
 mod chunks;
 mod error;
 mod gather;
@@ -10,10 +11,12 @@ mod hail;
 mod laws;
 mod mode;
 mod name;
+mod number;
 mod order;
 mod words;
 
 pub use answer::{Answer, DEFAULT_MODE, read_answer, write_answer};
+pub use call::{NUMBER_DIGITS_MAX, NUMBER_MAX, caller_number, write_call};
 pub use chunks::{Chunks, MESSAGE_MAX, Message, is_command_text};
 pub use error::BadText;
 pub use gather::{FILE_MAX, Gather, Progress};
@@ -26,5 +29,6 @@ pub use laws::{
 };
 pub use mode::{MODE_MAX, mode_digits, read_mode};
 pub use name::{NAME_MAX, Name};
+pub use number::read_number;
 pub use order::{Order, read_order, write_order};
 pub use words::{COMMAND_MAX, WRITTEN_MAX, split_word};
