@@ -5,8 +5,7 @@ use Rattle.uug_tool.specs.Scan.{AppendsListing}
 use Rattle.uug_tool.specs.Streams.{ReadsAll}
 use Rattle.uug_tool.specs.declared.fault.ToolFault.{ToolFault}
 use Rattle.uug_tool.specs.declared.fault.ToolFault.TheVariants as faults
-use Rattle.uug_script.specs.IsScript.{IsFirstBad}
-use Rattle.uug_play.specs.Played.{AppendsReport, BeforeReport, OnceRead}
+use Rattle.uug_play.specs.Played.{AppendsReport, BeforeReport, IsFirstBad, OnceRead}
 use Rattle.uucpair.specs.declared.command_line.Task.{Task}
 use Rattle.uucpair.specs.declared.command_line.Task.TheVariants.{Scan, Play, Pair}
 use Rattle.uucpair.specs.declared.stop.Stop.{Stop}

@@ -21,7 +21,7 @@ where
     R: Files + Net + AllocGlobal + Clone + Drop,
     I: uug_tool::Input,
     O: Output,
-    ensures { Does task (streams (I.to_come input.old) (I.to_come input.new)
+    ensures { Does task.entry (streams (I.to_come input.old) (I.to_come input.new)
         (O.written output.old) (O.written output.new)) result }
 {
     let alloc = rt.alloc();

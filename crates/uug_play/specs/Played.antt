@@ -8,7 +8,7 @@ use Rattle.uug_tool.specs.declared.fault.ToolFault.TheVariants as faults
 use Rattle.uug_line.specs.Belongings.{EndSetupValue, SetupValue}
 use Rattle.uug_line.specs.Spelled.{spelled}
 use Rattle.uug_line.specs.World.{report_of_world}
-use Rattle.uug_script.specs.IsScript.{IsFirstBad, IsScript}
+pub use Rattle.uug_script.specs.IsScript.{IsFirstBad, IsScript}
 use Rattle.uug_script.specs.ReportText.{RunResult, report_text}
 use Rattle.uug_script.specs.Script.{EndSays, ScriptSays}
 use Rattle.uug_play.specs.Numbers.{result_of, status_of_result}
