@@ -1,5 +1,6 @@
 //! What the program does, from its command line to its status.
 ghost use Rattle.std.specs.Prelude.{◌≡◌, MatchResult};
+ghost use Rattle.uucpair.specs.Performed.{Does, Performs, streams};
 ghost use Rattle.uucpair.specs.Stop.{status_of_stop};
 
 use crate::command_line::{Task, task_of};
@@ -14,22 +15,23 @@ use uug_pair::pair_run;
 use uug_play::play_stream;
 use uug_tool::{Output, ToolFault, scan_stream};
 
-/// Does what the words of a command line ask for, the name of the program first, and gives the program's status.
-pub fn perform<R, S, I, O>(rt: &R, words: &[S], input: &mut I, output: &mut O) -> Result<u8, Stop>
+/// Does a task, and gives the program's status.
+fn do_task<R, I, O>(rt: &R, task: Task<'_>, input: &mut I, output: &mut O) -> Result<u8, ToolFault>
 where
     R: Files + Net + AllocGlobal + Clone + Drop,
-    S: AsStr,
     I: uug_tool::Input,
     O: Output,
+    ensures { Does task.entry (streams (I.to_come input.old) (I.to_come input.new)
+        (O.written output.old) (O.written output.new)) result }
 {
     let alloc = rt.alloc();
-    match task_of(alloc, words)? {
+    match task {
         Task::Scan => {
             scan_stream(alloc, input, output)?;
             Ok(0)
         }
-        Task::Play => Ok(play_stream(alloc, input, output)?),
-        Task::Pair(pair) => Ok(pair_run(
+        Task::Play => play_stream(alloc, input, output),
+        Task::Pair(pair) => pair_run(
             alloc,
             rt,
             pair.socket,
@@ -38,8 +40,22 @@ where
             pair.drop_every,
             pair.flip_every,
             output,
-        )?),
+        ),
     }
+}
+
+/// Does what the words of a command line ask for, the name of the program first, and gives the program's status.
+pub fn perform<R, S, I, O>(rt: &R, words: &[S], input: &mut I, output: &mut O) -> Result<u8, Stop>
+where
+    R: Files + Net + AllocGlobal + Clone + Drop,
+    S: AsStr,
+    I: uug_tool::Input,
+    O: Output,
+    ensures { Performs (streams (I.to_come input.old) (I.to_come input.new)
+        (O.written output.old) (O.written output.new)) result }
+{
+    let task = task_of(rt.alloc(), words)?;
+    Ok(do_task(rt, task, input, output)?)
 }
 
 /// Does what the program's own command line asks for, on standard input and output.
@@ -60,7 +76,8 @@ pub fn run<R: Env + Input + Print + Files + Net + AllocGlobal + Clone + Drop>(
 /// Says on standard error why the program ends before its task is done, where that can be said, and gives the
 /// program's status.
 pub fn end(rt: &impl Eprint, ended: Result<u8, Stop>) -> u8
-    ensures { MatchResult ended (λ status. result ≡ status) (λ stop. result ≡ status_of_stop stop) }
+    ensures { MatchResult ended
+        (λ status. result ≡ status) (λ stop. result ≡ status_of_stop stop) }
 {
     match ended {
         Ok(status) => status,

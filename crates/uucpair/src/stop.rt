@@ -1,5 +1,7 @@
 ghost use Rattle.std.specs.Prelude.{◌≡◌};
+ghost use Rattle.uucpair.specs.Performed.{IsNoTask};
 ghost use Rattle.uucpair.specs.Stop.{status_of_stop};
+ghost use Rattle.uucpair.specs.declared.stop.Stop.TheVariants.{Fault as stop_for};
 
 use clap::error::ErrorKind;
 use std::alloc::AllocError;
@@ -29,6 +31,8 @@ impl Stop {
 }
 
 impl From<ToolFault> for Stop {
+    ghost from_gives = { λ fault stop. stop ≡ stop_for fault };
+
     fn from(fault: ToolFault) -> Stop {
         Stop::Fault(fault)
     }
@@ -41,6 +45,8 @@ impl From<AllocError> for Stop {
 }
 
 impl From<clap::error::Error> for Stop {
+    ghost from_gives = { λ _ stop. IsNoTask stop };
+
     fn from(error: clap::error::Error) -> Stop {
         match error.kind() {
             ErrorKind::OutOfMemory => Stop::Fault(ToolFault::Memory),

@@ -1,3 +1,4 @@
+pub mod PlayLemmas
 pub mod PlayedLemmas
 pub mod StandardFacts
 pub mod WholeLemmas

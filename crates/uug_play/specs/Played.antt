@@ -1,13 +1,14 @@
 -- What is played from a text (this project's profile).
-use Rattle.std.specs.Prelude.{◌≡◌, ℕ, List, Option, ⊤}
+use Rattle.std.specs.Io.KnownBytes.{Keeps}
+use Rattle.std.specs.Prelude.{◌≡◌, ◌⊎◌, ℕ, List, [], Option, Some, Result, Ok, Err, IfSome, ⊤}
 use Rattle.uug_session.specs.MemoryHoldings.{holdings_of}
-use Rattle.uug_tool.specs.Streams.{Appends}
+use Rattle.uug_tool.specs.Streams.{Appends, AppendsFront}
 use Rattle.uug_tool.specs.declared.fault.ToolFault.{ToolFault}
 use Rattle.uug_tool.specs.declared.fault.ToolFault.TheVariants as faults
 use Rattle.uug_line.specs.Belongings.{EndSetupValue, SetupValue}
 use Rattle.uug_line.specs.Spelled.{spelled}
 use Rattle.uug_line.specs.World.{report_of_world}
-use Rattle.uug_script.specs.IsScript.{IsFirstBad, IsScript}
+pub use Rattle.uug_script.specs.IsScript.{IsFirstBad, IsScript}
 use Rattle.uug_script.specs.ReportText.{RunResult, report_text}
 use Rattle.uug_script.specs.Script.{EndSays, ScriptSays}
 use Rattle.uug_play.specs.Numbers.{result_of, status_of_result}
@@ -39,6 +40,33 @@ pub record IsPlayed (script text : List ℕ) (status : ℕ) : Type 0 where
 abbrev pub AppendsReport : (script : List ℕ) → (status : ℕ) → Option (List ℕ) → Option (List ℕ) → Type 0
 AppendsReport script status before after =
     (text : List ℕ) × IsPlayed script text status × Appends text before after
+
+-- a front of that report was appended, or none of it
+abbrev pub BeginsReport : (script : List ℕ) → Option (List ℕ) → Option (List ℕ) → Type 0
+BeginsReport script before after =
+    (text : List ℕ) × (status : ℕ) × IsPlayed script text status × AppendsFront text before after
+
+-- ---- what was read and written when the answer came
+
+-- the fact, where the answer comes only when the whole script was read
+abbrev pub OnceRead : {T : Type 0} → Result T ToolFault → Type 0 → Type 0
+OnceRead (Ok status) P = P
+OnceRead (Err (faults.Script line)) P = P
+OnceRead (Err faults.Write) P = P
+OnceRead (Err fault) P = ⊤
+
+-- the fact, where the answer comes before the report is written
+abbrev pub BeforeReport : {T : Type 0} → Result T ToolFault → Type 0 → Type 0
+BeforeReport (Err faults.Read) P = P
+BeforeReport (Err faults.Device) P = P
+BeforeReport (Err (faults.Script line)) P = P
+BeforeReport answer P = ⊤
+
+-- Where memory ran out, nothing was written, or the whole script was read and its report begun. The first two are the
+-- bytes to come before and after, the others what was written.
+abbrev pub RunsOut : (script left before after : Option (List ℕ)) → Type 0
+RunsOut script left before after =
+    IfSome script (λ bytes. Keeps before after ⊎ ((left ≡ Some []) × BeginsReport bytes before after))
 
 -- the fault names the first bad line; out of memory is left open
 abbrev pub IsScriptFault : (script : List ℕ) → ToolFault → Type 0

@@ -1,8 +1,8 @@
-ghost use Rattle.std.specs.Prelude.{◌≡◌, ℕ, ◌<◌, ◌≤◌, ◌*◌, IfErr, IfOk, IfSome, Some, [], OnOk, length};
+ghost use Rattle.std.specs.Prelude.{◌≡◌, ℕ, ◌<◌, ◌≤◌, ◌*◌, IfErr, IfOk, IfSome, OnOk, length};
 ghost use Rattle.std.specs.Io.KnownBytes.{Keeps};
 ghost use Rattle.uug_script.specs.IsScript.{IsFirstBad};
-ghost use Rattle.uug_tool.specs.Streams.{CountsFault};
-ghost use Rattle.uug_play.specs.Played.{AppendsReport, IsPlayFault};
+ghost use Rattle.uug_tool.specs.Streams.{CountsFault, ReadsAll};
+ghost use Rattle.uug_play.specs.Played.{AppendsReport, BeforeReport, BeginsReport, IsPlayFault, OnceRead, RunsOut};
 
 use crate::played::play_script;
 use crate::whole::read_whole;
@@ -16,17 +16,25 @@ pub fn play_within<A: Allocator + Copy, I: Input, O: Output>(
     output: &mut O,
     limit: u32,
 ) -> Result<u8, ToolFault>
-    ensures whole { OnOk result (IfSome (I.to_come input.old) (λ _. I.to_come input.new ≡ Some [])) }
+    ensures whole { OnceRead result (ReadsAll (I.to_come input.old) (I.to_come input.new)) }
     ensures report { IfOk result (λ status. IfSome (I.to_come input.old)
         (λ script. AppendsReport script status (O.written output.old) (O.written output.new))) }
-    ensures within { OnOk result (IfSome (I.to_come input.old) (λ script. length script < limit * PIECE_SIZE)) }
+    ensures within { OnOk result (IfSome (I.to_come input.old)
+        (λ script. length script < limit * PIECE_SIZE)) }
     ensures script { (line : ℕ) → result ≡ Err (ToolFault.Script line)
         → IfSome (I.to_come input.old) (λ script. IsFirstBad script line) }
-    ensures nothing_written { (line : ℕ) → result ≡ Err (ToolFault.Script line)
-        → Keeps (O.written output.old) (O.written output.new) }
-    ensures read { result ≡ Err ToolFault.Read → CountsFault (I.fault_count input.old) (I.fault_count input.new) }
-    ensures write { result ≡ Err ToolFault.Write → CountsFault (O.fault_count output.old) (O.fault_count output.new) }
-    ensures device { result ≡ Err ToolFault.Device → IfSome (I.to_come input.old) (λ script. limit ≤ length script) }
+    ensures nothing_written { BeforeReport result
+        (Keeps (O.written output.old) (O.written output.new)) }
+    ensures begun { result ≡ Err ToolFault.Write → IfSome (I.to_come input.old)
+        (λ script. BeginsReport script (O.written output.old) (O.written output.new)) }
+    ensures memory { result ≡ Err ToolFault.Memory → RunsOut (I.to_come input.old)
+        (I.to_come input.new) (O.written output.old) (O.written output.new) }
+    ensures read { result ≡ Err ToolFault.Read
+        → CountsFault (I.fault_count input.old) (I.fault_count input.new) }
+    ensures write { result ≡ Err ToolFault.Write
+        → CountsFault (O.fault_count output.old) (O.fault_count output.new) }
+    ensures device { result ≡ Err ToolFault.Device
+        → IfSome (I.to_come input.old) (λ script. limit ≤ length script) }
     ensures no_other { IfErr result IsPlayFault }
 {
     let script = read_whole(alloc, input, limit)?;
@@ -37,24 +45,32 @@ pub fn play_within<A: Allocator + Copy, I: Input, O: Output>(
 
 /// Reads the input to its end as a script, plays it, and writes the report. The answer is the program's status: 5 where
 /// the line fooled an end; else 0 where the last session is done at both ends, and 1 where it is not. Nothing is written
-/// before the script was played. Of two faults the one that the work meets first is answered; how much was written
-/// before a write failed is left open.
+/// before the script was played. Of two faults the one that the work meets first is answered; where a write failed, or
+/// memory ran out in writing, a front of the report was written.
 pub fn play_stream<A: Allocator + Copy, I: Input, O: Output>(
     alloc: A,
     input: &mut I,
     output: &mut O,
 ) -> Result<u8, ToolFault>
-    ensures whole { OnOk result (IfSome (I.to_come input.old) (λ _. I.to_come input.new ≡ Some [])) }
+    ensures whole { OnceRead result (ReadsAll (I.to_come input.old) (I.to_come input.new)) }
     ensures report { IfOk result (λ status. IfSome (I.to_come input.old)
         (λ script. AppendsReport script status (O.written output.old) (O.written output.new))) }
-    ensures within { OnOk result (IfSome (I.to_come input.old) (λ script. length script < READ_LIMIT * PIECE_SIZE)) }
+    ensures within { OnOk result (IfSome (I.to_come input.old)
+        (λ script. length script < READ_LIMIT * PIECE_SIZE)) }
     ensures script { (line : ℕ) → result ≡ Err (ToolFault.Script line)
         → IfSome (I.to_come input.old) (λ script. IsFirstBad script line) }
-    ensures nothing_written { (line : ℕ) → result ≡ Err (ToolFault.Script line)
-        → Keeps (O.written output.old) (O.written output.new) }
-    ensures read { result ≡ Err ToolFault.Read → CountsFault (I.fault_count input.old) (I.fault_count input.new) }
-    ensures write { result ≡ Err ToolFault.Write → CountsFault (O.fault_count output.old) (O.fault_count output.new) }
-    ensures device { result ≡ Err ToolFault.Device → IfSome (I.to_come input.old) (λ script. READ_LIMIT ≤ length script) }
+    ensures nothing_written { BeforeReport result
+        (Keeps (O.written output.old) (O.written output.new)) }
+    ensures begun { result ≡ Err ToolFault.Write → IfSome (I.to_come input.old)
+        (λ script. BeginsReport script (O.written output.old) (O.written output.new)) }
+    ensures memory { result ≡ Err ToolFault.Memory → RunsOut (I.to_come input.old)
+        (I.to_come input.new) (O.written output.old) (O.written output.new) }
+    ensures read { result ≡ Err ToolFault.Read
+        → CountsFault (I.fault_count input.old) (I.fault_count input.new) }
+    ensures write { result ≡ Err ToolFault.Write
+        → CountsFault (O.fault_count output.old) (O.fault_count output.new) }
+    ensures device { result ≡ Err ToolFault.Device
+        → IfSome (I.to_come input.old) (λ script. READ_LIMIT ≤ length script) }
     ensures no_other { IfErr result IsPlayFault }
 {
     play_within(alloc, input, output, READ_LIMIT)

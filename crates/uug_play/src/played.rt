@@ -41,7 +41,8 @@ fn session_numbers<A: Allocator>(
     alloc: A,
     sessions: &[SessionReport<A>],
 ) -> Result<Vec<SessionNumbers, A>, AllocError>
-    ensures { IfOk result (λ numbers. numbers.items ≡ map session_numbers (map session_shown sessions.now)) }
+    ensures { IfOk result (λ numbers.
+        numbers.items ≡ map session_numbers (map session_shown sessions.now)) }
 {
     let mut numbers = Vec::new(alloc);
     for session in sessions {
@@ -90,8 +91,10 @@ fn status(sessions: &[SessionNumbers], verdict: LineVerdict) -> u8
 
 /// The text of a report, and the status.
 fn shown<A: Allocator + Copy>(alloc: A, report: &Report<A>) -> Result<Played<A>, AllocError>
-    ensures text { IfOk result (λ played. string_bytes played.text ≡ report_text (result_of report.now.told)) }
-    ensures status { IfOk result (λ played. played.status ≡ status_of_result (result_of report.now.told)) }
+    ensures text { IfOk result (λ played.
+        string_bytes played.text ≡ report_text (result_of report.now.told)) }
+    ensures status { IfOk result (λ played.
+        played.status ≡ status_of_result (result_of report.now.told)) }
 {
     let sessions = session_numbers(alloc, report.sessions())?;
     let shown = ShownReport {
@@ -108,7 +111,8 @@ fn shown<A: Allocator + Copy>(alloc: A, report: &Report<A>) -> Result<Played<A>,
 
 /// Plays a script.
 pub fn play_script<A: Allocator + Copy>(alloc: A, text: &[u8]) -> Result<Played<A>, ToolFault>
-    ensures played { IfOk result (λ played. IsPlayed text.now (string_bytes played.text) played.status) }
+    ensures played { IfOk result (λ played.
+        IsPlayed text.now (string_bytes played.text) played.status) }
     ensures fault { IfErr result (IsScriptFault text.now) }
 {
     let script = match read_script(alloc, text) {

@@ -15,10 +15,13 @@ pub fn read_whole<A: Allocator, I: Input>(
     input: &mut I,
     limit: u32,
 ) -> Result<Vec<u8, A>, ToolFault>
-    ensures whole { IfOk result (λ bytes. BringsAll bytes.items (I.to_come input.old) (I.to_come input.new)) }
+    ensures whole { IfOk result (λ bytes.
+        BringsAll bytes.items (I.to_come input.old) (I.to_come input.new)) }
     ensures within { IfOk result (λ bytes. length bytes.items < limit * PIECE_SIZE) }
-    ensures read { result ≡ Err read → CountsFault (I.fault_count input.old) (I.fault_count input.new) }
-    ensures device { result ≡ Err device → IfSome (I.to_come input.old) (λ bytes. limit ≤ length bytes) }
+    ensures read { result ≡ Err read
+        → CountsFault (I.fault_count input.old) (I.fault_count input.new) }
+    ensures device { result ≡ Err device
+        → IfSome (I.to_come input.old) (λ bytes. limit ≤ length bytes) }
     ensures no_other { IfErr result IsReadingFault }
     ensures grows { I.fault_count input.old ≤ I.fault_count input.new }
 {
