@@ -72,8 +72,8 @@ IsName-number n h =
       some = omega arith;
       short = omega (arith, short);
       printing =
-        All-cons IsNameByte 45 (81 ∷ decimal n) (omega arith, omega arith)
-        (All-cons IsNameByte 81 (decimal n) (omega arith, omega arith) (are_name_bytes (decimal n) (decimal_is_IsNumeral n (omega arith)).0.1));
+          All-cons IsNameByte 45 (81 ∷ decimal n) (omega arith, omega arith)
+          (All-cons IsNameByte 81 (decimal n) (omega arith, omega arith) (are_name_bytes (decimal n) (decimal_is_IsNumeral n (omega arith)).0.1));
     }
 
 pub told_back : (n : ℕ) → n < 2 ^ 32 → number_told (number_word n) ≡ Some n
@@ -117,7 +117,7 @@ pub hail_with_number : (text name : List ℕ) (n : ℕ) → IsName name → n < 
 hail_with_number text name n h fits e = let number = IsName-number n fits in rw e (record {
   short = omega (arith, h.short, length-decimal-le 10 n (omega arith) (omega arith) (omega arith), length-append name (32 ∷ number_word n));
   plain = All-cons IsPlain 83 (name ++ 32 ∷ number_word n) (plain_byte 83 (omega arith, omega arith))
-    (All-append IsPlain name (32 ∷ number_word n) (plain_name name h)
-    (All-cons IsPlain 32 (number_word n) (record { no_start = λ z. absurd (omega (arith, z)); no_zero = λ z. absurd (omega (arith, z)); no_line_feed = λ z. absurd (omega (arith, z)) })
-    (plain_name (number_word n) number)));
+      (All-append IsPlain name (32 ∷ number_word n) (plain_name name h)
+      (All-cons IsPlain 32 (number_word n) (record { no_start = λ z. absurd (omega (arith, z)); no_zero = λ z. absurd (omega (arith, z)); no_line_feed = λ z. absurd (omega (arith, z)) })
+      (plain_name (number_word n) number)));
 })

@@ -7,6 +7,7 @@ use Rattle.uug_talk.specs.declared.name.TheConstants.{NAME_MAX}
 use Rattle.uug_talk.specs.declared.order.Order.TheVariants.{Send, Request, HangUp}
 use Rattle.uug_talk.specs.declared.words.TheConstants.{COMMAND_MAX}
 use Rattle.uug_talk.specs.Answer.{answer_of, answer_text}
+use Rattle.uug_talk.specs.Call.{call_text, first_told, number_in_call}
 use Rattle.uug_talk.specs.Chunks.{command_messages, file_messages}
 use Rattle.uug_talk.specs.Gathering.{OfCommand, OfFile, gathered}
 use Rattle.uug_talk.specs.Name.{name_read}
@@ -163,3 +164,32 @@ pub record AreNameWords : Type 0 where
 
 pub name_words : AreNameWords
 name_words = record { longest = refl; too_long = refl; none = refl; space = refl }
+
+-- a caller's text, and the number in one
+pub record AreCalls : Type 0 where
+  pub without : call_text (codes "a") None ≡ codes "Sa"
+  pub greatest : number_in_call (codes "Sa -Q4294967295") ≡ Some 4294967295
+  pub too_great : number_in_call (codes "Sa -Q4294967296") ≡ None
+  pub eleven_digits : number_in_call (codes "Sa -Q00000000007 -Q5") ≡ Some 5
+  pub ten_digits : number_in_call (codes "Sa  -Q0000000007 -Q5") ≡ Some 7
+  pub behind_an_option : number_in_call (codes "Sa -p -Q7 -R") ≡ Some 7
+  pub in_an_option : number_in_call (codes "Sa -p-Q7") ≡ None
+  pub no_digit : number_in_call (codes "Sa -Q") ≡ None
+  pub signed : number_in_call (codes "Sa -Q+7") ≡ None
+  pub in_the_name : number_in_call (codes "-Q7") ≡ None
+
+pub calls : AreCalls
+unfolding first_told
+calls = record {
+  without = refl;
+ 
+  greatest = refl;
+  too_great = refl;
+  eleven_digits = refl;
+  ten_digits = refl;
+  behind_an_option = refl;
+  in_an_option = refl;
+  no_digit = refl;
+  signed = refl;
+  in_the_name = refl;
+}

@@ -6,8 +6,9 @@ use std::process::Abort;
 use std::test::Fail;
 use uug_refusal::Refusing;
 use uug_talk::{
-    Answer, BadText, Chunks, Gather, Hail, Name, Order, Progress, is_command_text, is_hail_text,
-    read_answer, read_order, write_answer, write_hail, write_order,
+    Answer, BadText, Chunks, Gather, Hail, Name, Order, Progress, caller_number, is_command_text,
+    is_hail_text, read_answer, read_number, read_order, write_answer, write_call, write_hail,
+    write_order,
 };
 
 fn is_order_written_as(order: &Order, text: &[u8]) -> bool {
@@ -29,6 +30,16 @@ fn what_is_read_is_written(rt: HostRuntime) -> Result<(), Fail> {
         Ok(answer) => assert!(rt; is_answer_written_as(&answer, b"RY 0644")),
         Err(fault) => assert!(rt; false, "{fault}"),
     }
+    Ok(())
+}
+
+#[test]
+fn a_caller_writes_its_number_and_a_called_end_reads_it(rt: HostRuntime) -> Result<(), Fail> {
+    let name = Name::new(b"a")?;
+    assert_eq!(rt; write_call(&name, None).as_slice(), b"Sa".as_slice());
+    assert_eq!(rt; write_call(&name, Some(7)).as_slice(), b"Sa -Q7".as_slice());
+    assert_eq!(rt; caller_number(b"Sa -p -Q7 -Q8"), Some(7));
+    assert_eq!(rt; read_number(b"007", 6), None);
     Ok(())
 }
 
