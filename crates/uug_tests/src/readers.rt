@@ -13,10 +13,26 @@ const FRONT: [u8; 10] = [0x10, 0x11, 0x10, 0x09, 0x6f, 0xaa, 0x3b, 0xf7, 0x10, 0
 /// The rest of it, and the header of a data packet: number 1, acknowledging 0, and 32 zeros as the message.
 const HEADER: [u8; 10] = [0x89, 0xaa, 0x21, 0x0b, 0x10, 0x01, 0x0d, 0x3a, 0x88, 0xbe];
 
+/// That data packet, whole.
+const PACKET: [u8; 38] = [
+    0x10, 0x01, 0x0d, 0x3a, 0x88, 0xbe, 0, 0, 0, 0, 0, 0, 0, 0, 0, 0, 0, 0, 0, 0, 0, 0, 0, 0, 0, 0,
+    0, 0, 0, 0, 0, 0, 0, 0, 0, 0, 0, 0,
+];
+
 /// A data packet whose checksum is one too high, and in its field what reads as RR 1.
 const BROKEN_FRONT: [u8; 12] = [
     0x10, 0x01, 0x96, 0x6a, 0x88, 0x75, 0x10, 0x09, 0x89, 0xaa, 0x21, 0x0b,
 ];
+
+/// What a reader finds in it.
+fn zeros() -> Found<'static> {
+    Found::Packet(Packet::Carry {
+        seq: number(1),
+        ack: number(0),
+        k: 1,
+        message: &[0; 32],
+    })
+}
 
 /// Pushes a piece, and drops what is then found: just these items. So many bytes wait then.
 fn take_piece<A: Allocator>(
@@ -40,12 +56,6 @@ fn take_piece<A: Allocator>(
 #[test]
 fn finds_what_comes_in_pieces(rt: HostRuntime) -> Result<(), AllocError> {
     let ready = Found::Packet(Packet::Control(Control::Rr(number(1))));
-    let zeros = Packet::Carry {
-        seq: number(1),
-        ack: number(0),
-        k: 1,
-        message: &[0; 32],
-    };
     let none: &[Found<'_>] = &[];
     let rows: [(&[u8], &[Found<'_>], usize); 6] = [
         (
@@ -55,7 +65,7 @@ fn finds_what_comes_in_pieces(rt: HostRuntime) -> Result<(), AllocError> {
         ),
         (&HEADER, &[ready], 6),
         (&[0; 31], none, 37),
-        (&[0], &[Found::Packet(zeros)], 0),
+        (&[0], &[zeros()], 0),
         (&BROKEN_FRONT, none, 12),
         (&[0; 26], &[Found::Bad, ready], 0),
     ];
@@ -74,6 +84,33 @@ fn fill<A: Allocator>(rt: &impl Abort, reader: &mut Reader<A>) {
     assert_eq!(rt; reader.push(&[0x10; READER_SIZE]), READER_SIZE - 5);
     reader.clear();
     assert_eq!(rt; reader.waiting(), 0);
+}
+
+/// 107 packets, and the front of one more, are as much as a reader holds.
+fn fill_with_packets<A: Allocator>(rt: &impl Abort, reader: &mut Reader<A>) {
+    for _ in 0..107 {
+        assert_eq!(rt; reader.push(&PACKET), 38);
+    }
+    assert_eq!(rt; reader.push(&PACKET), 36);
+}
+
+/// Of these the packets that are whole are dropped.
+fn drop_packets<A: Allocator>(rt: &impl Abort, reader: &mut Reader<A>) {
+    for _ in 0..107 {
+        assert!(rt; reader.search());
+        reader.drop_found();
+    }
+    assert_eq!(rt; reader.find(), None);
+    assert_eq!(rt; reader.waiting(), 36);
+}
+
+#[test]
+fn finds_a_packet_across_the_end(rt: HostRuntime) -> Result<(), AllocError> {
+    let mut reader = Reader::new(rt.alloc())?;
+    fill_with_packets(&rt, &mut reader);
+    drop_packets(&rt, &mut reader);
+    take_piece(&rt, &mut reader, &PACKET[36..], &[zeros()], 0);
+    Ok(())
 }
 
 // a reader that takes memory for more than itself
