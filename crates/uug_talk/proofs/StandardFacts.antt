@@ -182,7 +182,6 @@ pub calls : AreCalls
 unfolding first_told
 calls = record {
   without = refl;
- 
   greatest = refl;
   too_great = refl;
   eleven_digits = refl;
