@@ -42,6 +42,23 @@ pub fn field_size(k: u8) -> usize
     1 << (k + 4)
 }
 
+/// The code of the smallest field that holds so many bytes.
+///
+/// Taylor UUCP manual, "UUCP 'g' Protocol".
+pub fn field_code(len: usize) -> u8
+    requires { len ≤ FIELD_MAX }
+    ensures low { 1 ≤ result }
+    ensures high { result ≤ FIELD_CODE_MAX }
+    ensures holds { len ≤ field_size result }
+    ensures least { (k : ℕ) → 1 ≤ k → k < result → field_size k < len }
+{
+    let mut code = 1;
+    while code < FIELD_CODE_MAX && field_size(code) < len {
+        code += 1;
+    }
+    code
+}
+
 /// The kind of field that the control byte of a data packet says.
 pub fn kind_of(control: u8) -> Option<FieldKind>
     ensures { result ≡ kind_of control }

@@ -15,7 +15,7 @@ pub use checksum::check;
 pub use control::Control;
 pub use decoding::{NoPacket, decode};
 pub use encoding::{encode, re_ack};
-pub use field::{FIELD_CODE_MAX, field_size, message_start};
+pub use field::{FIELD_CODE_MAX, field_code, field_size, message_start};
 pub use header::{CONTROL_K, HEADER_SIZE};
 pub use number::Seq;
 pub use packet::{PACKET_MAX, Packet};

@@ -2,7 +2,9 @@
 
 use arrayvec::ArrayVec;
 use std::alloc::AllocError;
-use uug_packet::{NoPacket, Packet, Seq, check, decode, encode, field_size, message_start};
+use uug_packet::{
+    NoPacket, Packet, Seq, check, decode, encode, field_code, field_size, message_start,
+};
 
 /// The number of a packet: all that are written here are below eight.
 pub fn number(value: u8) -> Seq {
@@ -18,6 +20,22 @@ fn counts_and_checks(rt: HostRuntime) {
     assert_eq!(rt; number(1).ahead_of(number(6)), 3);
     assert_eq!(rt; check(&[0x41, 0x42]), 0x0046);
     assert_eq!(rt; field_size(1), 32);
+}
+
+// The bytes of a message, and the code of the smallest field that holds it.
+#[test]
+fn finds_the_smallest_field(rt: HostRuntime) {
+    for (len, code) in [
+        (0, 1),
+        (32, 1),
+        (33, 2),
+        (257, 5),
+        (2048, 7),
+        (2049, 8),
+        (4096, 8),
+    ] {
+        assert_eq!(rt; field_code(len), code);
+    }
 }
 
 #[test]
