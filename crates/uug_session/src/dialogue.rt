@@ -3,6 +3,7 @@ ghost use Rattle.uug_talk.specs.Gathering.{OfFile};
 ghost use Rattle.uug_session.specs.Jobs.{at_start, pending};
 ghost use Rattle.uug_session.specs.Machine.{between, kind_awaited, opening, step};
 ghost use Rattle.uug_session.specs.Outgoing.{IsSayable, sayings_of};
+ghost use Rattle.uug_session.specs.Party.{HasNames};
 ghost use Rattle.uug_session.specs.Reactions.{HasModeInRange, reply_of};
 ghost use Rattle.uug_session.specs.Runs.{is_bad};
 ghost use Rattle.uug_session.specs.Side.{side_of};
@@ -52,7 +53,8 @@ impl<A: Allocator> Model for Dialogue<A> {
       outgoing = d.outgoing;
     } };
 
-    ghost invariant = { λ d. HasModeInRange d.awaits × IsPart d.awaits d.gather × (d.size ≤ MESSAGE_MAX)
+    ghost invariant = { λ d. HasModeInRange d.awaits × IsPart d.awaits d.gather
+        × (d.size ≤ MESSAGE_MAX)
         × (d.opened ≡ true → 0 < d.size) };
 }
 
@@ -159,7 +161,8 @@ impl<A: Allocator + Copy> Dialogue<A> {
     /// The next message to go out, if there is one, which is taken as sent.
     pub(crate) fn take_message<S: Spool>(&mut self, spool: &S) -> Option<Message>
         requires { self.old.opened ≡ true }
-        ensures first { first_of (talk_of (S.holdings spool.now) (S.kept spool.now) self.old).waiting
+        ensures first { first_of (talk_of (S.holdings spool.now)
+            (S.kept spool.now) self.old).waiting
             ≡ option_map (λ message. message.items) result }
         ensures sent { talk_of (S.holdings spool.now) (S.kept spool.now) self.new
             ≡ with_first_sent (talk_of (S.holdings spool.now) (S.kept spool.now) self.old) }
@@ -195,8 +198,10 @@ impl<A: Allocator + Copy> Dialogue<A> {
 
     /// The jobs.
     pub(crate) fn queue(&self) -> &Queue<A>
-        ensures { result.now ≡ self.now.machine.lists }
+        ensures jobs { result.now ≡ self.now.machine.lists }
+        ensures names { All HasNames (pending self.now.machine.lists) }
     {
+        self.queue.pending();
         &self.queue
     }
 }
@@ -239,13 +244,17 @@ fn reaction_to<A: Allocator, S: Spool>(
     requires mode { HasModeInRange awaits.now }
     requires part { IsPart awaits.now gather.old }
     ensures holdings { S.holdings spool.new ≡ S.holdings spool.old }
-    ensures reply { IfOk result (λ told. step (S.holdings spool.old) (state_of queue.old awaits.now gather.old) message.now
+    ensures reply { IfOk result (λ told. step (S.holdings spool.old)
+        (state_of queue.old awaits.now gather.old) message.now
         ≡ told_as (S.holdings spool.old) (state_of queue.new awaits.now gather.new) told
-        (step (S.holdings spool.old) (state_of queue.old awaits.now gather.old) message.now).keeps) }
+        (step (S.holdings spool.old) (state_of queue.old awaits.now gather.old)
+        message.now).keeps) }
     ensures kept { OnOk result (S.kept spool.new ≡ S.kept spool.old
-        ++ (step (S.holdings spool.old) (state_of queue.old awaits.now gather.old) message.now).keeps) }
+        ++ (step (S.holdings spool.old) (state_of queue.old awaits.now gather.old)
+        message.now).keeps) }
     ensures mode { IfOk result (λ told. IfSome told (λ reaction. HasModeInRange reaction.awaits)) }
-    ensures sayable { IfOk result (λ told. IfSome told (λ reaction. All IsSayable (sayings_of reaction.says))) }
+    ensures sayable { IfOk result (λ told.
+        IfSome told (λ reaction. All IsSayable (sayings_of reaction.says))) }
     ensures more { IfOk result (λ told. IfNone told (IsPart awaits.now gather.new)) }
     ensures jobs_stay { OnErr result (queue.new ≡ queue.old) }
     ensures none_gathered { OnErr result (gather.new ≡ gather.old) }
@@ -274,10 +283,12 @@ fn reaction_to_part<A: Allocator, S: Spool>(
 ) -> Result<Option<Reaction>, FileFault>
     requires part { IsPart awaits.now gather.old }
     requires no_end { kind_awaited awaits.now ≡ OfFile → message.now ≢ [] }
-    ensures reply { IfOk result (λ told. step (S.holdings spool.now) (state_of queue.old awaits.now gather.old) message.now
+    ensures reply { IfOk result (λ told. step (S.holdings spool.now)
+        (state_of queue.old awaits.now gather.old) message.now
         ≡ told_as (S.holdings spool.now) (state_of queue.new awaits.now gather.new) told []) }
     ensures mode { IfOk result (λ told. IfSome told (λ reaction. HasModeInRange reaction.awaits)) }
-    ensures sayable { IfOk result (λ told. IfSome told (λ reaction. All IsSayable (sayings_of reaction.says))) }
+    ensures sayable { IfOk result (λ told.
+        IfSome told (λ reaction. All IsSayable (sayings_of reaction.says))) }
     ensures more { IfOk result (λ told. IfNone told (IsPart awaits.now gather.new)) }
     ensures jobs_stay { OnErr result (queue.new ≡ queue.old) }
     ensures none_gathered { OnErr result (gather.new ≡ gather.old) }

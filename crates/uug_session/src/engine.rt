@@ -1,4 +1,4 @@
-ghost use Rattle.std.specs.Prelude.{◌≡◌, ◌≢◌, ℕ, suc, ◌+◌, ◌<◌, ◌≤◌, ◌↔◌, List, length, [], ◌++◌, map, true, false, OnOk, OnErr, IfOk, IsTrue, MatchOption};
+ghost use Rattle.std.specs.Prelude.{◌≡◌, ◌≢◌, ℕ, suc, ◌+◌, ◌<◌, ◌≤◌, ◌↔◌, List, length, [], ◌++◌, map, true, false, OnOk, OnErr, IfOk, IsTrue, MatchOption, All};
 ghost use Rattle.std.specs.Bool.{OnTrue, OnFalse};
 ghost use Rattle.uug_link.specs.Announced.{announced};
 ghost use Rattle.uug_link.specs.State.{IsUp, IsFresh};
@@ -7,6 +7,8 @@ ghost use Rattle.uug_link.specs.Step.{step, packet_found, timed_out, to_close, t
 ghost use Rattle.uug_packet.specs.Packet.{shown};
 ghost use Rattle.uug_session.specs.Engine.{BeginsSession, CountsFaults, Does, IsHailing, StandsStill, TakesUp, after_sends, after_speaking, all_ahead, bare, end_of, entry_of, hung_up, packet_effect, spoken_of, stage_late, stage_of, with_outbox, with_stage};
 ghost use Rattle.uug_session.specs.EndStep.{bad_came, begins_link, ended, final_text, first_link, first_stage, first_words, greeted_so, hailing, hailing_step, how_it_ends, late, leave, linked, message_of, text_found, unmoved};
+ghost use Rattle.uug_session.specs.Jobs.{pending};
+ghost use Rattle.uug_session.specs.Party.{HasNames};
 ghost use Rattle.uug_session.specs.Sending.{SaysWhatItCan};
 ghost use Rattle.uug_session.specs.Side.{side_of};
 ghost use Rattle.uug_session.specs.Talk.{end_keeper};
@@ -55,7 +57,11 @@ impl<A: Allocator> Model for Engine<A> {
     ghost Value = { EngineState };
 
     ghost view = { λ engine. record {
-      identity = record { side = side_of engine.side; me = engine.place.me; peer = engine.place.peer };
+      identity = record {
+        side = side_of engine.side;
+        me = engine.place.me;
+        peer = engine.place.peer;
+      };
       own = announced engine.place.announce;
       stage = stage_of engine.stage;
       link = engine.link;
@@ -170,8 +176,10 @@ impl<A: Allocator + Copy> Engine<A> {
         requires linked { self.old.stage ≡ linked }
         requires spare { EMITTED_MAX ≤ self.old.outbox.spare }
         requires room { SAYINGS_MAX ≤ self.old.talking.outgoing.room }
-        requires not_taken { (step self.old.link (packet_found (shown packet.now))).outcome ≢ taken }
-        ensures does { Does (packet_effect (S.holdings spool.now) (S.kept spool.now) false (shown packet.now) self.old)
+        requires not_taken { (step self.old.link (packet_found (shown packet.now))).outcome
+            ≢ taken }
+        ensures does { Does (packet_effect (S.holdings spool.now) (S.kept spool.now) false
+            (shown packet.now) self.old)
             (end_of (S.holdings spool.now) (S.kept spool.now) self.new) self.old self.new }
         ensures says { SaysWhatItCan self.new }
     {
@@ -198,8 +206,10 @@ impl<A: Allocator + Copy> Engine<A> {
         requires spare { EMITTED_MAX ≤ self.old.outbox.spare }
         requires room { SAYINGS_MAX ≤ self.old.talking.outgoing.room }
         requires taken { (step self.old.link (packet_found (shown packet.now))).outcome ≡ taken }
-        ensures ok { OnOk result (TakesUp (S.holdings spool.old) (S.kept spool.old) (S.kept spool.new)
-            (CountsFaults u64.MAX (S.faults spool.old) (S.faults spool.new)) (shown packet.now) self.old self.new true) }
+        ensures ok { OnOk result (TakesUp (S.holdings spool.old) (S.kept spool.old)
+            (S.kept spool.new)
+            (CountsFaults u64.MAX (S.faults spool.old) (S.faults spool.new))
+            (shown packet.now) self.old self.new true) }
         ensures says { OnOk result (SaysWhatItCan self.new) }
         ensures err { OnErr result (self.new ≡ self.old) }
         ensures none_kept { OnErr result (S.kept spool.new ≡ S.kept spool.old) }
@@ -230,7 +240,8 @@ impl<A: Allocator + Copy> Engine<A> {
     fn answer(&mut self, packet: &Packet<'_>)
         requires spare { EMITTED_MAX ≤ self.old.outbox.spare }
         requires taken { (step self.old.link (packet_found (shown packet.now))).outcome ≡ taken }
-        ensures link { self.new.link ≡ (step self.old.link (packet_found (shown packet.now))).state }
+        ensures link { self.new.link ≡ (step self.old.link
+            (packet_found (shown packet.now))).state }
         ensures emitted { self.new.outbox.entries ≡ self.old.outbox.entries
             ++ map written (step self.old.link (packet_found (shown packet.now))).emitted }
         ensures up { IsUp self.new.link }
@@ -268,10 +279,13 @@ impl<A: Allocator + Copy> Engine<A> {
         packet: &Packet<'_>,
     ) -> Result<bool, AllocError>
         requires linked { self.old.stage ≡ linked }
-        ensures ok { IfOk result (λ took. TakesUp (S.holdings spool.old) (S.kept spool.old) (S.kept spool.new)
-            (CountsFaults u64.MAX (S.faults spool.old) (S.faults spool.new)) (shown packet.now) self.old self.new took) }
+        ensures ok { IfOk result (λ took. TakesUp (S.holdings spool.old) (S.kept spool.old)
+            (S.kept spool.new)
+            (CountsFaults u64.MAX (S.faults spool.old) (S.faults spool.new))
+            (shown packet.now) self.old self.new took) }
         ensures says { OnOk result (SaysWhatItCan self.new) }
-        ensures err { OnErr result (Does (unmoved (end_of (S.holdings spool.old) (S.kept spool.old) self.old))
+        ensures err { OnErr result (Does (unmoved (end_of (S.holdings spool.old)
+            (S.kept spool.old) self.old))
             (end_of (S.holdings spool.old) (S.kept spool.new) self.new) self.old self.new) }
         ensures faults { OnErr result (S.faults spool.new ≡ S.faults spool.old) }
         ensures holdings { S.holdings spool.new ≡ S.holdings spool.old }
@@ -291,13 +305,17 @@ impl<A: Allocator + Copy> Engine<A> {
     /// Takes up a broken packet, on a link that has begun.
     pub(crate) fn on_bad<S: Spool>(&mut self, spool: &S) -> Result<(), AllocError>
         requires linked { self.old.stage ≡ linked }
-        ensures ok { OnOk result (Does (bad_came (end_keeper self.old.identity.side (S.holdings spool.now)) self.old.identity
+        ensures ok { OnOk result (Does (bad_came (end_keeper self.old.identity.side
+            (S.holdings spool.now)) self.old.identity
             self.old.link (talk_of (S.holdings spool.now) (S.kept spool.now) self.old.talking))
             (end_of (S.holdings spool.now) (S.kept spool.now) self.new) self.old self.new) }
         ensures says { OnOk result (SaysWhatItCan self.new) }
-        ensures err { OnErr result (Does (unmoved (bare self.old)) (bare self.new) self.old self.new) }
-        ensures nothing_taken { (bad_came (end_keeper self.old.identity.side (S.holdings spool.now)) self.old.identity
-            self.old.link (talk_of (S.holdings spool.now) (S.kept spool.now) self.old.talking)).took ≡ false }
+        ensures err { OnErr result (Does (unmoved (bare self.old))
+            (bare self.new) self.old self.new) }
+        ensures nothing_taken { (bad_came (end_keeper self.old.identity.side (S.holdings spool.now))
+            self.old.identity
+            self.old.link (talk_of (S.holdings spool.now) (S.kept spool.now) self.old.talking)).took
+            ≡ false }
     {
         what_a_link_answers();
         self.outbox.reserve(EMITTED_MAX)?;
@@ -312,9 +330,11 @@ impl<A: Allocator + Copy> Engine<A> {
 
     /// Takes up that nothing has come for some time.
     pub(crate) fn on_timeout(&mut self) -> Result<(), AllocError>
-        ensures ok { OnOk result (Does (stage_late self.old.identity (talking_has_parted self.old.talking) self.old.stage
+        ensures ok { OnOk result (Does (stage_late self.old.identity
+            (talking_has_parted self.old.talking) self.old.stage
             self.old.link self.old.talking) (bare self.new) self.old self.new) }
-        ensures err { OnErr result (Does (unmoved (bare self.old)) (bare self.new) self.old self.new) }
+        ensures err { OnErr result (Does (unmoved (bare self.old))
+            (bare self.new) self.old self.new) }
         ensures only_linked { OnErr result (self.old.stage ≡ linked) }
         ensures only_speaking { OnErr result ((step self.old.link timed_out).emitted ≢ []) }
     {
@@ -331,7 +351,8 @@ impl<A: Allocator + Copy> Engine<A> {
         requires linked { self.old.stage ≡ linked }
         ensures ok { OnOk result (Does (late self.old.identity (talking_has_parted self.old.talking)
             self.old.link self.old.talking) (bare self.new) self.old self.new) }
-        ensures err { OnErr result (Does (unmoved (bare self.old)) (bare self.new) self.old self.new) }
+        ensures err { OnErr result (Does (unmoved (bare self.old))
+            (bare self.new) self.old self.new) }
         ensures speaks { OnErr result ((step self.old.link timed_out).emitted ≢ []) }
     {
         if self.link.speaks_when_late() {
@@ -346,7 +367,8 @@ impl<A: Allocator + Copy> Engine<A> {
         requires linked { self.old.stage ≡ linked }
         ensures ok { OnOk result (Does (late self.old.identity (talking_has_parted self.old.talking)
             self.old.link self.old.talking) (bare self.new) self.old self.new) }
-        ensures err { OnErr result (Does (unmoved (bare self.old)) (bare self.new) self.old self.new) }
+        ensures err { OnErr result (Does (unmoved (bare self.old))
+            (bare self.new) self.old self.new) }
     {
         what_a_link_answers();
         self.outbox.reserve(EMITTED_MAX)?;
@@ -382,10 +404,12 @@ impl<A: Allocator + Copy> Engine<A> {
     /// Takes up a text of the greeting.
     pub(crate) fn on_text(&mut self, greeting: Greeting, text: &[u8]) -> Result<(), AllocError>
         requires hailing { self.old.stage ≡ hailing greeting }
-        ensures ok { OnOk result (Does (hailing_step self.old.identity greeting (text_found text.now) (bare self.old))
+        ensures ok { OnOk result (Does (hailing_step self.old.identity greeting
+            (text_found text.now) (bare self.old))
             (bare self.new) self.old self.new) }
         ensures says { OnOk result (SaysWhatItCan self.new) }
-        ensures err { OnErr result (Does (unmoved (bare self.old)) (bare self.new) self.old self.new) }
+        ensures err { OnErr result (Does (unmoved (bare self.old))
+            (bare self.new) self.old self.new) }
     {
         self.outbox.reserve(EMITTED_MAX)?;
         let greeted = greeting.on_text(&self.place.me, &self.place.peer, text, &mut self.outbox)?;
@@ -436,7 +460,8 @@ impl<A: Allocator + Copy> Engine<A> {
 
     /// The line is gone.
     pub(crate) fn hang_up(&mut self)
-        ensures { self.new ≡ with_stage (hung_up (talking_has_parted self.old.talking) self.old.stage) self.old }
+        ensures { self.new ≡ with_stage (hung_up (talking_has_parted self.old.talking)
+            self.old.stage) self.old }
     {
         match self.stage {
             Stage::Hailing(_) => self.stage = Stage::Ended(End::HungUp),
@@ -493,7 +518,8 @@ impl<A: Allocator + Copy> Engine<A> {
 
     /// The jobs.
     pub(crate) fn queue(&self) -> &Queue<A>
-        ensures { result.now ≡ self.now.talking.machine.lists }
+        ensures jobs { result.now ≡ self.now.talking.machine.lists }
+        ensures names { All HasNames (pending self.now.talking.machine.lists) }
     {
         self.dialogue.queue()
     }
@@ -509,7 +535,8 @@ impl<A: Allocator + Copy> Engine<A> {
         mut outbox: Outbox<A>,
     ) -> Self
         requires spare { 1 ≤ outbox.spare }
-        ensures { BeginsSession (record { side = side_of side; me = place.me; peer = place.peer }) (announced place.announce)
+        ensures { BeginsSession (record { side = side_of side; me = place.me; peer = place.peer })
+            (announced place.announce)
             (all_ahead queue) outbox.entries result }
     {
         queue.restart();
@@ -535,7 +562,8 @@ impl<A: Allocator + Copy> Engine<A> {
     /// The next session begins: what was left of the last one is dropped, and every pending job is to be offered.
     pub(crate) fn restart(&mut self)
         requires spare { 1 ≤ self.old.outbox.spare }
-        ensures { BeginsSession self.old.identity self.old.own (all_ahead self.old.talking.machine.lists)
+        ensures { BeginsSession self.old.identity self.old.own
+            (all_ahead self.old.talking.machine.lists)
             self.old.outbox.entries self.new }
     {
         let greeting = first_greeting(self.side, &self.place.me, &mut self.outbox);
@@ -549,7 +577,8 @@ impl<A: Allocator + Copy> Engine<A> {
 fn first_greeting<A: Allocator>(side: Side, me: &Name, out: &mut Outbox<A>) -> Greeting
     requires spare { 1 ≤ out.old.spare }
     ensures stage { hailing result ≡ first_stage (side_of side) }
-    ensures said { out.new.entries ≡ out.old.entries ++ map entry_of (first_words (side_of side) me.now) }
+    ensures said { out.new.entries ≡ out.old.entries ++ map entry_of
+        (first_words (side_of side) me.now) }
 {
     match side {
         Side::Caller => Greeting::caller(),

@@ -1,14 +1,16 @@
-ghost use Rattle.std.specs.Prelude.{◌≡◌, ◌≢◌, ◌↔◌, ◌<◌, ◌≤◌, ℕ, [], length, take, true, false};
+ghost use Rattle.std.specs.Prelude.{◌≡◌, ◌≢◌, ◌↔◌, ◌<◌, ◌≤◌, ℕ, [], length, take, true, false, All};
 ghost use Rattle.std.specs.Prelude.{OnOk, OnErr, IfOk, IfSome, IsNone, MatchOption};
 ghost use Rattle.uug_link.specs.Step.{step, timed_out};
 ghost use Rattle.uug_session.specs.Engine.{CountsFaults, Does, IsHailing, bare, hung_up};
 ghost use Rattle.uug_session.specs.Engine.{stage_late, with_outbox, with_stage};
+ghost use Rattle.uug_session.specs.Jobs.{pending};
 ghost use Rattle.uug_session.specs.Node.{node_of, spool_of, accepted, held_bytes, item_size};
 ghost use Rattle.uug_session.specs.Node.{offered, searched, shown_item};
 ghost use Rattle.uug_session.specs.Node.{HasRoom, IsAsBefore, LeavesRoom, TakesShown};
 ghost use Rattle.uug_session.specs.ShownItems.{HoldsNoItem, IsFirstItem, IsShown};
 ghost use Rattle.uug_session.specs.ShownItems.{PassesNoiseOnLink};
 ghost use Rattle.uug_session.specs.NodeLoan.{EndsFound};
+ghost use Rattle.uug_session.specs.Party.{HasNames};
 ghost use Rattle.uug_session.specs.Phases.{phase_at};
 ghost use Rattle.uug_session.specs.Sending.{SaysWhatItCan};
 ghost use Rattle.uug_session.specs.Talking.{talking_has_parted};
@@ -273,9 +275,11 @@ impl<S: Spool, A: Allocator + Copy> Node<S, A> {
         self.engine.clear_outbox();
     }
 
-    /// The jobs.
+    /// The jobs. The names of those that are pending are names.
     pub fn queue(&self) -> &Queue<A>
-        ensures { result.now ≡ (node_of self.now).engine.talking.machine.lists }
+        ensures jobs { result.now ≡ (node_of self.now).engine.talking.machine.lists }
+        ensures names { All HasNames
+            (pending (node_of self.now).engine.talking.machine.lists) }
     {
         self.engine.queue()
     }

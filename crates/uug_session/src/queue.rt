@@ -1,6 +1,7 @@
-ghost use Rattle.std.specs.Prelude.{◌≡◌, ◌+◌, ◌≤◌, [], ◌∷◌, ◌++◌, length, vec_len, vec_capacity, OnOk, OnErr, MatchOption, ◌↔◌, slice_get, Some};
+ghost use Rattle.std.specs.Prelude.{◌≡◌, ◌+◌, ◌≤◌, [], ◌∷◌, ◌++◌, length, vec_len, vec_capacity, OnOk, OnErr, MatchOption, ◌↔◌, slice_get, Some, All};
 ghost use Rattle.uug_session.specs.Jobs.{Lists, pending, at_start, moved_once, added};
 ghost use Rattle.uug_session.specs.Jobs.{pass, strike, fail};
+ghost use Rattle.uug_session.specs.Party.{HasNames};
 
 use crate::job::Job;
 use std::alloc::{AllocError, Allocator};
@@ -34,9 +35,10 @@ pub struct Queue<A: Allocator> {
 }
 
 impl<A: Allocator> Model for Queue<A> {
-    ghost use Rattle.std.specs.Prelude.{◌≡◌, ◌+◌, ◌≤◌, vec_len, vec_capacity, take, drop};
+    ghost use Rattle.std.specs.Prelude.{◌≡◌, ◌+◌, ◌≤◌, vec_len, vec_capacity, take, drop, All};
     ghost use Rattle.uug_session.specs.declared.queue.TheConstants.{JOBS_MAX};
     ghost use Rattle.uug_session.specs.Jobs.{Lists};
+    ghost use Rattle.uug_session.specs.Party.{HasNames};
 
     ghost Value = { Lists };
 
@@ -49,7 +51,8 @@ impl<A: Allocator> Model for Queue<A> {
 
     ghost invariant = { λ q. (q.passed ≤ vec_len q.pending) × (vec_len q.pending ≤ JOBS_MAX)
         × (vec_len q.struck + vec_len q.pending ≤ vec_capacity q.struck)
-        × (vec_len q.failed + vec_len q.pending ≤ vec_capacity q.failed) };
+        × (vec_len q.failed + vec_len q.pending ≤ vec_capacity q.failed)
+        × All HasNames q.pending.items };
 }
 
 impl<A: Allocator + Copy> Queue<A> {
@@ -80,14 +83,16 @@ impl<A: Allocator> Queue<A> {
         if moves.is_err() {
             return Err(QueueFault::Memory);
         }
+        job.look_at_names();
         self.pending.push_reserved(job);
         Ok(())
     }
 
-    /// The jobs that are pending, those that were passed over in this session first.
+    /// The jobs that are pending, those that were passed over in this session first. Their names are names.
     pub fn pending(&self) -> &[Job]
         ensures jobs { result.now ≡ pending self.now }
         ensures most { length result.now ≤ JOBS_MAX }
+        ensures names { All HasNames result.now }
     {
         self.pending.as_slice()
     }
@@ -108,7 +113,8 @@ impl<A: Allocator> Queue<A> {
 
     /// The first job that is still ahead in this session.
     pub(crate) fn first(&self) -> Option<&Job>
-        ensures { MatchOption result (self.now.ahead ≡ []) (λ job. slice_get self.now.ahead 0 ≡ Some job.now) }
+        ensures { MatchOption result (self.now.ahead ≡ [])
+            (λ job. slice_get self.now.ahead 0 ≡ Some job.now) }
     {
         self.pending.get(self.passed)
     }
@@ -160,8 +166,10 @@ fn make_room<A: Allocator>(
     ensures struck { struck.new.items ≡ struck.old.items }
     ensures failed { failed.new.items ≡ failed.old.items }
     ensures pending_room { OnOk result (vec_len pending.new + 1 ≤ vec_capacity pending.new) }
-    ensures struck_room { OnOk result (vec_len struck.new + (vec_len pending.new + 1) ≤ vec_capacity struck.new) }
-    ensures failed_room { OnOk result (vec_len failed.new + (vec_len pending.new + 1) ≤ vec_capacity failed.new) }
+    ensures struck_room { OnOk result (vec_len struck.new + (vec_len pending.new + 1)
+        ≤ vec_capacity struck.new) }
+    ensures failed_room { OnOk result (vec_len failed.new + (vec_len pending.new + 1)
+        ≤ vec_capacity failed.new) }
     ensures pending_kept { vec_capacity pending.old ≤ vec_capacity pending.new }
     ensures struck_kept { vec_capacity struck.old ≤ vec_capacity struck.new }
     ensures failed_kept { vec_capacity failed.old ≤ vec_capacity failed.new }

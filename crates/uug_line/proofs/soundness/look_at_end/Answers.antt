@@ -12,7 +12,7 @@ returns g c = record {
   sound = record {
     window = subst IsWindow c.window.ensures.value c.window.ensures.within;
     modes = modes_in_range c.args.end.now.spool.files.items;
-    names = subst (All HasNames) c.pending.ensures.jobs c.look_at_jobs.ensures;
+    names = subst (All HasNames) c.pending.ensures.jobs c.pending.ensures.names;
   };
   of_bytes = record {
     name = name_bytes c.args.end.now.name (subst IsName c.as_bytes.ensures.value c.as_bytes.ensures.name);
