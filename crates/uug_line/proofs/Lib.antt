@@ -43,4 +43,17 @@ mod SightingLemmas
 mod SpokenLemmas
 mod SpeakingLemmas
 mod TakenLemmas
+mod CleanWays
+mod CleanEnds
+mod CleanBase
+mod CleanItems
+mod CleanCounts
+mod CleanPasses
+mod CleanRounds
+mod CleanSteps
+mod CleanTimes
+mod CleanPairs
+mod CleanRuns
+mod CleanFinds
+mod CleanLaw
 mod WideWindowFacts

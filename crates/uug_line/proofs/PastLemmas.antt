@@ -56,7 +56,7 @@ module _ {C : Type 0} (k : RunKeeper C) (setup : SetupValue) where
       ∙ sym (when_fooled (number + length (event ∷ events)) m side more run is)
       ∙ ap (goes_through k setup (number + length (event ∷ events)) more) (sym (when_fooled number m side (event ∷ events) run is))
 
-  goes_on : (number : ℕ) (events more : List Event) (run : Run C) →
+  pub goes_on : (number : ℕ) (events more : List Event) (run : Run C) →
       goes_through k setup number (events ++ more) run
       ≡ goes_through k setup (number + length events) more (goes_through k setup number events run)
   goes_on number [] more run =

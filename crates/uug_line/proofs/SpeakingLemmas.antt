@@ -1,13 +1,13 @@
 -- Whatever an end does, it has then said what it can, where the window of its link is one that may be announced.
-use Rattle.std.proofs.Common.{◌≡◌, inl, ℕ, ◌≤◌, Bool, true, false, refl, sym, ◌∙◌, true≢false}
+use Rattle.std.proofs.Common.{◌≡◌, inl, ◌≤◌, Bool, true, false, refl, sym, ◌∙◌, true≢false}
 use Rattle.uug_link.specs.Announced.{Announced}
 use Rattle.uug_link.specs.declared.limits.TheConstants.{WINDOW_MAX}
 use Rattle.uug_link.specs.declared.phase.Phase.{Phase}
 use Rattle.uug_link.specs.declared.phase.Phase.TheVariants.{Fresh, AwaitsInitA, AwaitsInitB, AwaitsInitC, Up, Closing, Halted}
 use Rattle.uug_link.specs.State.{State, IsUp}
-use Rattle.uug_session.specs.EndStep.{EndEvent, EndState, Identity, Stage, begins_session, ended, end_step, hailing, has_room, is_up, linked}
+use Rattle.uug_session.specs.EndStep.{EndEvent, EndState, Identity, Stage, begins_session, ended, end_step, hailing, is_up, linked}
 use Rattle.uug_session.specs.Keeper.{Keeper}
-use Rattle.uug_session.specs.Sending.{GoesOnAt, SaidAt}
+use Rattle.uug_session.specs.Sending.{SaidAt}
 use Rattle.uug_session.proofs.OverLemmas.{begins_open, stays_open}
 use Rattle.uug_session.proofs.RoomLemmas.{begins_so, down_has_no_room, stays_said}
 use Rattle.uug_line.specs.Speaking.{HasSpoken}

@@ -1,4 +1,5 @@
 pub mod Belongings
+pub mod CleanLaws
 pub mod Delivered
 pub mod Fooled
 pub mod Headline
@@ -18,6 +19,7 @@ pub mod LineLaws
 pub mod Live
 pub mod RunParts
 pub mod Setup
+pub mod Settle
 pub mod Shown
 pub mod Sides
 pub mod SoundSetup

@@ -10,6 +10,7 @@ mod line_laws;
 mod live_end;
 mod report;
 mod running;
+pub mod settle_laws;
 mod setup;
 mod side;
 mod sighting;

@@ -39,7 +39,7 @@ use uug_session::text_laws::texts_are_taken_in_order;
 use uug_session::told_laws::{an_end_is_told_by_two_numbers, an_end_keeps_what_it_brought};
 
 /// The laws of links and of an end's conversation, for the proofs here.
-fn laws_below()
+pub(crate) fn laws_below()
     ensures { Laws }
 {
     what_a_link_answers();
@@ -54,7 +54,7 @@ fn laws_below()
 }
 
 /// The laws of whole sessions, for the proofs here.
-fn session_laws()
+pub(crate) fn session_laws()
     ensures { SessionLaws }
 {
     each_occurrence_is_moves_of_the_machine();

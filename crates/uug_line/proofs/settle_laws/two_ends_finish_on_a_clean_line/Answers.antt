@@ -1,0 +1,6 @@
+use Rattle.uug_line.proofs.CleanLaw.{settles}
+use Rattle.uug_line.proofs.settle_laws.two_ends_finish_on_a_clean_line.Goals as goal
+
+pub returns : goal.returns
+returns c setup events types may =
+    settles c.laws_below.ensures c.clean_laws.ensures c.session_laws.ensures setup events types may
