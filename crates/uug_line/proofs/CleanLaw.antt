@@ -43,6 +43,24 @@ has_all : (parties_now : AtBoth Party) (side : Side) (brought : Belongings) (c :
 has_all parties_now side brought c n is same =
     ap₂ (λ (opened : Bool) (taken : ℕ). has_by opened parties_now side brought taken) is same
 
+-- what the law says, from what it says for the program's loop
+pub settles_of : (setup : SetupValue) (events : List Event) → SettlesFrom setup (length events) (world setup events) → Settles setup events
+settles_of setup events s =
+    let rounds : List Round = late ∷ passing s.to_called s.to_caller ∷ s.rest in
+    record {
+      rounds = rounds;
+      are = s.are;
+      few = s.few;
+      settled = subst (λ (run : Run Count). IsSettled by_numbers setup run)
+          (sym (goes_on by_numbers setup 0 events (events_of rounds) (first_run by_numbers setup)
+          ∙ ap (λ (n : ℕ). goes_through by_numbers setup n (events_of rounds) (world setup events)) (omega arith))) s.settled;
+    }
+
+pub settles_by : (setup : SetupValue) (events : List Event) (s : SettlesFrom setup (length events) (world setup events)) →
+    (settles_of setup events s).rounds ≡ late ∷ passing s.to_called s.to_caller ∷ s.rest
+unfolding settles_of
+settles_by setup events s = refl
+
 module _ (law : Laws) (clean : CleanLaws) (sessions : SessionLaws) (setup : SetupValue) where
   module _ (brought : AtBoth Belongings) (sound : IsSoundSession setup brought)
       (announces : (side : Side) → IsAnnouncement (at side setup).own) where
@@ -163,14 +181,4 @@ module _ (law : Laws) (clean : CleanLaws) (sessions : SessionLaws) (setup : Setu
       (subst (λ (r : Run Count). MaySettle r) (sym g.counted_is) may))
 
   pub settles : (events : List Event) → AreOfTypes setup events → MaySettle (world setup events) → Settles setup events
-  settles events types may =
-      let s = settles_from events types may in
-      let rounds : List Round = late ∷ passing s.to_called s.to_caller ∷ s.rest in
-      record {
-        rounds = rounds;
-        are = s.are;
-        few = s.few;
-        settled = subst (λ (run : Run Count). IsSettled by_numbers setup run)
-            (sym (goes_on by_numbers setup 0 events (events_of rounds) (first_run by_numbers setup)
-            ∙ ap (λ (n : ℕ). goes_through by_numbers setup n (events_of rounds) (world setup events)) (omega arith))) s.settled;
-      }
+  settles events types may = settles_of setup events (settles_from events types may)

@@ -56,4 +56,6 @@ mod CleanPairs
 mod CleanRuns
 mod CleanFinds
 mod CleanLaw
+mod CleanLoop
+mod ReportLemmas
 mod WideWindowFacts

@@ -28,12 +28,13 @@ use Rattle.uug_line.specs.Live.{AreWritten, BeginsAgain, HasBegun, HasRoom, IsCa
 use Rattle.uug_line.specs.Report.{end_now, report_of_end}
 use Rattle.uug_line.specs.Run.{Run, flipped, after_event, after_hearing, calls, end_at, first_run, goes_through, hung_up, player, unless_fooled, with_line_to}
 use Rattle.uug_line.specs.RunKeeper.{by_themselves}
-use Rattle.uug_line.specs.RunParts.{CallsAgain, ChangesLine, EndsAs, Happens, HappensAt, IsSteady, Passes, RunParts, StandsAs, hearing_side, held_parts, owned_parts, parts_now, standing_at, told_in_all, whole_report, with_line}
+use Rattle.uug_line.specs.RunParts.{CallsAgain, ChangesLine, EndsAs, Happens, HappensAt, IsSteady, Passes, RunParts, StandsAs, hearing_side, held_parts, owned_parts, parts_now, standing_at, told_in_all, with_line}
 use Rattle.uug_line.specs.Shown.{end_shown, session_shown}
 use Rattle.uug_line.specs.Sides.{AtBoth, at, other}
 use Rattle.uug_line.specs.Spelled.{GiveAsSetUp, spelled, spelled_end, spelled_session}
 use Rattle.uug_line.specs.StillHeld.{HoldWhatIsLeft}
 use Rattle.uug_line.specs.Taking.{line_taker}
+use Rattle.uug_line.specs.WholeReport.{whole_report}
 use Rattle.uug_line.specs.World.{counted, report_of, report_of_ends, report_of_world, run_of_ends}
 use Rattle.uug_line.specs.Told.{EndReportValue, SpelledEnd, SpelledReport}
 

@@ -7,6 +7,7 @@ use Rattle.uug_packet.specs.Packet.{PacketValue, close, control, carry}
 use Rattle.uug_line.specs.declared.journal.Journal.{Journal}
 use Rattle.uug_line.specs.LineEnd.{Log, Notes, found_at}
 use Rattle.uug_line.specs.Shown.{lists_in}
+use Rattle.uug_line.specs.Told.{SpelledEnd}
 
 abbrev pub Jottings : Type 0
 Jottings = Notes (List ℕ)
@@ -19,6 +20,17 @@ jotted j = record {
   arrivals = j.arrivals.items;
   passed = j.passed;
   most = j.most;
+}
+
+-- of an end of which this is told, and which has found or gone past so many packets
+abbrev pub jottings_by : SpelledEnd → (passed : ℕ) → Jottings
+jottings_by told passed = record {
+  sent = told.sent;
+  taken = told.taken;
+  packets = told.packets;
+  arrivals = told.arrivals;
+  passed = passed;
+  most = told.most;
 }
 
 -- ---- what bytes spell

@@ -20,6 +20,8 @@ pub mod Live
 pub mod RunParts
 pub mod Setup
 pub mod Settle
+pub mod Settled
+pub mod Settling
 pub mod Shown
 pub mod Sides
 pub mod SoundSetup
@@ -31,4 +33,5 @@ pub mod PastSessions
 pub mod Taking
 pub mod Told
 pub mod WereSent
+pub mod WholeReport
 pub mod World

@@ -11,7 +11,7 @@ use Rattle.uug_line.specs.declared.verdict.LineVerdict.{LineVerdict}
 use Rattle.uug_line.specs.declared.verdict.LineVerdict.TheVariants.{Clean}
 use Rattle.uug_line.specs.Belongings.{Belongings, SetupValue, identity}
 use Rattle.uug_line.specs.Live.{BeginsAgain, HasRoom, HearsPiece, IsCalled, IsOrdered, Parts, Standing, hearer_of, line_end_of, parts_of, standing_of, told_of}
-use Rattle.uug_line.specs.Told.{EndNow, SpelledEnd, SpelledReport, WholeReport}
+use Rattle.uug_line.specs.Told.{EndNow, SpelledEnd, SpelledReport}
 use Rattle.uug_line.specs.Run.{Run, end_at, flipped}
 use Rattle.uug_line.specs.Shown.{session_shown}
 use Rattle.uug_line.specs.Sides.{AtBoth, at, other}
@@ -134,13 +134,6 @@ told_in_all r verdict = record {
   ends = record { at_caller = parts_now r.caller; at_called = parts_now r.called };
   belongings = record { at_caller = owned_parts r.caller; at_called = owned_parts r.called };
   verdict = verdict;
-}
-
-abbrev pub whole_report : RunParts → LineVerdict → WholeReport
-whole_report r verdict = record {
-  told = told_in_all r verdict;
-  spools = record { at_caller = r.caller.spool; at_called = r.called.spool };
-  held = held_parts r;
 }
 
 -- all that the ends emitted stands on the line

@@ -1,4 +1,4 @@
--- What the program's report of a run shows.
+-- What the sessions and the ends of a program's report show.
 use Rattle.std.specs.Prelude.{◌≡◌, ℕ, List, [], map, Vec}
 use Rattle.uug_session.specs.declared.memory_spool.MemorySpool.{MemorySpool}
 use Rattle.uug_session.specs.declared.node.Node.{Node}
@@ -6,9 +6,8 @@ use Rattle.uug_session.specs.MemoryHoldings.{MemoryHoldings, held_by}
 use Rattle.uug_session.specs.Node.{held_bytes, node_of}
 use Rattle.uug_line.specs.declared.report.EndReport.{EndReport}
 use Rattle.uug_line.specs.declared.report.SessionReport.{SessionReport}
-use Rattle.uug_line.specs.declared.verdict.LineVerdict.{LineVerdict}
 use Rattle.uug_line.specs.Belongings.{Belongings}
-use Rattle.uug_line.specs.Told.{EndNow, SpelledEnd, WholeReport}
+use Rattle.uug_line.specs.Told.{EndNow, SpelledEnd}
 use Rattle.uug_line.specs.Sides.{AtBoth}
 
 abbrev pub lists_in : {A : Type 0} → List (Vec ℕ A) → List (List ℕ)
@@ -49,17 +48,3 @@ held_at node = held_bytes (node_of node)
 -- all that it emitted has gone out
 abbrev pub HasSaidAll : {A : Type 0} → Node (MemorySpool A) A → Type 0
 HasSaidAll node = (node_of node).engine.outbox.entries ≡ []
-
--- a report of these sessions, with the ends as they stand then
-abbrev pub report_shown : {A : Type 0} → List (SessionReport A) → (caller called : Node (MemorySpool A) A) → LineVerdict →
-    WholeReport
-report_shown sessions caller called verdict = record {
-  told = record {
-    sessions = map session_shown sessions;
-    ends = record { at_caller = stands_so caller; at_called = stands_so called };
-    belongings = record { at_caller = owned_by caller; at_called = owned_by called };
-    verdict = verdict;
-  };
-  spools = record { at_caller = spool_of caller; at_called = spool_of called };
-  held = record { at_caller = held_at caller; at_called = held_at called };
-}

@@ -4,7 +4,6 @@ use Rattle.uug_link.specs.State.{State}
 use Rattle.uug_packet.specs.Packet.{PacketValue}
 use Rattle.uug_session.specs.declared.phase.Phase.{Phase}
 use Rattle.uug_session.specs.EndStep.{Stage}
-use Rattle.uug_session.specs.MemoryHoldings.{MemoryHoldings}
 use Rattle.uug_line.specs.declared.verdict.LineVerdict.{LineVerdict}
 use Rattle.uug_line.specs.Belongings.{Belongings}
 use Rattle.uug_line.specs.Sides.{AtBoth}
@@ -51,10 +50,3 @@ ReportValue = ToldReport PacketValue
 
 abbrev pub SpelledReport : Type 0
 SpelledReport = ToldReport (List ℕ)
-
--- what a program has of a run: what is told, what is in the spools of the ends that its report lends, and the bytes that
--- these hold and have not taken up
-pub record WholeReport : Type 0 where
-  pub told : SpelledReport
-  pub spools : AtBoth MemoryHoldings
-  pub held : AtBoth (List ℕ)

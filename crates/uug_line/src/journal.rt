@@ -1,5 +1,5 @@
 ghost use Rattle.std.specs.Prelude.{◌≡◌, ◌<◌, [], ◌∷◌, ◌++◌, length, MatchOption, OnOk, None, Some};
-ghost use Rattle.uug_line.specs.Jottings.{jotted, message_in, packet_jotted, saying, taking_from, sending_from, with_most};
+ghost use Rattle.uug_line.specs.Jottings.{jotted, jottings_by, message_in, packet_jotted, saying, taking_from, sending_from, with_most};
 ghost use Rattle.uug_line.specs.Shown.{end_shown, lists_in};
 ghost use Rattle.uug_line.specs.LineEnd.{found_at, nothing_done};
 ghost use Rattle.uug_line.specs.Report.{told_by};
@@ -36,6 +36,20 @@ impl<A: Allocator + Copy> Journal<A> {
             arrivals: Vec::new(alloc),
             passed: 0,
             most: 0,
+        }
+    }
+
+    /// What was written down of an end that has found or gone past so many packets.
+    pub(crate) fn from_report(report: EndReport<A>, passed: usize) -> Self
+        ensures { jotted result ≡ jottings_by (end_shown report) passed }
+    {
+        Journal {
+            sent: report.sent,
+            taken: report.taken,
+            packets: report.packets,
+            arrivals: report.arrivals,
+            passed,
+            most: report.most,
         }
     }
 

@@ -42,6 +42,13 @@ impl<A: Allocator> Line<A> {
         self.bytes.extend_from_slice(bytes)
     }
 
+    /// How many bytes are on their way.
+    pub(crate) fn len(&self) -> usize
+        ensures { result ≡ length self.now }
+    {
+        self.bytes.len() - self.gone
+    }
+
     /// The next bytes, so many or all.
     pub(crate) fn next(&self, n: usize) -> &[u8]
         ensures { result.now ≡ take n self.now }

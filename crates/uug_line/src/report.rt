@@ -1,7 +1,13 @@
-ghost use Rattle.std.specs.Prelude.{◌≡◌, map};
-ghost use Rattle.uug_line.specs.OfSomeRun.{IsOfSomeRun};
+ghost use Rattle.std.specs.Prelude.{◌≡◌, ◌↔◌, List, IsTrue, map};
+ghost use Rattle.uug_line.specs.declared.event.Event.{Event};
+ghost use Rattle.uug_line.specs.Belongings.{SetupValue};
+ghost use Rattle.uug_line.specs.OfSomeRun.{IsOfSomeRun, IsRunOf};
+ghost use Rattle.uug_line.specs.Settle.{MaySettle};
+ghost use Rattle.uug_line.specs.Settled.{CanSettle, EndCanSettle};
 ghost use Rattle.uug_line.specs.Shown.{HasSaidAll, held_at, owned_by, session_shown, spool_of, stands_so};
+ghost use Rattle.uug_line.specs.World.{world};
 
+use crate::line::Line;
 use crate::verdict::LineVerdict;
 use std::alloc::Allocator;
 use std::marker::Model;
@@ -39,22 +45,32 @@ pub struct SessionReport<A: Allocator> {
 #[derive(Drop)]
 pub struct Report<A: Allocator + Copy> {
     pub(crate) sessions: Vec<SessionReport<A>, A>,
-    pub(crate) caller: Node<MemorySpool<A>, A>,
-    pub(crate) called: Node<MemorySpool<A>, A>,
+    pub(crate) caller: LastEnd<A>,
+    pub(crate) called: LastEnd<A>,
     pub(crate) verdict: LineVerdict,
+}
+
+/// An end as a run leaves it.
+#[derive(Drop)]
+pub(crate) struct LastEnd<A: Allocator + Copy> {
+    pub(crate) node: Node<MemorySpool<A>, A>,
+    /// What it has emitted and what is on its way to the other end.
+    pub(crate) line: Line<A>,
+    /// How many of the other end's packets were found or gone past.
+    pub(crate) passed: usize,
 }
 
 impl<A: Allocator + Copy> Model for Report<A> {
     ghost use Rattle.uug_line.specs.OfSomeRun.{IsOfSomeRun};
-    ghost use Rattle.uug_line.specs.Shown.{HasSaidAll, report_shown};
-    ghost use Rattle.uug_line.specs.Told.{WholeReport};
+    ghost use Rattle.uug_line.specs.Shown.{HasSaidAll};
+    ghost use Rattle.uug_line.specs.WholeReport.{WholeReport, report_shown};
 
     ghost Value = { WholeReport };
 
     ghost view = { λ r. report_shown r.sessions.items r.caller r.called r.verdict };
 
     ghost invariant = { λ r. IsOfSomeRun (report_shown r.sessions.items r.caller r.called r.verdict)
-        × HasSaidAll r.caller × HasSaidAll r.called };
+        × HasSaidAll r.caller.node × HasSaidAll r.called.node };
 }
 
 impl<A: Allocator + Copy> Report<A> {
@@ -74,7 +90,7 @@ impl<A: Allocator + Copy> Report<A> {
         ensures holds { held_at result.now ≡ self.now.held.at_caller }
         ensures said { HasSaidAll result.now }
     {
-        &self.caller
+        &self.caller.node
     }
 
     /// The end that is called, as it stands.
@@ -85,7 +101,7 @@ impl<A: Allocator + Copy> Report<A> {
         ensures holds { held_at result.now ≡ self.now.held.at_called }
         ensures said { HasSaidAll result.now }
     {
-        &self.called
+        &self.called.node
     }
 
     /// Whether each packet that was found had been sent.
@@ -93,5 +109,41 @@ impl<A: Allocator + Copy> Report<A> {
         ensures { result ≡ self.now.told.verdict }
     {
         self.verdict
+    }
+
+    /// Whether `settle` may be called: each packet that was found had been sent, both ends talk, neither has counted more than
+    /// six timeouts in a row, and nothing waits at an end or on the line.
+    pub fn can_settle(&self) -> bool
+        ensures told { IsTrue result ↔ CanSettle self.now }
+        // So it is exactly where the world may settle.
+        ensures world { (setup : SetupValue) (events : List Event) → IsRunOf setup events self.now
+            → IsTrue result ↔ MaySettle (world setup events) }
+    {
+        self.is_quiet()
+    }
+
+    /// Whether nothing waits, and both ends talk.
+    fn is_quiet(&self) -> bool
+        ensures { IsTrue result ↔ CanSettle self.now }
+    {
+        matches!(self.verdict, LineVerdict::Clean)
+            && self.caller.can_settle()
+            && self.called.can_settle()
+    }
+}
+
+/// So many timeouts in a row an end may have counted that is to settle.
+const TIMEOUTS_BEFORE: u8 = 6;
+
+impl<A: Allocator + Copy> LastEnd<A> {
+    /// Whether it talks and has not counted too many timeouts, and nothing waits at it or on the line from it.
+    fn can_settle(&self) -> bool
+        ensures { IsTrue result ↔ EndCanSettle (stands_so self.now.node) (held_at self.now.node) self.now.line }
+    {
+        let talks = matches!(self.node.phase(), Phase::Talking);
+        talks
+            && self.node.timeouts() <= TIMEOUTS_BEFORE
+            && self.node.waiting() == 0
+            && self.line.len() == 0
     }
 }

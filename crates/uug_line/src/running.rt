@@ -9,10 +9,10 @@ ghost use Rattle.uug_session.specs.Talk.{Talk};
 ghost use Rattle.uug_line.specs.Belongings.{SetupValue};
 ghost use Rattle.uug_line.specs.Live.{AreWritten, HasBegun, HasRoom, HearsPiece, IsCalled, IsOrdered, parts_of};
 ghost use Rattle.uug_line.specs.OfBytes.{AreOfTypes};
-ghost use Rattle.uug_line.specs.OfSomeRun.{IsOfSomeRun};
+ghost use Rattle.uug_line.specs.OfSomeRun.{IsOfSomeRun, IsRunOf};
 ghost use Rattle.uug_line.specs.Run.{Run, end_at, first_run, flipped, goes_through};
 ghost use Rattle.uug_line.specs.RunKeeper.{by_themselves};
-ghost use Rattle.uug_line.specs.RunParts.{AllIsSaid, CallsAgain, ChangesLine, EndsAs, Happens, HappensAt, IsSteady, Passes, StandsAs, hearing_side, run_parts, whole_report, with_line};
+ghost use Rattle.uug_line.specs.RunParts.{AllIsSaid, CallsAgain, ChangesLine, EndsAs, Happens, HappensAt, IsSteady, Passes, StandsAs, hearing_side, run_parts, with_line};
 ghost use Rattle.uug_line.specs.Setup.{setup_of};
 ghost use Rattle.uug_line.specs.Shown.{lists_in};
 ghost use Rattle.uug_line.specs.Sides.{AtBoth, other};
@@ -23,6 +23,7 @@ ghost use Rattle.uug_line.specs.PastSessions.{WasPresent};
 ghost use Rattle.uug_line.specs.StillHeld.{HoldWhatIsLeft};
 ghost use Rattle.uug_line.specs.Told.{EndReportValue};
 ghost use Rattle.uug_line.specs.Headline.{AllKeptToWindows, AllTookFronts, StaysInFront, StruckWereStored};
+ghost use Rattle.uug_line.specs.WholeReport.{whole_report};
 ghost use Rattle.uug_line.specs.World.{report_of_ends, report_of_world, run_of_ends};
 ghost use Rattle.uug_line.specs.MachineRun.{AllRanAsMachine, PresentRanAsMachine};
 ghost use Rattle.uug_line.specs.declared.side.Side.{Side};
@@ -32,7 +33,7 @@ use crate::event::Event;
 use crate::fault::RunFault;
 use crate::line_laws::line_laws;
 use crate::live_end::LiveEnd;
-use crate::report::{Report, SessionReport};
+use crate::report::{LastEnd, Report, SessionReport};
 use crate::setup::{EndSetup, Setup};
 use crate::side::Side;
 use crate::soundness::look_at_setup;
@@ -71,6 +72,8 @@ pub fn run<A: Allocator + Copy>(
     // It is what the two ends do, neither of which knows the other's jobs, and what somebody tells who knows both.
     ensures ends { IfOk result (λ report. report.told ≡ spelled (report_of_ends (setup_of setup) events.now)) }
     ensures world { IfOk result (λ report. report.told ≡ spelled (report_of_world (setup_of setup) events.now)) }
+    // So it is the report of just these two ends and events.
+    ensures of { IfOk result (λ report. IsRunOf (setup_of setup) events.now report) }
     // The spools of the ends that it lends give and accept what they did when the ends were set up.
     ensures spools { IfOk result (λ report. GiveAsSetUp (setup_of setup) report.spools) }
     // It is fooled exactly where an end has found a packet that was not sent, and names the first event with which one has.
@@ -161,7 +164,7 @@ impl<A: Allocator + Copy> RunSoFar<A> {
     }
 
     /// The next bytes come to the side as one piece.
-    fn pass(&mut self, alloc: A, side: Side, n: usize) -> Result<bool, AllocError>
+    pub(crate) fn pass(&mut self, alloc: A, side: Side, n: usize) -> Result<bool, AllocError>
         requires { IsSteady (run_parts self.old) }
         ensures { IfOk result (λ all_sent. Passes side n all_sent (run_parts self.old) (run_parts self.new)) }
     {
@@ -202,7 +205,7 @@ impl<A: Allocator + Copy> RunSoFar<A> {
     }
 
     /// Nothing has come to the side for some time.
-    fn time_out(&mut self, alloc: A, side: Side) -> Result<(), AllocError>
+    pub(crate) fn time_out(&mut self, alloc: A, side: Side) -> Result<(), AllocError>
         requires { IsSteady (run_parts self.old) }
         ensures { OnOk result (HappensAt side (IsCalled time_ran_out) (run_parts self.old) (run_parts self.new)) }
     {
@@ -237,7 +240,7 @@ impl<A: Allocator + Copy> RunSoFar<A> {
     }
 
     /// What is told of it.
-    fn into_report(self, verdict: LineVerdict) -> Result<Report<A>, AllocError>
+    pub(crate) fn into_report(self, verdict: LineVerdict) -> Result<Report<A>, AllocError>
         requires some_run { IsOfSomeRun (whole_report (run_parts self) verdict) }
         requires said { AllIsSaid (run_parts self) }
         ensures { IfOk result (λ report. report ≡ whole_report (run_parts self) verdict) }
@@ -249,14 +252,24 @@ impl<A: Allocator + Copy> RunSoFar<A> {
         } = self;
         let caller_phase = caller.node.phase();
         let called_phase = called.node.phase();
+        let caller_passed = caller.journal.passed;
+        let called_passed = called.journal.passed;
         past.push(SessionReport {
             caller: caller.journal.into_report(caller_phase),
             called: called.journal.into_report(called_phase),
         })?;
         Ok(Report {
             sessions: past,
-            caller: caller.node,
-            called: called.node,
+            caller: LastEnd {
+                node: caller.node,
+                line: caller.line,
+                passed: caller_passed,
+            },
+            called: LastEnd {
+                node: called.node,
+                line: called.line,
+                passed: called_passed,
+            },
             verdict,
         })
     }

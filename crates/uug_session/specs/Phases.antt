@@ -1,5 +1,5 @@
 -- How far an end is, as the program says it (this project's profile).
-use Rattle.std.specs.Prelude.{◌≡◌}
+use Rattle.std.specs.Prelude.{◌≡◌, ℕ}
 use Rattle.uug_link.specs.declared.phase.Phase.{Phase as LinkPhase}
 use Rattle.uug_link.specs.declared.phase.Phase.TheVariants as link_phases
 use Rattle.uug_session.specs.declared.phase.Phase.{Phase}
@@ -17,6 +17,11 @@ abbrev pub phase_at : Stage → LinkPhase → Phase
 phase_at (hailing greeting) p = phases.Hail
 phase_at linked p = phase_of_link p
 phase_at (ended how) p = phases.Ended how
+
+-- of the timeouts that its link has counted, those of an end that talks; of no other are any counted
+abbrev pub timeouts_in : Phase → (timeouts : ℕ) → ℕ
+timeouts_in phases.Talking timeouts = timeouts
+timeouts_in _ timeouts = 0
 
 -- where the link has ended, so has the session
 abbrev pub EndsWithItsLink : {C : Type 0} → EndState C → Type 0

@@ -12,7 +12,7 @@ ghost use Rattle.uug_session.specs.Party.{HasNames};
 ghost use Rattle.uug_session.specs.Sending.{SaysWhatItCan};
 ghost use Rattle.uug_session.specs.Side.{side_of};
 ghost use Rattle.uug_session.specs.Talk.{end_keeper};
-ghost use Rattle.uug_session.specs.Phases.{phase_at};
+ghost use Rattle.uug_session.specs.Phases.{phase_at, timeouts_in};
 ghost use Rattle.uug_session.specs.Talking.{talk_of, talking_has_parted};
 
 use crate::dialogue::Dialogue;
@@ -30,7 +30,7 @@ use crate::whole_file::FileFault;
 use std::alloc::{AllocError, Allocator};
 use std::marker::Model;
 use uug_link::laws::what_a_link_answers;
-use uug_link::{Announce, Link, LinkFault, Outbox, Outcome, WINDOW_MAX};
+use uug_link::{Announce, Link, LinkFault, Outbox, Outcome, TIMEOUTS_MAX, WINDOW_MAX};
 use uug_packet::Packet;
 use uug_talk::Name;
 
@@ -498,6 +498,17 @@ impl<A: Allocator + Copy> Engine<A> {
         ensures greeting { IsHailing self.now.stage → result ≡ 0 }
     {
         self.link.unacked()
+    }
+
+    /// How many timeouts have passed in a row without progress at an end that talks; at no other any is counted.
+    pub(crate) fn timeouts(&self) -> u8
+        ensures count { result ≡ timeouts_in (phase_at self.now.stage self.now.link.phase) self.now.link.timeouts }
+        ensures most { result ≤ TIMEOUTS_MAX }
+    {
+        match self.phase() {
+            Phase::Talking => self.link.timeouts(),
+            _ => 0,
+        }
     }
 
     /// What was emitted and not yet cleared.

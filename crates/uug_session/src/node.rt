@@ -11,7 +11,7 @@ ghost use Rattle.uug_session.specs.ShownItems.{HoldsNoItem, IsFirstItem, IsShown
 ghost use Rattle.uug_session.specs.ShownItems.{PassesNoiseOnLink};
 ghost use Rattle.uug_session.specs.NodeLoan.{EndsFound};
 ghost use Rattle.uug_session.specs.Party.{HasNames};
-ghost use Rattle.uug_session.specs.Phases.{phase_at};
+ghost use Rattle.uug_session.specs.Phases.{phase_at, timeouts_in};
 ghost use Rattle.uug_session.specs.Sending.{SaysWhatItCan};
 ghost use Rattle.uug_session.specs.Talking.{talking_has_parted};
 ghost use Rattle.std.specs.Borrow.{sem};
@@ -28,7 +28,7 @@ use crate::stage::Stage;
 use crate::text_laws::text_search_finds_the_first;
 use crate::texts::Texts;
 use std::alloc::{AllocError, Allocator};
-use uug_link::{Outbox, WINDOW_MAX};
+use uug_link::{Outbox, TIMEOUTS_MAX, WINDOW_MAX};
 use uug_reader::{Found, READER_SIZE, Reader};
 
 /// One whole end: what it knows of itself and the other, its jobs, its files, and how far its session has come. It reads
@@ -252,6 +252,16 @@ impl<S: Spool, A: Allocator + Copy> Node<S, A> {
         ensures greeting { IsHailing (node_of self.now).engine.stage → result ≡ 0 }
     {
         self.engine.unacked()
+    }
+
+    /// How many timeouts have passed in a row without progress at an end that talks, at most `TIMEOUTS_MAX`. At any other it
+    /// is 0.
+    pub fn timeouts(&self) -> u8
+        ensures count { result ≡ timeouts_in (phase_at (node_of self.now).engine.stage
+            (node_of self.now).engine.link.phase) (node_of self.now).engine.link.timeouts }
+        ensures most { result ≤ TIMEOUTS_MAX }
+    {
+        self.engine.timeouts()
     }
 
     /// What was emitted and not yet cleared.

@@ -1,20 +1,22 @@
 use Rattle.std.proofs.Common.{◌∙◌, ap, subst, sym, take}
 use Rattle.std.proofs.lemmas.List.Elements.{All-take}
-use Rattle.uug_session.specs.Count.{Count}
 use Rattle.uug_line.specs.declared.side.Side.{Side}
 use Rattle.uug_line.specs.declared.verdict.LineVerdict.{LineVerdict}
 use Rattle.uug_line.specs.Fooled.{NamesUnsent}
 use Rattle.uug_line.specs.Headline.{AllKeptToWindows, AllTookFronts, StaysInFront, StruckWereStored}
 use Rattle.uug_line.specs.OfBytes.{IsOfBytes}
-use Rattle.uug_line.specs.Run.{Run, first_run}
+use Rattle.uug_line.specs.Run.{first_run}
 use Rattle.uug_line.specs.RunKeeper.{by_themselves}
-use Rattle.uug_line.specs.RunParts.{held_parts, run_parts}
+use Rattle.uug_line.specs.RunParts.{run_parts}
 use Rattle.uug_line.specs.Setup.{setup_of}
 use Rattle.uug_line.specs.Spelled.{GiveAsSetUp}
 use Rattle.uug_line.specs.World.{report_of_ends, run_of_ends}
 use Rattle.uug_line.specs.StillHeld.{HoldWhatIsLeft}
-use Rattle.uug_line.specs.Told.{SpelledReport, WholeReport}
-use Rattle.uug_line.proofs.RunLemmas.{give_as_set_up, held_counted, told_by_ends, told_by_world}
+use Rattle.uug_line.specs.Told.{SpelledReport}
+use Rattle.uug_line.specs.OfSomeRun.{IsRunOf}
+use Rattle.uug_line.specs.WholeReport.{WholeReport}
+use Rattle.uug_line.proofs.ReportLemmas.{is_run_of}
+use Rattle.uug_line.proofs.RunLemmas.{give_as_set_up, told_by_ends, told_by_world}
 use Rattle.uug_line.proofs.ToldLemmas.{earlier_spelled, fronts_spelled, windows_spelled}
 use Rattle.uug_line.proofs.running.run.Goals as goal
 
@@ -30,11 +32,8 @@ into_report-requires g c =
       some_run = record {
         setup = setup;
         events = events;
-        types = types;
-        told = told_by_world setup events verdict parts ended (c.a_run_is_the_world.ensures.report setup events types.sound);
-        spools = give_as_set_up setup (run_of_ends setup events) verdict parts ended;
-        held = subst (λ (w : Run Count). HoldWhatIsLeft w (held_parts parts)) (c.a_run_is_the_world.ensures.run setup events types.sound)
-            (held_counted (run_of_ends setup events) (held_parts parts) ended.held);
+        is = is_run_of setup events verdict parts types ended (c.a_run_is_the_world.ensures.run setup events types.sound)
+            (c.a_run_is_the_world.ensures.report setup events types.sound);
       };
       said = record { caller = ended.caller_ordered.cleared; called = ended.called_ordered.cleared };
     }
@@ -64,6 +63,9 @@ returns g c =
       ends = ends;
       world = told
           ∙ told_by_world setup events verdict parts ended (c.a_run_is_the_world.ensures.report setup events sound);
+      of = subst (λ (report : WholeReport). IsRunOf setup events report) (sym c.in_ok-report.ensures)
+          (is_run_of setup events verdict parts types ended (c.a_run_is_the_world.ensures.run setup events sound)
+          (c.a_run_is_the_world.ensures.report setup events sound));
       spools = subst (λ (report : WholeReport). GiveAsSetUp setup report.spools) (sym c.in_ok-report.ensures)
           (give_as_set_up setup (run_of_ends setup events) verdict parts ended);
       fooled = subst (λ (verdict : LineVerdict). NamesUnsent setup events verdict)

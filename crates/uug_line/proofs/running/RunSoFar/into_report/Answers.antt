@@ -1,4 +1,5 @@
 use Rattle.std.proofs.Common.{◌∙◌, List, ap, subst, sym}
+use Rattle.uug_session.specs.Node.{node_of}
 use Rattle.uug_line.specs.Jottings.{jotted}
 use Rattle.uug_line.specs.Live.{parts_of, told_of}
 use Rattle.uug_line.specs.OfSomeRun.{IsOfSomeRun}
@@ -27,6 +28,10 @@ invariant_of-result g c =
         };
         spools = record { at_caller = spool_of caller; at_called = spool_of called };
         held = record { at_caller = held_at caller; at_called = held_at called };
+        left = record {
+          at_caller = record { node = node_of caller; line = run.caller.line; passed = run.caller.journal.passed };
+          at_called = record { node = node_of called; line = run.called.line; passed = run.called.journal.passed };
+        };
       })) (sym sessions) c.requires.some_run,
       c.requires.said.caller,
       c.requires.said.called,

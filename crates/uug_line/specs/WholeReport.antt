@@ -1,0 +1,65 @@
+-- What a program has of a run, for another to go on from there (this project's profile).
+use Rattle.std.specs.Prelude.{ℕ, List, map}
+use Rattle.uug_session.specs.MemoryHoldings.{MemoryHoldings}
+use Rattle.uug_session.specs.Node.{NodeState, node_of}
+use Rattle.uug_line.specs.declared.report.LastEnd.{LastEnd}
+use Rattle.uug_line.specs.declared.report.SessionReport.{SessionReport}
+use Rattle.uug_line.specs.declared.verdict.LineVerdict.{LineVerdict}
+use Rattle.uug_line.specs.Jottings.{jottings_by}
+use Rattle.uug_line.specs.Live.{Parts}
+use Rattle.uug_line.specs.RunParts.{RunParts, held_parts, told_in_all}
+use Rattle.uug_line.specs.Shown.{held_at, owned_by, session_shown, spool_of, stands_so}
+use Rattle.uug_line.specs.Sides.{AtBoth}
+use Rattle.uug_line.specs.Told.{SpelledEnd, SpelledReport}
+
+-- an end as the run leaves it: its node, what is on the line from it, and how many of the other's packets it has found or
+-- gone past
+pub record EndLeft : Type 0 where
+  pub node : NodeState
+  pub line : List ℕ
+  pub passed : ℕ
+
+-- what is told, what is in the spools of the ends that the report lends, the bytes that these hold and have not taken up, and
+-- the ends
+pub record WholeReport : Type 0 where
+  pub told : SpelledReport
+  pub spools : AtBoth MemoryHoldings
+  pub held : AtBoth (List ℕ)
+  pub left : AtBoth EndLeft
+
+-- ---- of the program's run
+
+abbrev pub left_parts : Parts → EndLeft
+left_parts e = record { node = e.node; line = e.line; passed = e.jottings.passed }
+
+abbrev pub whole_report : RunParts → LineVerdict → WholeReport
+whole_report r verdict = record {
+  told = told_in_all r verdict;
+  spools = record { at_caller = r.caller.spool; at_called = r.called.spool };
+  held = held_parts r;
+  left = record { at_caller = left_parts r.caller; at_called = left_parts r.called };
+}
+
+-- an end that goes on, of whose session this is told
+abbrev pub part_from : SpelledEnd → EndLeft → MemoryHoldings → Parts
+part_from told left spool =
+    record { node = left.node; spool = spool; jottings = jottings_by told left.passed; line = left.line }
+
+-- ---- of the program's report
+
+abbrev pub left_of : {A : Type 0} → LastEnd A → EndLeft
+left_of e = record { node = node_of e.node; line = e.line; passed = e.passed }
+
+-- a report of these sessions, with the ends as they stand then
+abbrev pub report_shown : {A : Type 0} → List (SessionReport A) → (caller called : LastEnd A) → LineVerdict → WholeReport
+report_shown sessions caller called verdict = record {
+  told = record {
+    sessions = map session_shown sessions;
+    ends = record { at_caller = stands_so caller.node; at_called = stands_so called.node };
+    belongings = record { at_caller = owned_by caller.node; at_called = owned_by called.node };
+    verdict = verdict;
+  };
+  spools = record { at_caller = spool_of caller.node; at_called = spool_of called.node };
+  held = record { at_caller = held_at caller.node; at_called = held_at called.node };
+  left = record { at_caller = left_of caller; at_called = left_of called };
+}

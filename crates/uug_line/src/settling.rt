@@ -1,0 +1,159 @@
+ghost use Rattle.std.specs.Prelude.{◌≡◌, ◌↔◌, ◌≤◌, List, IfOk, IsTrue, OnOk};
+ghost use Rattle.uug_session.specs.declared.end.End.TheVariants.{Done as done};
+ghost use Rattle.uug_session.specs.EndStep.{ended};
+ghost use Rattle.uug_session.specs.MemoryHoldings.{held_by};
+ghost use Rattle.uug_session.specs.Node.{node_of};
+ghost use Rattle.uug_line.specs.declared.event.Event.{Event};
+ghost use Rattle.uug_line.specs.declared.verdict.LineVerdict.TheVariants.{Clean};
+ghost use Rattle.uug_line.specs.Belongings.{SetupValue};
+ghost use Rattle.uug_line.specs.Live.{parts_of};
+ghost use Rattle.uug_line.specs.RunParts.{IsSteady, RunParts, run_parts};
+ghost use Rattle.uug_line.specs.OfSomeRun.{IsOfSomeRun, IsRunOf};
+ghost use Rattle.uug_line.specs.Settle.{one_if_over};
+ghost use Rattle.uug_line.specs.Settled.{AreDone, CanSettle, SettlesInto};
+ghost use Rattle.uug_line.specs.Settling.{AreOver, CanFinish, IsFinished, MayFinish, RoundHappens, parts_weight};
+ghost use Rattle.uug_line.specs.Shown.{end_shown};
+ghost use Rattle.uug_line.specs.WholeReport.{left_of, part_from, whole_report};
+
+use crate::fault::RunFault;
+use crate::journal::Journal;
+use crate::live_end::LiveEnd;
+use crate::report::{EndReport, LastEnd, Report};
+use crate::running::RunSoFar;
+use crate::settle_laws::rounds_lead_to_the_end;
+use crate::side::Side;
+use crate::verdict::LineVerdict;
+use crate::world_laws::a_run_is_the_world;
+use std::alloc::{AllocError, Allocator};
+use uug_session::{End, Phase};
+
+/// Goes on from a report on a line on which nothing more is lost, until both sessions are over. Round by round all that is on
+/// the line passes to the called end, and then all that is there to the caller; where nothing is on it, both ends wait too long.
+pub fn settle<A: Allocator + Copy>(alloc: A, report: Report<A>) -> Result<Report<A>, RunFault>
+    requires { CanSettle report }
+    // Both sessions are done, and each packet that was found had been sent.
+    ensures ends { IfOk result (λ settled. AreDone settled.told) }
+    ensures clean { IfOk result (λ settled. settled.told.verdict ≡ Clean) }
+    // Of whatever two ends and events the report was, it is now of these events and those of the rounds behind them; each end
+    // has then taken all messages of the other, and has what it has after the whole conversation.
+    ensures world { IfOk result (λ settled. (setup : SetupValue) (events : List Event) → IsRunOf setup events report
+        → SettlesInto setup events settled) }
+{
+    a_run_is_the_world();
+    let mut run = report.into_run();
+    run.finish(alloc)?;
+    let settled = run.into_report(LineVerdict::Clean)?;
+    Ok(settled)
+}
+
+impl<A: Allocator + Copy> Report<A> {
+    /// The run whose report it is, as it stands.
+    fn into_run(self) -> RunSoFar<A>
+        ensures of_a_run { IsOfSomeRun self }
+        ensures same { (parts : RunParts) → whole_report parts self.told.verdict ≡ self → run_parts result ≡ parts }
+    {
+        let Report {
+            mut sessions,
+            caller,
+            called,
+            verdict: _,
+        } = self;
+        let Some(last) = sessions.pop() else {
+            unreachable!();
+        };
+        RunSoFar {
+            past: sessions,
+            caller: caller.goes_on(last.caller),
+            called: called.goes_on(last.called),
+        }
+    }
+}
+
+impl<A: Allocator + Copy> LastEnd<A> {
+    /// The end in its session, of which this is reported.
+    fn goes_on(self, report: EndReport<A>) -> LiveEnd<A>
+        ensures { parts_of result ≡ part_from (end_shown report) (left_of self) (held_by self.node.spool) }
+    {
+        let journal = Journal::from_report(report, self.passed);
+        LiveEnd {
+            node: self.node,
+            journal,
+            line: self.line,
+        }
+    }
+}
+
+impl<A: Allocator + Copy> RunSoFar<A> {
+    /// Passes what is on the line, round by round, until both sessions are over. Both ends have waited too long first.
+    pub(crate) fn finish(&mut self, alloc: A) -> Result<(), AllocError>
+        requires { CanFinish (run_parts self.old) }
+        ensures { OnOk result ((setup : SetupValue) (events : List Event) → MayFinish setup events (run_parts self.old)
+            → IsFinished setup events (run_parts self.new)) }
+    {
+        a_run_is_the_world();
+        rounds_lead_to_the_end();
+        self.time_out(alloc, Side::Caller)?;
+        self.time_out(alloc, Side::Called)?;
+        let all_sent = self.round(alloc)?;
+        prove!(all_sent);
+        while !self.is_over() {
+            let _weight = self.weight();
+            let all_sent = self.round(alloc)?;
+            prove!(all_sent);
+        }
+        Ok(())
+    }
+
+    /// All on the line passes to the called end, and then all to the caller. The answer is false where an end has found a
+    /// packet that was not sent.
+    fn round(&mut self, alloc: A) -> Result<bool, AllocError>
+        requires { IsSteady (run_parts self.old) }
+        ensures { IfOk result (λ all_sent. RoundHappens all_sent (run_parts self.old) (run_parts self.new)) }
+    {
+        let to_called = self.caller.line.len();
+        if !self.pass(alloc, Side::Called, to_called)? {
+            return Ok(false);
+        }
+        let to_caller = self.called.line.len();
+        let all_sent = self.pass(alloc, Side::Caller, to_caller)?;
+        Ok(all_sent)
+    }
+
+    /// Whether both sessions are over, and well.
+    fn is_over(&self) -> bool
+        ensures { IsTrue result ↔ AreOver (run_parts self.now) }
+    {
+        self.caller.is_done() && self.called.is_done()
+    }
+
+    /// How many messages both ends have sent and taken, and how many sessions are over.
+    fn weight(&self) -> u128
+        ensures weight { result ≡ parts_weight (run_parts self.now) }
+        ensures within { result ≤ u128.MAX }
+    {
+        let caller = &self.caller.journal;
+        let called = &self.called.journal;
+        (caller.taken.len() as u128 + called.taken.len() as u128)
+            + (caller.sent.len() as u128 + called.sent.len() as u128)
+            + (self.caller.one_if_over() + self.called.one_if_over())
+    }
+}
+
+impl<A: Allocator + Copy> LiveEnd<A> {
+    /// Whether its session is over, and well.
+    fn is_done(&self) -> bool
+        ensures { IsTrue result ↔ ((node_of self.now.node).engine.stage ≡ ended done) }
+    {
+        matches!(self.node.phase(), Phase::Ended(End::Done))
+    }
+
+    /// One where its session is over, however it ended.
+    fn one_if_over(&self) -> u128
+        ensures { result ≡ one_if_over (node_of self.now.node).engine.stage }
+    {
+        match self.node.phase() {
+            Phase::Ended(_) => 1,
+            _ => 0,
+        }
+    }
+}
