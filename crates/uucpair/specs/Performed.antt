@@ -1,15 +1,20 @@
 -- What the program does for each task: its answer, what it read, and what it wrote (this project's profile).
 use Rattle.std.specs.Io.KnownBytes.{Keeps}
-use Rattle.std.specs.Prelude.{◌≡◌, ◌≤◌, ◌⊎◌, ℕ, List, Option, Result, Ok, Err, IfOk, OnOk, IfSome, ⊤}
-use Rattle.uug_tool.specs.Scan.{AppendsListing}
-use Rattle.uug_tool.specs.Streams.{ReadsAll}
+use Rattle.std.specs.Prelude.{◌≡◌, ◌≤◌, ◌⊎◌, ℕ, List, Option, Some, None, Result, Ok, Err, IfOk, IfErr, OnOk, IfSome, codes, ⊤}
+use Rattle.uug_tool.specs.Listing.{ended}
+use Rattle.uug_tool.specs.Scan.{AppendsListing, IsScanFault}
+use Rattle.uug_tool.specs.Streams.{Appends, ReadsAll}
 use Rattle.uug_tool.specs.declared.fault.ToolFault.{ToolFault}
 use Rattle.uug_tool.specs.declared.fault.ToolFault.TheVariants as faults
-use Rattle.uug_play.specs.Played.{AppendsReport, BeforeReport, IsFirstBad, OnceRead}
+use Rattle.uug_play.specs.Played.{AppendsReport, BeforeReport, IsFirstBad, IsPlayFault, OnceRead}
 use Rattle.uucpair.specs.declared.command_line.Task.{Task}
-use Rattle.uucpair.specs.declared.command_line.Task.TheVariants.{Scan, Play, Pair}
+use Rattle.uucpair.specs.declared.command_line.Task.TheVariants.{Version, Scan, Play, Pair}
 use Rattle.uucpair.specs.declared.stop.Stop.{Stop}
-use Rattle.uucpair.specs.declared.stop.Stop.TheVariants.{Fault, CommandLine}
+use Rattle.uucpair.specs.declared.stop.Stop.TheVariants.{Fault, File, CommandLine}
+use Rattle.uucpair.specs.Stop.{EndsSo}
+
+abbrev pub version_line : List ℕ
+version_line = ended (codes "uucpair 0.1.0")
 
 -- the bytes still to come before and after, and those written before and after, where they are told
 pub record Streams : Type 0 where
@@ -26,6 +31,12 @@ StaysUnread s = Keeps s.to_come s.left
 
 abbrev pub StaysUnwritten : Streams → Type 0
 StaysUnwritten s = Keeps s.before s.after
+
+-- `--version`: the name of the program and its version were written, as a line
+pub record ShowsVersion (s : Streams) (answer : Result ℕ ToolFault) : Type 0 where
+  pub unread : StaysUnread s
+  pub status : IfOk answer (λ status. status ≡ 0)
+  pub writes : OnOk answer (Appends version_line s.before s.after)
 
 -- `scan`: the whole input was read, and its listing written
 pub record Scans (s : Streams) (answer : Result ℕ ToolFault) : Type 0 where
@@ -47,22 +58,33 @@ pub record Pairs (s : Streams) (answer : Result ℕ ToolFault) : Type 0 where
   pub status : IfOk answer (λ status. status ≤ 1)
   pub reads : StaysUnread s
 
+-- `scan` of a file, whose bytes no proof knows
+pub record ScansFile (s : Streams) (answer : Result ℕ ToolFault) : Type 0 where
+  pub unread : StaysUnread s
+  pub status : IfOk answer (λ status. status ≡ 0)
+  pub no_other : IfErr answer IsScanFault
+
+-- `play` of a file, whose bytes no proof knows
+pub record PlaysFile (s : Streams) (answer : Result ℕ ToolFault) : Type 0 where
+  pub unread : StaysUnread s
+  pub nothing_written : BeforeReport answer (StaysUnwritten s)
+  pub no_other : IfErr answer IsPlayFault
+
 abbrev pub Does : Task → Streams → Result ℕ ToolFault → Type 0
-Does Scan s answer = Scans s answer
-Does Play s answer = Plays s answer
+Does Version s answer = ShowsVersion s answer
+Does (Scan None) s answer = Scans s answer
+Does (Scan (Some path)) s answer = ScansFile s answer
+Does (Play None) s answer = Plays s answer
+Does (Play (Some path)) s answer = PlaysFile s answer
 Does (Pair pair) s answer = Pairs s answer
 
 -- ---- the program
-
--- the answer of a task, as the program ends
-abbrev pub ended : Result ℕ ToolFault → Result ℕ Stop
-ended (Ok status) = Ok status
-ended (Err fault) = Err (Fault fault)
 
 -- the command line asks for no task, or there was no memory for reading it
 abbrev pub IsNoTask : Stop → Type 0
 IsNoTask (CommandLine error) = ⊤
 IsNoTask (Fault fault) = fault ≡ faults.Memory
+IsNoTask (File name) = ⊥
 
 -- there was no task, and nothing was read or written
 pub record HasNoTask (s : Streams) (ends : Result ℕ Stop) : Type 0 where
@@ -77,7 +99,7 @@ pub record HasDone (s : Streams) (ends : Result ℕ Stop) : Type 0 where
   pub task : Task
   pub answer : Result ℕ ToolFault
   pub does : Does task s answer
-  pub ends_so : ends ≡ ended answer
+  pub ends_so : EndsSo task answer ends
 
 abbrev pub Performs : Streams → Result ℕ Stop → Type 0
 Performs s ends = HasNoTask s ends ⊎ HasDone s ends

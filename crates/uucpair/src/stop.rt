@@ -13,6 +13,9 @@ use uug_tool::ToolFault;
 pub enum Stop {
     #[error("uucpair: {0}\n")]
     Fault(ToolFault),
+    /// The file of this name can't be opened or read.
+    #[error("uucpair: device fault\nuucpair: can't read {0}\n")]
+    File(String),
     /// The command line asks for no task: the usage, or the help where it was asked for.
     #[error("{0}")]
     CommandLine(clap::error::Error),
@@ -25,6 +28,7 @@ impl Stop {
     {
         match self {
             Stop::Fault(fault) => fault.status(),
+            Stop::File(_) => ToolFault::Read.status(),
             Stop::CommandLine(_) => ToolFault::Usage.status(),
         }
     }
