@@ -4,7 +4,7 @@ use Rattle.std.specs.Char.{is_ascii_hexdigit}
 use Rattle.std.specs.List.{list_all}
 use Rattle.std.specs.Str.{bytes_eq}
 use Rattle.uug_link.specs.declared.limits.TheConstants.{MESSAGE_MAX, WINDOW_MAX}
-use Rattle.uug_script.specs.Fields.{number_of}
+use Rattle.uug_talk.specs.Number.{number_of}
 use Rattle.uug_script.specs.declared.line.TheConstants.{BYTES_MAX, TURNS_MAX}
 use Rattle.uug_talk.specs.Mode.{mode_read}
 use Rattle.uug_talk.specs.Name.{name_read}

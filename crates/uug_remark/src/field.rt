@@ -2,10 +2,9 @@
 ghost use Rattle.std.specs.Prelude.{◌≡◌};
 ghost use Rattle.uug_remark.specs.Fitting.{fits, are_hex_digits};
 
-use crate::number::read_number;
 use uug_link::{MESSAGE_MAX, WINDOW_MAX};
 use uug_script::{BYTES_MAX, TURNS_MAX};
-use uug_talk::{Name, read_mode};
+use uug_talk::{Name, read_mode, read_number};
 
 /// The most octal digits of a mode in a script.
 const MODE_DIGITS: usize = 4;

@@ -3,7 +3,6 @@
 
 mod complaint;
 mod field;
-mod number;
 mod play;
 mod remark;
 mod statement;

@@ -10,7 +10,8 @@ use Rattle.uug_line.specs.declared.event.Event.TheVariants.{Pass, Drop, Flip, In
 use Rattle.uug_script.specs.declared.line.TheConstants.{BYTES_MAX, LINE_MAX, TURNS_MAX}
 use Rattle.uug_line.specs.declared.side.Side.{Side}
 use Rattle.uug_line.specs.declared.side.Side.TheVariants.{Caller, Called}
-use Rattle.uug_script.specs.Fields.{◌>>=◌, side_word, side_of, name_of, number_of, mode_of_word, hex_bytes, byte_of, announcement_of, is_comment}
+use Rattle.uug_talk.specs.Number.{number_of}
+use Rattle.uug_script.specs.Fields.{◌>>=◌, side_word, side_of, name_of, mode_of_word, hex_bytes, byte_of, announcement_of, is_comment}
 use Rattle.hex.specs.Hex.{decode_of}
 use Rattle.uug_script.specs.LineSays.{WritesNumber, NamesCopy, LineSays, TextSays, blank, comment, end_line, file_line, send_line, request_line, deny_line, later_line, immovable_line, pass_line, drop_line, flip_line, insert_line, timeout_line, hangup_line, call_line, flow_line}
 use Rattle.uug_script.specs.Meaning.{LineMeaning, nothing, of_end, event, flow, place, file, job, deny, later, immovable, file_meaning, of_side}

@@ -23,9 +23,11 @@ use Rattle.uug_talk.specs.Name.{IsName, IsNameByte, is_name, is_name_byte}
 use Rattle.uug_talk.specs.declared.mode.TheConstants.{MODE_MAX}
 use Rattle.uug_talk.specs.declared.name.TheConstants.{NAME_MAX}
 use Rattle.uug_script.specs.declared.fields.TheConstants.{MODE_DIGITS}
-use Rattle.uug_script.specs.Fields.{◌>>=◌, name_of, is_numeral, number_of, mode_of_word, hex_bytes, first_byte, byte_of, code_of_size, announcement, announcement_of}
+use Rattle.uug_talk.specs.Number.{is_numeral, number_of}
+use Rattle.uug_script.specs.Fields.{◌>>=◌, name_of, mode_of_word, hex_bytes, first_byte, byte_of, code_of_size, announcement, announcement_of}
 use Rattle.uug_script.specs.LineSays.{WritesNumber, Announces, WritesMode, WritesBytes, dash, pairs}
-use Rattle.uug_script.proofs.FieldLemmas.{announced_as, code_of_its_size, size_of_its_code, numeral_parses}
+use Rattle.uug_talk.proofs.NumberLemmas.{numeral_parses}
+use Rattle.uug_script.proofs.FieldLemmas.{announced_as, code_of_its_size, size_of_its_code}
 
 -- ---- steps that may have no answer
 

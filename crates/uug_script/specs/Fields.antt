@@ -1,16 +1,15 @@
 -- What single words of a script's line say (this project's profile), as functions.
 use Rattle.std.specs.Prelude.{◌==◌, ◌&&◌, ℕ, Bool, List, [], length, codes, nat_eq, nat_lt, nat_le, slice_index, Option, Some, None, Result, Ok, Err, if◌then◌else◌}
-use Rattle.std.specs.Char.{is_ascii_digit}
-use Rattle.std.specs.List.{list_all, starts_with}
+use Rattle.std.specs.List.{starts_with}
 use Rattle.std.specs.Result.{result_ok}
 use Rattle.std.specs.Str.{bytes_eq}
-use Rattle.std.specs.Str.Parse.{digits_value}
 use Rattle.hex.specs.Hex.{decode_of, decode_sized}
 use Rattle.hex.specs.declared.error.FromHexError.{FromHexError}
 use Rattle.uug_link.specs.Announced.{Announced}
 use Rattle.uug_link.specs.declared.limits.TheConstants.{MESSAGE_MAX, WINDOW_MAX}
 use Rattle.uug_talk.specs.Mode.{mode_read}
 use Rattle.uug_talk.specs.Name.{name_read}
+use Rattle.uug_talk.specs.Number.{number_of}
 use Rattle.uug_script.specs.declared.fields.TheConstants.{MODE_DIGITS}
 use Rattle.uug_line.specs.declared.side.Side.{Side}
 use Rattle.uug_line.specs.declared.side.Side.TheVariants.{Caller, Called}
@@ -34,15 +33,6 @@ side_of word =
 -- the name that the word is
 abbrev pub name_of : List ℕ → Option (List ℕ)
 name_of word = result_ok (name_read word)
-
--- one or more decimal digits, with no sign
-abbrev pub is_numeral : List ℕ → Bool
-is_numeral word = nat_lt 0 (length word) && list_all is_ascii_digit word
-
--- the number that the digits write, if it is at most this one
-abbrev pub number_of : ℕ → List ℕ → Option ℕ
-number_of most word =
-    if is_numeral word && nat_le (digits_value 10 word) most then Some (digits_value 10 word) else None
 
 -- a mode has one to four octal digits
 abbrev pub mode_of_word : List ℕ → Option ℕ

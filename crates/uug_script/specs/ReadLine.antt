@@ -2,12 +2,13 @@
 use Rattle.std.specs.Prelude.{ℕ, List, [], ◌∷◌, length, codes, nat_le, Option, Some, None, if◌then◌else◌}
 use Rattle.std.specs.Str.{bytes_eq}
 use Rattle.uug_session.specs.declared.job.Job.TheVariants as job_of
+use Rattle.uug_talk.specs.Number.{number_of}
 use Rattle.uug_talk.specs.Words.{words}
 use Rattle.uug_line.specs.declared.event.Event.TheVariants.{Pass, Drop, Flip, Insert, Timeout, HangUp, Call}
 use Rattle.uug_script.specs.declared.line.TheConstants.{LINE_MAX, BYTES_MAX, TURNS_MAX}
 use Rattle.uug_line.specs.declared.side.Side.{Side}
 use Rattle.uug_line.specs.declared.side.Side.TheVariants.{Caller, Called}
-use Rattle.uug_script.specs.Fields.{◌>>=◌, side_of, name_of, number_of, mode_of_word, hex_bytes, byte_of, announcement_of, is_comment}
+use Rattle.uug_script.specs.Fields.{◌>>=◌, side_of, name_of, mode_of_word, hex_bytes, byte_of, announcement_of, is_comment}
 use Rattle.uug_script.specs.Meaning.{LineMeaning, nothing, of_end, event, flow, place, job, deny, later, immovable, file_meaning, of_side}
 
 -- a line that begins with the word of an end

@@ -1,16 +1,14 @@
 //! What single words of a line say.
 ghost use Rattle.std.specs.Prelude.{◌≡◌, ◌≤◌, IfSome};
-ghost use Rattle.std.specs.Char.{is_ascii_digit};
-ghost use Rattle.std.specs.List.{list_all};
 ghost use Rattle.std.specs.Str.{bytes_eq};
-ghost use Rattle.uug_script.specs.Fields.{side_of, name_of, is_numeral, number_of, mode_of_word, byte_of, announcement_of};
+ghost use Rattle.uug_script.specs.Fields.{side_of, name_of, mode_of_word, byte_of, announcement_of};
 ghost use Rattle.uug_script.specs.Meaning.{announced_by, mode_bits};
 
 use crate::mode::Mode;
 use hex::FromHex;
 use uug_line::Side;
 use uug_link::{Announce, MESSAGE_MAX, WINDOW_MAX};
-use uug_talk::{Name, read_mode};
+use uug_talk::{Name, read_mode, read_number};
 
 /// The most octal digits of a mode in a script.
 pub const MODE_DIGITS: usize = 4;
@@ -40,36 +38,6 @@ pub(crate) fn read_name(word: &[u8]) -> Option<Name>
     ensures { result ≡ name_of word.now }
 {
     Name::new(word).ok()
-}
-
-fn are_digits(word: &[u8]) -> bool
-    ensures { result ≡ list_all is_ascii_digit word.now }
-{
-    word.iter().all(|b| b.is_ascii_digit())
-}
-
-/// Whether a word is one or more decimal digits.
-fn is_numeral(word: &[u8]) -> bool
-    ensures { result ≡ is_numeral word.now }
-{
-    !word.is_empty() && are_digits(word)
-}
-
-/// The number that decimal digits write, if it is at most `most`.
-pub(crate) fn read_number(word: &[u8], most: u32) -> Option<u32>
-    ensures exact { result ≡ number_of most word.now }
-    ensures within { IfSome result (λ n. n ≤ most) }
-{
-    if !is_numeral(word) {
-        return None;
-    }
-    let Ok(digits) = str::from_utf8(word) else {
-        unreachable!();
-    };
-    match digits.parse::<u32>() {
-        Ok(number) if number <= most => Some(number),
-        _ => None,
-    }
 }
 
 /// The mode that one to four octal digits write.
