@@ -1,8 +1,11 @@
 pub mod StandardFacts
 pub mod SizeLemmas
 pub mod EntriesLemmas
-pub mod SendingLemmas
+pub mod SlotsLemmas
+pub mod RepeatLemmas
+pub mod KeepLemmas
 pub mod SoundLemmas
+pub mod LinkLemmas
 pub mod WindowMachineLemmas
 pub mod WindowMachineRuns
 pub mod WindowMachineFacts

@@ -5,6 +5,7 @@ pub mod State
 pub mod Step
 pub mod InRange
 pub mod Reactions
+pub mod Slots
 pub mod Outcomes
 pub mod Follows
 pub mod Strays

@@ -1,6 +1,5 @@
 -- What the program's values of a link mean.
-use Rattle.std.specs.Prelude.{ℕ, ◌+◌, ◌%◌, List, [], drop, map}
-use Rattle.arrayvec.specs.ArrayVec.{ArrayVec}
+use Rattle.std.specs.Prelude.{ℕ, ◌+◌, ◌%◌, List, [], drop}
 use Rattle.uug_link.specs.declared.outcome.Reply.{Reply}
 use Rattle.uug_link.specs.declared.outcome.Reply.TheVariants as replies
 use Rattle.uug_link.specs.declared.reaction.Emits.{Emits}
@@ -12,10 +11,6 @@ use Rattle.uug_link.specs.State.{State}
 use Rattle.uug_link.specs.Step.{Effect, Emission, only, outstanding, selected, OutcomeValue, nothing, up, taken, closed, gave_up, halted}
 use Rattle.uug_packet.specs.Number.{number_of}
 use Rattle.uug_packet.specs.Packet.{shown_control}
-
--- the messages that a link keeps, as lists of bytes
-abbrev pub messages_of : List (ArrayVec ℕ) → List (List ℕ)
-messages_of = map (λ message. message.items)
 
 -- a link, by its status and the messages that were sent and not acknowledged
 abbrev pub state_of : Status → List (List ℕ) → State

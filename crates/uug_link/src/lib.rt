@@ -12,6 +12,7 @@ mod outbox;
 mod outcome;
 mod phase;
 mod reaction;
+mod slots;
 mod start_up;
 mod status;
 mod timeouts;

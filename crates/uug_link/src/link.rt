@@ -1,8 +1,8 @@
 ghost use Rattle.std.specs.Prelude.{◌≡◌, ◌≢◌, ℕ, ◌+◌, ◌≤◌, [], ◌++◌, length, drop, map, OnOk, OnErr, IsOk, IsTrue, ◌↔◌};
-ghost use Rattle.arrayvec.specs.ArrayVec.{array_vec_len};
 ghost use Rattle.uug_link.specs.Announced.{announced};
 ghost use Rattle.uug_link.specs.Follows.{Follows, answered, done, written};
 ghost use Rattle.uug_link.specs.Reactions.{effect_of};
+ghost use Rattle.uug_link.specs.Slots.{Keeps};
 ghost use Rattle.uug_link.specs.State.{caller_state, called_state, HasRoom, IsClosing, IsFresh, IsSound, IsUp};
 ghost use Rattle.uug_link.specs.Terms.{IsSize, IsWindow, size_of_code};
 ghost use Rattle.uug_link.specs.declared.limits.TheConstants.{TIMEOUTS_MAX};
@@ -10,17 +10,17 @@ ghost use Rattle.uug_link.specs.Step.{step, taken, to_begin, packet_found, bad_f
 ghost use Rattle.uug_packet.specs.Packet.{shown};
 
 use crate::announce::Announce;
-use crate::limits::{MESSAGE_MAX, SIZE_MIN, UNACKED_MAX, WINDOW_MAX};
-use crate::message::Message;
+use crate::limits::{MESSAGE_MAX, SIZE_MIN, WINDOW_MAX};
 use crate::number::plus;
 use crate::outbox::Outbox;
 use crate::outcome::{LinkFault, Outcome};
 use crate::phase::{Phase, Role};
 use crate::reaction::Reaction;
+use crate::slots::Slots;
 use crate::status::Status;
-use arrayvec::ArrayVec;
 use std::alloc::{AllocError, Allocator};
 use std::marker::Model;
+use uug_packet::laws::packets_are_well_formed;
 use uug_packet::{Packet, field_size};
 
 /// One end's link. It knows no time and reads no bytes: its caller hands it the packets and the broken ones that were
@@ -28,19 +28,20 @@ use uug_packet::{Packet, field_size};
 #[derive(Drop)]
 pub struct Link {
     status: Status,
-    /// The messages that were sent and not acknowledged, oldest first.
-    unacked: ArrayVec<Message, UNACKED_MAX>,
+    /// The packets that were sent and not acknowledged, oldest first.
+    slots: Slots,
 }
 
 impl Model for Link {
-    ghost use Rattle.uug_link.specs.State.{State, IsSound};
-    ghost use Rattle.uug_link.specs.Reactions.{messages_of, state_of};
+    ghost use Rattle.uug_link.specs.State.{State};
+    ghost use Rattle.uug_link.specs.Reactions.{state_of};
+    ghost use Rattle.uug_link.specs.Slots.{messages_in, IsLinked};
 
     ghost Value = { State };
 
-    ghost view = { λ link. state_of link.status (messages_of link.unacked.items) };
+    ghost view = { λ link. state_of link.status (messages_in link.slots) };
 
-    ghost invariant = { λ link. IsSound (state_of link.status (messages_of link.unacked.items)) };
+    ghost invariant = { λ link. IsLinked link.status link.slots };
 }
 
 impl Link {
@@ -50,7 +51,7 @@ impl Link {
     {
         Link {
             status: Status::first(Role::Caller, Phase::Fresh, own),
-            unacked: ArrayVec::new(),
+            slots: Slots::new(),
         }
     }
 
@@ -60,7 +61,7 @@ impl Link {
     {
         Link {
             status: Status::first(Role::Called, Phase::AwaitsInitA, own),
-            unacked: ArrayVec::new(),
+            slots: Slots::new(),
         }
     }
 
@@ -84,7 +85,7 @@ impl Link {
         ensures { Follows (step self.old (packet_found (shown packet.now)))
             self.old self.new out.old out.new (answered result) }
     {
-        let reaction = self.status.after_packet(packet, self.unacked.len());
+        let reaction = self.status.after_packet(packet, self.slots.len());
         self.react(reaction, out)
     }
 
@@ -109,7 +110,7 @@ impl Link {
     pub fn speaks_when_late(&self) -> bool
         ensures { IsTrue result ↔ ((step self.now timed_out).emitted ≢ []) }
     {
-        self.status.speaks_when_late(self.unacked.len())
+        self.status.speaks_when_late(self.slots.len())
     }
 
     /// Sends a message of at most `size` bytes, on a link that has room for one more. Without memory for the packet, link
@@ -123,9 +124,11 @@ impl Link {
         requires fits { length message.now ≤ size_of_code self.old.size_code }
         ensures { Follows (step self.old (to_send message.now)) self.old self.new out.old out.new (done result) }
     {
-        let number = plus(self.status.oldest, self.unacked.len());
-        out.add_packet(&self.status.data_packet(number, message), true)?;
-        self.unacked.push(kept(message));
+        packets_are_well_formed();
+        let number = plus(self.status.oldest, self.slots.len());
+        out.reserve(1)?;
+        self.status
+            .send_first(number, message, &mut self.slots, out);
         Ok(())
     }
 
@@ -176,7 +179,7 @@ impl Link {
         ensures within { result ≤ self.now.window }
         ensures most { result ≤ WINDOW_MAX }
     {
-        self.unacked.len()
+        self.slots.len()
     }
 
     /// How many timeouts have passed in a row without progress; at the eighth the link gives up.
@@ -214,6 +217,7 @@ impl Link {
     ) -> Result<Outcome, LinkFault>
         requires struck { reaction.strikes ≤ length self.old.unacked }
         requires sound { IsSound (effect_of reaction self.old.unacked).state }
+        requires keeps { Keeps self.old (effect_of reaction self.old.unacked).state }
         ensures { Follows (effect_of reaction self.old.unacked)
             self.old self.new out.old out.new (answered result) }
     {
@@ -223,7 +227,7 @@ impl Link {
         reaction.reply.answer()
     }
 
-    /// Emits first, since that may be refused, and changes the link then.
+    /// Makes room first, since that may be refused. What changes the link and emits then is not.
     fn apply<A: Allocator>(
         &mut self,
         reaction: Reaction,
@@ -231,6 +235,7 @@ impl Link {
     ) -> Result<(), AllocError>
         requires struck { reaction.strikes ≤ length self.old.unacked }
         requires sound { IsSound (effect_of reaction self.old.unacked).state }
+        requires keeps { Keeps self.old (effect_of reaction self.old.unacked).state }
         ensures ok { OnOk result (self.new ≡ (effect_of reaction self.old.unacked).state) }
         ensures emitted { OnOk result
             (out.new.entries ≡ out.old.entries ++ map written (effect_of reaction self.old.unacked).emitted) }
@@ -241,29 +246,11 @@ impl Link {
         ensures spare { out.old.spare ≤ out.new.spare + length (effect_of reaction self.old.unacked).emitted }
         ensures few { length (effect_of reaction self.old.unacked).emitted ≤ WINDOW_MAX }
     {
-        reaction.emit(self.unacked.as_slice(), out)?;
-        strike(&mut self.unacked, reaction.strikes);
+        let left = self.slots.len() - reaction.strikes;
+        out.reserve(reaction.status.emissions(reaction.emits, left))?;
+        self.slots.strike(reaction.strikes);
         self.status = reaction.status;
+        self.status.emit(reaction.emits, &mut self.slots, out);
         Ok(())
     }
-}
-
-/// Takes the oldest messages away.
-fn strike(unacked: &mut ArrayVec<Message, UNACKED_MAX>, count: usize)
-    requires { count ≤ array_vec_len unacked.old }
-    ensures { unacked.new.items ≡ drop count unacked.old.items }
-{
-    unacked.drain(..count);
-}
-
-/// A copy of a message.
-fn kept(message: &[u8]) -> Message
-    requires { length message.now ≤ MESSAGE_MAX }
-    ensures { result.items ≡ message.now }
-{
-    let mut kept = ArrayVec::new();
-    if kept.try_extend_from_slice(message).is_err() {
-        unreachable!()
-    }
-    kept
 }

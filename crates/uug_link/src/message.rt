@@ -1,20 +1,22 @@
-ghost use Rattle.std.specs.Prelude.{◌≡◌, ◌+◌, ◌≤◌, [], length, ◌++◌, map, All, IsOk, OnOk, OnErr};
+ghost use Rattle.std.specs.Prelude.{◌≡◌, ℕ, ◌+◌, ◌%◌, ◌<◌, ◌≤◌, List, [], ◌∷◌, length, ◌++◌, map, get_or, true, false};
 ghost use Rattle.uug_link.specs.Follows.{written};
-ghost use Rattle.uug_link.specs.Reactions.{messages_of, state_of};
+ghost use Rattle.uug_link.specs.Reactions.{emitted_of, state_of};
+ghost use Rattle.uug_link.specs.Slots.{AreSlots, messages_in};
 ghost use Rattle.uug_link.specs.State.{Fits};
-ghost use Rattle.uug_link.specs.Step.{data_packet, selected, sent_again};
+ghost use Rattle.uug_link.specs.Step.{data_packet, distance, outstanding, selected};
 ghost use Rattle.uug_packet.specs.Number.{number_of};
 ghost use Rattle.uug_packet.specs.Packet.{shown};
+ghost use Rattle.uug_packet.specs.Spelling.{canonical};
 
-use crate::limits::{MESSAGE_MAX, WINDOW_MAX};
+use crate::entry::EntryKind;
+use crate::limits::{UNACKED_MAX, WINDOW_MAX};
 use crate::outbox::Outbox;
+use crate::reaction::Emits;
+use crate::slots::Slots;
 use crate::status::Status;
-use arrayvec::ArrayVec;
-use std::alloc::{AllocError, Allocator};
+use std::alloc::Allocator;
+use uug_packet::laws::packets_are_well_formed;
 use uug_packet::{Packet, Seq};
-
-/// A message that may have to go out again.
-pub(crate) type Message = ArrayVec<u8, MESSAGE_MAX>;
 
 impl Status {
     /// The data packet that carries a message.
@@ -29,52 +31,120 @@ impl Status {
         }
     }
 
-    /// Emits messages again, in order, the first of them with that number. Room for all is made first.
-    pub(crate) fn send_again<A: Allocator>(
+    /// Writes the packet that carries a message, and emits it.
+    pub(crate) fn send_first<A: Allocator>(
         self,
         number: Seq,
-        messages: &[Message],
+        message: &[u8],
+        slots: &mut Slots,
         out: &mut Outbox<A>,
-    ) -> Result<(), AllocError>
-        requires few { length messages.now ≤ WINDOW_MAX }
-        requires fit { All (Fits (number_of self.size_code)) (messages_of messages.now) }
-        ensures ok { OnOk result (out.new.entries ≡ out.old.entries
-            ++ map written (sent_again (data_packet (state_of self [])) (number_of number) (messages_of messages.now))) }
-        ensures err { OnErr result (out.new.entries ≡ out.old.entries) }
-        ensures kept { OnErr result (out.old.spare ≤ out.new.spare) }
-        ensures memory { length messages.now ≤ out.old.spare → IsOk result }
-        ensures spare { out.old.spare ≤ out.new.spare + length messages.now }
+    )
+        requires place { length slots.old < UNACKED_MAX }
+        requires fits { Fits (number_of self.size_code) message.now }
+        requires room { 0 < out.old.spare }
+        ensures slots { slots.new ≡ slots.old
+            ++ canonical (data_packet (state_of self []) (number_of number) message.now) ∷ [] }
+        ensures emitted { out.new.entries ≡ out.old.entries ++ written (record {
+          packet = data_packet (state_of self []) (number_of number) message.now;
+          first = true;
+        }) ∷ [] }
+        ensures spare { out.old.spare ≤ out.new.spare + 1 }
     {
-        out.reserve(messages.len())?;
-        let mut number = number;
-        for message in messages {
-            out.add_packet(&self.data_packet(number, message), false)?;
-            number = number.next();
-        }
-        Ok(())
+        let last = slots.len();
+        slots.add(&self.data_packet(number, message));
+        out.add_within(EntryKind::Packet { first: true }, slots.packet(last));
     }
 
-    /// Emits the message of that number again, if it is one of the unacknowledged messages.
-    pub(crate) fn send_selected<A: Allocator>(
-        self,
-        number: Seq,
-        unacked: &[Message],
-        out: &mut Outbox<A>,
-    ) -> Result<(), AllocError>
-        requires { All (Fits (number_of self.size_code)) (messages_of unacked.now) }
-        ensures ok { let s = state_of self (messages_of unacked.now) in
-            OnOk result (out.new.entries ≡ out.old.entries ++ map written (selected (number_of number) s)) }
-        ensures err { OnErr result (out.new.entries ≡ out.old.entries) }
-        ensures kept { OnErr result (out.old.spare ≤ out.new.spare) }
-        ensures memory { let s = state_of self (messages_of unacked.now) in
-            length (selected (number_of number) s) ≤ out.old.spare → IsOk result }
-        ensures spare { let s = state_of self (messages_of unacked.now) in
+    /// How many packets go out, of a link on which so many are outstanding.
+    pub(crate) fn emissions(self, emits: Emits, outstanding: usize) -> usize
+        requires { outstanding ≤ WINDOW_MAX }
+        ensures count { (ms : List (List ℕ)) → length ms ≡ outstanding →
+            result ≡ length (emitted_of emits (state_of self ms)) }
+        ensures few { result ≤ WINDOW_MAX }
+    {
+        match emits {
+            Emits::Nothing => 0,
+            Emits::Control(_) => 1,
+            Emits::Outstanding => outstanding,
+            Emits::Selected(number) if self.place_of(number) < outstanding => 1,
+            Emits::Selected(_) => 0,
+        }
+    }
+
+    /// How many packets stand in front of the one of that number, if it is outstanding.
+    fn place_of(self, number: Seq) -> usize
+        ensures { result ≡ distance (number_of self.oldest) (number_of number) }
+    {
+        usize::from(number.ahead_of(self.oldest))
+    }
+
+    /// Emits what goes out. There is room for it.
+    pub(crate) fn emit<A: Allocator>(self, emits: Emits, slots: &mut Slots, out: &mut Outbox<A>)
+        requires slots { AreSlots (number_of self.size_code) (number_of self.oldest) slots.old }
+        requires room { length (emitted_of emits (state_of self (messages_in slots.old))) ≤ out.old.spare }
+        ensures slots { AreSlots (number_of self.size_code) (number_of self.oldest) slots.new }
+        ensures messages { messages_in slots.new ≡ messages_in slots.old }
+        ensures emitted { out.new.entries ≡ out.old.entries
+            ++ map written (emitted_of emits (state_of self (messages_in slots.old))) }
+        ensures spare { out.old.spare ≤ out.new.spare
+            + length (emitted_of emits (state_of self (messages_in slots.old))) }
+    {
+        match emits {
+            Emits::Nothing => {}
+            Emits::Control(control) => out.add_control(control),
+            Emits::Outstanding => self.send_again(slots, out),
+            Emits::Selected(number) => self.send_selected(number, slots, out),
+        }
+    }
+
+    /// Emits all packets that are outstanding again, in order.
+    fn send_again<A: Allocator>(self, slots: &mut Slots, out: &mut Outbox<A>)
+        requires slots { AreSlots (number_of self.size_code) (number_of self.oldest) slots.old }
+        requires room { length slots.old ≤ out.old.spare }
+        ensures slots { AreSlots (number_of self.size_code) (number_of self.oldest) slots.new }
+        ensures messages { messages_in slots.new ≡ messages_in slots.old }
+        ensures emitted { out.new.entries ≡ out.old.entries
+            ++ map written (outstanding (state_of self (messages_in slots.old))) }
+        ensures spare { out.old.spare ≤ out.new.spare + length slots.old }
+    {
+        for i in 0..slots.len() {
+            self.repeat(i, slots, out);
+        }
+    }
+
+    /// Emits the packet of that number again, if it is outstanding.
+    fn send_selected<A: Allocator>(self, number: Seq, slots: &mut Slots, out: &mut Outbox<A>)
+        requires slots { AreSlots (number_of self.size_code) (number_of self.oldest) slots.old }
+        requires room { let s = state_of self (messages_in slots.old) in
+            length (selected (number_of number) s) ≤ out.old.spare }
+        ensures slots { AreSlots (number_of self.size_code) (number_of self.oldest) slots.new }
+        ensures messages { messages_in slots.new ≡ messages_in slots.old }
+        ensures emitted { let s = state_of self (messages_in slots.old) in
+            out.new.entries ≡ out.old.entries ++ map written (selected (number_of number) s) }
+        ensures spare { let s = state_of self (messages_in slots.old) in
             out.old.spare ≤ out.new.spare + length (selected (number_of number) s) }
     {
-        let place = usize::from(number.ahead_of(self.oldest));
-        match unacked.get(place) {
-            Some(message) => out.add_packet(&self.data_packet(number, message), false),
-            None => Ok(()),
+        let place = self.place_of(number);
+        if place < slots.len() {
+            self.repeat(place, slots, out);
         }
+    }
+
+    /// Emits a packet again, with the number of the last one that was taken.
+    fn repeat<A: Allocator>(self, i: usize, slots: &mut Slots, out: &mut Outbox<A>)
+        requires within { i < length slots.old }
+        requires slots { AreSlots (number_of self.size_code) (number_of self.oldest) slots.old }
+        requires room { 0 < out.old.spare }
+        ensures slots { AreSlots (number_of self.size_code) (number_of self.oldest) slots.new }
+        ensures messages { messages_in slots.new ≡ messages_in slots.old }
+        ensures emitted { out.new.entries ≡ out.old.entries ++ written (record {
+          packet = data_packet (state_of self []) ((number_of self.oldest + i) % 8) (get_or (messages_in slots.old) i []);
+          first = false;
+        }) ∷ [] }
+        ensures spare { out.old.spare ≤ out.new.spare + 1 }
+    {
+        packets_are_well_formed();
+        slots.re_ack(i, self.received);
+        out.add_within(EntryKind::Packet { first: false }, slots.packet(i));
     }
 }

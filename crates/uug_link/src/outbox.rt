@@ -1,14 +1,14 @@
-ghost use Rattle.std.specs.Prelude.{◌≡◌, ℕ, ◌+◌, ◌-◌, ◌≤◌, ◌<◌, List, [], ◌∷◌, ◌++◌, length, vec_len, vec_capacity, slice_get, Some, IsOk, OnOk, OnErr};
+ghost use Rattle.std.specs.Prelude.{◌≡◌, ℕ, ◌+◌, ◌-◌, ◌≤◌, ◌<◌, List, [], ◌∷◌, ◌++◌, length, vec_len, vec_capacity, slice_get, Some, false, IsOk, OnOk, OnErr};
 ghost use Rattle.uug_link.specs.Entries.{text, packet, entry_of, joined, shown_entry, AreCuts, entries_from, start_at};
-ghost use Rattle.uug_packet.specs.Packet.{shown};
-ghost use Rattle.uug_packet.specs.Spelling.{canonical, IsWritable};
+ghost use Rattle.uug_packet.specs.Packet.{control, shown_control};
+ghost use Rattle.uug_packet.specs.Spelling.{canonical};
 
 use crate::entry::{Entry, EntryKind, Mark};
 use crate::limits::ENTRIES_MAX;
 use arrayvec::ArrayVec;
 use std::alloc::{AllocError, Allocator};
 use std::marker::Model;
-use uug_packet::{PACKET_MAX, Packet, encode};
+use uug_packet::{Control, PACKET_MAX, Packet, encode};
 
 /// What an end emitted and its caller has not yet cleared: entries, in the order in which they were emitted.
 #[derive(Drop)]
@@ -106,19 +106,28 @@ impl<A: Allocator> Outbox<A> {
         self.add(EntryKind::Text, bytes)
     }
 
-    /// Appends a packet in its canonical spelling. Without memory for it the entries stay.
-    pub(crate) fn add_packet(&mut self, item: &Packet<'_>, first: bool) -> Result<(), AllocError>
-        requires { IsWritable (shown item.now) }
-        ensures ok { OnOk result
-            (self.new.entries ≡ self.old.entries ++ packet (canonical (shown item.now)) first ∷ []) }
-        ensures err { OnErr result (self.new.entries ≡ self.old.entries) }
-        ensures kept { OnErr result (self.old.spare ≤ self.new.spare) }
-        ensures memory { 0 < self.old.spare → IsOk result }
+    /// Appends a control packet. There is room for it.
+    pub(crate) fn add_control(&mut self, item: Control)
+        requires { 0 < self.old.spare }
+        ensures entries { self.new.entries ≡ self.old.entries
+            ++ packet (canonical (control (shown_control item))) false ∷ [] }
         ensures spare { self.old.spare ≤ self.new.spare + 1 }
     {
         let mut bytes = ArrayVec::new();
-        encode(item, &mut bytes);
-        self.add(EntryKind::Packet { first }, bytes.as_slice())
+        encode(&Packet::Control(item), &mut bytes);
+        self.add_within(EntryKind::Packet { first: false }, bytes.as_slice());
+    }
+
+    /// Appends an entry for which there is room.
+    pub(crate) fn add_within(&mut self, kind: EntryKind, bytes: &[u8])
+        requires short { length bytes.now ≤ PACKET_MAX }
+        requires room { 0 < self.old.spare }
+        ensures entries { self.new.entries ≡ self.old.entries ++ entry_of kind bytes.now ∷ [] }
+        ensures spare { self.old.spare ≤ self.new.spare + 1 }
+    {
+        if self.add(kind, bytes).is_err() {
+            unreachable!()
+        }
     }
 
     fn add(&mut self, kind: EntryKind, bytes: &[u8]) -> Result<(), AllocError>

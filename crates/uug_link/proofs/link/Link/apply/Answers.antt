@@ -1,31 +1,56 @@
-use Rattle.std.proofs.Common.{◌≡◌, length, drop, ap, sym, subst, ◌∙◌, arith}
-use Rattle.uug_link.specs.Reactions.{messages_of, state_of}
-use Rattle.uug_link.specs.State.{State, IsSound}
-use Rattle.uug_link.proofs.SendingLemmas.{few_left, messages_of-drop}
+use Rattle.std.proofs.Common.{◌++◌, List, map, ℕ, ap, ◌∙◌}
+use Rattle.uug_link.specs.Entries.{EntryValue}
+use Rattle.uug_link.specs.Follows.{written}
+use Rattle.uug_link.specs.Reactions.{emitted_of, state_of}
+use Rattle.uug_link.specs.Slots.{messages_in}
+use Rattle.uug_link.proofs.LinkLemmas.{left-linked, left-messages, left-slots, left-state}
 use Rattle.uug_link.proofs.link.Link.apply.Goals as goal
-use Rattle.uug_link.proofs.link.Link.apply.Given as given
 
--- the link is what the reaction says
-reacted : (g : given.Over) (c : goal.After-self-2-1 g) →
-    state_of c.args.reaction.status (messages_of c.strike.new.unacked.items)
-    ≡ state_of c.args.reaction.status (drop c.args.reaction.strikes c.args.self.now.unacked)
-reacted g c =
-    let left = messages_of-drop c.args.reaction.strikes c.self.inside.unacked.items c.strike.new.unacked.items c.strike.ensures in
-    ap (state_of c.args.reaction.status) (left ∙ ap (λ (s : State). drop c.args.reaction.strikes s.unacked) c.self.view_is)
+pub emit-requires-clause-slots : goal.emit-requires-clause-slots
+emit-requires-clause-slots g c =
+    let own = c.self.inside in
+    left-slots c.args.reaction own.status own.slots c.strike.new.self c.args.self.now (record {
+      view_is = c.self.view_is;
+      linked = c.self.invariant;
+      sound = c.requires.sound;
+      keeps = c.requires.keeps;
+      after_is = c.strike.ensures;
+    })
 
 pub invariant_of-self : goal.invariant_of-self
-invariant_of-self g c = subst IsSound (sym (reacted g c)) c.requires.sound
+invariant_of-self g c =
+    let own = c.self.inside in
+    left-linked c.args.reaction own.status own.slots c.strike.new.self c.emit.new.slots c.args.self.now (record {
+      view_is = c.self.view_is;
+      linked = c.self.invariant;
+      sound = c.requires.sound;
+      keeps = c.requires.keeps;
+      after_is = c.strike.ensures;
+    }) c.emit.ensures.messages c.emit.ensures.slots
 
 pub returns-clause-ok : goal.returns-clause-ok
-returns-clause-ok g c = reacted g c
+returns-clause-ok g c =
+    let own = c.self.inside in
+    left-state c.args.reaction own.status own.slots c.strike.new.self c.emit.new.slots c.args.self.now (record {
+      view_is = c.self.view_is;
+      linked = c.self.invariant;
+      sound = c.requires.sound;
+      keeps = c.requires.keeps;
+      after_is = c.strike.ensures;
+    }) c.emit.ensures.messages
 
--- what was outstanding fits a window
-pub returns-clause-few : goal.returns-clause-few
-returns-clause-few g c =
-    few_left c.args.reaction.emits c.args.reaction.status c.args.reaction.strikes c.self.inside.unacked.items _
-    (ap (λ (s : State). s.unacked) c.self.view_is) (omega (arith, c.as_slice.ensures.fits, ap length c.as_slice.ensures.value))
-
-pub returns-in_err-emit-clause-few : goal.returns-in_err-emit-clause-few
-returns-in_err-emit-clause-few g c =
-    few_left c.args.reaction.emits c.args.reaction.status c.args.reaction.strikes c.self.inside.unacked.items _
-    (ap (λ (s : State). s.unacked) c.self.view_is) (omega (arith, c.as_slice.ensures.fits, ap length c.as_slice.ensures.value))
+pub returns-clause-emitted : goal.returns-clause-emitted
+returns-clause-emitted g c =
+    let own = c.self.inside in
+    let r = c.args.reaction in
+    let left = left-messages r own.status own.slots c.strike.new.self c.args.self.now (record {
+      view_is = c.self.view_is;
+      linked = c.self.invariant;
+      sound = c.requires.sound;
+      keeps = c.requires.keeps;
+      after_is = c.strike.ensures;
+    }) in
+    c.emit.ensures.emitted
+    ∙ ap (λ (es : List EntryValue). es ++ map written (emitted_of r.emits (state_of r.status (messages_in c.strike.new.self))))
+    c.reserve.ensures.entries
+    ∙ ap (λ (ms : List (List ℕ)). c.args.out.now.entries ++ map written (emitted_of r.emits (state_of r.status ms))) left
