@@ -242,9 +242,11 @@ row "a pair that can't keep" 1 "" \
 holds "the job that is left" "$a/jobs" "send x y u$line_feed"
 folders "send x y"
 row "a pair with a bad job" 2 "uucpair: bad jobs at line 1$line_feed" "" pair "$socket" "$a" "$b" </dev/null
+holds "the bad job" "$a/jobs" "send x y$line_feed"
 folders "send x y u"
 touch "$socket"
 row "a pair whose socket has no place" 3 "uucpair: device fault$line_feed" "" pair "$socket" "$a" "$b" </dev/null
+holds "the job that was not begun" "$a/jobs" "send x y u$line_feed"
 
 fault="uucpair: device fault$line_feed"
 row "a scan of a folder" 3 "$fault" "" scan <"$work"

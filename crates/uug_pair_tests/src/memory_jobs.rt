@@ -1,0 +1,54 @@
+//! A file of jobs in memory.
+ghost use Rattle.std.specs.Prelude.{None};
+
+use crate::failing::fails;
+use arrayvec::ArrayVec;
+use uug_pair::{FolderFailed, JobsFile};
+
+/// The most bytes of a text.
+const TEXT_MAX: usize = 128;
+
+/// Holds a text, and refuses one.
+#[derive(Drop)]
+pub struct MemoryJobs {
+    text: ArrayVec<u8, TEXT_MAX>,
+    texts: u32,
+    faults: u64,
+}
+
+impl MemoryJobs {
+    /// Holds this text, and refuses the one of this number.
+    pub fn new(text: &str, texts: u32) -> Option<Self> {
+        let mut jobs = MemoryJobs {
+            text: ArrayVec::new(),
+            texts,
+            faults: 0,
+        };
+        jobs.text.try_extend_from_slice(text.as_bytes()).ok()?;
+        Some(jobs)
+    }
+
+    pub fn text(&self) -> &[u8] {
+        self.text.as_slice()
+    }
+}
+
+impl JobsFile for MemoryJobs {
+    ghost text = { λ _. None };
+
+    ghost fault_count = { λ jobs. jobs.faults };
+
+    fn replace(&mut self, jobs: &[u8]) -> Result<(), FolderFailed> {
+        if jobs.len() > TEXT_MAX || fails(&mut self.texts) {
+            self.faults = self.faults.saturating_add(1);
+            return Err(FolderFailed);
+        }
+        self.text.clear();
+        let _ = self.text.try_extend_from_slice(jobs);
+        Ok(())
+    }
+
+    fn faults(&self) -> u64 {
+        self.faults
+    }
+}

@@ -1,0 +1,267 @@
+//! Two ends over a line, folders and files of jobs in memory, of which one call fails or one request for memory is refused.
+//! What no clause says: whatever fails, a job that is gone from the jobs of its end has its file in the folder of the end
+//! that takes it, or is printed as failed.
+
+use crate::ends::{Call, End, Ends, Heap, NO_FAULT, Plan};
+use crate::memory_folder::MemoryFolder;
+use crate::memory_line::MemoryLine;
+use crate::short_output::ShortOutput;
+use crate::tasks::{CALLED, CALLER, REPORT, TASKS, Task};
+use std::process::Abort;
+use std::test::Fail;
+use uug_line::Side;
+use uug_pair::{Folder, JobsFile, Line, Noise, pair_over};
+use uug_refusal::Refusing;
+use uug_tool::{Output, ToolFault};
+
+/// More turns than two ends take in any of these tests.
+const ENOUGH: u32 = 1000;
+
+/// What came of a run.
+#[derive(Clone, Copy)]
+struct Outcome {
+    answer: Result<u8, ToolFault>,
+    /// Whether a call failed.
+    has_failed: bool,
+}
+
+/// Lets the ends take so many turns at most.
+fn run<'a>(
+    heap: Heap<'a>,
+    ends: &mut Ends<'a>,
+    (plan, limit): (Plan, u32),
+    noise: &mut Noise,
+    output: &mut ShortOutput,
+) -> Outcome {
+    let mut line = MemoryLine::new(plan.number_of(Call::Read), plan.number_of(Call::Write));
+    let answer = pair_over(
+        heap,
+        &mut ends.caller,
+        &mut ends.called,
+        &mut line,
+        noise,
+        limit,
+        output,
+    );
+    let has_failed = line.faults() > 0 || output.faults() > 0 || has_failed(ends);
+    Outcome { answer, has_failed }
+}
+
+fn has_failed(ends: &Ends<'_>) -> bool {
+    folder(&ends.caller).faults() > 0
+        || folder(&ends.called).faults() > 0
+        || ends.caller.jobs.faults() > 0
+        || ends.called.jobs.faults() > 0
+}
+
+fn folder<'e>(end: &'e End<'_>) -> &'e MemoryFolder {
+    end.seat.node().spool().folder()
+}
+
+fn has(text: &[u8], line: &str) -> bool {
+    let line = line.as_bytes();
+    text.windows(line.len().max(1)).any(|part| part == line)
+}
+
+/// The text of the jobs of the end on a side.
+fn jobs<'e>(ends: &'e Ends<'_>, side: Side) -> &'e [u8] {
+    match side {
+        Side::Caller => ends.caller.jobs.text(),
+        Side::Called => ends.called.jobs.text(),
+    }
+}
+
+/// Whether the file of the task of this number is in the folder of the end that takes it.
+fn is_taken(ends: &Ends<'_>, number: usize, taker: Side) -> bool {
+    let folder = match taker {
+        Side::Caller => folder(&ends.caller),
+        Side::Called => folder(&ends.called),
+    };
+    folder.taken().get(number) == Some(&true)
+}
+
+/// Whether the job of this number is still among those of its end, has its file in the folder of the end that takes it, or
+/// is printed as failed.
+fn is_not_lost(ends: &Ends<'_>, printed: &[u8], number: usize, task: &Task<'_>) -> bool {
+    has(jobs(ends, task.of), task.line)
+        || is_taken(ends, number, task.taker)
+        || has(printed, task.failed)
+}
+
+fn assert_not_lost(rt: &impl Abort, ends: &Ends<'_>, printed: &[u8]) {
+    for (number, task) in TASKS.iter().enumerate() {
+        assert!(rt; is_not_lost(ends, printed, number, task), "{}", task.line);
+    }
+}
+
+/// The calls that fail, how many of them there are at least, and what is answered.
+const FAULTS: [(Call, u32, Result<u8, ToolFault>); 7] = [
+    (Call::Read, 40, Err(ToolFault::Device)),
+    (Call::Write, 40, Err(ToolFault::Device)),
+    (Call::PutOfCaller, 2, Ok(1)),
+    (Call::PutOfCalled, 2, Ok(1)),
+    (Call::JobsOfCaller, 1, Err(ToolFault::Device)),
+    (Call::JobsOfCalled, 1, Err(ToolFault::Device)),
+    (Call::Print, 8, Err(ToolFault::Write)),
+];
+
+/// The text of the jobs of an end where the sessions come to their end: it is empty, unless this text was refused.
+fn left_jobs<'a>(given: &'a str, plan: Plan, call: Call) -> &'a [u8] {
+    if plan.number_of(call) == 1 {
+        given.as_bytes()
+    } else {
+        b""
+    }
+}
+
+/// What is in the files of jobs where the sessions come to their end.
+fn assert_done(rt: &impl Abort, ends: &Ends<'_>, plan: Plan) {
+    let caller = left_jobs(CALLER.jobs, plan, Call::JobsOfCaller);
+    let called = left_jobs(CALLED.jobs, plan, Call::JobsOfCalled);
+    assert_eq!(rt; jobs(ends, Side::Caller), caller);
+    assert_eq!(rt; jobs(ends, Side::Called), called);
+}
+
+/// All jobs are as before.
+fn assert_as_before(rt: &impl Abort, ends: &Ends<'_>) {
+    assert_eq!(rt; jobs(ends, Side::Caller), CALLER.jobs.as_bytes());
+    assert_eq!(rt; jobs(ends, Side::Called), CALLED.jobs.as_bytes());
+}
+
+/// Whether the sessions come to their end whatever call of this kind fails.
+fn is_done(call: Call) -> bool {
+    match call {
+        Call::JobsOfCaller | Call::JobsOfCalled | Call::Print => true,
+        _ => false,
+    }
+}
+
+/// Of a text that can't be printed it is not looked at what is printed.
+fn assert_left(rt: &impl Abort, ends: &Ends<'_>, plan: Plan, output: &ShortOutput) {
+    if is_done(plan.call) {
+        assert_done(rt, ends, plan);
+    }
+    if output.faults() > 0 {
+        return;
+    }
+    if is_done(plan.call) {
+        assert_eq!(rt; output.text(), REPORT.as_bytes());
+    }
+    assert_not_lost(rt, ends, output.text());
+}
+
+/// Runs both ends, of which a call fails. Whether there was such a call.
+fn fail(
+    rt: &impl Abort,
+    heap: Heap<'_>,
+    plan: Plan,
+    expected: Result<u8, ToolFault>,
+) -> Option<bool> {
+    let mut noise = Noise::new(None, None)?;
+    let mut ends = Ends::new(heap, plan, &mut noise)?;
+    let mut output = ShortOutput::new(plan.number_of(Call::Print));
+    let outcome = run(heap, &mut ends, (plan, ENOUGH), &mut noise, &mut output);
+    let expected = if outcome.has_failed { expected } else { Ok(0) };
+    assert_eq!(rt; outcome.answer, expected, "at {}", plan.number);
+    assert_left(rt, &ends, plan, &output);
+    Some(outcome.has_failed)
+}
+
+/// Lets each call of a kind fail in turn. How many there are.
+fn fail_each(
+    rt: &impl Abort,
+    heap: Heap<'_>,
+    call: Call,
+    expected: Result<u8, ToolFault>,
+) -> Option<u32> {
+    for number in 1..10_000 {
+        if !fail(rt, heap, Plan { call, number }, expected)? {
+            return Some(number - 1);
+        }
+    }
+    None
+}
+
+// a fault that is passed over; a job that is gone though its file did not come; a fault after which the other jobs stay as
+// they were, or nothing is printed
+#[test]
+fn loses_no_job_by_a_fault(rt: HostRuntime) -> Result<(), Fail> {
+    let heap = Refusing::new(rt.alloc(), 0);
+    for (call, least, answer) in FAULTS {
+        let count = fail_each(&rt, &heap, call, answer).ok_or("two ends that come to an end")?;
+        assert!(rt; count >= least, "{count} calls");
+    }
+    Ok(())
+}
+
+/// What a run leaves of which a request for memory was refused, or none.
+fn assert_refused(
+    rt: &impl Abort,
+    ends: &Ends<'_>,
+    outcome: Outcome,
+    was_refused: bool,
+    printed: &[u8],
+) {
+    if was_refused {
+        assert_eq!(rt; outcome.answer, Err(ToolFault::Memory));
+        assert_as_before(rt, ends);
+        assert!(rt; printed.is_empty());
+    } else {
+        assert_eq!(rt; outcome.answer, Ok(0));
+        assert_done(rt, ends, NO_FAULT);
+    }
+}
+
+/// Refuses the nth request for memory of both ends. Whether there was one.
+fn refuse(rt: &impl Abort, heap: Heap<'_>, nth: u64) -> Option<bool> {
+    heap.refuse(0);
+    let mut noise = Noise::new(None, None)?;
+    let mut ends = Ends::new(heap, NO_FAULT, &mut noise)?;
+    let mut output = ShortOutput::new(0);
+    heap.refuse(nth);
+    let outcome = run(heap, &mut ends, (NO_FAULT, ENOUGH), &mut noise, &mut output);
+    assert_refused(rt, &ends, outcome, heap.was_refused(), output.text());
+    Some(heap.was_refused())
+}
+
+/// Refuses each request for memory in turn. How many there are.
+fn refuse_each(rt: &impl Abort, heap: Heap<'_>) -> Option<u64> {
+    for nth in 1..10_000 {
+        if !refuse(rt, heap, nth)? {
+            return Some(nth - 1);
+        }
+    }
+    None
+}
+
+#[test]
+fn leaves_all_jobs_when_out_of_memory(rt: HostRuntime) -> Result<(), Fail> {
+    let heap = Refusing::new(rt.alloc(), 0);
+    let requests = refuse_each(&rt, &heap).ok_or("two ends that come to an end")?;
+    assert!(rt; requests > 30, "{requests} requests");
+    Ok(())
+}
+
+/// Lets two ends take so few turns that no job is done.
+fn break_off(rt: &impl Abort, heap: Heap<'_>, limit: u32) -> Option<()> {
+    let mut noise = Noise::new(None, None)?;
+    let mut ends = Ends::new(heap, NO_FAULT, &mut noise)?;
+    let mut output = ShortOutput::new(0);
+    let outcome = run(heap, &mut ends, (NO_FAULT, limit), &mut noise, &mut output);
+    assert_eq!(rt; outcome.answer, Ok(1));
+    assert_as_before(rt, &ends);
+    assert_eq!(rt;
+        output.text(),
+        b"caller hungup pending 4 struck 0 failed 0\ncalled hungup pending 2 struck 0 failed 0\n".as_slice()
+    );
+    Some(())
+}
+
+#[test]
+fn ends_at_the_limit_of_turns(rt: HostRuntime) -> Result<(), Fail> {
+    let heap = Refusing::new(rt.alloc(), 0);
+    for limit in [0, 5] {
+        break_off(&rt, &heap, limit).ok_or("two ends")?;
+    }
+    Ok(())
+}

@@ -1,0 +1,559 @@
+//! Two ends over a socket and folders of the system. What no clause says: what comes into the folders, and that a hostile
+//! folder does no harm.
+
+use crate::short_output::ShortOutput;
+use std::alloc::{AllocError, Allocator, Global};
+use std::net::Net;
+use std::os::unix::fs::symlink;
+use std::os::unix::net::UnixListener;
+use std::process::Abort;
+use std::rt::Runtime;
+use std::test::Fail;
+use std::{env, fs, io, process};
+use uug_pair::pair_run;
+use uug_refusal::Refusing;
+use uug_tool::ToolFault;
+
+/// What there is before a run, beside the folder `a/send`. `a` and `b` are the folders of the two ends.
+#[derive(Clone, Copy)]
+enum Given<'a> {
+    /// A folder, and those that it lies in.
+    Folder(&'a str),
+    File(&'a str, &'a [u8]),
+    /// So many bytes of one value.
+    Filled(&'a str, u8, usize),
+    /// So many empty files, whose names begin with this.
+    Files(&'a str, usize),
+    /// A link, and what it leads to.
+    Link(&'a str, &'a str),
+    Socket(&'a str),
+}
+
+impl Given<'_> {
+    fn name(&self) -> &str {
+        match self {
+            Given::Folder(name)
+            | Given::File(name, _)
+            | Given::Filled(name, _, _)
+            | Given::Files(name, _)
+            | Given::Link(name, _)
+            | Given::Socket(name) => name,
+        }
+    }
+}
+
+/// What is in the folders before a run, the noise on the line, the answer, what is printed, and the files that there are
+/// then.
+struct Row<'a> {
+    given: &'a [Given<'a>],
+    drop_every: Option<u32>,
+    flip_every: Option<u32>,
+    answer: Result<u8, ToolFault>,
+    printed: &'a str,
+    left: &'a [(&'a str, &'a [u8])],
+}
+
+const SEND: Given<'static> = Given::File("a/jobs", b"send x y u\n");
+
+const X: Given<'static> = Given::File("a/send/x", b"");
+
+const ROWS: &[Row<'static>] = &[
+    Row {
+        given: &[SEND, X, Given::Folder("b/got")],
+        drop_every: Some(7),
+        flip_every: None,
+        answer: Ok(0),
+        printed: "caller done pending 0 struck 1 failed 0\n\
+            called done pending 0 struck 0 failed 0\n",
+        left: &[("b/got/y", b""), ("a/jobs", b""), ("b/jobs", b"")],
+    },
+    // the socket is there
+    Row {
+        given: &[SEND, X, Given::Folder("b/got"), Given::File("socket", b"s")],
+        drop_every: None,
+        flip_every: None,
+        answer: Err(ToolFault::Device),
+        printed: "",
+        left: &[("a/jobs", b"send x y u\n"), ("socket", b"s")],
+    },
+    // the file can't be kept
+    Row {
+        given: &[SEND, X, Given::Folder("b")],
+        drop_every: None,
+        flip_every: None,
+        answer: Ok(1),
+        printed: "caller peerclosed pending 1 struck 0 failed 0\n\
+            called spoolfault pending 0 struck 0 failed 0\n",
+        left: &[("a/jobs", b"send x y u\n"), ("b/jobs", b"")],
+    },
+    Row {
+        given: &[SEND, X, Given::Folder("b"), Given::File("b/got", b"g")],
+        drop_every: None,
+        flip_every: None,
+        answer: Ok(1),
+        printed: "caller peerclosed pending 1 struck 0 failed 0\n\
+            called spoolfault pending 0 struck 0 failed 0\n",
+        left: &[("a/jobs", b"send x y u\n"), ("b/got", b"g")],
+    },
+    Row {
+        given: &[SEND, X, Given::Folder("b/got/y")],
+        drop_every: None,
+        flip_every: None,
+        answer: Ok(1),
+        printed: "caller peerclosed pending 1 struck 0 failed 0\n\
+            called spoolfault pending 0 struck 0 failed 0\n",
+        left: &[("a/jobs", b"send x y u\n")],
+    },
+    // a folder is missing, into which no jobs can be written
+    Row {
+        given: &[SEND, X],
+        drop_every: None,
+        flip_every: None,
+        answer: Err(ToolFault::Device),
+        printed: "caller peerclosed pending 1 struck 0 failed 0\n\
+            called spoolfault pending 0 struck 0 failed 0\n",
+        left: &[("a/jobs", b"send x y u\n")],
+    },
+    // files and links in the place of what is kept, and of what is written before it is whole
+    Row {
+        given: &[
+            Given::File("a/jobs", b"send x y u\nsend x link u\n"),
+            Given::File("a/send/x", b"new"),
+            Given::Folder("b/got"),
+            Given::File("b/got/y", b"old"),
+            Given::File("b/target", b"t"),
+            Given::Link("b/got/link", "../target"),
+            Given::Link("b/got/.part", "../target"),
+            Given::Link("a/jobs.new", "../b/target"),
+        ],
+        drop_every: None,
+        flip_every: None,
+        answer: Ok(0),
+        printed: "caller done pending 0 struck 2 failed 0\n\
+            called done pending 0 struck 0 failed 0\n",
+        left: &[
+            ("b/got/y", b"new"),
+            ("b/got/link", b"new"),
+            ("b/target", b"t"),
+            ("a/jobs", b""),
+        ],
+    },
+    // a hidden name
+    Row {
+        given: &[
+            Given::File("a/jobs", b"send x .y u\n"),
+            X,
+            Given::Folder("b/got"),
+        ],
+        drop_every: None,
+        flip_every: None,
+        answer: Ok(0),
+        printed: "caller done pending 0 struck 0 failed 1\n\
+            called done pending 0 struck 0 failed 0\n\
+            caller failed send x .y u\n",
+        left: &[("a/jobs", b"")],
+    },
+    // a name that leads out of the folder, at the end that asks for the file
+    Row {
+        given: &[
+            X,
+            Given::Folder("b/got"),
+            Given::File("b/jobs", b"request x ../y u\n"),
+        ],
+        drop_every: None,
+        flip_every: None,
+        answer: Ok(0),
+        printed: "caller done pending 0 struck 0 failed 0\n\
+            called done pending 0 struck 0 failed 1\n\
+            called failed request x ../y u\n",
+        left: &[("b/jobs", b"")],
+    },
+    // bad jobs
+    Row {
+        given: &[
+            Given::File("a/jobs", b"send x y\n"),
+            X,
+            Given::Folder("b/got"),
+        ],
+        drop_every: None,
+        flip_every: None,
+        answer: Err(ToolFault::Jobs(1)),
+        printed: "",
+        left: &[("a/jobs", b"send x y\n")],
+    },
+    Row {
+        given: &[
+            SEND,
+            X,
+            Given::Folder("b"),
+            Given::File("b/jobs", b"# none\n\nsend\n"),
+            Given::File("b/send", b""),
+        ],
+        drop_every: None,
+        flip_every: None,
+        answer: Err(ToolFault::Jobs(3)),
+        printed: "",
+        left: &[("a/jobs", b"send x y u\n")],
+    },
+    Row {
+        given: &[SEND, X, Given::Folder("b"), Given::File("b/send", b"")],
+        drop_every: None,
+        flip_every: None,
+        answer: Err(ToolFault::Device),
+        printed: "",
+        left: &[("a/jobs", b"send x y u\n")],
+    },
+    Row {
+        given: &[SEND, X, Given::Folder("b/jobs")],
+        drop_every: None,
+        flip_every: None,
+        answer: Err(ToolFault::Device),
+        printed: "",
+        left: &[("a/jobs", b"send x y u\n")],
+    },
+    // more than any text of jobs may have
+    Row {
+        given: &[
+            SEND,
+            X,
+            Given::Folder("b"),
+            Given::Filled("b/jobs", b'\n', 16_777_217),
+        ],
+        drop_every: None,
+        flip_every: None,
+        answer: Err(ToolFault::Device),
+        printed: "",
+        left: &[("a/jobs", b"send x y u\n")],
+    },
+    // before these, bad usage
+    Row {
+        given: &[Given::File("a/jobs", b"bad\n")],
+        drop_every: Some(1),
+        flip_every: Some(2),
+        answer: Err(ToolFault::Usage),
+        printed: "",
+        left: &[("a/jobs", b"bad\n")],
+    },
+    Row {
+        given: &[Given::File("a/jobs", b"bad\n")],
+        drop_every: Some(1_000_000),
+        flip_every: Some(1_000_001),
+        answer: Err(ToolFault::Usage),
+        printed: "",
+        left: &[("a/jobs", b"bad\n")],
+    },
+    // names that are no names, folders, links and a socket among the files to give
+    Row {
+        given: &[
+            Given::File(
+                "a/jobs",
+                b"send x x u\nsend link link u\nsend zero zero u\n",
+            ),
+            Given::File("a/send/x", b"x"),
+            Given::File("a/send/a b", b""),
+            Given::Folder("a/send/folder"),
+            Given::Link("a/send/link", "x"),
+            Given::Link("a/send/nowhere", "none"),
+            Given::Link("a/send/itself", "itself"),
+            Given::Link("a/send/zero", "/dev/zero"),
+            Given::Socket("a/send/socket"),
+            Given::Folder("b/got"),
+        ],
+        drop_every: None,
+        flip_every: None,
+        answer: Ok(0),
+        printed: "caller done pending 0 struck 2 failed 1\n\
+            called done pending 0 struck 0 failed 0\n\
+            caller failed send zero zero u\n",
+        left: &[("b/got/x", b"x"), ("b/got/link", b"x"), ("a/jobs", b"")],
+    },
+    // a file that is a byte too large, and a megabyte of empty lines
+    Row {
+        given: &[
+            Given::File("a/jobs", b"send x y u\n"),
+            Given::Filled("a/send/x", b'x', 1_048_577),
+            Given::Folder("b/got"),
+            Given::Filled("b/jobs", b'\n', 1_048_576),
+        ],
+        drop_every: None,
+        flip_every: None,
+        answer: Ok(0),
+        printed: "caller done pending 0 struck 0 failed 1\n\
+            called done pending 0 struck 0 failed 0\n\
+            caller failed send x y u\n",
+        left: &[("a/jobs", b""), ("b/jobs", b"")],
+    },
+    // files up to the limit of how many, and one more
+    Row {
+        given: &[
+            SEND,
+            X,
+            Given::Files("a/send/f", 255),
+            Given::Folder("b/got"),
+        ],
+        drop_every: None,
+        flip_every: None,
+        answer: Ok(0),
+        printed: "caller done pending 0 struck 1 failed 0\n\
+            called done pending 0 struck 0 failed 0\n",
+        left: &[("b/got/y", b""), ("a/jobs", b"")],
+    },
+    Row {
+        given: &[
+            SEND,
+            X,
+            Given::Files("a/send/f", 256),
+            Given::Folder("b/got"),
+        ],
+        drop_every: None,
+        flip_every: None,
+        answer: Err(ToolFault::Device),
+        printed: "",
+        left: &[("a/jobs", b"send x y u\n")],
+    },
+    // both ends give and ask, over a line that loses and changes packets
+    Row {
+        given: &[
+            Given::File("a/jobs", b"send x y u\nrequest p z u\n"),
+            Given::File("a/send/x", b"from a"),
+            Given::Folder("a/got"),
+            Given::Folder("b/got"),
+            Given::Folder("b/send"),
+            Given::File("b/jobs", b"request x v u\nsend p w u\n"),
+            Given::File("b/send/p", b"from b"),
+        ],
+        drop_every: Some(7),
+        flip_every: Some(11),
+        answer: Ok(0),
+        printed: "caller done pending 0 struck 2 failed 0\n\
+            called done pending 0 struck 2 failed 0\n",
+        left: &[
+            ("b/got/y", b"from a"),
+            ("a/got/z", b"from b"),
+            ("b/got/v", b"from a"),
+            ("a/got/w", b"from b"),
+            ("a/jobs", b""),
+            ("b/jobs", b""),
+        ],
+    },
+];
+
+/// The path of this name in a folder.
+fn within(alloc: Global, dir: &str, name: &str) -> Result<String, AllocError> {
+    format!(in alloc; "{dir}/{name}")
+}
+
+fn fill_file(
+    rt: &(impl Runtime + AllocGlobal),
+    path: &str,
+    byte: u8,
+    count: usize,
+) -> io::Result<()> {
+    let mut bytes = Vec::new(rt.alloc());
+    bytes.resize(count, byte)?;
+    fs::write(rt, path, bytes.as_slice())
+}
+
+fn write_numbered(rt: &(impl Runtime + AllocGlobal), front: &str, number: usize) -> io::Result<()> {
+    let path = format!(in rt.alloc(); "{front}{number}")?;
+    fs::write(rt, path.as_str(), b"")
+}
+
+fn write_files(rt: &(impl Runtime + AllocGlobal), front: &str, count: usize) -> io::Result<()> {
+    for number in 0..count {
+        write_numbered(rt, front, number)?;
+    }
+    Ok(())
+}
+
+fn make_socket(rt: &(impl Runtime + Net + AllocGlobal), path: &str) -> io::Result<()> {
+    let _listener = UnixListener::bind(rt, path)?;
+    Ok(())
+}
+
+/// Makes what is given, of which this is the path.
+fn make(rt: &(impl Runtime + Net + AllocGlobal), path: &str, given: Given<'_>) -> io::Result<()> {
+    match given {
+        Given::Folder(_) => fs::create_dir_all(rt, path),
+        Given::File(_, bytes) => fs::write(rt, path, bytes),
+        Given::Filled(_, byte, count) => fill_file(rt, path, byte, count),
+        Given::Files(_, count) => write_files(rt, path, count),
+        Given::Link(_, to) => symlink(rt, to, path),
+        Given::Socket(_) => make_socket(rt, path),
+    }
+}
+
+fn place(rt: &(impl Runtime + Net + AllocGlobal), dir: &str, given: Given<'_>) -> io::Result<()> {
+    let path = within(rt.alloc(), dir, given.name())?;
+    make(rt, path.as_str(), given)
+}
+
+/// Makes what is given in a new folder.
+fn place_all(
+    rt: &(impl Runtime + Net + AllocGlobal),
+    dir: &str,
+    given: &[Given<'_>],
+) -> io::Result<()> {
+    place(rt, dir, Given::Folder("a/send"))?;
+    for one in given {
+        place(rt, dir, *one)?;
+    }
+    Ok(())
+}
+
+/// The path of a folder of its own for each test.
+fn folder_path(rt: &HostRuntime, test: &str) -> Result<String, Fail> {
+    let temporary = env::temp_dir(rt)?;
+    let id = process::id(rt.process());
+    Ok(format!(in rt.alloc(); "{}/uug_pair_{id}_{test}", temporary.as_str())?)
+}
+
+/// The noise on the line: every Nth packet is lost, and every Nth changed.
+type Every = (Option<u32>, Option<u32>);
+
+/// Runs two ends over the folders `a` and `b` and the socket `socket` in this folder.
+fn run_ends<A: Allocator + Copy>(
+    alloc: A,
+    rt: &(impl Runtime + Net + AllocGlobal),
+    dir: &str,
+    (drop_every, flip_every): Every,
+    output: &mut ShortOutput,
+) -> Result<Result<u8, ToolFault>, AllocError> {
+    let socket = within(rt.alloc(), dir, "socket")?;
+    let a = within(rt.alloc(), dir, "a")?;
+    let b = within(rt.alloc(), dir, "b")?;
+    let (socket, a, b) = (socket.as_str(), a.as_str(), b.as_str());
+    Ok(pair_run(alloc, rt, socket, a, b, drop_every, flip_every, output))
+}
+
+/// Whether the file of this name has these bytes.
+fn has_file(
+    rt: &(impl Runtime + AllocGlobal),
+    dir: &str,
+    name: &str,
+    bytes: &[u8],
+) -> io::Result<bool> {
+    let path = within(rt.alloc(), dir, name)?;
+    is_file_of(rt, path.as_str(), bytes)
+}
+
+fn is_file_of(rt: &(impl Runtime + AllocGlobal), path: &str, bytes: &[u8]) -> io::Result<bool> {
+    let found = fs::read(rt, path)?;
+    Ok(found.as_slice() == bytes)
+}
+
+fn has_socket(rt: &(impl Runtime + AllocGlobal), dir: &str) -> io::Result<bool> {
+    let path = within(rt.alloc(), dir, "socket")?;
+    fs::exists(rt, path.as_str())
+}
+
+impl Row<'_> {
+    fn run(
+        &self,
+        rt: &(impl Runtime + Net + Abort + AllocGlobal),
+        dir: &str,
+    ) -> Result<(), AllocError> {
+        let mut output = ShortOutput::new(0);
+        let every = (self.drop_every, self.flip_every);
+        let answer = run_ends(rt.alloc(), rt, dir, every, &mut output)?;
+        assert_eq!(rt; answer, self.answer, "{}", self.printed);
+        assert_eq!(rt; output.text(), self.printed.as_bytes());
+        Ok(())
+    }
+
+    /// All files are there that are to be left.
+    fn assert_left(&self, rt: &(impl Runtime + Abort + AllocGlobal), dir: &str) -> io::Result<()> {
+        for (name, bytes) in self.left {
+            assert!(rt; has_file(rt, dir, name, bytes)?, "{name}");
+        }
+        Ok(())
+    }
+
+    /// Runs the ends in this folder. The socket is gone then, unless it was there before.
+    fn play(&self, rt: &(impl Runtime + Net + Abort + AllocGlobal), dir: &str) -> io::Result<()> {
+        place_all(rt, dir, self.given)?;
+        let had_socket = has_socket(rt, dir)?;
+        self.run(rt, dir)?;
+        self.assert_left(rt, dir)?;
+        assert_eq!(rt; has_socket(rt, dir)?, had_socket);
+        fs::remove_dir_all(rt, dir)
+    }
+}
+
+/// Plays the rows, each in a new folder.
+fn play_rows(rt: &(impl Runtime + Net + Abort + AllocGlobal), dir: &str) -> io::Result<()> {
+    for row in ROWS {
+        row.play(rt, dir)?;
+    }
+    Ok(())
+}
+
+// a file that does not come, or comes to another place; a fault that is passed over, or after which a job is gone; a
+// folder that makes a run wait, or end before its time
+#[test]
+fn moves_files_between_folders(rt: HostRuntime) -> Result<(), Fail> {
+    let dir = folder_path(&rt, "rows")?;
+    Ok(play_rows(&rt, dir.as_str())?)
+}
+
+/// The nth request for memory was refused, after which nothing is printed; or none was.
+fn assert_refused(
+    rt: &impl Abort,
+    was_refused: bool,
+    answer: Result<u8, ToolFault>,
+    printed: &[u8],
+) {
+    if was_refused {
+        assert_eq!(rt; answer, Err(ToolFault::Memory));
+        assert!(rt; printed.is_empty());
+    } else {
+        assert_eq!(rt; answer, Ok(0));
+    }
+}
+
+/// Runs two ends with the nth request for memory refused. Whether one was.
+fn refuse(
+    rt: &(impl Runtime + Net + Abort + AllocGlobal),
+    heap: &Refusing<Global>,
+    dir: &str,
+    nth: u64,
+) -> Result<bool, AllocError> {
+    heap.refuse(nth);
+    let mut output = ShortOutput::new(0);
+    let answer = run_ends(heap, rt, dir, (None, None), &mut output)?;
+    assert_refused(rt, heap.was_refused(), answer, output.text());
+    Ok(heap.was_refused())
+}
+
+/// Refuses each request for memory in turn. How many there are.
+fn refuse_each(
+    rt: &(impl Runtime + Net + Abort + AllocGlobal),
+    heap: &Refusing<Global>,
+    dir: &str,
+) -> io::Result<u64> {
+    for nth in 1..10_000 {
+        if !refuse(rt, heap, dir, nth)? {
+            return Ok(nth - 1);
+        }
+        assert!(rt; !has_socket(rt, dir)?, "of request {nth}");
+        assert!(rt;
+            has_file(rt, dir, "a/jobs", b"send x y u\n")?,
+            "of request {nth}"
+        );
+    }
+    Ok(0)
+}
+
+fn refuse_in_folder(rt: &(impl Runtime + Net + Abort + AllocGlobal), dir: &str) -> io::Result<()> {
+    place_all(rt, dir, &[SEND, X, Given::Folder("b/got")])?;
+    let heap = Refusing::new(rt.alloc(), 0);
+    let requests = refuse_each(rt, &heap, dir)?;
+    assert!(rt; requests > 30, "{requests} requests");
+    fs::remove_dir_all(rt, dir)
+}
+
+#[test]
+fn leaves_all_jobs_when_out_of_memory(rt: HostRuntime) -> Result<(), Fail> {
+    let dir = folder_path(&rt, "memory")?;
+    Ok(refuse_in_folder(&rt, dir.as_str())?)
+}
