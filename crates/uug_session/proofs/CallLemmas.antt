@@ -19,7 +19,7 @@ use Rattle.uug_session.specs.Talking.{Talking, talk_of, talking_has_parted}
 use Rattle.uug_session.proofs.NodeLemmas.{greeted_beside}
 use Rattle.uug_session.proofs.SpeakLemmas.{has_parted_told}
 
-abbrev with_talk : Holdings → List Kept → EndState Talking → EndState Talk
+abbrev pub with_talk : Holdings → List Kept → EndState Talking → EndState Talk
 with_talk h kept e = record { stage = e.stage; link = e.link; keeper = talk_of h kept e.keeper }
 
 -- ---- nothing has come for some time

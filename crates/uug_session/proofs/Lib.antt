@@ -12,6 +12,8 @@ mod FactParties
 mod FirstLaw
 mod FitLemmas
 mod FrontLemmas
+mod MadeLemmas
+mod GreetingCallLemmas
 mod GreetingFacts
 mod InRangeLemmas
 mod KeeperLemmas

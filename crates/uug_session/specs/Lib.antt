@@ -12,6 +12,7 @@ pub mod FileView
 pub mod Finding
 pub mod Found
 pub mod Greeting
+pub mod GreetingCalls
 pub mod HearingLaws
 pub mod HeldBytes
 pub mod Holdings
@@ -27,6 +28,7 @@ pub mod NodeArriving
 pub mod NodeCalls
 pub mod NodeGreeting
 pub mod NodeLoan
+pub mod NodeSteps
 pub mod Offers
 pub mod Outgoing
 pub mod OwnEntries

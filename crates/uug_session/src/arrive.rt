@@ -4,6 +4,7 @@ ghost use Rattle.std.specs.Prelude.{IfErr, OnErr, OnOk, Ok};
 ghost use Rattle.uug_session.specs.Engine.{HasFailed};
 ghost use Rattle.uug_session.specs.Node.{HasRoom, held_bytes, item_size, node_of, spool_of};
 ghost use Rattle.uug_session.specs.NodeArriving.{GoesOn, IsAtRest, TakesAll};
+ghost use Rattle.uug_session.specs.NodeCalls.{IsMadeOfCalls, beside};
 ghost use Rattle.uug_session.specs.Sending.{SaysWhatItCan};
 
 use crate::arriving_laws::item_laws;
@@ -28,6 +29,10 @@ impl<S: Spool, A: Allocator + Copy> Node<S, A> {
             (S.kept (spool_of self.old)) (S.kept (spool_of self.new))
             (HasFailed u64.MAX (S.faults (spool_of self.old)) (S.faults (spool_of self.new)))
             [] (node_of self.old) (node_of self.new) }
+        ensures made { IsMadeOfCalls (S.holdings (spool_of self.old)) u64.MAX []
+            (beside (node_of self.old) (S.kept (spool_of self.old)) (S.faults (spool_of self.old)))
+            (beside (node_of self.new) (S.kept (spool_of self.new))
+            (S.faults (spool_of self.new))) }
         ensures fewer { result ≡ Ok true
             → length (held_bytes (node_of self.new)) < length (held_bytes (node_of self.old)) }
         ensures rest { result ≡ Ok false → IsAtRest (node_of self.new) }
@@ -54,6 +59,10 @@ impl<S: Spool, A: Allocator + Copy> Node<S, A> {
             (S.kept (spool_of self.old)) (S.kept (spool_of self.new))
             (HasFailed u64.MAX (S.faults (spool_of self.old)) (S.faults (spool_of self.new)))
             [] (node_of self.old) (node_of self.new) }
+        ensures made { IsMadeOfCalls (S.holdings (spool_of self.old)) u64.MAX []
+            (beside (node_of self.old) (S.kept (spool_of self.old)) (S.faults (spool_of self.old)))
+            (beside (node_of self.new) (S.kept (spool_of self.new))
+            (S.faults (spool_of self.new))) }
         ensures rest { OnOk result (IsAtRest (node_of self.new)) }
         ensures room { OnOk result (HasRoom (node_of self.new)) }
         ensures shown { OnErr result (0 < item_size (node_of self.new)) }
@@ -67,7 +76,7 @@ impl<S: Spool, A: Allocator + Copy> Node<S, A> {
     }
 
     /// Takes a whole piece of the bytes that come: as many of them as fit, all that is found then, and so on up to its
-    /// end. Without memory for an item, that item is still there, and those in front of it were taken up; nothing is lost
+    /// end, by calls of `offer`, `next_found` and `take_found`. Without memory for an item, that item is still there, and those in front of it were taken up; nothing is lost
     /// where the bytes from `used` on are then handed in again.
     pub fn arrive(&mut self, piece: &[u8]) -> Result<(), Unfinished>
         ensures taken { OnOk result (TakesAll (S.holdings (spool_of self.old))
@@ -79,6 +88,15 @@ impl<S: Spool, A: Allocator + Copy> Node<S, A> {
             (S.kept (spool_of self.old)) (S.kept (spool_of self.new))
             (HasFailed u64.MAX (S.faults (spool_of self.old)) (S.faults (spool_of self.new)))
             (take unfinished.used piece.now) (node_of self.old) (node_of self.new)) }
+        ensures made { OnOk result (IsMadeOfCalls (S.holdings (spool_of self.old)) u64.MAX piece.now
+            (beside (node_of self.old) (S.kept (spool_of self.old)) (S.faults (spool_of self.old)))
+            (beside (node_of self.new) (S.kept (spool_of self.new))
+            (S.faults (spool_of self.new)))) }
+        ensures made_so_far { IfErr result (λ unfinished.
+            IsMadeOfCalls (S.holdings (spool_of self.old)) u64.MAX (take unfinished.used piece.now)
+            (beside (node_of self.old) (S.kept (spool_of self.old)) (S.faults (spool_of self.old)))
+            (beside (node_of self.new) (S.kept (spool_of self.new))
+            (S.faults (spool_of self.new)))) }
         ensures shown { OnErr result (0 < item_size (node_of self.new)) }
         ensures says { SaysWhatItCan (node_of self.old).engine
             → SaysWhatItCan (node_of self.new).engine }

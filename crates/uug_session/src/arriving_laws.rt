@@ -1,5 +1,6 @@
 //! Laws of how bytes that come to an end are taken up. The functions do nothing.
-ghost use Rattle.std.specs.Prelude.{◌≡◌, ◌≤◌, ℕ, List, ◌++◌, length};
+ghost use Rattle.std.specs.Prelude.{◌≡◌, ◌≤◌, ℕ, List, [], ◌++◌, length};
+ghost use Rattle.uug_link.specs.Entries.{EntryValue};
 ghost use Rattle.uug_packet.specs.Bytes.{AreBytes};
 ghost use Rattle.uug_reader.specs.Cut.{Item};
 ghost use Rattle.uug_reader.specs.Scan.{Finds};
@@ -13,7 +14,8 @@ ghost use Rattle.uug_session.specs.Holdings.{Holdings, Kept};
 ghost use Rattle.uug_session.specs.ItemLaws.{ItemLaws};
 ghost use Rattle.uug_session.specs.Node.{ItemValue, NodeState, item_size, searched};
 ghost use Rattle.uug_session.specs.NodeArriving.{GoesOn, IsAtRest, TakesAll};
-ghost use Rattle.uug_session.specs.NodeCalls.{Beside, Make, NodeCall, ShowsWhatIsFound, all_offered};
+ghost use Rattle.uug_session.specs.NodeCalls.{Beside, HaveNoTimeout, Make, NodeCall, ShowsWhatIsFound, all_offered};
+ghost use Rattle.uug_session.specs.NodeSteps.{GoesThrough, comings_of, with_entries};
 ghost use Rattle.uug_session.specs.Sessions.{HoldsNothing};
 ghost use Rattle.uug_session.specs.ShownItems.{IsShown, ItemFound, NothingFound};
 ghost use Rattle.uug_session.specs.TextsFound.{Taken};
@@ -40,10 +42,12 @@ pub fn bytes_come_in_any_pieces<X>()
     ensures pieces { (t : Taker X) (piece more : List ℕ) (h : Hearer X)
         → takes_piece t (piece ++ more) h ≡ then_takes t more (takes_piece t piece h) }
     // Each item takes a byte, so no more of them are found than bytes are held.
-    ensures enough { (t : Taker X) (n : ℕ) (h : Hearer X) → length h.held ≤ n → takes_up_to n t h ≡ takes_all t h }
+    ensures enough { (t : Taker X) (n : ℕ) (h : Hearer X) → length h.held ≤ n → takes_up_to n t h
+        ≡ takes_all t h }
     // The item that is found next is taken up first, and then the others.
     ensures first { (t : Taker X) (bytes : List ℕ) (x : X)
-        → takes_all t (holds t bytes x) ≡ takes_up (takes_all t) t (finding (t.stage_of x) bytes) x }
+        → takes_all t (holds t bytes x) ≡ takes_up (takes_all t) t
+        (finding (t.stage_of x) bytes) x }
 {
     what_is_found_stays();
 }
@@ -51,12 +55,14 @@ pub fn bytes_come_in_any_pieces<X>()
 /// What a node takes in one piece after another is what it takes in one: behind a piece that was taken up whole, and behind
 /// one for which memory was refused, the rest of it then.
 pub fn pieces_arrive_as_one()
-    ensures whole { (h : Holdings) (kept later_kept last_kept : List Kept) (most faults middle last : ℕ)
+    ensures whole { (h : Holdings) (kept later_kept last_kept : List Kept)
+        (most faults middle last : ℕ)
         (piece more : List ℕ) (a b c : NodeState) → faults ≤ middle → middle ≤ last
         → TakesAll h kept later_kept (HasFailed most faults middle) piece a b
         → TakesAll h later_kept last_kept (HasFailed most middle last) more b c
         → TakesAll h kept last_kept (HasFailed most faults last) (piece ++ more) a c }
-    ensures unfinished { (h : Holdings) (kept later_kept last_kept : List Kept) (most faults middle last : ℕ)
+    ensures unfinished { (h : Holdings) (kept later_kept last_kept : List Kept)
+        (most faults middle last : ℕ)
         (used more : List ℕ) (a b c : NodeState) → faults ≤ middle → middle ≤ last
         → GoesOn h kept later_kept (HasFailed most faults middle) used a b
         → TakesAll h later_kept last_kept (HasFailed most middle last) more b c
@@ -65,18 +71,30 @@ pub fn pieces_arrive_as_one()
     item_laws();
 }
 
-/// Whatever is offered, found, taken up or refused memory for, and in whatever pieces, the items that are taken are those
-/// of all bytes that came, as if they had come at once: from there the node goes on as it would then.
+/// Whatever is called, in whatever order, a node goes through steps: bytes come, and are taken up as if all that came between
+/// two timeouts had come at once, in whatever pieces, and whatever was refused memory; or nothing has come for some time.
+/// What is emitted is what was added to the outbox, whatever was cleared away since. Without a timeout there is one step.
 pub fn calls_take_what_comes()
-    ensures goes_on { (h : Holdings) (most : ℕ) (calls : List NodeCall) (old new : Beside)
-        → ShowsWhatIsFound old.node → Make h most calls old new
-        → GoesOn h old.kept new.kept (HasFailed most old.faults new.faults) (all_offered calls) old.node new.node }
+    ensures goes_through { (h : Holdings) (most : ℕ) (calls : List NodeCall)
+        (added : List EntryValue) (old new : Beside)
+        → ShowsWhatIsFound old.node → Make h most calls added old new
+        → GoesThrough h most (comings_of calls) added old new }
+    ensures goes_on { (h : Holdings) (most : ℕ) (calls : List NodeCall)
+        (added : List EntryValue) (old new : Beside) → HaveNoTimeout calls
+        → ShowsWhatIsFound old.node → Make h most calls added old new
+        → GoesOn h old.kept new.kept (HasFailed most old.faults new.faults) (all_offered calls)
+          (with_entries [] old.node) (with_entries added new.node) }
     // Where nothing is found any more in the bytes held, all that is found was taken up.
-    ensures all { (h : Holdings) (kept later_kept : List Kept) (most faults later : ℕ) (bytes : List ℕ) (a b : NodeState)
+    ensures all { (h : Holdings) (kept later_kept : List Kept) (most faults later : ℕ)
+        (bytes : List ℕ) (a b : NodeState)
         → GoesOn h kept later_kept (HasFailed most faults later) bytes a b → IsAtRest b
         → TakesAll h kept later_kept (HasFailed most faults later) bytes a b }
-    ensures shows { (h : Holdings) (most : ℕ) (calls : List NodeCall) (old new : Beside)
-        → ShowsWhatIsFound old.node → Make h most calls old new → ShowsWhatIsFound new.node }
+    ensures rests { (n : NodeState) (entries : List EntryValue) → IsAtRest n
+        → IsAtRest (with_entries entries n) }
+    ensures shows { (h : Holdings) (most : ℕ) (calls : List NodeCall)
+        (added : List EntryValue) (old new : Beside)
+        → ShowsWhatIsFound old.node → Make h most calls added old new
+        → ShowsWhatIsFound new.node }
     ensures at_first { (n : NodeState) → HoldsNothing n → ShowsWhatIsFound n }
 {
     item_laws();
@@ -85,8 +103,10 @@ pub fn calls_take_what_comes()
 /// The item that a node shows behind a search is the one that is found next in the bytes that it held, and it is the only
 /// one. Where it shows none, nothing was whole, or the first text was too long.
 pub fn a_search_shows_what_is_found()
-    ensures shown { (n : NodeState) (item : ItemValue) → IsShown item (searched n) → ItemFound item n (searched n) }
-    ensures one { (n : NodeState) (item other : ItemValue) → IsShown item (searched n) → IsShown other (searched n)
+    ensures shown { (n : NodeState) (item : ItemValue) → IsShown item (searched n)
+        → ItemFound item n (searched n) }
+    ensures one { (n : NodeState) (item other : ItemValue) → IsShown item (searched n)
+        → IsShown other (searched n)
         → item ≡ other }
     ensures none { (n : NodeState) → item_size (searched n) ≡ 0 → NothingFound n (searched n) }
     ensures rests { (n : NodeState) → item_size (searched n) ≡ 0 → IsAtRest (searched n) }
@@ -122,8 +142,10 @@ pub fn what_stands_there_is_found<X>()
 
 /// What is left behind texts and items that were found in bytes are bytes, and so is what stands in front of others.
 pub fn bytes_are_left()
-    ensures texts { (texts : List (List ℕ)) (rest stream : List ℕ) → StandBefore texts rest stream → AreBytes stream
+    ensures texts { (texts : List (List ℕ)) (rest stream : List ℕ) → StandBefore texts rest stream
+        → AreBytes stream
         → AreBytes rest }
-    ensures items { (s others : List ℕ) (items : List Item) → Finds s items others → AreBytes s → AreBytes others }
+    ensures items { (s others : List ℕ) (items : List Item) → Finds s items others → AreBytes s
+        → AreBytes others }
     ensures front { (front others : List ℕ) → AreBytes (front ++ others) → AreBytes front }
 {}

@@ -1,5 +1,5 @@
 //! Laws over the definition of the greeting, and of a node in it. The functions do nothing.
-ghost use Rattle.std.specs.Prelude.{◌≡◌, ◌≢◌, ◌++◌, ℕ, Bool, List};
+ghost use Rattle.std.specs.Prelude.{◌≡◌, ◌≢◌, ◌++◌, ℕ, Bool, List, []};
 ghost use Rattle.uug_link.specs.Announced.{Announced};
 ghost use Rattle.uug_link.specs.Entries.{EntryValue};
 ghost use Rattle.uug_talk.specs.Name.{IsName};
@@ -10,11 +10,16 @@ ghost use Rattle.uug_session.specs.declared.end.End.{End};
 ghost use Rattle.uug_session.specs.declared.end.End.TheVariants.{WrongName, Refused};
 ghost use Rattle.uug_session.specs.Arriving.{takes_piece};
 ghost use Rattle.uug_session.specs.EndStep.{Identity, begins_session};
-ghost use Rattle.uug_session.specs.Greeting.{first_greeting};
+ghost use Rattle.uug_session.specs.Engine.{BeginsSession};
+ghost use Rattle.uug_session.specs.Greeting.{first_greeting, greeting_at_first};
+ghost use Rattle.uug_session.specs.GreetingCalls.{GreetsAt, GreetsThrough};
 ghost use Rattle.uug_session.specs.Holdings.{Holdings};
+ghost use Rattle.uug_session.specs.Jobs.{Lists};
 ghost use Rattle.uug_session.specs.Node.{NodeState};
 ghost use Rattle.uug_session.specs.NodeArriving.{node_taker};
+ghost use Rattle.uug_session.specs.NodeCalls.{Beside, Make, NodeCall};
 ghost use Rattle.uug_session.specs.NodeGreeting.{GreetsStill, HasBegunLink, HasEnded, HasHeard, come_to, greeted_by, holding_nothing};
+ghost use Rattle.uug_session.specs.Sessions.{HoldsNothing};
 ghost use Rattle.uug_session.specs.Talk.{Talk};
 ghost use Rattle.uug_session.specs.Turns.{Side};
 ghost use Rattle.uug_session.specs.WholeGreeting.{GreetingRun, GreetsBy, Greets, GreetEachOther, BecomeOf, IsOver, greeting_run, whole_greeting, run_behind};
@@ -26,17 +31,25 @@ use uug_talk::{hearing_finds_the_texts, one_first_text, one_reading_of_texts, te
 /// Whatever bytes are delivered make one thing of the whole greeting of an end, and of a greeting from any stage on.
 pub fn one_greeting()
     ensures whole { (side : Side) (me peer delivered : List ℕ)
-        → (behind : List ℕ) × Greets side me peer delivered (whole_greeting side me peer delivered) behind }
-    ensures only_whole { (side : Side) (me peer delivered : List ℕ) (run : GreetingRun) (behind : List ℕ)
+        → (behind : List ℕ) × Greets side me peer delivered
+        (whole_greeting side me peer delivered) behind }
+    ensures only_whole { (side : Side) (me peer delivered : List ℕ) (run : GreetingRun)
+        (behind : List ℕ)
         → Greets side me peer delivered run behind → run ≡ whole_greeting side me peer delivered }
-    ensures one_rest_of_whole { (side : Side) (me peer delivered : List ℕ) (run : GreetingRun) (behind other : List ℕ)
-        → Greets side me peer delivered run behind → Greets side me peer delivered run other → behind ≡ other }
+    ensures one_rest_of_whole { (side : Side) (me peer delivered : List ℕ) (run : GreetingRun)
+        (behind other : List ℕ)
+        → Greets side me peer delivered run behind → Greets side me peer delivered run other
+        → behind ≡ other }
     ensures some { (me peer : List ℕ) (g : Greeting) (delivered : List ℕ)
-        → (behind : List ℕ) × GreetsBy me peer g delivered (greeting_run me peer g delivered) behind }
-    ensures only { (me peer : List ℕ) (g : Greeting) (delivered : List ℕ) (run : GreetingRun) (behind : List ℕ)
+        → (behind : List ℕ) × GreetsBy me peer g delivered
+        (greeting_run me peer g delivered) behind }
+    ensures only { (me peer : List ℕ) (g : Greeting) (delivered : List ℕ) (run : GreetingRun)
+        (behind : List ℕ)
         → GreetsBy me peer g delivered run behind → run ≡ greeting_run me peer g delivered }
-    ensures one_rest { (me peer : List ℕ) (g : Greeting) (delivered : List ℕ) (run : GreetingRun) (behind other : List ℕ)
-        → GreetsBy me peer g delivered run behind → GreetsBy me peer g delivered run other → behind ≡ other }
+    ensures one_rest { (me peer : List ℕ) (g : Greeting) (delivered : List ℕ) (run : GreetingRun)
+        (behind other : List ℕ)
+        → GreetsBy me peer g delivered run behind → GreetsBy me peer g delivered run other → behind
+        ≡ other }
 {
     one_reading_of_texts();
     one_first_text();
@@ -46,18 +59,22 @@ pub fn one_greeting()
 /// make of what it is then, behind the bytes that are left. Where it is over, more bytes are only left with them. Both hold of
 /// the whole greeting of an end, and of a greeting from any stage on.
 pub fn greeting_in_pieces()
-    ensures whole_goes_on { (side : Side) (me peer : List ℕ) (next : Greeting) (delivered more rest left : List ℕ)
-        (run later : GreetingRun) → Greets side me peer delivered run rest → run.greeted ≡ GoesOn next
+    ensures whole_goes_on { (side : Side) (me peer : List ℕ) (next : Greeting)
+        (delivered more rest left : List ℕ)
+        (run later : GreetingRun) → Greets side me peer delivered run rest → run.greeted
+        ≡ GoesOn next
         → GreetsBy me peer next (rest ++ more) later left
         → Greets side me peer (delivered ++ more) (run_behind run later) left }
     ensures whole_over { (side : Side) (me peer delivered more rest : List ℕ) (run : GreetingRun)
         → Greets side me peer delivered run rest → IsOver run.greeted
         → Greets side me peer (delivered ++ more) run (rest ++ more) }
-    ensures goes_on { (me peer : List ℕ) (g next : Greeting) (delivered more rest left : List ℕ) (run later : GreetingRun)
+    ensures goes_on { (me peer : List ℕ) (g next : Greeting) (delivered more rest left : List ℕ)
+        (run later : GreetingRun)
         → GreetsBy me peer g delivered run rest → run.greeted ≡ GoesOn next
         → GreetsBy me peer next (rest ++ more) later left
         → GreetsBy me peer g (delivered ++ more) (run_behind run later) left }
-    ensures over { (me peer : List ℕ) (g : Greeting) (delivered more rest : List ℕ) (run : GreetingRun)
+    ensures over { (me peer : List ℕ) (g : Greeting) (delivered more rest : List ℕ)
+        (run : GreetingRun)
         → GreetsBy me peer g delivered run rest → IsOver run.greeted
         → GreetsBy me peer g (delivered ++ more) run (rest ++ more) }
 {
@@ -70,10 +87,12 @@ pub fn greeting_in_pieces()
 /// has called another end than it meant, it ends, and the called end still waits for the caller's name. Where the caller
 /// is not the one that the called end expects, both end.
 pub fn ends_that_expect_each_other_begin()
-    ensures begin { (caller called : List ℕ) (at_caller at_called : GreetingRun) → IsName caller → IsName called
+    ensures begin { (caller called : List ℕ) (at_caller at_called : GreetingRun) → IsName caller
+        → IsName called
         → GreetEachOther caller called called caller at_caller at_called
         → BecomeOf at_caller at_called LinkBegins LinkBegins }
-    ensures wrong_called { (caller meant called expected : List ℕ) (at_caller at_called : GreetingRun)
+    ensures wrong_called { (caller meant called expected : List ℕ)
+        (at_caller at_called : GreetingRun)
         → IsName caller → IsName called → called ≢ meant
         → GreetEachOther caller meant called expected at_caller at_called
         → BecomeOf at_caller at_called (Ended WrongName) (GoesOn (first_greeting CallerName)) }
@@ -95,24 +114,44 @@ pub fn ends_that_expect_each_other_begin()
 /// bytes behind the last text used. Where the greeting leads to the link, the link's begin comes behind the texts, and just
 /// the bytes behind the last text are taken up on it.
 pub fn a_node_greets()
-    ensures goes_on { (h : Holdings) (id : Identity) (own : Announced) (entries : List EntryValue) (came behind : List ℕ)
+    // Whatever is called, each call is a step by the table: with a text that it takes up, with one that is too long, with a
+    // timeout, or with nothing. What it says to that is what is added to the outbox, and the texts are the first of all
+    // bytes that came. So it is from the start of a session on.
+    ensures steps { (h : Holdings) (most : ℕ) (id : Identity) (calls : List NodeCall)
+        (texts : List (List ℕ)) (came : List ℕ) (added : List EntryValue) (old new : Beside)
+        (g : Greeting)
+        → GreetsAt id g texts came old.node → Make h most calls added old new
+        → GreetsThrough h most id calls texts came added old new g }
+    ensures at_first { (id : Identity) (own : Announced) (l : Lists) (entries : List EntryValue)
+        (n : NodeState) → BeginsSession id own l entries n.engine → HoldsNothing n
+        → GreetsAt id (greeting_at_first id.side) [] [] n }
+    ensures goes_on { (h : Holdings) (id : Identity) (own : Announced) (entries : List EntryValue)
+        (came behind : List ℕ)
         (now : NodeState) (run : GreetingRun) (g : Greeting)
-        → HasHeard h id own entries came now → Greets id.side id.me id.peer came run behind → run.greeted ≡ GoesOn g
+        → HasHeard h id own entries came now → Greets id.side id.me id.peer came run behind
+        → run.greeted ≡ GoesOn g
         → GreetsStill id own entries run.says g behind now }
-    ensures ended { (h : Holdings) (id : Identity) (own : Announced) (entries : List EntryValue) (came behind : List ℕ)
+    ensures ended { (h : Holdings) (id : Identity) (own : Announced) (entries : List EntryValue)
+        (came behind : List ℕ)
         (now : NodeState) (run : GreetingRun) (how : End)
-        → HasHeard h id own entries came now → Greets id.side id.me id.peer came run behind → run.greeted ≡ Ended how
+        → HasHeard h id own entries came now → Greets id.side id.me id.peer came run behind
+        → run.greeted ≡ Ended how
         → HasEnded entries run.says how now }
-    ensures link { (h : Holdings) (id : Identity) (own : Announced) (entries : List EntryValue) (came behind : List ℕ)
+    ensures link { (h : Holdings) (id : Identity) (own : Announced) (entries : List EntryValue)
+        (came behind : List ℕ)
         (now : NodeState) (run : GreetingRun)
-        → (m : HasHeard h id own entries came now) → Greets id.side id.me id.peer came run behind → run.greeted ≡ LinkBegins
+        → (m : HasHeard h id own entries came now) → Greets id.side id.me id.peer came run behind
+        → run.greeted ≡ LinkBegins
         → HasBegunLink m run.says behind }
     // The same as one equation, whatever the node keeps and its spool's device does: all bytes from the start lead to what the
     // bytes left lead to behind the whole greeting.
-    ensures comes { (h : Holdings) (id : Identity) (own : Announced) (talk : Talk) (failures : List Bool)
+    ensures comes { (h : Holdings) (id : Identity) (own : Announced) (talk : Talk)
+        (failures : List Bool)
         (came behind : List ℕ) (run : GreetingRun) → Greets id.side id.me id.peer came run behind
-        → takes_piece (node_taker h id) came (holding_nothing (come_to (begins_session id own talk) failures))
-        ≡ takes_piece (node_taker h id) behind (holding_nothing (come_to (greeted_by id own run talk) failures)) }
+        → takes_piece (node_taker h id) came (holding_nothing
+        (come_to (begins_session id own talk) failures))
+        ≡ takes_piece (node_taker h id) behind (holding_nothing
+        (come_to (greeted_by id own run talk) failures)) }
 {
     hearing_laws();
     what_is_found_stays();

@@ -1,6 +1,13 @@
 use Rattle.uug_session.specs.Finding.{FindingLaws}
+use Rattle.uug_session.proofs.GreetingCallLemmas.{greets_first, greets_through}
 use Rattle.uug_session.proofs.HeardGreetingLemmas.{greets_still, has_begun_link, has_ended, whole}
 use Rattle.uug_session.proofs.greeting_laws.a_node_greets.Goals as goal
+
+pub returns-clause-steps : goal.returns-clause-steps
+returns-clause-steps c = λ h most id. greets_through c.hearing_laws.ensures h most id
+
+pub returns-clause-at_first : goal.returns-clause-at_first
+returns-clause-at_first c = greets_first
 
 pub returns-clause-goes_on : goal.returns-clause-goes_on
 returns-clause-goes_on c = λ h id own entries came behind now run g m greets is.

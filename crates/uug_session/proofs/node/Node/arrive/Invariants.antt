@@ -2,6 +2,7 @@ use Rattle.std.proofs.Common.{◌≡◌, ◌-◌, ◌≤◌, length, take}
 use Rattle.uug_session.specs.Engine.{HasFailed}
 use Rattle.uug_session.specs.Node.{node_of}
 use Rattle.uug_session.specs.NodeArriving.{GoesOn}
+use Rattle.uug_session.specs.NodeCalls.{IsMadeOfCalls, beside}
 use Rattle.uug_session.specs.Sending.{SaysWhatItCan}
 use Rattle.uug_session.proofs.node.Node.arrive.Given as goal
 
@@ -12,6 +13,9 @@ invariant-loop-self g l = record {
   goes_on : GoesOn (g.S.Spool.holdings l.fn.self.spool) (g.S.Spool.kept l.fn.self.spool) (g.S.Spool.kept l.self.spool)
       (HasFailed 18446744073709551615 (g.S.Spool.faults l.fn.self.spool) (g.S.Spool.faults l.self.spool))
       (take l.used l.piece) (node_of l.fn.self) (node_of l.self);
+  made : IsMadeOfCalls (g.S.Spool.holdings l.fn.self.spool) 18446744073709551615 (take l.used l.piece)
+      (beside (node_of l.fn.self) (g.S.Spool.kept l.fn.self.spool) (g.S.Spool.faults l.fn.self.spool))
+      (beside (node_of l.self) (g.S.Spool.kept l.self.spool) (g.S.Spool.faults l.self.spool));
   says : SaysWhatItCan (node_of l.fn.self).engine → SaysWhatItCan (node_of l.self).engine;
   holdings : g.S.Spool.holdings l.self.spool ≡ g.S.Spool.holdings l.fn.self.spool;
   count : g.S.Spool.faults l.fn.self.spool ≤ g.S.Spool.faults l.self.spool;

@@ -1,9 +1,11 @@
-use Rattle.std.proofs.Common.{ap, subst, sym, ◌<◌, [], length}
+use Rattle.std.proofs.Common.{ap, refl, subst, sym, ◌<◌, ◌≤◌, ◌∙◌, [], length}
 use Rattle.uug_session.specs.Engine.{CountsFaults, HasFailed}
 use Rattle.uug_session.specs.Sending.{SaysWhatItCan}
 use Rattle.uug_session.specs.Node.{IsAsBefore, NodeState, TakesShown, held_bytes, node_of}
 use Rattle.uug_session.specs.NodeArriving.{GoesOn}
 use Rattle.uug_session.proofs.NodeItemLemmas.{none_shown, refuses_next, rests_behind, searches_to, takes_next}
+use Rattle.uug_session.specs.NodeCalls.{beside}
+use Rattle.uug_session.proofs.MadeLemmas.{looked_made, made_of_both, refused_made, took_made}
 use Rattle.uug_session.proofs.SaysLemmas.{refused_says, searched_says}
 use Rattle.uug_session.proofs.node.Node.take_next.Goals as goal
 
@@ -60,3 +62,46 @@ returns-clause-goes_on g c = (takes g c).0
 
 pub returns-clause-fewer : goal.returns-clause-fewer
 returns-clause-fewer g c = λ is. (takes g c).1
+
+pub returns-then-is_none-clause-made : goal.returns-then-is_none-clause-made
+returns-then-is_none-clause-made g c =
+    let old = c.args.self.now in
+    let found = c.search.new.self in
+    looked_made (g.S.Spool.holdings old.spool) 18446744073709551615
+    (beside (node_of old) (g.S.Spool.kept old.spool) (g.S.Spool.faults old.spool))
+    (beside (node_of found) (g.S.Spool.kept found.spool) (g.S.Spool.faults found.spool))
+    c.search.ensures.found
+    (record { kept = ap (g.S.Spool.kept) c.search.ensures.spool; faults = ap (g.S.Spool.faults) c.search.ensures.spool })
+
+pub returns-in_err-take_found-clause-made : goal.returns-in_err-take_found-clause-made
+returns-in_err-take_found-clause-made g c =
+    let old = c.args.self.now in
+    let found = c.search.new.self in
+    let new = c.take_found.new.self in
+    let h = g.S.Spool.holdings old.spool in
+    let first = beside (node_of old) (g.S.Spool.kept old.spool) (g.S.Spool.faults old.spool) in
+    let middle = beside (node_of found) (g.S.Spool.kept old.spool) (g.S.Spool.faults old.spool) in
+    let last = beside (node_of new) (g.S.Spool.kept new.spool) (g.S.Spool.faults new.spool) in
+    made_of_both h 18446744073709551615 [] [] first middle last
+    (looked_made h 18446744073709551615 first middle c.search.ensures.found (record { kept = refl; faults = refl }))
+    (refused_made h 18446744073709551615 middle last
+    (c.in_err-take_found.ensures.faults ∙ ap (g.S.Spool.faults) c.search.ensures.spool)
+    (subst (λ s. IsAsBefore (g.S.Spool.holdings s) (g.S.Spool.kept s) (g.S.Spool.kept new.spool) (node_of found) (node_of new))
+    c.search.ensures.spool c.in_err-take_found.ensures.err))
+
+pub returns-clause-made : goal.returns-clause-made
+returns-clause-made g c =
+    let old = c.args.self.now in
+    let found = c.search.new.self in
+    let new = c.take_found.new.self in
+    let h = g.S.Spool.holdings old.spool in
+    let first = beside (node_of old) (g.S.Spool.kept old.spool) (g.S.Spool.faults old.spool) in
+    let middle = beside (node_of found) (g.S.Spool.kept old.spool) (g.S.Spool.faults old.spool) in
+    let last = beside (node_of new) (g.S.Spool.kept new.spool) (g.S.Spool.faults new.spool) in
+    made_of_both h 18446744073709551615 [] [] first middle last
+    (looked_made h 18446744073709551615 first middle c.search.ensures.found (record { kept = refl; faults = refl }))
+    (took_made h 18446744073709551615 c.in_ok-take_found.field-0 middle last
+    (subst (λ s. g.S.Spool.faults s ≤ g.S.Spool.faults new.spool) c.search.ensures.spool c.take_found.ensures.count)
+    (subst (λ s. TakesShown (g.S.Spool.holdings s) (g.S.Spool.kept s) (g.S.Spool.kept new.spool)
+    (CountsFaults 18446744073709551615 (g.S.Spool.faults s) (g.S.Spool.faults new.spool)) (node_of found) (node_of new) c.in_ok-take_found.field-0)
+    c.search.ensures.spool c.in_ok-take_found.ensures.taken))
