@@ -175,6 +175,9 @@ fn refuse(
     Ok(was_refused)
 }
 
+/// More requests than any of the calls makes.
+const ENOUGH: u64 = 100;
+
 /// Refuses each request of the call in turn. How many it makes.
 fn requests(
     rt: &impl Abort,
@@ -182,12 +185,12 @@ fn requests(
     call: Call,
     queue: &Queue<Global>,
 ) -> Result<u64, AllocError> {
-    for nth in 1..100 {
+    for nth in 1..ENOUGH {
         if !refuse(rt, heap, call, queue, nth)? {
             return Ok(nth - 1);
         }
     }
-    Ok(0)
+    Ok(ENOUGH)
 }
 
 const CALLS: [(Call, u64); 4] = [
@@ -204,7 +207,7 @@ fn refuse_calls(
 ) -> Result<(), AllocError> {
     for (call, least) in CALLS {
         let count = requests(rt, heap, call, queue)?;
-        assert!(rt; count >= least && count < 99, "{count} requests");
+        assert!(rt; count >= least && count < ENOUGH, "{count} requests");
     }
     Ok(())
 }
