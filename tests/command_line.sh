@@ -172,6 +172,11 @@ row "a play of idle ends" 0 "" "$idle_report" play < <(printf '%s' "$idle")
 row "a play of a silent line" 1 "" "$silent_report" play < <(printf '%s' "$silent")
 row "a play that fools an end" 5 "" "$fooled_report" play < <(printf '%s' "$fooled")
 row "a bad script" 2 "uucpair: bad script at line 2$line_feed" "" play < <(printf '\ncall me\n')
+row "what is wrong with a bad script" 2 "uucpair: bad script at line 2${line_feed}uucpair: unexpected word me$line_feed" "" \
+    play -v < <(printf '\ncall me\n')
+row "what is wrong with a window" 2 "uucpair: bad script at line 1${line_feed}uucpair: window 8 is not 1 to 7$line_feed" "" \
+    play --verbose < <(printf 'caller a 8 32\n')
+row "nothing wrong with a script" 0 "" "$idle_report" play -v < <(printf '%s' "$idle")
 
 row "no tool" 2 "error: " "" </dev/null
 row "an unknown tool" 2 "error: " "" copy s a b </dev/null
@@ -205,9 +210,12 @@ printf '%s' "$idle" >"$work/script"
 row "a scan of a file" 0 "" "INITA 3${line_feed}REST 0$line_feed" scan "$work/packet" <"$work"
 row "a play of a file" 0 "" "$idle_report" play "$work/script" <"$work"
 row "a bad script in a file" 2 "uucpair: bad script at line 1$line_feed" "" play "$work/packet" </dev/null
+row "what is wrong with a bad script in a file" 2 "uucpair: bad script at line 1${line_feed}uucpair: unknown statement$line_feed" "" \
+    play -v "$work/packet" </dev/null
 absent="uucpair: device fault${line_feed}uucpair: can't read $work/absent$line_feed"
 row "a scan of no file" 3 "$absent" "" scan "$work/absent" </dev/null
 row "a play of no file" 3 "$absent" "" play "$work/absent" </dev/null
+row "what is wrong with no file" 3 "$absent" "" play -v "$work/absent" </dev/null
 folder="uucpair: device fault${line_feed}uucpair: can't read $work$line_feed"
 row "a scan of a folder by name" 3 "$folder" "" scan "$work" </dev/null
 row "a play of a folder by name" 3 "$folder" "" play "$work" </dev/null

@@ -13,6 +13,8 @@ pub enum Task<'a> {
     Scan(Option<&'a str>),
     /// The report of the script in a file, or on standard input, to standard output.
     Play(Option<&'a str>),
+    /// The same; and where the script is bad, it is said what is wrong.
+    PlayVerbose(Option<&'a str>),
     /// Two ends over two folders, and a socket between them.
     Pair(PairTask<'a>),
 }
@@ -51,7 +53,10 @@ fn scan_command<'a>(alloc: Global) -> Result<Command<'a>, AllocError> {
     Command::new(alloc, "scan")
         .about("Reads bytes and lists the packets in them")
         .after_help(help::SCAN)
-        .arg(file(alloc, "The bytes"))
+        .arg(file(
+            alloc,
+            "The file of the bytes; without it standard input is read",
+        ))
 }
 
 /// The tool that plays a script.
@@ -59,7 +64,17 @@ fn play_command<'a>(alloc: Global) -> Result<Command<'a>, AllocError> {
     Command::new(alloc, "play")
         .about("Reads a script of two ends and a noisy line, plays it and reports what they did")
         .after_help(help::PLAY)
-        .arg(file(alloc, "The script"))
+        .arg(file(
+            alloc,
+            "The file of the script; without it standard input is read",
+        ))?
+        .arg(
+            Arg::new(alloc, "verbose")
+                .short('v')
+                .long("verbose")
+                .action(ArgAction::SetTrue)
+                .help("Says what is wrong with a bad script"),
+        )
 }
 
 /// The tool that moves files.
@@ -125,6 +140,9 @@ pub fn task_of<'a, S: AsStr>(alloc: Global, words: &'a [S]) -> Result<Task<'a>, 
         }
     };
     match matches.subcommand() {
+        Some(("play", matches)) if matches.get_flag("verbose") => {
+            Ok(Task::PlayVerbose(matches.get_str("FILE")))
+        }
         Some(("play", matches)) => Ok(Task::Play(matches.get_str("FILE"))),
         Some(("pair", matches)) => Ok(Task::Pair(pair_task(matches))),
         Some((_, matches)) => Ok(Task::Scan(matches.get_str("FILE"))),
