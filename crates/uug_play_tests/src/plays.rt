@@ -6,6 +6,7 @@ mod lent_ends;
 mod memory;
 mod noisy_lines;
 mod reports;
+mod settled;
 
 /// The caller sends a file, and the line breaks after the called end has stored it and before the caller knows.
 const BROKEN_OFF: &str = "caller a 2 32\ncalled b 2 32\nfile caller x 0644 -\nsend caller x y u\n\

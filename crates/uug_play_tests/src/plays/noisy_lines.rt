@@ -4,7 +4,7 @@ ghost use Rattle.std.specs.Prelude.{◌<◌};
 use std::alloc::Global;
 use std::process::Abort;
 use std::test::Fail;
-use uug_line::{EndReport, Event, Report, Side, run};
+use uug_line::{EndReport, Event, Report, Side, run, settle};
 use uug_script::read_script;
 use uug_session::{FileView, Job, MemorySpool, Node, Spool, Stored};
 use uug_talk::Name;
@@ -95,8 +95,8 @@ fn windows_of_list(list: usize) -> (u8, u8) {
     (WINDOWS[list % 3], WINDOWS[list / 3 % 3])
 }
 
-/// The report of the list of this number.
-fn report_of_list(alloc: Global, list: u32) -> Result<Report<Global>, Fail> {
+/// The report of the list of this number, with these events.
+fn report_with(alloc: Global, list: u32, events: &[Event]) -> Result<Report<Global>, Fail> {
     let (caller, called) = windows_of_list(list as usize);
     let (small, large) = (SIZES[list as usize % 2], SIZES[list as usize / 2 % 2]);
     let mut text = String::new(alloc);
@@ -105,8 +105,22 @@ fn report_of_list(alloc: Global, list: u32) -> Result<Report<Global>, Fail> {
         "caller a {caller} {small}\ncalled b {called} {large}\n{JOBS}"
     )?;
     let script = read_script(alloc, text.as_bytes())?;
+    Ok(run(alloc, script.setup, events)?)
+}
+
+/// The report of the list of this number.
+fn report_of_list(alloc: Global, list: u32) -> Result<Report<Global>, Fail> {
     let events = events_of_list(alloc, list)?;
-    Ok(run(alloc, script.setup, events.as_slice())?)
+    report_with(alloc, list, events.as_slice())
+}
+
+/// The report of the list of this number, and then all is lost that is on the line.
+fn report_up_to_silence(alloc: Global, list: u32) -> Result<Report<Global>, Fail> {
+    let mut events = events_of_list(alloc, list)?;
+    for side in [Side::Caller, Side::Called] {
+        events.push(Event::Drop { side, n: 100_000 })?;
+    }
+    report_with(alloc, list, events.as_slice())
 }
 
 fn is_front(front: &[Vec<u8>], whole: &[Vec<u8>]) -> bool {
@@ -173,5 +187,41 @@ fn keeps_its_promises_on_noisy_lines(rt: HostRuntime) -> Result<(), Fail> {
         struck = struck_in_list(&rt, list)?.saturating_add(struck);
     }
     assert!(rt; struck >= LISTS as usize, "little was done: {struck} jobs");
+    Ok(())
+}
+
+/// Whether each job of the end is done or given up.
+fn has_no_job_left(end: &End) -> bool {
+    end.queue().pending().is_empty()
+}
+
+/// Settles the list of this number where it may. Whether it may.
+fn settles_list(rt: &(impl Abort + AllocGlobal), list: u32) -> Result<bool, Fail> {
+    let (caller, called) = windows_of_list(list as usize);
+    let report = report_up_to_silence(rt.alloc(), list)?;
+    if !report.can_settle() {
+        return Ok(false);
+    }
+    let settled = settle(rt.alloc(), report)?;
+    assert!(rt;
+        keeps_promises(&settled, caller, called),
+        "settled from list {list}"
+    );
+    assert!(rt;
+        has_no_job_left(settled.caller()) && has_no_job_left(settled.called()),
+        "settled from list {list}"
+    );
+    Ok(true)
+}
+
+#[test]
+fn settles_after_noise(rt: HostRuntime) -> Result<(), Fail> {
+    let mut settled = 0usize;
+    for list in 0..LISTS {
+        if settles_list(&rt, list)? {
+            settled = settled.saturating_add(1);
+        }
+    }
+    assert!(rt; settled >= 10, "only {settled} lists settled");
     Ok(())
 }

@@ -1,0 +1,145 @@
+//! Runs that come to their end on a line that has become clean. What this catches beyond the clauses: a wrong definition of a
+//! round, and a `settle` that always returns out of memory.
+
+use std::alloc::Global;
+use std::process::Abort;
+use std::test::Fail;
+use uug_line::{EndReport, Report, RunFault, run, settle};
+use uug_refusal::Refusing;
+use uug_script::read_script;
+use uug_session::{End, Phase};
+
+/// The caller offers a file, and the packet that does is lost.
+const LOST: &str =
+    "caller a 2 32\ncalled b 2 32\nfile caller x 0644 -\nsend caller x y u\nflow 5\ndrop called 1000\n";
+
+/// The caller waits too long, and what it repeats is lost: six times.
+const LOST_SEVEN_TIMES: &str =
+    "caller a 2 32\ncalled b 2 32\nfile caller x 0644 -\nsend caller x y u\nflow 5\ndrop called 1000\n\
+    timeout caller\ndrop called 1000\ntimeout caller\ndrop called 1000\ntimeout caller\ndrop called 1000\n\
+    timeout caller\ndrop called 1000\ntimeout caller\ndrop called 1000\ntimeout caller\ndrop called 1000\n";
+
+/// Scripts, and whether their runs may settle.
+const SCRIPTS: [(&str, bool); 8] = [
+    (LOST, true),
+    (LOST_SEVEN_TIMES, true),
+    // seven times
+    (
+        "caller a 2 32\ncalled b 2 32\nfile caller x 0644 -\nsend caller x y u\nflow 5\ndrop called 1000\n\
+         timeout caller\ndrop called 1000\ntimeout caller\ndrop called 1000\ntimeout caller\ndrop called 1000\n\
+         timeout caller\ndrop called 1000\ntimeout caller\ndrop called 1000\ntimeout caller\ndrop called 1000\n\
+         timeout caller\ndrop called 1000\n",
+        false,
+    ),
+    // both sessions are over
+    (
+        "caller a 2 32\ncalled b 2 32\nfile caller x 0644 -\nsend caller x y u\nflow 20\n",
+        false,
+    ),
+    // the packet is on the line
+    (
+        "caller a 2 32\ncalled b 2 32\nfile caller x 0644 -\nsend caller x y u\nflow 5\n",
+        false,
+    ),
+    // a front of it came, which the called end holds
+    (
+        "caller a 2 32\ncalled b 2 32\nfile caller x 0644 -\nsend caller x y u\nflow 5\npass called 10\ndrop called 1000\n",
+        false,
+    ),
+    // the line fooled an end
+    (
+        "caller a 2 32\ncalled b 2 32\nfile caller x 0644 100985aa2503\nsend caller x y u\n\
+         flow 5\npass called 1000\npass caller 1000\npass called 6\ndrop called 6\npass called 1000\n",
+        false,
+    ),
+    // the two ends greet each other
+    ("caller a 2 32\ncalled b 2 32\n", false),
+];
+
+/// What is reported of the script.
+fn report_of(alloc: Global, text: &str) -> Result<Report<Global>, Fail> {
+    let script = read_script(alloc, text.as_bytes())?;
+    Ok(run(alloc, script.setup, script.events.as_slice())?)
+}
+
+#[test]
+fn settles_only_where_nothing_waits(rt: HostRuntime) -> Result<(), Fail> {
+    for (text, may) in SCRIPTS {
+        let settles = report_of(rt.alloc(), text)?.can_settle();
+        assert_eq!(rt; settles, may, "after {text}");
+    }
+    Ok(())
+}
+
+/// How many messages an end sent and took, the most that were unacknowledged, and how far it came.
+fn numbers(end: &EndReport<Global>) -> (usize, usize, usize, Phase) {
+    (end.sent.len(), end.taken.len(), end.most, end.phase)
+}
+
+/// The report of the script, settled.
+fn settled_from(alloc: Global, text: &str) -> Result<Report<Global>, Fail> {
+    let report = report_of(alloc, text)?;
+    if !report.can_settle() {
+        return Err("it may not settle".into());
+    }
+    Ok(settle(alloc, report)?)
+}
+
+/// Whether the caller's file was sent and stored in the one session, as on a line that never lost anything.
+fn has_sent(report: &Report<Global>) -> bool {
+    let done = Phase::Ended(End::Done);
+    let [session] = report.sessions() else {
+        return false;
+    };
+    let queue = report.caller().queue();
+    numbers(&session.caller) == (4, 3, 1, done)
+        && numbers(&session.called) == (3, 4, 1, done)
+        && (
+            queue.pending().len(),
+            queue.struck().len(),
+            queue.failed().len(),
+        ) == (0, 1, 0)
+        && report.called().spool().stored().len() == 1
+}
+
+#[test]
+fn settles_what_was_lost(rt: HostRuntime) -> Result<(), Fail> {
+    for text in [LOST, LOST_SEVEN_TIMES] {
+        let report = settled_from(rt.alloc(), text)?;
+        assert!(rt; has_sent(&report), "after {text}");
+    }
+    Ok(())
+}
+
+/// Settles the run with the nth request for memory refused. Why it gave up, if it did.
+fn refuse(heap: &Refusing<Global>, nth: u64) -> Result<Option<RunFault>, Fail> {
+    heap.refuse(0);
+    let script = read_script(heap, LOST.as_bytes())?;
+    let report = run(heap, script.setup, script.events.as_slice())?;
+    if !report.can_settle() {
+        return Err("it may not settle".into());
+    }
+    heap.refuse(nth);
+    Ok(settle(heap, report).err())
+}
+
+/// Refuses each request of it in turn. How many it makes.
+fn requests_to_settle(rt: &impl Abort, alloc: Global) -> Result<u64, Fail> {
+    let heap = Refusing::new(alloc, 0);
+    for nth in 1..10_000 {
+        let fault = refuse(&heap, nth)?;
+        if !heap.was_refused() {
+            assert_eq!(rt; fault, None);
+            return Ok(nth - 1);
+        }
+        assert_eq!(rt; fault, Some(RunFault::Memory), "of request {nth}");
+    }
+    Err("it never settles".into())
+}
+
+#[test]
+fn gives_up_settling_when_out_of_memory(rt: HostRuntime) -> Result<(), Fail> {
+    let requests = requests_to_settle(&rt, rt.alloc())?;
+    assert!(rt; requests >= 10, "seven messages and their acknowledgements");
+    Ok(())
+}
