@@ -4,9 +4,7 @@ ghost use Rattle.uug_talk.specs.Words.{words};
 ghost use Rattle.uug_script.specs.Meaning.{meaning_of};
 ghost use Rattle.uug_script.specs.ReadLine.{line_of, place_of, file_of, send_of, request_of, last_name_of, side_and_name, side_and_count, side_and_byte, one_side, call_of, flow_of, deny_of, later_of, immovable_of, pass_of, drop_of, flip_of, insert_of, timeout_of, hang_up_of, event_by, line_by};
 
-use crate::fields::{
-    read_announce, read_byte, read_name, read_short_mode, read_side, spells,
-};
+use crate::fields::{read_announce, read_byte, read_name, read_short_mode, read_side, spells};
 use crate::mode::Mode;
 use uug_line::{Event, Side};
 use uug_link::Announce;

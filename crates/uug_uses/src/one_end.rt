@@ -41,4 +41,3 @@ fn write_out<S: Spool, A: Allocator + Copy>(
     node.clear_outbox();
     Ok(())
 }
-
