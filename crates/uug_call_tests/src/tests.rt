@@ -62,19 +62,16 @@ fn place(me: &[u8], peer: &[u8]) -> Result<Place, Fail> {
     })
 }
 
-/// Sends `x` as `y`.
-fn send_x() -> Result<Job, Fail> {
-    Ok(Job::Send {
-        source: name(b"x")?,
-        target: name(b"y")?,
-        user: name(b"u")?,
-        temp: None,
-    })
-}
-
+/// The jobs of an end that sends `x` as `y`.
 fn queue(alloc: Global) -> Result<Queue<Global>, Fail> {
+    let (source, target, user) = (name(b"x")?, name(b"y")?, name(b"u")?);
     let mut queue = Queue::new(alloc);
-    queue.add(send_x()?)?;
+    queue.add(Job::Send {
+        source,
+        target,
+        user,
+        temp: None,
+    })?;
     Ok(queue)
 }
 

@@ -116,7 +116,7 @@ fn assert_failing(rt: &impl Abort, alloc: Global, fails_at: usize) -> Result<(),
     };
     let left = play(alloc, LONG, manner, AMPLE)?;
     assert_eq!(rt; left.answer, Err(TurnFault::Line));
-    assert_eq!(rt; left.pending + left.struck, 1);
+    assert_eq!(rt; left.pending.saturating_add(left.struck), 1);
     assert!(rt; left.struck <= left.kept);
     let is_over = match left.phase {
         Phase::Ended(End::Done | End::HungUp) => true,

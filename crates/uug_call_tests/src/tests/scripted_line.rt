@@ -1,5 +1,5 @@
 //! A line that does what a table says.
-ghost use Rattle.std.specs.Prelude.{◌≤◌, length};
+ghost use Rattle.std.specs.Prelude.{◌≡◌, ◌≤◌, length};
 
 use super::{Manner, MemorySeat, Other};
 use uug_call::{EndLine, Heard};
@@ -35,7 +35,9 @@ impl ScriptedLine {
     }
 
     /// Counts a call, and says whether it fails.
-    fn fails(&mut self) -> bool {
+    fn fails(&mut self) -> bool
+        ensures { self.new.faults ≡ self.old.faults }
+    {
         self.calls = self.calls.saturating_add(1);
         self.calls > self.manner.fails_at
     }
