@@ -208,9 +208,9 @@ called_name = codes "Shere=b"
 
 pub used_the_name_alone : ((came_in by_numbers idle broken_in_greeting).at_caller
     ≡ written_text called_name ++ written_text (codes "ROK") ++ written_text (codes "Pg"))
-    × GreetsOn (identity idle Caller) (called_name ∷ []) Admission
+    × GreetsOn (identity idle Caller) None (called_name ∷ []) Admission None
 used_the_name_alone =
-    (refl, record { greeting = record { awaited = Admission; timeouts = 0 }; goes_on = refl; awaits = refl })
+    (refl, record { greeting = record { awaited = Admission; timeouts = 0 }; goes_on = refl; awaits = refl; keeps = refl })
 
 -- ---- what was put off is offered again in a session to come
 

@@ -4,7 +4,7 @@ use Rattle.std.specs.Fmt.{decimal}
 use Rattle.hex.specs.Hex.{encode_lower}
 use Rattle.uug_session.specs.Holdings.{Kept}
 use Rattle.uug_session.specs.declared.end.End.{End}
-use Rattle.uug_session.specs.declared.end.End.TheVariants.{Done, Refused, WrongName, NoProtocol, PeerClosed, GaveUp, BadTalk, SpoolFault, HungUp}
+use Rattle.uug_session.specs.declared.end.End.TheVariants.{Done, Refused, WrongName, NoProtocol, PeerClosed, GaveUp, BadTalk, SpoolFault, HungUp, BadSequence}
 use Rattle.uug_talk.specs.Mode.{mode_digits}
 use Rattle.uug_session.specs.declared.phase.Phase.{Phase}
 use Rattle.uug_session.specs.declared.phase.Phase.TheVariants.{Hail, Starting, Talking, Closing, Ended}
@@ -43,6 +43,7 @@ end_word GaveUp = codes "gaveup"
 end_word BadTalk = codes "badtalk"
 end_word SpoolFault = codes "spoolfault"
 end_word HungUp = codes "hungup"
+end_word BadSequence = codes "badsequence"
 
 abbrev pub phase_word : Phase → List ℕ
 phase_word Hail = codes "hail"

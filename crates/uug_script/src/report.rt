@@ -82,6 +82,7 @@ fn end_word(end: End) -> &'static str
         End::BadTalk => "badtalk",
         End::SpoolFault => "spoolfault",
         End::HungUp => "hungup",
+        End::BadSequence => "badsequence",
     }
 }
 

@@ -1,11 +1,11 @@
-ghost use Rattle.std.specs.Prelude.{◌≡◌, ◌≢◌, ℕ, suc, ◌+◌, ◌<◌, ◌≤◌, ◌↔◌, List, length, [], ◌++◌, map, true, false, OnOk, OnErr, IfOk, IsTrue, MatchOption};
+ghost use Rattle.std.specs.Prelude.{◌≡◌, ◌≢◌, ℕ, suc, ◌+◌, ◌<◌, ◌≤◌, ◌↔◌, List, length, [], ◌++◌, map, true, false, OnOk, OnErr, IfOk, IsTrue, MatchOption, Some};
 ghost use Rattle.std.specs.Bool.{OnTrue, OnFalse};
 ghost use Rattle.uug_link.specs.Announced.{announced};
 ghost use Rattle.uug_link.specs.State.{IsUp, IsFresh};
 ghost use Rattle.uug_link.specs.Follows.{written};
 ghost use Rattle.uug_link.specs.Step.{step, packet_found, timed_out, to_close, taken};
 ghost use Rattle.uug_packet.specs.Packet.{shown};
-ghost use Rattle.uug_session.specs.Engine.{BeginsSession, CountsFaults, Does, IsHailing, StandsStill, TakesUp, after_sends, after_speaking, all_ahead, bare, end_of, entry_of, hung_up, packet_effect, spoken_of, stage_late, stage_of, with_outbox, with_stage};
+ghost use Rattle.uug_session.specs.Engine.{BeginsSession, CountsFaults, Does, IsHailing, StandsStill, TakesUp, after_sends, after_speaking, all_ahead, bare, end_of, entry_of, hung_up, packet_effect, spoken_of, stage_late, stage_of, with_number, with_outbox, with_stage};
 ghost use Rattle.uug_session.specs.EndStep.{bad_came, begins_link, ended, final_text, first_link, first_stage, first_words, greeted_so, hailing, hailing_step, how_it_ends, late, leave, linked, message_of, text_found, unmoved};
 ghost use Rattle.uug_session.specs.Sending.{SaysWhatItCan};
 ghost use Rattle.uug_session.specs.Side.{side_of};
@@ -15,7 +15,7 @@ ghost use Rattle.uug_session.specs.Talking.{talk_of, talking_has_parted};
 
 use crate::dialogue::Dialogue;
 use crate::end::End;
-use crate::greeting::{Greeted, Greeting};
+use crate::greeting::{Greeted, Greeting, number_behind};
 use crate::outgoing::SAYINGS_MAX;
 use crate::phase::Phase;
 use crate::place::Place;
@@ -61,6 +61,7 @@ impl<A: Allocator> Model for Engine<A> {
       link = engine.link;
       talking = engine.dialogue;
       outbox = engine.outbox;
+      number = engine.place.number;
     } };
 
     ghost invariant = { λ engine. IsReady (stage_of engine.stage)
@@ -154,6 +155,7 @@ impl<A: Allocator + Copy> Engine<A> {
         ensures talking { self.new.talking ≡ self.old.talking }
         ensures identity { self.new.identity ≡ self.old.identity }
         ensures own { self.new.own ≡ self.old.own }
+        ensures number { self.new.number ≡ self.old.number }
     {
         if !has_parted {
             self.stage = Stage::Ended(how);
@@ -256,6 +258,7 @@ impl<A: Allocator + Copy> Engine<A> {
         ensures talking { self.new.talking ≡ self.old.talking }
         ensures identity { self.new.identity ≡ self.old.identity }
         ensures own { self.new.own ≡ self.old.own }
+        ensures number { self.new.number ≡ self.old.number }
     {
         self.close();
         self.finish(has_parted, how);
@@ -291,12 +294,12 @@ impl<A: Allocator + Copy> Engine<A> {
     /// Takes up a broken packet, on a link that has begun.
     pub(crate) fn on_bad<S: Spool>(&mut self, spool: &S) -> Result<(), AllocError>
         requires linked { self.old.stage ≡ linked }
-        ensures ok { OnOk result (Does (bad_came (end_keeper self.old.identity.side (S.holdings spool.now)) self.old.identity
+        ensures ok { OnOk result (Does (bad_came self.old.number (end_keeper self.old.identity.side (S.holdings spool.now)) self.old.identity
             self.old.link (talk_of (S.holdings spool.now) (S.kept spool.now) self.old.talking))
             (end_of (S.holdings spool.now) (S.kept spool.now) self.new) self.old self.new) }
         ensures says { OnOk result (SaysWhatItCan self.new) }
         ensures err { OnErr result (Does (unmoved (bare self.old)) (bare self.new) self.old self.new) }
-        ensures nothing_taken { (bad_came (end_keeper self.old.identity.side (S.holdings spool.now)) self.old.identity
+        ensures nothing_taken { (bad_came self.old.number (end_keeper self.old.identity.side (S.holdings spool.now)) self.old.identity
             self.old.link (talk_of (S.holdings spool.now) (S.kept spool.now) self.old.talking)).took ≡ false }
     {
         what_a_link_answers();
@@ -312,7 +315,7 @@ impl<A: Allocator + Copy> Engine<A> {
 
     /// Takes up that nothing has come for some time.
     pub(crate) fn on_timeout(&mut self) -> Result<(), AllocError>
-        ensures ok { OnOk result (Does (stage_late self.old.identity (talking_has_parted self.old.talking) self.old.stage
+        ensures ok { OnOk result (Does (stage_late self.old.number self.old.identity (talking_has_parted self.old.talking) self.old.stage
             self.old.link self.old.talking) (bare self.new) self.old self.new) }
         ensures err { OnErr result (Does (unmoved (bare self.old)) (bare self.new) self.old self.new) }
         ensures only_linked { OnErr result (self.old.stage ≡ linked) }
@@ -329,7 +332,7 @@ impl<A: Allocator + Copy> Engine<A> {
     /// Nothing has come on a link for some time.
     fn late(&mut self) -> Result<(), AllocError>
         requires linked { self.old.stage ≡ linked }
-        ensures ok { OnOk result (Does (late self.old.identity (talking_has_parted self.old.talking)
+        ensures ok { OnOk result (Does (late self.old.number self.old.identity (talking_has_parted self.old.talking)
             self.old.link self.old.talking) (bare self.new) self.old self.new) }
         ensures err { OnErr result (Does (unmoved (bare self.old)) (bare self.new) self.old self.new) }
         ensures speaks { OnErr result ((step self.old.link timed_out).emitted ≢ []) }
@@ -344,7 +347,7 @@ impl<A: Allocator + Copy> Engine<A> {
     /// The same on a link that has something to repeat, or that ends.
     fn repeat(&mut self) -> Result<(), AllocError>
         requires linked { self.old.stage ≡ linked }
-        ensures ok { OnOk result (Does (late self.old.identity (talking_has_parted self.old.talking)
+        ensures ok { OnOk result (Does (late self.old.number self.old.identity (talking_has_parted self.old.talking)
             self.old.link self.old.talking) (bare self.new) self.old self.new) }
         ensures err { OnErr result (Does (unmoved (bare self.old)) (bare self.new) self.old self.new) }
     {
@@ -367,7 +370,7 @@ impl<A: Allocator + Copy> Engine<A> {
     fn stay_silent(&mut self)
         requires linked { self.old.stage ≡ linked }
         requires silent { (step self.old.link timed_out).emitted ≡ [] }
-        ensures { Does (late self.old.identity (talking_has_parted self.old.talking)
+        ensures { Does (late self.old.number self.old.identity (talking_has_parted self.old.talking)
             self.old.link self.old.talking) (bare self.new) self.old self.new }
     {
         what_a_link_answers();
@@ -388,8 +391,9 @@ impl<A: Allocator + Copy> Engine<A> {
         ensures err { OnErr result (Does (unmoved (bare self.old)) (bare self.new) self.old self.new) }
     {
         self.outbox.reserve(EMITTED_MAX)?;
-        let greeted = greeting.on_text(&self.place.me, &self.place.peer, text, &mut self.outbox)?;
-        self.lead_to(greeted);
+        let led = greeting.on_text(&self.place, text, &mut self.outbox)?;
+        self.place.number = number_behind(led.rises, self.place.number);
+        self.lead_to(led.greeted);
         Ok(())
     }
 
@@ -404,7 +408,7 @@ impl<A: Allocator + Copy> Engine<A> {
     fn lead_to(&mut self, greeted: Greeted)
         requires hailing { IsHailing self.old.stage }
         requires spare { greeted ≡ Greeted.LinkBegins → WINDOW_MAX ≤ self.old.outbox.spare }
-        ensures does { Does (greeted_so self.old.identity greeted [] self.old.link self.old.talking)
+        ensures does { Does (greeted_so self.old.number self.old.identity greeted [] self.old.link self.old.talking)
             (bare self.new) self.old self.new }
         ensures says { SaysWhatItCan self.new }
     {
@@ -419,7 +423,7 @@ impl<A: Allocator + Copy> Engine<A> {
     fn begin_link(&mut self)
         requires hailing { IsHailing self.old.stage }
         requires spare { WINDOW_MAX ≤ self.old.outbox.spare }
-        ensures does { Does (begins_link self.old.identity.side self.old.link self.old.talking [])
+        ensures does { Does (begins_link self.old.number self.old.identity.side self.old.link self.old.talking [])
             (bare self.new) self.old self.new }
         ensures says { SaysWhatItCan self.new }
     {
@@ -491,6 +495,20 @@ impl<A: Allocator + Copy> Engine<A> {
         self.outbox.clear();
     }
 
+    /// The number of the next conversation, where one is kept.
+    pub(crate) fn number(&self) -> Option<u32>
+        ensures { result ≡ self.now.number }
+    {
+        self.place.number
+    }
+
+    /// From now on this number is kept.
+    pub(crate) fn set_number(&mut self, number: u32)
+        ensures { self.new ≡ with_number (Some number) self.old }
+    {
+        self.place.number = Some(number);
+    }
+
     /// The jobs.
     pub(crate) fn queue(&self) -> &Queue<A>
         ensures { result.now ≡ self.now.talking.machine.lists }
@@ -510,7 +528,7 @@ impl<A: Allocator + Copy> Engine<A> {
     ) -> Self
         requires spare { 1 ≤ outbox.spare }
         ensures { BeginsSession (record { side = side_of side; me = place.me; peer = place.peer }) (announced place.announce)
-            (all_ahead queue) outbox.entries result }
+            place.number (all_ahead queue) outbox.entries result }
     {
         queue.restart();
         let greeting = first_greeting(side, &place.me, &mut outbox);
@@ -535,7 +553,7 @@ impl<A: Allocator + Copy> Engine<A> {
     /// The next session begins: what was left of the last one is dropped, and every pending job is to be offered.
     pub(crate) fn restart(&mut self)
         requires spare { 1 ≤ self.old.outbox.spare }
-        ensures { BeginsSession self.old.identity self.old.own (all_ahead self.old.talking.machine.lists)
+        ensures { BeginsSession self.old.identity self.old.own self.old.number (all_ahead self.old.talking.machine.lists)
             self.old.outbox.entries self.new }
     {
         let greeting = first_greeting(self.side, &self.place.me, &mut self.outbox);

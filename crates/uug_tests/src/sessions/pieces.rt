@@ -12,6 +12,7 @@ fn takes_a_whole_piece(rt: HostRuntime) -> Result<(), Fail> {
         me: name(b"a")?,
         peer: name(b"b")?,
         announce: Announce::new(2, 32)?,
+        number: None,
     };
     let Ok(mut caller) = Node::caller(alloc, place, Queue::new(alloc), MemorySpool::new(alloc))
     else {
