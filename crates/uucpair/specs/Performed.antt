@@ -7,7 +7,7 @@ use Rattle.uug_tool.specs.declared.fault.ToolFault.{ToolFault}
 use Rattle.uug_tool.specs.declared.fault.ToolFault.TheVariants as faults
 use Rattle.uug_play.specs.Played.{AppendsReport, BeforeReport, IsFirstBad, OnceRead}
 use Rattle.uucpair.specs.declared.command_line.Task.{Task}
-use Rattle.uucpair.specs.declared.command_line.Task.TheVariants.{Scan, Play, Pair}
+use Rattle.uucpair.specs.declared.command_line.Task.TheVariants.{Scan, Play, Pair, Call}
 use Rattle.uucpair.specs.declared.stop.Stop.{Stop}
 use Rattle.uucpair.specs.declared.stop.Stop.TheVariants.{Fault, CommandLine}
 
@@ -42,7 +42,7 @@ pub record Plays (s : Streams) (answer : Result ℕ ToolFault) : Type 0 where
   pub bad : (line : ℕ) → answer ≡ Err (faults.Script line) → IfSome s.to_come (λ script. IsFirstBad script line)
   pub nothing_written : BeforeReport answer (StaysUnwritten s)
 
--- `pair`: nothing was read of the input
+-- `pair`, `call` and `answer`: nothing was read of the input
 pub record Pairs (s : Streams) (answer : Result ℕ ToolFault) : Type 0 where
   pub status : IfOk answer (λ status. status ≤ 1)
   pub reads : StaysUnread s
@@ -51,6 +51,7 @@ abbrev pub Does : Task → Streams → Result ℕ ToolFault → Type 0
 Does Scan s answer = Scans s answer
 Does Play s answer = Plays s answer
 Does (Pair pair) s answer = Pairs s answer
+Does (Call call) s answer = Pairs s answer
 
 -- ---- the program
 

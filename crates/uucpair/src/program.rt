@@ -8,9 +8,12 @@ use crate::stop::Stop;
 use crate::system_input::SystemInput;
 use crate::system_output::SystemOutput;
 use std::convert::AsStr;
+use std::fs::File;
 use std::net::Net;
 use std::rt::{Env, Files};
+use std::time::Clock;
 use std::{env, io};
+use uug_call::{SystemWatcher, call_run};
 use uug_pair::pair_run;
 use uug_play::play_stream;
 use uug_tool::{Output, ToolFault, scan_stream};
@@ -18,7 +21,7 @@ use uug_tool::{Output, ToolFault, scan_stream};
 /// Does a task, and gives the program's status.
 fn do_task<R, I, O>(rt: &R, task: Task<'_>, input: &mut I, output: &mut O) -> Result<u8, ToolFault>
 where
-    R: Files + Net + AllocGlobal + Clone + Drop,
+    R: Files<File = File> + Net + AllocGlobal + Eprint + Clock + Clone + Drop,
     I: uug_tool::Input,
     O: Output,
     ensures { Does task.entry (streams (I.to_come input.old) (I.to_come input.new)
@@ -41,13 +44,17 @@ where
             pair.flip_every,
             output,
         ),
+        Task::Call(call) => {
+            let mut watcher = SystemWatcher::new(rt, call.is_loud);
+            call_run(alloc, rt, &call, &mut watcher, output)
+        }
     }
 }
 
 /// Does what the words of a command line ask for, the name of the program first, and gives the program's status.
 pub fn perform<R, S, I, O>(rt: &R, words: &[S], input: &mut I, output: &mut O) -> Result<u8, Stop>
 where
-    R: Files + Net + AllocGlobal + Clone + Drop,
+    R: Files<File = File> + Net + AllocGlobal + Eprint + Clock + Clone + Drop,
     S: AsStr,
     I: uug_tool::Input,
     O: Output,
@@ -59,9 +66,10 @@ where
 }
 
 /// Does what the program's own command line asks for, on standard input and output.
-pub fn run<R: Env + Input + Print + Files + Net + AllocGlobal + Clone + Drop>(
-    rt: &R,
-) -> Result<u8, Stop> {
+pub fn run<R>(rt: &R) -> Result<u8, Stop>
+where
+    R: Env + Input + Print + Eprint + Clock + Files<File = File> + Net + AllocGlobal + Clone + Drop,
+{
     let words: Vec<String> = env::args(rt)
         .map_err(|error| match error.kind() {
             io::ErrorKind::OutOfMemory => ToolFault::Memory,

@@ -110,7 +110,7 @@ fn make_ends<'a, A: Allocator + Copy, R: Files + Alloc + Clone + Drop>(
 }
 
 /// The jobs of the folder `dir`.
-fn read_queue<A: Allocator + Copy, R: Files>(
+pub fn read_queue<A: Allocator + Copy, R: Files>(
     alloc: A,
     rt: &R,
     dir: &str,

@@ -1,0 +1,3 @@
+pub mod LocalLemmas
+pub mod PatienceLemmas
+pub mod StandardFacts

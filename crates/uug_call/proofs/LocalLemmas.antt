@@ -1,0 +1,27 @@
+-- One file more, under the name under which it came.
+use Rattle.std.proofs.Common.{◌≡◌, ℕ, List, [], ◌∷◌, ◌++◌, length, map, ap, refl, sym, subst, ◌∙◌, arith}
+use Rattle.std.proofs.lemmas.List.{length-map}
+use Rattle.uug_pair.specs.FolderFiles.{FolderFiles}
+use Rattle.uug_session.specs.Holdings.{Kept, kept_file}
+use Rattle.uug_session.specs.MemoryHoldings.{kept_of}
+use Rattle.uug_call.specs.LocalFiles.{LocalFiles}
+use Rattle.uug_call.specs.LocalNames.{kept_here, renamed}
+
+one_more : (names : List (List ℕ)) (files : List Kept) (name : List ℕ) (file : Kept) → length names ≡ length files
+    → renamed (names ++ name ∷ []) (files ++ file ∷ []) ≡ renamed names files ++ kept_file name file.mode file.bytes ∷ []
+one_more [] [] name file same = refl
+one_more [] (f ∷ files) name file same = absurd (omega (arith, same))
+one_more (n ∷ names) [] name file same = absurd (omega (arith, same))
+one_more (n ∷ names) (f ∷ files) name file same =
+    ap (λ (rest : List Kept). kept_file n f.mode f.bytes ∷ rest) (one_more names files name file (omega (arith, same)))
+
+pub kept_more : {F A : Type 0} (files files_after : FolderFiles F A) (names names_after : List (List ℕ)) (now : LocalFiles F A)
+    (name local : List ℕ) (mode : ℕ) (bytes : List ℕ) → record { files = files; names = names } ≡ now
+    → length names ≡ length files.stored → names_after ≡ names ++ name ∷ []
+    → map kept_of files_after.stored ≡ map kept_of files.stored ++ kept_file local mode bytes ∷ []
+    → renamed names_after (map kept_of files_after.stored) ≡ kept_here now ++ kept_file name mode bytes ∷ []
+kept_more files files_after names names_after now name local mode bytes view same named kept =
+    let whole = one_more names (map kept_of files.stored) name (kept_file local mode bytes) (same ∙ sym (length-map files.stored kept_of)) in
+    subst (λ (s : LocalFiles _ _). renamed names_after (map kept_of files_after.stored) ≡ kept_here s ++ kept_file name mode bytes ∷ []) view
+    (ap (λ (n : List (List ℕ)). renamed n (map kept_of files_after.stored)) named
+    ∙ ap (λ (k : List Kept). renamed (names ++ name ∷ []) k) kept ∙ whole)

@@ -1,0 +1,48 @@
+-- Names whose place in a folder is known, so that a wrong definition does not check.
+use Rattle.std.proofs.Common.{◌≡◌, ℕ, List, [], codes, Some, None, refl}
+use Rattle.uug_pair.specs.Folders.{folder_holdings}
+use Rattle.uug_session.specs.declared.verdict.Verdict.{Verdict}
+use Rattle.uug_session.specs.declared.verdict.Verdict.TheVariants.{Yes, Never}
+use Rattle.uug_call.specs.LocalNames.{local_holdings, local_name}
+
+record AreLocal : Type 0 where
+  plain : local_name (codes "y") ≡ Some (codes "y")
+  public : local_name (codes "~/y") ≡ Some (codes "y")
+  root : local_name (codes "/y") ≡ Some (codes "y")
+  tilde : local_name (codes "~") ≡ Some (codes "~")
+  public_alone : local_name (codes "~/") ≡ None
+  root_alone : local_name (codes "/") ≡ None
+
+local : AreLocal
+local = record { plain = refl; public = refl; root = refl; tilde = refl; public_alone = refl; root_alone = refl }
+
+abbrev verdict : List ℕ → Verdict
+verdict name = (local_holdings (folder_holdings [])).verdict name
+
+record AreTaken : Type 0 where
+  plain : verdict (codes "y") ≡ Yes
+  public : verdict (codes "~/y") ≡ Yes
+  root : verdict (codes "/y") ≡ Yes
+  up : verdict (codes "../x") ≡ Never
+  deep : verdict (codes "/etc/x") ≡ Never
+  public_deep : verdict (codes "~/a/x") ≡ Never
+  public_up : verdict (codes "~/../x") ≡ Never
+  home : verdict (codes "~user/x") ≡ Never
+  twice : verdict (codes "//x") ≡ Never
+  hidden : verdict (codes "~/.x") ≡ Never
+  nameless : verdict (codes "/") ≡ Never
+
+taken : AreTaken
+taken = record {
+  plain = refl;
+  public = refl;
+  root = refl;
+  up = refl;
+  deep = refl;
+  public_deep = refl;
+  public_up = refl;
+  home = refl;
+  twice = refl;
+  hidden = refl;
+  nameless = refl;
+}

@@ -1,0 +1,35 @@
+use Rattle.std.proofs.Common.{ap, ◌∙◌, refl}
+use Rattle.uug_session.specs.Node.{NodeState}
+use Rattle.uug_pair.specs.Seats.{seated}
+use Rattle.uug_call.proofs.talking.take_turns.Goals as goal
+
+pub loop-buffer-init : goal.loop-buffer-init
+loop-buffer-init g c = record {
+  jobs = c.calls_keep.ensures.same _ _ (seated c.args.seat.now) (seated c.args.seat.now) refl refl;
+  calm = refl;
+}
+
+pub loop-buffer-preserved : goal.loop-buffer-preserved
+loop-buffer-preserved g c = record {
+  jobs = c.calls_keep.ensures.later _ _ _ _ _ _ c.loop-buffer.invariant.jobs
+      (c.calls_keep.ensures.later _ _ _ _ _ _
+      (c.calls_keep.ensures.same _ _ _ _ (ap (λ (n : NodeState). n.engine.talking) c.write_all.ensures.node)
+      (ap g.S.Spool.kept c.write_all.ensures.spool)) c.take_heard.ensures.jobs);
+  calm = c.in_ok-heard.ensures.calm ∙ (c.in_ok-write_all.ensures.calm ∙ c.loop-buffer.invariant.calm);
+}
+
+pub returns-in_err-take_heard-clause-jobs : goal.returns-in_err-take_heard-clause-jobs
+returns-in_err-take_heard-clause-jobs g c = c.calls_keep.ensures.later _ _ _ _ _ _ c.loop-buffer.invariant.jobs
+    (c.calls_keep.ensures.later _ _ _ _ _ _
+    (c.calls_keep.ensures.same _ _ _ _ (ap (λ (n : NodeState). n.engine.talking) c.write_all.ensures.node)
+    (ap g.S.Spool.kept c.write_all.ensures.spool)) c.take_heard.ensures.jobs)
+
+pub returns-in_err-heard-clause-jobs : goal.returns-in_err-heard-clause-jobs
+returns-in_err-heard-clause-jobs g c = c.calls_keep.ensures.later _ _ _ _ _ _ c.loop-buffer.invariant.jobs
+    (c.calls_keep.ensures.same _ _ _ _ (ap (λ (n : NodeState). n.engine.talking) c.write_all.ensures.node)
+    (ap g.S.Spool.kept c.write_all.ensures.spool))
+
+pub returns-in_err-write_all-clause-jobs : goal.returns-in_err-write_all-clause-jobs
+returns-in_err-write_all-clause-jobs g c = c.calls_keep.ensures.later _ _ _ _ _ _ c.loop-buffer.invariant.jobs
+    (c.calls_keep.ensures.same _ _ _ _ (ap (λ (n : NodeState). n.engine.talking) c.write_all.ensures.node)
+    (ap g.S.Spool.kept c.write_all.ensures.spool))

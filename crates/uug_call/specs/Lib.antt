@@ -1,0 +1,5 @@
+pub mod Calling
+pub mod Hearing
+pub mod LocalFiles
+pub mod LocalNames
+pub mod Patience

@@ -1,0 +1,48 @@
+-- Under which name a folder keeps a file that a real system names (this project's profile).
+use Rattle.std.specs.Prelude.{ℕ, Bool, true, List, [], ◌∷◌, drop, codes, nat_eq, Option, Some, None, map, if◌then◌else◌}
+use Rattle.std.specs.List.{starts_with}
+use Rattle.uug_session.specs.Holdings.{Holdings, Kept, kept_file}
+use Rattle.uug_session.specs.MemoryHoldings.{kept_of}
+use Rattle.uug_session.specs.declared.verdict.Verdict.{Verdict}
+use Rattle.uug_session.specs.declared.verdict.Verdict.TheVariants.{Never}
+use Rattle.uug_script.specs.Fields.{name_of}
+use Rattle.uug_pair.specs.Folders.{folder_holdings}
+use Rattle.uug_call.specs.LocalFiles.{LocalFiles}
+
+-- The public folder and the root of a real system are the folder here: what stands in front of a name in them is dropped.
+abbrev pub behind_root : List ℕ → List ℕ
+behind_root name =
+    if starts_with nat_eq name (codes "~/") then drop 2 name else
+    (if starts_with nat_eq name (codes "/") then drop 1 name else name)
+
+-- the name in the folder, if that is one
+abbrev pub local_name : List ℕ → Option (List ℕ)
+local_name name = name_of (behind_root name)
+
+abbrev pub verdict_by : Holdings → Option (List ℕ) → Verdict
+verdict_by h None = Never
+verdict_by h (Some name) = h.verdict name
+
+abbrev pub immovable_by : Holdings → Option (List ℕ) → Bool
+immovable_by h None = true
+immovable_by h (Some name) = h.immovable name
+
+-- A file is taken as the folder takes its name there; so none whose name there has a slash left, or a dot in front.
+abbrev pub local_holdings : Holdings → Holdings
+local_holdings h = record {
+  file = h.file;
+  verdict = λ name. verdict_by h (local_name name);
+  immovable = λ name. immovable_by h (local_name name);
+}
+
+-- the files that were kept, each under the name under which it came
+abbrev pub renamed : (names : List (List ℕ)) → List Kept → List Kept
+renamed [] files = []
+renamed (name ∷ names) [] = []
+renamed (name ∷ names) (file ∷ files) = kept_file name file.mode file.bytes ∷ renamed names files
+
+abbrev pub holdings_here : {F A : Type 0} → LocalFiles F A → Holdings
+holdings_here s = local_holdings (folder_holdings (map kept_of s.files.files))
+
+abbrev pub kept_here : {F A : Type 0} → LocalFiles F A → List Kept
+kept_here s = renamed s.names (map kept_of s.files.stored)
