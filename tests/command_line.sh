@@ -82,6 +82,34 @@ os.execv(sys.argv[1], sys.argv[1:])
 ' "$@"
 }
 
+# at_a_terminal COMMAND..: the command's standard input and standard error are a terminal, at which its user ends the input
+# at once.
+at_a_terminal() {
+    python3 -c '
+import os, sys, termios
+near, far = os.openpty()
+mode = termios.tcgetattr(far)
+mode[1] &= ~termios.OPOST
+mode[3] &= ~termios.ECHO
+termios.tcsetattr(far, termios.TCSANOW, mode)
+os.write(near, mode[6][termios.VEOF])
+child = os.fork()
+if child == 0:
+    os.dup2(far, 0)
+    os.dup2(far, 2)
+    os.execv(sys.argv[1], sys.argv[1:])
+os.close(far)
+said = b""
+try:
+    while piece := os.read(near, 4096):
+        said += piece
+except OSError:
+    pass
+sys.stderr.buffer.write(said)
+sys.exit(os.waitstatus_to_exitcode(os.waitpid(child, 0)[1]))
+' "$@"
+}
+
 to_a_full_disk() {
     "$@" >/dev/full
 }
@@ -144,11 +172,16 @@ row "a play of idle ends" 0 "" "$idle_report" play < <(printf '%s' "$idle")
 row "a play of a silent line" 1 "" "$silent_report" play < <(printf '%s' "$silent")
 row "a play that fools an end" 5 "" "$fooled_report" play < <(printf '%s' "$fooled")
 row "a bad script" 2 "uucpair: bad script at line 2$line_feed" "" play < <(printf '\ncall me\n')
+row "what is wrong with a bad script" 2 "uucpair: bad script at line 2${line_feed}uucpair: unexpected word me$line_feed" "" \
+    play -v < <(printf '\ncall me\n')
+row "what is wrong with a window" 2 "uucpair: bad script at line 1${line_feed}uucpair: window 8 is not 1 to 7$line_feed" "" \
+    play --verbose < <(printf 'caller a 8 32\n')
+row "nothing wrong with a script" 0 "" "$idle_report" play -v < <(printf '%s' "$idle")
 
 row "no tool" 2 "error: " "" </dev/null
 row "an unknown tool" 2 "error: " "" copy s a b </dev/null
-row "a word after scan" 2 "error: " "" scan file </dev/null
-row "a word after play" 2 "error: " "" play file </dev/null
+row "two words after scan" 2 "error: " "" scan file file </dev/null
+row "two words after play" 2 "error: " "" play file file </dev/null
 row "a pair without a folder" 2 "error: " "" pair s a </dev/null
 row "a pair with a number that is none" 2 "error: " "" pair s a b --drop-every x </dev/null
 row "a pair with a number out of range" 2 "uucpair: bad usage$line_feed" "" pair s a b --flip-every 1 </dev/null
@@ -157,6 +190,43 @@ row "help" 2 "Tools for the" "" --help </dev/null
 helps "help on scan" "scan  Reads bytes"
 helps "help on play" "play  Reads a script"
 helps "help on pair" "pair  Moves files"
+row "help of scan" 2 "Reads bytes" "" scan --help </dev/null
+helps "a line of a listing" "  DATA N ACK N SIZE N VALID N"
+helps "the statuses of scan" "Status: 0 done, 2 bad usage"
+helps "an example of scan" "printf '\\020\\011\\157\\252\\073\\367' | uucpair scan"
+row "help of play" 2 "Reads a script" "" play --help </dev/null
+helps "a line of a script" "  immovable SIDE NAME "
+helps "the statuses of play" "5 the line fooled an end"
+helps "an example of play" "flow 20\\n' | uucpair play"
+row "help of pair" 2 "Moves files" "" pair --help </dev/null
+helps "a line of jobs" "request SOURCE TARGET USER"
+helps "the statuses of pair" "Status: 0 both sessions are done"
+helps "an example of pair" "uucpair pair line a b --drop-every 7"
+row "the version" 0 "" "uucpair 0.1.0$line_feed" --version </dev/null
+row "the version in short" 0 "" "uucpair 0.1.0$line_feed" -V </dev/null
+
+packet >"$work/packet"
+printf '%s' "$idle" >"$work/script"
+row "a scan of a file" 0 "" "INITA 3${line_feed}REST 0$line_feed" scan "$work/packet" <"$work"
+row "a play of a file" 0 "" "$idle_report" play "$work/script" <"$work"
+row "a bad script in a file" 2 "uucpair: bad script at line 1$line_feed" "" play "$work/packet" </dev/null
+row "what is wrong with a bad script in a file" 2 "uucpair: bad script at line 1${line_feed}uucpair: unknown statement$line_feed" "" \
+    play -v "$work/packet" </dev/null
+absent="uucpair: device fault${line_feed}uucpair: can't read $work/absent$line_feed"
+row "a scan of no file" 3 "$absent" "" scan "$work/absent" </dev/null
+row "a play of no file" 3 "$absent" "" play "$work/absent" </dev/null
+row "what is wrong with no file" 3 "$absent" "" play -v "$work/absent" </dev/null
+folder="uucpair: device fault${line_feed}uucpair: can't read $work$line_feed"
+row "a scan of a folder by name" 3 "$folder" "" scan "$work" </dev/null
+row "a play of a folder by name" 3 "$folder" "" play "$work" </dev/null
+reading="uucpair: reading standard input, up to Ctrl-D$line_feed"
+by=at_a_terminal row "a scan at a terminal" 0 "$reading" "REST 0$line_feed" scan
+by=at_a_terminal row "a play at a terminal" 2 "${reading}uucpair: bad script at line 1$line_feed" "" play
+by=at_a_terminal row "a scan of a file at a terminal" 0 "" "INITA 3${line_feed}REST 0$line_feed" scan "$work/packet"
+
+cp "$root/uucpair" "$work/launcher"
+program=$work/launcher row "a launcher that was copied away" 125 "uucpair: the launcher runs only in the folder" "" scan </dev/null
+helps "what the launcher misses" "$work has no crates.txt"
 
 a=$work/a
 b=$work/b

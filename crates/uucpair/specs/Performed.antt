@@ -1,15 +1,21 @@
 -- What the program does for each task: its answer, what it read, and what it wrote (this project's profile).
 use Rattle.std.specs.Io.KnownBytes.{Keeps}
-use Rattle.std.specs.Prelude.{◌≡◌, ◌≤◌, ◌⊎◌, ℕ, List, Option, Result, Ok, Err, IfOk, OnOk, IfSome, ⊤}
-use Rattle.uug_tool.specs.Scan.{AppendsListing}
-use Rattle.uug_tool.specs.Streams.{ReadsAll}
+use Rattle.std.specs.Prelude.{◌≡◌, ◌≤◌, ◌⊎◌, ℕ, List, Option, Some, None, Result, Err, IfOk, IfErr, OnOk, IfSome, codes, ⊤}
+use Rattle.uug_tool.specs.Listing.{ended}
+use Rattle.uug_tool.specs.Scan.{AppendsListing, IsScanFault}
+use Rattle.uug_tool.specs.Streams.{Appends, ReadsAll}
 use Rattle.uug_tool.specs.declared.fault.ToolFault.{ToolFault}
 use Rattle.uug_tool.specs.declared.fault.ToolFault.TheVariants as faults
-use Rattle.uug_play.specs.Played.{AppendsReport, BeforeReport, IsFirstBad, OnceRead}
+use Rattle.uug_play.specs.Played.{AppendsReport, BeforeReport, IsFirstBad, IsPlayFault, OnceRead}
+use Rattle.uug_remark.specs.Remarks.{remark_text, wrong_at}
 use Rattle.uucpair.specs.declared.command_line.Task.{Task}
-use Rattle.uucpair.specs.declared.command_line.Task.TheVariants.{Scan, Play, Pair}
+use Rattle.uucpair.specs.declared.command_line.Task.TheVariants.{Version, Scan, Play, PlayVerbose, Pair}
 use Rattle.uucpair.specs.declared.stop.Stop.{Stop}
-use Rattle.uucpair.specs.declared.stop.Stop.TheVariants.{Fault, CommandLine}
+use Rattle.uucpair.specs.declared.stop.Stop.TheVariants.{Fault, Remarked, File, CommandLine}
+use Rattle.uucpair.specs.Stop.{EndsSo}
+
+abbrev pub version_line : List ℕ
+version_line = ended (codes "uucpair 0.1.0")
 
 -- the bytes still to come before and after, and those written before and after, where they are told
 pub record Streams : Type 0 where
@@ -26,6 +32,12 @@ StaysUnread s = Keeps s.to_come s.left
 
 abbrev pub StaysUnwritten : Streams → Type 0
 StaysUnwritten s = Keeps s.before s.after
+
+-- `--version`: the name of the program and its version were written, as a line
+pub record ShowsVersion (s : Streams) (answer : Result ℕ ToolFault) : Type 0 where
+  pub unread : StaysUnread s
+  pub status : IfOk answer (λ status. status ≡ 0)
+  pub writes : OnOk answer (Appends version_line s.before s.after)
 
 -- `scan`: the whole input was read, and its listing written
 pub record Scans (s : Streams) (answer : Result ℕ ToolFault) : Type 0 where
@@ -47,22 +59,41 @@ pub record Pairs (s : Streams) (answer : Result ℕ ToolFault) : Type 0 where
   pub status : IfOk answer (λ status. status ≤ 1)
   pub reads : StaysUnread s
 
-abbrev pub Does : Task → Streams → Result ℕ ToolFault → Type 0
-Does Scan s answer = Scans s answer
-Does Play s answer = Plays s answer
-Does (Pair pair) s answer = Pairs s answer
+-- `scan` of a file, whose bytes no proof knows
+pub record ScansFile (s : Streams) (answer : Result ℕ ToolFault) : Type 0 where
+  pub unread : StaysUnread s
+  pub status : IfOk answer (λ status. status ≡ 0)
+  pub no_other : IfErr answer IsScanFault
+
+-- `play` of a file, whose bytes no proof knows
+pub record PlaysFile (s : Streams) (answer : Result ℕ ToolFault) : Type 0 where
+  pub unread : StaysUnread s
+  pub nothing_written : BeforeReport answer (StaysUnwritten s)
+  pub no_other : IfErr answer IsPlayFault
+
+-- `play -v`: the same, and where the script is bad the remark is what is wrong with its first bad line
+pub record PlaysRemarked (s : Streams) (remark : List ℕ) (answer : Result ℕ ToolFault) : Type 0 where
+  pub plays : Plays s answer
+  pub remarks : (line : ℕ) → answer ≡ Err (faults.Script line) → IfSome s.to_come (λ script. remark ≡ remark_text (wrong_at line script))
+
+abbrev pub Does : Task → Streams → (remark : List ℕ) → Result ℕ ToolFault → Type 0
+Does Version s remark answer = ShowsVersion s answer
+Does (Scan None) s remark answer = Scans s answer
+Does (Scan (Some path)) s remark answer = ScansFile s answer
+Does (Play None) s remark answer = Plays s answer
+Does (Play (Some path)) s remark answer = PlaysFile s answer
+Does (PlayVerbose None) s remark answer = PlaysRemarked s remark answer
+Does (PlayVerbose (Some path)) s remark answer = PlaysFile s answer
+Does (Pair pair) s remark answer = Pairs s answer
 
 -- ---- the program
-
--- the answer of a task, as the program ends
-abbrev pub ended : Result ℕ ToolFault → Result ℕ Stop
-ended (Ok status) = Ok status
-ended (Err fault) = Err (Fault fault)
 
 -- the command line asks for no task, or there was no memory for reading it
 abbrev pub IsNoTask : Stop → Type 0
 IsNoTask (CommandLine error) = ⊤
 IsNoTask (Fault fault) = fault ≡ faults.Memory
+IsNoTask (Remarked fault remark) = ⊥
+IsNoTask (File name) = ⊥
 
 -- there was no task, and nothing was read or written
 pub record HasNoTask (s : Streams) (ends : Result ℕ Stop) : Type 0 where
@@ -76,8 +107,9 @@ pub record HasNoTask (s : Streams) (ends : Result ℕ Stop) : Type 0 where
 pub record HasDone (s : Streams) (ends : Result ℕ Stop) : Type 0 where
   pub task : Task
   pub answer : Result ℕ ToolFault
-  pub does : Does task s answer
-  pub ends_so : ends ≡ ended answer
+  pub remark : List ℕ
+  pub does : Does task s remark answer
+  pub ends_so : EndsSo task answer remark ends
 
 abbrev pub Performs : Streams → Result ℕ Stop → Type 0
 Performs s ends = HasNoTask s ends ⊎ HasDone s ends

@@ -1,11 +1,58 @@
 -- How the program ends (this project's profile).
-use Rattle.std.specs.Prelude.{ℕ}
+use Rattle.std.specs.Prelude.{◌≡◌, ℕ, List, None, Some, Result, Ok, Err, IsErrAnd, string_bytes}
 use Rattle.uug_tool.specs.Fault.{status_of}
-use Rattle.uug_tool.specs.declared.fault.ToolFault.TheVariants.{Usage}
+use Rattle.uug_tool.specs.declared.fault.ToolFault.{ToolFault}
+use Rattle.uug_tool.specs.declared.fault.ToolFault.TheVariants.{Memory, Read, Script, Usage}
+use Rattle.uucpair.specs.declared.command_line.Task.{Task}
+use Rattle.uucpair.specs.declared.command_line.Task.TheVariants.{Scan, Play, PlayVerbose}
 use Rattle.uucpair.specs.declared.stop.Stop.{Stop}
-use Rattle.uucpair.specs.declared.stop.Stop.TheVariants.{Fault, CommandLine}
+use Rattle.uucpair.specs.declared.stop.Stop.TheVariants.{Fault, Remarked, File, CommandLine}
 
 -- the status where the program ends before its task is done: usage and help count as bad usage
 abbrev pub status_of_stop : Stop → ℕ
 status_of_stop (Fault fault) = status_of fault
+status_of_stop (Remarked fault remark) = status_of fault
+status_of_stop (File name) = status_of Read
 status_of_stop (CommandLine error) = status_of Usage
+
+-- ---- after a task
+
+-- the fault and this remark on it
+abbrev pub HasRemark : ToolFault → (remark : List ℕ) → Stop → Type 0
+HasRemark fault remark (Remarked f text) = (f ≡ fault) × (string_bytes text ≡ remark)
+HasRemark fault remark (Fault f) = ⊥
+HasRemark fault remark (File name) = ⊥
+HasRemark fault remark (CommandLine error) = ⊥
+
+-- the file of this name is named, unless there was no memory for that
+abbrev pub NamesFile : (path : List ℕ) → Stop → Type 0
+NamesFile path (File name) = string_bytes name ≡ path
+NamesFile path (Fault fault) = fault ≡ Memory
+NamesFile path (Remarked fault remark) = ⊥
+NamesFile path (CommandLine error) = ⊥
+
+-- the file is named where it refused to be opened or read
+abbrev pub StopsOnFile : (path : List ℕ) → ToolFault → Stop → Type 0
+StopsOnFile path Read stop = NamesFile path stop
+StopsOnFile path fault stop = stop ≡ Fault fault
+
+-- a bad script has the remark on it
+abbrev pub StopsOnScript : ToolFault → (remark : List ℕ) → Stop → Type 0
+StopsOnScript (Script line) remark stop = HasRemark (Script line) remark stop
+StopsOnScript fault remark stop = stop ≡ Fault fault
+
+abbrev pub StopsOnScriptFile : (path : List ℕ) → ToolFault → (remark : List ℕ) → Stop → Type 0
+StopsOnScriptFile path Read remark stop = NamesFile path stop
+StopsOnScriptFile path fault remark stop = StopsOnScript fault remark stop
+
+abbrev pub StopsAs : Task → ToolFault → (remark : List ℕ) → Stop → Type 0
+StopsAs (Scan (Some path)) fault remark stop = StopsOnFile path.now fault stop
+StopsAs (Play (Some path)) fault remark stop = StopsOnFile path.now fault stop
+StopsAs (PlayVerbose None) fault remark stop = StopsOnScript fault remark stop
+StopsAs (PlayVerbose (Some path)) fault remark stop = StopsOnScriptFile path.now fault remark stop
+StopsAs task fault remark stop = stop ≡ Fault fault
+
+-- how the program ends after a task that answered this, with this remark
+abbrev pub EndsSo : Task → Result ℕ ToolFault → (remark : List ℕ) → Result ℕ Stop → Type 0
+EndsSo task (Ok status) remark ends = ends ≡ Ok status
+EndsSo task (Err fault) remark ends = IsErrAnd ends (StopsAs task fault remark)

@@ -1,3 +1,5 @@
+use crate::help;
+use clap::error::ErrorKind;
 use clap::{Arg, ArgAction, ArgMatches, Command, Error, value_parser};
 use std::alloc::{AllocError, Global};
 use std::convert::AsStr;
@@ -5,10 +7,14 @@ use std::convert::AsStr;
 /// What the command line asks for.
 #[derive(Clone, Copy, Debug, PartialEq, Eq)]
 pub enum Task<'a> {
-    /// The listing of standard input, to standard output.
-    Scan,
-    /// The report of the script on standard input, to standard output.
-    Play,
+    /// The name of the program and its version, to standard output.
+    Version,
+    /// The listing of a file, or of standard input, to standard output.
+    Scan(Option<&'a str>),
+    /// The report of the script in a file, or on standard input, to standard output.
+    Play(Option<&'a str>),
+    /// The same; and where the script is bad, it is said what is wrong.
+    PlayVerbose(Option<&'a str>),
     /// Two ends over two folders, and a socket between them.
     Pair(PairTask<'a>),
 }
@@ -28,26 +34,54 @@ pub struct PairTask<'a> {
     pub flip_every: Option<u32>,
 }
 
+/// The version of the program, which `--version` prints.
+pub const VERSION: &str = "0.1.0";
+
 /// The tools and their arguments.
 fn command<'a>(alloc: Global) -> Result<Command<'a>, AllocError> {
-    let scan = Command::new(alloc, "scan").about(
-        "Reads bytes from standard input and lists the packets in them",
-    );
-    let play = Command::new(alloc, "play").about(
-        "Reads a script of two ends and a noisy line from standard input, plays it and reports what they did",
-    );
     Command::new(alloc, "uucpair")
         .about("Tools for the 'g' packet protocol of UUCP")
+        .version(VERSION)
         .subcommand_required(true)
-        .subcommand(scan)?
-        .subcommand(play)?
+        .subcommand(scan_command(alloc)?)?
+        .subcommand(play_command(alloc)?)?
         .subcommand(pair_command(alloc)?)
+}
+
+/// The tool that lists packets.
+fn scan_command<'a>(alloc: Global) -> Result<Command<'a>, AllocError> {
+    Command::new(alloc, "scan")
+        .about("Reads bytes and lists the packets in them")
+        .after_help(help::SCAN)
+        .arg(file(
+            alloc,
+            "The file of the bytes; without it standard input is read",
+        ))
+}
+
+/// The tool that plays a script.
+fn play_command<'a>(alloc: Global) -> Result<Command<'a>, AllocError> {
+    Command::new(alloc, "play")
+        .about("Reads a script of two ends and a noisy line, plays it and reports what they did")
+        .after_help(help::PLAY)
+        .arg(file(
+            alloc,
+            "The file of the script; without it standard input is read",
+        ))?
+        .arg(
+            Arg::new(alloc, "verbose")
+                .short('v')
+                .long("verbose")
+                .action(ArgAction::SetTrue)
+                .help("Says what is wrong with a bad script"),
+        )
 }
 
 /// The tool that moves files.
 fn pair_command<'a>(alloc: Global) -> Result<Command<'a>, AllocError> {
     Command::new(alloc, "pair")
         .about("Moves files between two folders, by two ends over a Unix socket")
+        .after_help(help::PAIR)
         .arg(path(
             alloc,
             "SOCKET",
@@ -57,6 +91,11 @@ fn pair_command<'a>(alloc: Global) -> Result<Command<'a>, AllocError> {
         .arg(path(alloc, "DIR_B", "The folder of the called end"))?
         .arg(every(alloc, "drop-every", "Loses every Nth packet"))?
         .arg(every(alloc, "flip-every", "Changes every Nth packet"))
+}
+
+/// The file that is read, where there is one.
+fn file<'a>(alloc: Global, help: &'a str) -> Arg<'a> {
+    Arg::new(alloc, "FILE").action(ArgAction::Set).help(help)
 }
 
 /// An argument that has to be there.
@@ -91,10 +130,22 @@ fn pair_task<'a>(matches: &ArgMatches<'a>) -> PairTask<'a> {
 /// The task that the words of a command line ask for, the name of the program first. The error's text is the
 /// usage, or the help where it was asked for.
 pub fn task_of<'a, S: AsStr>(alloc: Global, words: &'a [S]) -> Result<Task<'a>, Error> {
-    let matches = command(alloc)?.try_get_matches_from(words)?;
+    let matches = match command(alloc)?.try_get_matches_from(words) {
+        Ok(matches) => matches,
+        Err(error) => {
+            return match error.kind() {
+                ErrorKind::DisplayVersion => Ok(Task::Version),
+                _ => Err(error),
+            };
+        }
+    };
     match matches.subcommand() {
-        Some(("play", _)) => Ok(Task::Play),
+        Some(("play", matches)) if matches.get_flag("verbose") => {
+            Ok(Task::PlayVerbose(matches.get_str("FILE")))
+        }
+        Some(("play", matches)) => Ok(Task::Play(matches.get_str("FILE"))),
         Some(("pair", matches)) => Ok(Task::Pair(pair_task(matches))),
-        _ => Ok(Task::Scan),
+        Some((_, matches)) => Ok(Task::Scan(matches.get_str("FILE"))),
+        None => Ok(Task::Scan(None)),
     }
 }

@@ -1,36 +1,198 @@
 //! What the program does, from its command line to its status.
-ghost use Rattle.std.specs.Prelude.{◌≡◌, MatchResult};
-ghost use Rattle.uucpair.specs.Performed.{Does, Performs, streams};
-ghost use Rattle.uucpair.specs.Stop.{status_of_stop};
+ghost use Rattle.std.specs.Prelude.{◌≡◌, IfErr, IfOk, MatchResult, OnOk, string_bytes};
+ghost use Rattle.uug_tool.specs.declared.fault.ToolFault.TheVariants.{Read as read};
+ghost use Rattle.std.specs.Io.KnownBytes.{Keeps};
+ghost use Rattle.uug_play.specs.Played.{BeforeReport, IsPlayFault};
+ghost use Rattle.uug_tool.specs.Scan.{IsScanFault};
+ghost use Rattle.uug_tool.specs.Streams.{Appends};
+ghost use Rattle.uucpair.specs.Performed.{Does, Performs, Scans, streams, version_line};
+ghost use Rattle.uucpair.specs.Stop.{EndsSo, NamesFile, StopsAs, StopsOnFile, StopsOnScript, StopsOnScriptFile, status_of_stop};
 
-use crate::command_line::{Task, task_of};
+use crate::command_line::{Task, VERSION, task_of};
 use crate::stop::Stop;
 use crate::system_input::SystemInput;
 use crate::system_output::SystemOutput;
+use std::alloc::Global;
 use std::convert::AsStr;
+use std::fs::File;
 use std::net::Net;
 use std::rt::{Env, Files};
 use std::{env, io};
 use uug_pair::pair_run;
 use uug_play::play_stream;
-use uug_tool::{Output, ToolFault, scan_stream};
+use uug_remark::play_remarked;
+use uug_tool::{Output, ToolFault, scan_stream, write_all};
+
+/// Prints the name of the program and its version.
+fn show_version<O: Output>(alloc: Global, output: &mut O) -> Result<u8, ToolFault>
+    ensures status { IfOk result (λ status. status ≡ 0) }
+    ensures writes { OnOk result
+        (Appends version_line (O.written output.old) (O.written output.new)) }
+{
+    let line = format!(in alloc; "uucpair {VERSION}\n")?;
+    write_all(output, line.as_bytes())?;
+    Ok(0)
+}
+
+/// Lists the input.
+fn scan<I, O>(alloc: Global, input: &mut I, output: &mut O) -> Result<u8, ToolFault>
+where
+    I: uug_tool::Input,
+    O: Output,
+    ensures scans { Scans (streams (I.to_come input.old) (I.to_come input.new)
+        (O.written output.old) (O.written output.new)) result }
+    ensures no_other { IfErr result IsScanFault }
+{
+    scan_stream(alloc, input, output)?;
+    Ok(0)
+}
+
+/// Opens a file as an input.
+fn open<R: Files>(rt: &R, path: &str) -> Result<SystemInput<R::File>, ToolFault>
+    ensures { IfErr result (λ fault. fault ≡ read) }
+{
+    match File::open(rt, path) {
+        Ok(file) => Ok(SystemInput::new(file)),
+        Err(_) => Err(ToolFault::Read),
+    }
+}
+
+/// Lists a file.
+fn scan_file<R: Files, O: Output>(
+    alloc: Global,
+    rt: &R,
+    path: &str,
+    output: &mut O,
+) -> Result<u8, ToolFault>
+    ensures status { IfOk result (λ status. status ≡ 0) }
+    ensures no_other { IfErr result IsScanFault }
+{
+    let mut file = open(rt, path)?;
+    scan(alloc, &mut file, output)
+}
+
+/// Plays the script in a file.
+fn play_file<R: Files, O: Output>(
+    alloc: Global,
+    rt: &R,
+    path: &str,
+    output: &mut O,
+) -> Result<u8, ToolFault>
+    ensures nothing_written { BeforeReport result
+        (Keeps (O.written output.old) (O.written output.new)) }
+    ensures no_other { IfErr result IsPlayFault }
+{
+    let mut file = open(rt, path)?;
+    play_stream(alloc, &mut file, output)
+}
+
+/// Plays the script in a file, with a remark where it is bad.
+fn play_file_remarked<R: Files, O: Output>(
+    alloc: Global,
+    rt: &R,
+    path: &str,
+    output: &mut O,
+    remark: &mut String,
+) -> Result<u8, ToolFault>
+    ensures nothing_written { BeforeReport result
+        (Keeps (O.written output.old) (O.written output.new)) }
+    ensures no_other { IfErr result IsPlayFault }
+{
+    let mut file = open(rt, path)?;
+    play_remarked(alloc, &mut file, output, remark)
+}
+
+/// That the file of this name can't be read, where there is memory to say so.
+fn names_file(alloc: Global, path: &str) -> Stop
+    ensures { NamesFile path.now result }
+{
+    match String::from_str(alloc, path) {
+        Ok(name) => Stop::File(name),
+        Err(_) => Stop::Fault(ToolFault::Memory),
+    }
+}
+
+/// Why a task gives up that read the file of this name: the file is named where it is the cause.
+fn stop_of_file(alloc: Global, path: &str, fault: ToolFault) -> Stop
+    ensures { StopsOnFile path.now fault result }
+{
+    match fault {
+        ToolFault::Read => names_file(alloc, path),
+        fault => Stop::Fault(fault),
+    }
+}
+
+/// Why a script was not played, with the remark where it is bad.
+fn stop_of_script(fault: ToolFault, remark: String) -> Stop
+    ensures { StopsOnScript fault (string_bytes remark) result }
+{
+    match fault {
+        ToolFault::Script(_) => Stop::Remarked(fault, remark),
+        fault => Stop::Fault(fault),
+    }
+}
+
+/// The same of the script in the file of this name.
+fn stop_of_script_file(alloc: Global, path: &str, fault: ToolFault, remark: String) -> Stop
+    ensures { StopsOnScriptFile path.now fault (string_bytes remark) result }
+{
+    match fault {
+        ToolFault::Read => names_file(alloc, path),
+        fault => stop_of_script(fault, remark),
+    }
+}
+
+/// Why the program ends where a task gave up.
+fn stop_of(alloc: Global, task: Task<'_>, fault: ToolFault, remark: String) -> Stop
+    ensures { StopsAs task.entry fault (string_bytes remark) result }
+{
+    match task {
+        Task::Scan(Some(path)) | Task::Play(Some(path)) => stop_of_file(alloc, path, fault),
+        Task::PlayVerbose(None) => stop_of_script(fault, remark),
+        Task::PlayVerbose(Some(path)) => stop_of_script_file(alloc, path, fault, remark),
+        _ => Stop::Fault(fault),
+    }
+}
+
+/// How the program ends after a task that answered this.
+fn end_of(
+    alloc: Global,
+    task: Task<'_>,
+    answer: Result<u8, ToolFault>,
+    remark: String,
+) -> Result<u8, Stop>
+    ensures { EndsSo task.entry answer (string_bytes remark) result }
+{
+    match answer {
+        Ok(status) => Ok(status),
+        Err(fault) => Err(stop_of(alloc, task, fault, remark)),
+    }
+}
 
 /// Does a task, and gives the program's status.
-fn do_task<R, I, O>(rt: &R, task: Task<'_>, input: &mut I, output: &mut O) -> Result<u8, ToolFault>
+fn do_task<R, I, O>(
+    rt: &R,
+    task: Task<'_>,
+    input: &mut I,
+    output: &mut O,
+    remark: &mut String,
+) -> Result<u8, ToolFault>
 where
     R: Files + Net + AllocGlobal + Clone + Drop,
     I: uug_tool::Input,
     O: Output,
     ensures { Does task.entry (streams (I.to_come input.old) (I.to_come input.new)
-        (O.written output.old) (O.written output.new)) result }
+        (O.written output.old) (O.written output.new)) (string_bytes remark.new) result }
 {
     let alloc = rt.alloc();
     match task {
-        Task::Scan => {
-            scan_stream(alloc, input, output)?;
-            Ok(0)
-        }
-        Task::Play => play_stream(alloc, input, output),
+        Task::Version => show_version(alloc, output),
+        Task::Scan(None) => scan(alloc, input, output),
+        Task::Scan(Some(path)) => scan_file(alloc, rt, path, output),
+        Task::Play(None) => play_stream(alloc, input, output),
+        Task::Play(Some(path)) => play_file(alloc, rt, path, output),
+        Task::PlayVerbose(None) => play_remarked(alloc, input, output, remark),
+        Task::PlayVerbose(Some(path)) => play_file_remarked(alloc, rt, path, output, remark),
         Task::Pair(pair) => pair_run(
             alloc,
             rt,
@@ -44,10 +206,27 @@ where
     }
 }
 
+/// Says that standard input is read, where somebody sits before it.
+fn greet(rt: &impl Eprint, task: Task<'_>, at_terminal: bool) {
+    match task {
+        Task::Scan(None) | Task::Play(None) | Task::PlayVerbose(None) if at_terminal => {
+            let _ = eprint!(rt; "uucpair: reading standard input, up to Ctrl-D\n");
+        }
+        _ => (),
+    }
+}
+
 /// Does what the words of a command line ask for, the name of the program first, and gives the program's status.
-pub fn perform<R, S, I, O>(rt: &R, words: &[S], input: &mut I, output: &mut O) -> Result<u8, Stop>
+/// Somebody who sits before standard input is told where it is read.
+pub fn perform<R, S, I, O>(
+    rt: &R,
+    words: &[S],
+    at_terminal: bool,
+    input: &mut I,
+    output: &mut O,
+) -> Result<u8, Stop>
 where
-    R: Files + Net + AllocGlobal + Clone + Drop,
+    R: Files + Net + Eprint + AllocGlobal + Clone + Drop,
     S: AsStr,
     I: uug_tool::Input,
     O: Output,
@@ -55,12 +234,16 @@ where
         (O.written output.old) (O.written output.new)) result }
 {
     let task = task_of(rt.alloc(), words)?;
-    Ok(do_task(rt, task, input, output)?)
+    greet(rt, task, at_terminal);
+    let mut remark = String::new(rt.alloc());
+    let answer = do_task(rt, task, input, output, &mut remark);
+    end_of(rt.alloc(), task, answer, remark)
 }
 
 /// Does what the program's own command line asks for, on standard input and output.
-pub fn run<R: Env + Input + Print + Files + Net + AllocGlobal + Clone + Drop>(
+pub fn run<R: Env + Input + Print + Eprint + Files + Net + AllocGlobal + Clone + Drop>(
     rt: &R,
+    at_terminal: bool,
 ) -> Result<u8, Stop> {
     let words: Vec<String> = env::args(rt)
         .map_err(|error| match error.kind() {
@@ -70,7 +253,7 @@ pub fn run<R: Env + Input + Print + Files + Net + AllocGlobal + Clone + Drop>(
         .collect(rt.alloc())?;
     let mut input = SystemInput::new(rt.reader());
     let mut output = SystemOutput::new(io::writer(rt));
-    perform(rt, &words, &mut input, &mut output)
+    perform(rt, &words, at_terminal, &mut input, &mut output)
 }
 
 /// Says on standard error why the program ends before its task is done, where that can be said, and gives the

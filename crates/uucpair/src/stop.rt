@@ -13,6 +13,12 @@ use uug_tool::ToolFault;
 pub enum Stop {
     #[error("uucpair: {0}\n")]
     Fault(ToolFault),
+    /// A fault, and a remark on it.
+    #[error("uucpair: {0}\nuucpair: {1}\n")]
+    Remarked(ToolFault, String),
+    /// The file of this name can't be opened or read.
+    #[error("uucpair: device fault\nuucpair: can't read {0}\n")]
+    File(String),
     /// The command line asks for no task: the usage, or the help where it was asked for.
     #[error("{0}")]
     CommandLine(clap::error::Error),
@@ -24,7 +30,8 @@ impl Stop {
         ensures { result ≡ status_of_stop self.now }
     {
         match self {
-            Stop::Fault(fault) => fault.status(),
+            Stop::Fault(fault) | Stop::Remarked(fault, _) => fault.status(),
+            Stop::File(_) => ToolFault::Read.status(),
             Stop::CommandLine(_) => ToolFault::Usage.status(),
         }
     }

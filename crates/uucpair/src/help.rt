@@ -1,0 +1,76 @@
+//! What stands below the usage in the help of each tool.
+
+pub const SCAN: &str = "A line for each packet, and a last one:
+  INITA N, INITC N  the greatest window that the other end is to use
+  INITB SIZE        the packet size that it is to use
+  RR N              all packets up to N were received
+  RJ N              the same, and those after it are to be sent again
+  SRJ N             packet N is to be sent again
+  CLOSE             the link is shut down
+  DATA N ACK N SIZE N VALID N
+                    a data packet: its number, the number that it acknowledges,
+                    the size of its field, and how many of its bytes are valid
+  BAD               a data packet with a wrong checksum or a bad length
+  REST N            the end: the last N bytes may begin a packet
+
+Status: 0 done, 2 bad usage, 3 a device fault, 4 out of memory
+
+Example:
+  printf '\\020\\011\\157\\252\\073\\367' | uucpair scan
+prints
+  INITA 3
+  REST 0";
+
+pub const PLAY: &str =
+    "The lines of a script, where SIDE is caller or called, and HEX has two digits a byte or is -:
+  caller NAME WINDOW SIZE  the end that calls, its window (1 to 7) and its packet
+                           size (32, 64, and so on up to 4096)
+  called NAME WINDOW SIZE  the end that is called
+  file SIDE NAME MODE HEX  a file that the end has to give
+  send SIDE SOURCE TARGET USER [TEMP]
+                           a job: the end sends a file
+  request SIDE SOURCE TARGET USER
+                           a job: the end asks for a file
+  deny SIDE NAME           the end refuses a file that is sent under this name,
+  later SIDE NAME          puts it off,
+  immovable SIDE NAME      or can't put it in its place
+  pass SIDE N              the next N bytes on the way to the side arrive
+  drop SIDE N              they are lost
+  flip SIDE HH             the bits HH of the next byte are inverted
+  insert SIDE HH           the byte HH is put before the next one
+  timeout SIDE             nothing has come to the side for some time
+  hangup SIDE              the line is gone for the side
+  call                     both ends hang up, and a new session begins
+  flow N                   N times all bytes arrive, first at the called end
+Empty lines and lines that begin with # are skipped.
+
+Status: 0 the last session is done at both ends, 1 it is not, 2 bad usage or a bad
+script, 3 a device fault, 4 out of memory, 5 the line fooled an end
+
+Example:
+  printf 'caller a 2 32\\ncalled b 2 32\\nflow 20\\n' | uucpair play
+prints
+  session 1
+  caller sent 2 taken 1 most 1 done
+  called sent 1 taken 2 most 1 done
+  caller pending 0 struck 0 failed 0
+  called pending 0 struck 0 failed 0
+  verdict clean";
+
+pub const PAIR: &str = "In each folder:
+  jobs  the jobs of the end, a line each: send SOURCE TARGET USER
+        or request SOURCE TARGET USER
+  send  the folder of the files that it gives
+  got   the folder of the files that come to it
+N is from 2 to 1000000; packets are counted over both directions.
+
+Status: 0 both sessions are done, 1 one is not, 2 bad usage or bad jobs, 3 a device
+fault, 4 out of memory
+
+Example:
+  mkdir -p a/send b/got && echo hello > a/send/x && echo 'send x y me' > a/jobs
+  uucpair pair line a b --drop-every 7
+prints
+  caller done pending 0 struck 1 failed 0
+  called done pending 0 struck 0 failed 0
+and b/got/y is the file.";

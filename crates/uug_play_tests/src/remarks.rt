@@ -1,0 +1,95 @@
+//! Remarks on bad scripts. What this catches beyond the clauses: a text that is wrong in the definition, and a call that
+//! gives up where it need not.
+
+use std::process::Abort;
+use std::test::Fail;
+use uug_remark::play_remarked;
+use uug_tool::{MemoryInput, MemoryOutput, ToolFault};
+
+/// Third lines behind two that set up the ends, and what is wrong with them.
+const REMARKS: [(&[u8], &str); 20] = [
+    (b"caller a 8 32", "window 8 is not 1 to 7"),
+    (b"caller a 0 32", "window 0 is not 1 to 7"),
+    (
+        b"caller a 2 48",
+        "packet size 48 is not 32, 64, 128, 256, 512, 1024, 2048 or 4096",
+    ),
+    (
+        b"caller a 2 32",
+        "the end is set up already, or has 64 jobs",
+    ),
+    (b"caller a 2", "packet size is missing"),
+    (b"caller a 2 32 x", "unexpected word x"),
+    (b"other", "unknown statement other"),
+    (b"pass both 1", "side both is not caller or called"),
+    (b"pass", "side is missing"),
+    (
+        b"pass caller 1000000001",
+        "number 1000000001 is not 0 to 1000000000",
+    ),
+    // a tab is no character that can be seen
+    (b"drop caller 1\t", "number is not 0 to 1000000000"),
+    (b"flow 100001", "number 100001 is not 0 to 100000"),
+    (b"flip caller 0g", "byte 0g is not 2 hexadecimal digits"),
+    (
+        b"file caller x 0648 -",
+        "mode 0648 is not 1 to 4 octal digits",
+    ),
+    (
+        b"file caller x 0644 0",
+        "hex 0 is not pairs of hexadecimal digits, or -",
+    ),
+    (b"send caller x y u q r", "unexpected word r"),
+    (b"send caller x y", "name is missing"),
+    (
+        b"request called x \x7f u",
+        "name is not 1 to 200 visible ASCII characters",
+    ),
+    (b"timeout", "side is missing"),
+    (b"call caller", "unexpected word caller"),
+];
+
+/// Checks what is said of a script whose line of this number is bad.
+fn check_remark(
+    rt: &(impl Abort + AllocGlobal),
+    script: &[u8],
+    number: usize,
+    expected: &str,
+) -> Result<(), Fail> {
+    let mut input = MemoryInput::new(script);
+    let mut output = MemoryOutput::new(rt.alloc());
+    let mut remark = String::new(rt.alloc());
+    let answer = play_remarked(rt.alloc(), &mut input, &mut output, &mut remark);
+    assert_eq!(rt; answer, Err(ToolFault::Script(number)));
+    assert_eq!(rt; remark.as_str(), expected);
+    assert_eq!(rt; output.bytes().len(), 0);
+    Ok(())
+}
+
+#[test]
+fn says_what_is_wrong(rt: HostRuntime) -> Result<(), Fail> {
+    for (line, expected) in REMARKS {
+        let mut script = Vec::from_slice(rt.alloc(), b"caller a 2 32\ncalled b 2 32\n")?;
+        script.extend_from_slice(line)?;
+        check_remark(&rt, &script, 3, expected)?;
+    }
+    Ok(())
+}
+
+#[test]
+fn says_what_is_missing(rt: HostRuntime) -> Result<(), Fail> {
+    check_remark(&rt, b"caller a 2 32\n", 2, "caller or called is missing")?;
+    check_remark(&rt, b"", 1, "caller or called is missing")
+}
+
+#[test]
+fn says_nothing_of_a_good_script(rt: HostRuntime) -> Result<(), Fail> {
+    let mut input = MemoryInput::new(b"caller a 2 32\ncalled b 2 32\nflow 20\n");
+    let mut output = MemoryOutput::new(rt.alloc());
+    let mut remark = String::new(rt.alloc());
+    let answer = play_remarked(rt.alloc(), &mut input, &mut output, &mut remark);
+    assert_eq!(rt; answer, Ok(0));
+    assert_eq!(rt; remark.as_str(), "");
+    assert!(rt; !output.bytes().is_empty());
+    Ok(())
+}

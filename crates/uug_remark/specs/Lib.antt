@@ -1,0 +1,4 @@
+pub mod Fitting
+pub mod Statements
+pub mod Complaints
+pub mod Remarks

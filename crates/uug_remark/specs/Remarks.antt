@@ -1,0 +1,59 @@
+-- The text of what is wrong with a script (this project's profile).
+use Rattle.std.specs.Prelude.{◌&&◌, ℕ, ◌-◌, Bool, List, [], ◌∷◌, ◌++◌, length, codes, nat_le, slice_get, Option, Some, None, if◌then◌else◌}
+use Rattle.std.specs.Char.{is_ascii_graphic}
+use Rattle.std.specs.List.{list_all}
+use Rattle.uug_script.specs.Lines.{lines}
+use Rattle.uug_remark.specs.declared.field.Field.{Field}
+use Rattle.uug_remark.specs.declared.field.Field.TheVariants.{Side, Name, Copy, Window, Size, Mode, Bytes, Count, Turns, Byte}
+use Rattle.uug_remark.specs.declared.remark.TheConstants.{SHOWN_MAX}
+use Rattle.uug_remark.specs.Complaints.{Wrong, too_long, unknown, wrong, missing, too_many, absent, nothing, complaint_of}
+
+-- what the word is called
+abbrev pub noun : Field → List ℕ
+noun Side = codes "side"
+noun Name = codes "name"
+noun Copy = codes "name"
+noun Window = codes "window"
+noun Size = codes "packet size"
+noun Mode = codes "mode"
+noun Bytes = codes "hex"
+noun Count = codes "number"
+noun Turns = codes "number"
+noun Byte = codes "byte"
+
+-- what it has to be
+abbrev pub wanted : Field → List ℕ
+wanted Side = codes "caller or called"
+wanted Name = codes "1 to 200 visible ASCII characters"
+wanted Copy = codes "1 to 200 visible ASCII characters"
+wanted Window = codes "1 to 7"
+wanted Size = codes "32, 64, 128, 256, 512, 1024, 2048 or 4096"
+wanted Mode = codes "1 to 4 octal digits"
+wanted Bytes = codes "pairs of hexadecimal digits, or -"
+wanted Count = codes "0 to 1000000000"
+wanted Turns = codes "0 to 100000"
+wanted Byte = codes "2 hexadecimal digits"
+
+-- a word is told where it is short and all its characters can be seen
+abbrev pub is_told : List ℕ → Bool
+is_told word = nat_le (length word) SHOWN_MAX && list_all is_ascii_graphic word
+
+abbrev pub told : List ℕ → List ℕ
+told word = if is_told word then 32 ∷ word else []
+
+abbrev pub remark_text : Wrong → List ℕ
+remark_text too_long = codes "line is longer than 65536 bytes"
+remark_text (unknown word) = codes "unknown statement" ++ told word
+remark_text (wrong field word) = noun field ++ told word ++ codes " is not " ++ wanted field
+remark_text (missing field) = noun field ++ codes " is missing"
+remark_text (too_many word) = codes "unexpected word" ++ told word
+remark_text absent = codes "caller or called is missing"
+remark_text nothing = codes "the end is set up already, or has 64 jobs"
+
+abbrev pub wrong_with : Option (List ℕ) → Wrong
+wrong_with None = absent
+wrong_with (Some line) = complaint_of line
+
+-- what is wrong with the line of this number, counted from 1
+abbrev pub wrong_at : ℕ → (script : List ℕ) → Wrong
+wrong_at number script = wrong_with (slice_get (lines script) (number - 1))

@@ -1,0 +1,122 @@
+//! The statements of a script, and the words that each has behind its first.
+ghost use Rattle.std.specs.Prelude.{◌≡◌, ◌<◌, IfSome, length, slice_get};
+ghost use Rattle.std.specs.Str.{bytes_eq};
+ghost use Rattle.uug_remark.specs.Statements.{event_of, field_at, is_refusal, statement_of};
+
+use crate::field::Field;
+
+/// A kind of statement: those of one kind have the same words behind their first.
+#[derive(Clone, Copy, Debug, PartialEq, Eq)]
+pub enum Statement {
+    /// `caller NAME WINDOW SIZE`, and the same of the called end.
+    Place,
+    /// `file SIDE NAME MODE HEX`.
+    File,
+    /// `send SIDE SOURCE TARGET USER [TEMP]`.
+    Send,
+    /// `request SIDE SOURCE TARGET USER`.
+    Request,
+    /// `deny SIDE NAME`, and so on.
+    Refuse,
+    /// `pass SIDE N`, `drop SIDE N`.
+    Move,
+    /// `flip SIDE HH`, `insert SIDE HH`.
+    Damage,
+    /// `timeout SIDE`, `hangup SIDE`.
+    Tell,
+    /// `call`.
+    Call,
+    /// `flow N`.
+    Flow,
+}
+
+fn spells(word: &[u8], text: &[u8]) -> bool
+    ensures { result ≡ bytes_eq word.now text.now }
+{
+    word == text
+}
+
+/// Whether the word is one of a statement that refuses files.
+fn is_refusal(word: &[u8]) -> bool
+    ensures { result ≡ is_refusal word.now }
+{
+    spells(word, b"deny") || spells(word, b"later") || spells(word, b"immovable")
+}
+
+/// The statement that begins with this word.
+pub fn statement_of(first: &[u8]) -> Option<Statement>
+    ensures { result ≡ statement_of first.now }
+{
+    if spells(first, b"caller") || spells(first, b"called") {
+        Some(Statement::Place)
+    } else if spells(first, b"file") {
+        Some(Statement::File)
+    } else if spells(first, b"send") {
+        Some(Statement::Send)
+    } else if spells(first, b"request") {
+        Some(Statement::Request)
+    } else if is_refusal(first) {
+        Some(Statement::Refuse)
+    } else {
+        event_of(first)
+    }
+}
+
+/// The statement of an event that begins with this word.
+fn event_of(first: &[u8]) -> Option<Statement>
+    ensures { result ≡ event_of first.now }
+{
+    if spells(first, b"pass") || spells(first, b"drop") {
+        Some(Statement::Move)
+    } else if spells(first, b"flip") || spells(first, b"insert") {
+        Some(Statement::Damage)
+    } else if spells(first, b"timeout") || spells(first, b"hangup") {
+        Some(Statement::Tell)
+    } else if spells(first, b"call") {
+        Some(Statement::Call)
+    } else if spells(first, b"flow") {
+        Some(Statement::Flow)
+    } else {
+        None
+    }
+}
+
+/// The field of this place.
+fn pick(fields: &[Field], place: usize) -> Option<Field>
+    ensures exact { result ≡ slice_get fields.now place }
+    ensures within { IfSome result (λ _. place < length fields.now) }
+{
+    fields.get(place).copied()
+}
+
+/// What the word has to be that stands in this place behind the first, counted from 0, or `None` where there is no such
+/// place.
+pub fn field_at(statement: Statement, place: usize) -> Option<Field>
+    ensures exact { result ≡ field_at statement place }
+    ensures within { IfSome result (λ _. place < 5) }
+{
+    match statement {
+        Statement::Place => pick(&[Field::Name, Field::Window, Field::Size], place),
+        Statement::File => pick(
+            &[Field::Side, Field::Name, Field::Mode, Field::Bytes],
+            place,
+        ),
+        Statement::Send => pick(
+            &[
+                Field::Side,
+                Field::Name,
+                Field::Name,
+                Field::Name,
+                Field::Copy,
+            ],
+            place,
+        ),
+        Statement::Request => pick(&[Field::Side, Field::Name, Field::Name, Field::Name], place),
+        Statement::Refuse => pick(&[Field::Side, Field::Name], place),
+        Statement::Move => pick(&[Field::Side, Field::Count], place),
+        Statement::Damage => pick(&[Field::Side, Field::Byte], place),
+        Statement::Tell => pick(&[Field::Side], place),
+        Statement::Call => None,
+        Statement::Flow => pick(&[Field::Turns], place),
+    }
+}
