@@ -227,7 +227,14 @@ module _ (laws : HearingLaws) (h : Holdings) (most : ℕ) where
         → GreetsAt id g texts came old.node → Make h most calls added old new → GreetsThrough h most id calls texts came added old new g
     greets_through [] texts came added old new g at made = (at, made.0, made.1)
     greets_through (call ∷ calls) texts came added old new g at (middle, first, more, is, makes, adds, rest) = (
-      at, middle, first, more, is, step.x, step.brings, step.does,
+      at,
+      middle,
+      first,
+      more,
+      is,
+      step.x,
+      step.brings,
+      step.does,
       by_greeted (λ next here. greets_through calls (texts ++ text_in step.x) (came ++ taken_in call) more middle new next here rest)
           (greets_to id.me id.peer step.x g).greeted step.left step.does.stage,
     ) where
@@ -240,7 +247,7 @@ module _ (laws : HearingLaws) (h : Holdings) (most : ℕ) where
           → (greeted : Greeted) → IsLeftBy (texts ++ text_in step.x) (came ++ taken_in call) greeted middle.node
           → middle.node.engine.stage ≡ stage_by id greeted (greets_to id.me id.peer step.x g).says old.node.engine.link
           → GreetsOn (GreetsThrough h most id calls (texts ++ text_in step.x) (came ++ taken_in call) more middle new)
-            (Make h most calls more middle new) (texts ++ text_in step.x) (came ++ taken_in call) greeted middle.node
+          (Make h most calls more middle new) (texts ++ text_in step.x) (came ++ taken_in call) greeted middle.node
       by_greeted goes_on (GoesOn next) left stage = goes_on next (record { identity = step.identity; stage = stage; taken = left })
       by_greeted goes_on LinkBegins left stage = (left, rest)
       by_greeted goes_on (Ended how) left stage = rest

@@ -304,15 +304,15 @@ module _ (laws : ItemLaws) (h : Holdings) where
   through most [] added old new shows made = made
   through most (call ∷ calls) added old new shows (middle, first, more, is, makes, adds, rest) =
       by_call call makes adds (through most calls more middle new (call_shows most call first old middle shows makes adds) rest) where
-    by_call : (call : NodeCall) → Makes h most call old middle → Adds call first old middle → GoesThrough h most (comings_of calls) more middle new
-        → GoesThrough h most (comes_by call (comings_of calls)) added old new
-    by_call (offers_call bytes) makes adds later = in_front most bytes (comings_of calls) first more added old middle new (one_call most (offers_call bytes) first old middle tt shows makes adds) is later
-    by_call looks makes adds later = in_front most [] (comings_of calls) first more added old middle new (one_call most looks first old middle tt shows makes adds) is later
-    by_call (takes took) makes adds later = in_front most [] (comings_of calls) first more added old middle new (one_call most (takes took) first old middle tt shows makes adds) is later
-    by_call refuses makes adds later = in_front most [] (comings_of calls) first more added old middle new (one_call most refuses first old middle tt shows makes adds) is later
-    by_call times_out makes adds later = (middle, first, more, is, timed_out most first old middle makes adds, later)
-    by_call refuses_timeout makes adds later = in_front most [] (comings_of calls) first more added old middle new (one_call most refuses_timeout first old middle tt shows makes adds) is later
-    by_call clears makes adds later = in_front most [] (comings_of calls) first more added old middle new (one_call most clears first old middle tt shows makes adds) is later
+        by_call : (call : NodeCall) → Makes h most call old middle → Adds call first old middle → GoesThrough h most (comings_of calls) more middle new
+            → GoesThrough h most (comes_by call (comings_of calls)) added old new
+        by_call (offers_call bytes) makes adds later = in_front most bytes (comings_of calls) first more added old middle new (one_call most (offers_call bytes) first old middle tt shows makes adds) is later
+        by_call looks makes adds later = in_front most [] (comings_of calls) first more added old middle new (one_call most looks first old middle tt shows makes adds) is later
+        by_call (takes took) makes adds later = in_front most [] (comings_of calls) first more added old middle new (one_call most (takes took) first old middle tt shows makes adds) is later
+        by_call refuses makes adds later = in_front most [] (comings_of calls) first more added old middle new (one_call most refuses first old middle tt shows makes adds) is later
+        by_call times_out makes adds later = (middle, first, more, is, timed_out most first old middle makes adds, later)
+        by_call refuses_timeout makes adds later = in_front most [] (comings_of calls) first more added old middle new (one_call most refuses_timeout first old middle tt shows makes adds) is later
+        by_call clears makes adds later = in_front most [] (comings_of calls) first more added old middle new (one_call most clears first old middle tt shows makes adds) is later
 
   pub calls_go_through : (most : ℕ) (calls : List NodeCall) (added : List EntryValue) (old new : Beside) → ShowsWhatIsFound old.node
       → Make h most calls added old new → GoesThrough h most (comings_of calls) added old new

@@ -83,5 +83,5 @@ GreetsThrough h most id (call ∷ calls) texts came added old new g =
     × (x : Option Hearing) × Brings call texts came x
     × DoesStep id (greets_to id.me id.peer x g) first old.node middle.node
     × GreetsOn (GreetsThrough h most id calls (texts ++ text_in x) (came ++ taken_in call) more middle new)
-      (Make h most calls more middle new) (texts ++ text_in x) (came ++ taken_in call)
-      (greets_to id.me id.peer x g).greeted middle.node
+    (Make h most calls more middle new) (texts ++ text_in x) (came ++ taken_in call)
+    (greets_to id.me id.peer x g).greeted middle.node

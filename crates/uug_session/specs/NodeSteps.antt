@@ -46,7 +46,7 @@ Comes h most (bytes_come bytes) added old new =
 Comes h most time_passes added old new =
     HoldsTheSame old new
     × Does (effect_of h old.kept time_ran_out (with_entries [] old.node).engine) (end_of h new.kept new.node.engine)
-      (with_entries [] old.node).engine (with_entries added new.node).engine
+    (with_entries [] old.node).engine (with_entries added new.node).engine
 
 -- one step after the other
 abbrev pub GoesThrough : (h : Holdings) → (most : ℕ) → List Coming → (added : List EntryValue) → (old new : Beside) → Type 0

@@ -83,7 +83,7 @@ pub fn calls_take_what_comes()
         (added : List EntryValue) (old new : Beside) → HaveNoTimeout calls
         → ShowsWhatIsFound old.node → Make h most calls added old new
         → GoesOn h old.kept new.kept (HasFailed most old.faults new.faults) (all_offered calls)
-          (with_entries [] old.node) (with_entries added new.node) }
+        (with_entries [] old.node) (with_entries added new.node) }
     // Where nothing is found any more in the bytes held, all that is found was taken up.
     ensures all { (h : Holdings) (kept later_kept : List Kept) (most faults later : ℕ)
         (bytes : List ℕ) (a b : NodeState)
