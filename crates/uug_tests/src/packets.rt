@@ -2,8 +2,9 @@
 
 use arrayvec::ArrayVec;
 use std::alloc::AllocError;
+use std::process::Abort;
 use uug_packet::{
-    NoPacket, Packet, Seq, check, decode, encode, field_code, field_size, message_start,
+    NoPacket, Packet, Seq, check, decode, encode, field_code, field_size, message_start, re_ack,
 };
 
 /// The number of a packet: all that are written here are below eight.
@@ -52,6 +53,38 @@ fn writes_and_reads_packets(rt: HostRuntime) {
     assert_eq!(rt; &out[..7], front.as_slice());
     assert_eq!(rt; message_start(&out), 7);
     assert_eq!(rt; decode(&out), Ok((packet, 38)));
+}
+
+/// A packet in a field of 32 bytes, which is written with the acknowledgement `old` and then gets `ack`: it is then these
+/// bytes.
+fn assert_acknowledged(
+    rt: &impl Abort,
+    seq: u8,
+    message: &[u8],
+    (old, ack): (u8, u8),
+    bytes: &[u8; 38],
+) {
+    let packet = Packet::Carry {
+        seq: number(seq),
+        ack: number(old),
+        k: 1,
+        message: &message[..message.len().min(32)],
+    };
+    let mut written = ArrayVec::new();
+    encode(&packet, &mut written);
+    re_ack(&mut written, number(ack));
+    assert_eq!(rt; written.as_slice(), bytes.as_slice());
+}
+
+// the old checksum; the old exclusive or; a field that is written anew
+#[test]
+fn acknowledges_again(rt: HostRuntime) {
+    let mut long = [0; 38];
+    long[..6].copy_from_slice(&[0x10, 0x01, 0x0e, 0x3a, 0x89, 0xbc]);
+    assert_acknowledged(&rt, 1, &[0; 32], (0, 1), &long);
+    let mut empty = [0; 38];
+    empty[..7].copy_from_slice(&[0x10, 0x01, 0x98, 0x0e, 0xd3, 0x44, 0x20]);
+    assert_acknowledged(&rt, 2, &[], (1, 3), &empty);
 }
 
 #[test]
