@@ -1,3 +1,4 @@
+pub mod LineNameLemmas
 pub mod LocalLemmas
 pub mod PatienceLemmas
 pub mod StandardFacts

@@ -1,5 +1,6 @@
 -- What is heard at the line of one end, and what it does to the end (this project's profile).
-use Rattle.std.specs.Prelude.{◌≡◌, ◌<◌, ◌≤◌, ℕ, List, take, ⊤}
+use Rattle.std.specs.Io.KnownBytes.{Consumes, IsAtEnd, Keeps}
+use Rattle.std.specs.Prelude.{◌≡◌, ◌<◌, ◌≤◌, ℕ, List, Option, take, ⊤}
 use Rattle.uug_session.specs.Holdings.{Holdings, Kept}
 use Rattle.uug_session.specs.Node.{NodeState}
 use Rattle.uug_pair.specs.Seats.{Hears, Waits}
@@ -12,6 +13,12 @@ abbrev pub IsWithin : (room : ℕ) → Heard → Type 0
 IsWithin room (Bytes n) = (0 < n) × (n ≤ room)
 IsWithin room Silence = ⊤
 IsWithin room End = ⊤
+
+-- What a stream gave, where its bytes are known: the first of them, or none, and it is at its end only where that is said.
+abbrev pub IsGiven : (to_come left : Option (List ℕ)) → (buffer : List ℕ) → Heard → Type 0
+IsGiven to_come left buffer (Bytes n) = Consumes to_come left (take n buffer)
+IsGiven to_come left buffer Silence = Keeps to_come left
+IsGiven to_come left buffer End = IsAtEnd left
 
 -- Bytes have come to the end; or nothing for some time, which is a timeout; or nothing will come, and it stays as it is.
 abbrev pub TakesHeard : (h : Holdings) (kept kept_after : List Kept) (failure : Type 0) (heard : Heard) (buffer : List ℕ)

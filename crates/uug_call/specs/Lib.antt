@@ -1,5 +1,6 @@
 pub mod Calling
 pub mod Hearing
+pub mod LineNames
 pub mod LocalFiles
 pub mod LocalNames
 pub mod Patience

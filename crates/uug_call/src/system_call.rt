@@ -1,0 +1,249 @@
+//! One end over a folder, and the line to the other one.
+ghost use Rattle.std.specs.Prelude.{◌≡◌, ◌≤◌, IfErr, IfOk};
+ghost use Rattle.uug_tool.specs.Streams.{CountsFault};
+ghost use Rattle.uug_pair.specs.Pair.{IsReadingFault, IsRunFault};
+
+use crate::calling::call_over;
+use crate::device_line::DeviceLine;
+use crate::end_line::EndLine;
+use crate::line_name::{LineName, read_line_name};
+use crate::local_names::LocalNames;
+use crate::patience::BYTES_MAX;
+use crate::stream_line::StreamLine;
+use crate::watcher::Watcher;
+use std::alloc::{AllocError, Allocator};
+use std::fs::File;
+use std::net::{Net, OpenListener, OpenStream, TcpListener, TcpStream};
+use std::os::unix::net::{UnixListener, UnixStream};
+use std::rt::Files;
+use std::time::Duration;
+use std::{fs, io};
+use uug_line::Side;
+use uug_link::Announce;
+use uug_pair::{
+    FolderSpool, Noise, PairEnd, Seat, SystemFolder, SystemJobs, read_queue, read_send,
+};
+use uug_session::{Node, Place, Queue, Stored};
+use uug_talk::Name;
+use uug_tool::{Output, ToolFault};
+
+/// The most seconds that a line waits.
+pub const SECONDS_MAX: u32 = 600;
+
+/// What one end is run over.
+#[derive(Clone, Copy, Debug, PartialEq, Eq)]
+pub struct CallTask<'a> {
+    /// Whether the end calls, or is called.
+    pub side: Side,
+    /// What its line is called.
+    pub line: &'a str,
+    /// Its folder.
+    pub dir: &'a str,
+    /// Its name.
+    pub me: &'a str,
+    /// The other end's name.
+    pub peer: &'a str,
+    /// The window that it announces.
+    pub window: u32,
+    /// The packet size that it announces.
+    pub size: u32,
+    /// For so many seconds the line waits.
+    pub seconds: u32,
+    /// Whether it says on standard error how the end stands.
+    pub is_loud: bool,
+}
+
+/// An end over a folder of the system.
+type SystemEnd<'a, R, A> = PairEnd<LocalNames<SystemFolder<'a, R, A>, A>, SystemJobs<'a, R, A>, A>;
+
+/// What is known once the words of a task were read.
+#[derive(Clone, Copy)]
+struct Terms<'a> {
+    line: LineName<'a>,
+    place: Place,
+    patience: Duration,
+}
+
+/// What a task says, if its numbers are in their ranges and its names are names.
+fn read_terms<'a>(task: &CallTask<'a>) -> Option<Terms<'a>> {
+    if task.seconds == 0 || task.seconds > SECONDS_MAX {
+        return None;
+    }
+    let window = u8::try_from(task.window).ok()?;
+    Some(Terms {
+        line: read_line_name(task.line)?,
+        place: Place {
+            me: Name::new(task.me.as_bytes()).ok()?,
+            peer: Name::new(task.peer.as_bytes()).ok()?,
+            announce: Announce::new(window, task.size as usize).ok()?,
+        },
+        patience: Duration::from_secs(u64::from(task.seconds)),
+    })
+}
+
+/// Runs one end over its folder and its line, for one session. What stands in a folder is said in `docs/PROTOCOL.md`. The
+/// answer is the program's status.
+pub fn call_run<A, R, W, O>(
+    alloc: A,
+    rt: &R,
+    task: &CallTask<'_>,
+    watcher: &mut W,
+    output: &mut O,
+) -> Result<u8, ToolFault>
+where
+    A: Allocator + Copy,
+    R: Files<File = File> + Net + Alloc + Clone + Drop,
+    W: Watcher,
+    O: Output,
+    ensures status { IfOk result (λ status. status ≤ 1) }
+    ensures write { result ≡ Err ToolFault.Write → CountsFault (O.fault_count output.old) (O.fault_count output.new) }
+    ensures no_other { IfErr result IsRunFault }
+{
+    let Some(terms) = read_terms(task) else {
+        return Err(ToolFault::Usage);
+    };
+    let mut end = read_end(alloc, rt, task.side, task.dir, terms.place)?;
+    match terms.line {
+        LineName::Unix(path) => {
+            let stream = open_unix(rt, task.side, path, terms.patience);
+            talk_over(
+                alloc,
+                task.side,
+                &mut end,
+                stream.map(StreamLine::new),
+                watcher,
+                output,
+            )
+        }
+        LineName::Tcp(host, port) => {
+            let stream = open_tcp(rt, task.side, host, port, terms.patience);
+            talk_over(
+                alloc,
+                task.side,
+                &mut end,
+                stream.map(StreamLine::new),
+                watcher,
+                output,
+            )
+        }
+        LineName::Device(path) => {
+            let line = DeviceLine::open(alloc, rt, path, terms.patience);
+            talk_over(alloc, task.side, &mut end, line, watcher, output)
+        }
+    }
+}
+
+/// The end talks over its line, if it has one.
+fn talk_over<'a, A, R, L, W, O>(
+    alloc: A,
+    side: Side,
+    end: &mut SystemEnd<'a, R, A>,
+    line: io::Result<L>,
+    watcher: &mut W,
+    output: &mut O,
+) -> Result<u8, ToolFault>
+where
+    A: Allocator + Copy,
+    R: Files,
+    L: EndLine + Drop,
+    W: Watcher,
+    O: Output,
+    ensures status { IfOk result (λ status. status ≤ 1) }
+    ensures write { result ≡ Err ToolFault.Write → CountsFault (O.fault_count output.old) (O.fault_count output.new) }
+    ensures no_other { IfErr result IsRunFault }
+{
+    let Ok(mut line) = line else {
+        return Err(ToolFault::Device);
+    };
+    let Some(mut noise) = Noise::new(None, None) else {
+        unreachable!();
+    };
+    call_over(
+        alloc, side, end, &mut line, &mut noise, BYTES_MAX, watcher, output,
+    )
+}
+
+/// An end over the folder `dir`, as it stands.
+fn read_end<'a, A: Allocator + Copy, R: Files + Alloc + Clone + Drop>(
+    alloc: A,
+    rt: &'a R,
+    side: Side,
+    dir: &str,
+    place: Place,
+) -> Result<SystemEnd<'a, R, A>, ToolFault>
+    ensures { IfErr result IsReadingFault }
+{
+    let jobs = read_queue(alloc, rt, dir)?;
+    let files = read_send(alloc, rt, dir)?;
+    let end = make_end(alloc, rt, side, dir, place, jobs, files)?;
+    Ok(end)
+}
+
+/// An end over the folder `dir`, with these jobs and these files to give.
+fn make_end<'a, A: Allocator + Copy, R: Files>(
+    alloc: A,
+    rt: &'a R,
+    side: Side,
+    dir: &str,
+    place: Place,
+    jobs: Queue<A>,
+    files: Vec<Stored<A>, A>,
+) -> Result<SystemEnd<'a, R, A>, AllocError> {
+    let folder = SystemFolder::new(alloc, rt, dir)?;
+    let spool = LocalNames::new(alloc, FolderSpool::new(alloc, files, folder));
+    let made = match side {
+        Side::Caller => Node::caller(alloc, place, jobs, spool),
+        Side::Called => Node::called(alloc, place, jobs, spool),
+    };
+    let Ok(node) = made else {
+        return Err(AllocError);
+    };
+    let Some(mut noise) = Noise::new(None, None) else {
+        unreachable!();
+    };
+    Ok(PairEnd {
+        seat: Seat::new(alloc, node, &mut noise)?,
+        jobs: SystemJobs::new(alloc, rt, dir)?,
+    })
+}
+
+/// The stream over the Unix socket at this path. The end that calls connects to it. The one that is called makes it, takes
+/// the first that connects, and removes it, also where none does.
+fn open_unix<R: Files + Net>(
+    rt: &R,
+    side: Side,
+    path: &str,
+    patience: Duration,
+) -> io::Result<UnixStream> {
+    let stream = match side {
+        Side::Caller => UnixStream::connect(rt, path)?,
+        Side::Called => {
+            let listener = UnixListener::bind(rt, path)?;
+            let accepted = listener.accept();
+            let _ = fs::remove_file(rt, path);
+            accepted?.0
+        }
+    };
+    stream.set_read_timeout(Some(patience))?;
+    stream.set_write_timeout(Some(patience))?;
+    Ok(stream)
+}
+
+/// The stream over TCP to this port of this host. The end that calls connects to it. The one that is called listens there,
+/// and takes the first that connects.
+fn open_tcp<R: Net>(
+    rt: &R,
+    side: Side,
+    host: &str,
+    port: u16,
+    patience: Duration,
+) -> io::Result<R::Stream> {
+    let stream = match side {
+        Side::Caller => TcpStream::connect(rt, (host, port))?,
+        Side::Called => TcpListener::bind(rt, (host, port))?.accept()?.0,
+    };
+    stream.set_nodelay(true)?;
+    stream.set_read_timeout(Some(patience))?;
+    stream.set_write_timeout(Some(patience))?;
+    Ok(stream)
+}
