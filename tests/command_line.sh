@@ -185,11 +185,21 @@ row "two words after play" 2 "error: " "" play file file </dev/null
 row "a pair without a folder" 2 "error: " "" pair s a </dev/null
 row "a pair with a number that is none" 2 "error: " "" pair s a b --drop-every x </dev/null
 row "a pair with a number out of range" 2 "uucpair: bad usage$line_feed" "" pair s a b --flip-every 1 </dev/null
+row "a call without names" 2 "error: " "" call l a </dev/null
+row "a call with a window of 8" 2 "uucpair: bad usage$line_feed" "" call l a --me a --peer b --window 8 </dev/null
+row "a call with a size of 65" 2 "uucpair: bad usage$line_feed" "" call l a --me a --peer b --size 65 </dev/null
+row "a call that never waits" 2 "uucpair: bad usage$line_feed" "" call l a --me a --peer b --timeout 0 </dev/null
+row "a call to a port that is none" 2 "uucpair: bad usage$line_feed" "" call tcp:h:x a --me a --peer b </dev/null
+row "a call to a socket without a path" 2 "uucpair: bad usage$line_feed" "" call unix: a --me a --peer b </dev/null
+row "a call over a line without a name" 2 "uucpair: bad usage$line_feed" "" call "" a --me a --peer b </dev/null
+row "an answer with a name that is none" 2 "uucpair: bad usage$line_feed" "" answer l a --me "a b" --peer b </dev/null
 row "a word that is no text" 2 "uucpair: bad usage$line_feed" "" $'\377' </dev/null
 row "help" 2 "Tools for the" "" --help </dev/null
 helps "help on scan" "scan  Reads bytes"
 helps "help on play" "play  Reads a script"
 helps "help on pair" "pair  Moves files"
+helps "help on call" "call  Calls another system"
+helps "help on answer" "answer  Waits for the call"
 row "help of scan" 2 "Reads bytes" "" scan --help </dev/null
 helps "a line of a listing" "  DATA N ACK N SIZE N VALID N"
 helps "the statuses of scan" "Status: 0 done, 2 bad usage"
@@ -202,6 +212,11 @@ row "help of pair" 2 "Moves files" "" pair --help </dev/null
 helps "a line of jobs" "request SOURCE TARGET USER"
 helps "the statuses of pair" "Status: 0 both sessions are done"
 helps "an example of pair" "uucpair pair line a b --drop-every 7"
+row "help of call" 2 "Calls another system" "" call --help </dev/null
+helps "a name of a line" "  tcp:HOST:PORT  "
+helps "the statuses of call" "Status: 0 the session is done"
+helps "an example of call" "uucpair call unix:line a --me alpha --peer beta"
+row "help of answer" 2 "Waits for the call" "" answer --help </dev/null
 row "the version" 0 "" "uucpair 0.1.0$line_feed" --version </dev/null
 row "the version in short" 0 "" "uucpair 0.1.0$line_feed" -V </dev/null
 
@@ -255,6 +270,40 @@ folders "send x y u"
 touch "$socket"
 row "a pair whose socket has no place" 3 "uucpair: device fault$line_feed" "" pair "$socket" "$a" "$b" </dev/null
 holds "the job that was not begun" "$a/jobs" "send x y u$line_feed"
+
+# answer_in_the_background: waits until the socket is there.
+answer_in_the_background() {
+    "$program" answer "unix:$socket" "$b" --me b --peer a >"$work/answered" 2>&1 </dev/null &
+    answerer=$!
+    for _ in 1 2 3 4 5 6 7 8 9 10; do
+        [ ! -e "$socket" ] || break
+        sleep 0.1
+    done
+}
+
+rm -f "$socket"
+folders "send x ~/y u"
+answer_in_the_background
+row "a call" 0 "" "caller done pending 0 struck 1 failed 0$line_feed" call "unix:$socket" "$a" --me a --peer b </dev/null
+wait "$answerer" || true
+holds "what the end that was called says" "$work/answered" "called done pending 0 struck 0 failed 0$line_feed"
+holds "the file that was sent by a call" "$b/got/y" ""
+holds "no job left after a call" "$a/jobs" ""
+folders "send x /etc/y u"
+answer_in_the_background
+row "a call with a path for a target" 0 "" \
+    "caller done pending 0 struck 0 failed 1${line_feed}caller failed send x /etc/y u$line_feed" \
+    call "unix:$socket" "$a" --me a --peer b </dev/null
+wait "$answerer" || true
+answer_in_the_background
+row "a call of a stranger" 1 "" "caller refused pending 0 struck 0 failed 0$line_feed" \
+    call "unix:$socket" "$a" --me c --peer b </dev/null
+wait "$answerer" || true
+folders "send x y u"
+row "a call where nobody listens" 3 "uucpair: device fault$line_feed" "" \
+    call "unix:$socket" "$a" --me a --peer b </dev/null
+row "a call over what is no device" 3 "uucpair: device fault$line_feed" "" call "$a/jobs" "$a" --me a --peer b </dev/null
+holds "the job that is left after no call" "$a/jobs" "send x y u$line_feed"
 
 fault="uucpair: device fault$line_feed"
 row "a scan of a folder" 3 "$fault" "" scan <"$work"

@@ -9,7 +9,7 @@ use Rattle.uug_tool.specs.declared.fault.ToolFault.TheVariants as faults
 use Rattle.uug_play.specs.Played.{AppendsReport, BeforeReport, IsFirstBad, IsPlayFault, OnceRead}
 use Rattle.uug_remark.specs.Remarks.{remark_text, wrong_at}
 use Rattle.uucpair.specs.declared.command_line.Task.{Task}
-use Rattle.uucpair.specs.declared.command_line.Task.TheVariants.{Version, Scan, Play, PlayVerbose, Pair}
+use Rattle.uucpair.specs.declared.command_line.Task.TheVariants.{Version, Scan, Play, PlayVerbose, Pair, Call}
 use Rattle.uucpair.specs.declared.stop.Stop.{Stop}
 use Rattle.uucpair.specs.declared.stop.Stop.TheVariants.{Fault, Remarked, File, CommandLine}
 use Rattle.uucpair.specs.Stop.{EndsSo}
@@ -54,7 +54,7 @@ pub record Plays (s : Streams) (answer : Result ℕ ToolFault) : Type 0 where
   pub bad : (line : ℕ) → answer ≡ Err (faults.Script line) → IfSome s.to_come (λ script. IsFirstBad script line)
   pub nothing_written : BeforeReport answer (StaysUnwritten s)
 
--- `pair`: nothing was read of the input
+-- `pair`, `call` and `answer`: nothing was read of the input
 pub record Pairs (s : Streams) (answer : Result ℕ ToolFault) : Type 0 where
   pub status : IfOk answer (λ status. status ≤ 1)
   pub reads : StaysUnread s
@@ -85,6 +85,7 @@ Does (Play (Some path)) s remark answer = PlaysFile s answer
 Does (PlayVerbose None) s remark answer = PlaysRemarked s remark answer
 Does (PlayVerbose (Some path)) s remark answer = PlaysFile s answer
 Does (Pair pair) s remark answer = Pairs s answer
+Does (Call call) s remark answer = Pairs s answer
 
 -- ---- the program
 

@@ -3,6 +3,15 @@ use clap::error::ErrorKind;
 use clap::{Arg, ArgAction, ArgMatches, Command, Error, value_parser};
 use std::alloc::{AllocError, Global};
 use std::convert::AsStr;
+use uug_call::CallTask;
+use uug_line::Side;
+
+/// The window, the packet size and the seconds of an end that is told none.
+const WINDOW: &str = "7";
+
+const SIZE: &str = "64";
+
+const SECONDS: &str = "10";
 
 /// What the command line asks for.
 #[derive(Clone, Copy, Debug, PartialEq, Eq)]
@@ -17,6 +26,8 @@ pub enum Task<'a> {
     PlayVerbose(Option<&'a str>),
     /// Two ends over two folders, and a socket between them.
     Pair(PairTask<'a>),
+    /// One end over a folder, and the line to the other one.
+    Call(CallTask<'a>),
 }
 
 /// What two ends are run over.
@@ -45,7 +56,17 @@ fn command<'a>(alloc: Global) -> Result<Command<'a>, AllocError> {
         .subcommand_required(true)
         .subcommand(scan_command(alloc)?)?
         .subcommand(play_command(alloc)?)?
-        .subcommand(pair_command(alloc)?)
+        .subcommand(pair_command(alloc)?)?
+        .subcommand(end_command(
+            alloc,
+            "call",
+            "Calls another system over a line, and exchanges files with it",
+        )?)?
+        .subcommand(end_command(
+            alloc,
+            "answer",
+            "Waits for the call of another system over a line, and exchanges files with it",
+        )?)
 }
 
 /// The tool that lists packets.
@@ -93,6 +114,53 @@ fn pair_command<'a>(alloc: Global) -> Result<Command<'a>, AllocError> {
         .arg(every(alloc, "flip-every", "Changes every Nth packet"))
 }
 
+/// The tool that is one end at a line.
+fn end_command<'a>(
+    alloc: Global,
+    name: &'a str,
+    about: &'a str,
+) -> Result<Command<'a>, AllocError> {
+    Command::new(alloc, name)
+        .about(about)
+        .after_help(help::END)
+        .arg(path(
+            alloc,
+            "LINE",
+            "unix:PATH, tcp:HOST:PORT, or the path of a terminal device",
+        ))?
+        .arg(path(alloc, "DIR", "The folder of this end"))?
+        .arg(named(alloc, "me", "NAME", "The name of this end").required(true))?
+        .arg(named(alloc, "peer", "NAME", "The name of the other end").required(true))?
+        .arg(number(
+            alloc,
+            "window",
+            "W",
+            "The window that the other end is to use, 1 to 7",
+            WINDOW,
+        ))?
+        .arg(number(
+            alloc,
+            "size",
+            "S",
+            "The packet size that the other end is to use, 32 to 4096",
+            SIZE,
+        ))?
+        .arg(number(
+            alloc,
+            "timeout",
+            "SECONDS",
+            "How long the line waits, 1 to 600",
+            SECONDS,
+        ))?
+        .arg(
+            Arg::new(alloc, "verbose")
+                .short('v')
+                .long("verbose")
+                .action(ArgAction::SetTrue)
+                .help("Says on standard error how this end stands"),
+        )
+}
+
 /// The file that is read, where there is one.
 fn file<'a>(alloc: Global, help: &'a str) -> Arg<'a> {
     Arg::new(alloc, "FILE").action(ArgAction::Set).help(help)
@@ -114,6 +182,43 @@ fn every<'a>(alloc: Global, name: &'a str, help: &'a str) -> Arg<'a> {
         .value_parser(value_parser!(u32))
         .action(ArgAction::Set)
         .help(help)
+}
+
+/// An option with a word.
+fn named<'a>(alloc: Global, name: &'a str, value: &'a str, help: &'a str) -> Arg<'a> {
+    Arg::new(alloc, name)
+        .long(name)
+        .value_name(value)
+        .action(ArgAction::Set)
+        .help(help)
+}
+
+/// An option with a number, which has this one where it is not given.
+fn number<'a>(
+    alloc: Global,
+    name: &'a str,
+    value: &'a str,
+    help: &'a str,
+    default: &'a str,
+) -> Arg<'a> {
+    named(alloc, name, value, help)
+        .value_parser(value_parser!(u32))
+        .default_value(default)
+}
+
+/// What one end is run over, as the words behind `call` or `answer` say. All of them are required, or have a default.
+fn end_task<'a>(side: Side, matches: &ArgMatches<'a>) -> CallTask<'a> {
+    CallTask {
+        side,
+        line: matches.get_str("LINE").unwrap_or(""),
+        dir: matches.get_str("DIR").unwrap_or(""),
+        me: matches.get_str("me").unwrap_or(""),
+        peer: matches.get_str("peer").unwrap_or(""),
+        window: matches.get_one::<u32>("window").unwrap_or(0),
+        size: matches.get_one::<u32>("size").unwrap_or(0),
+        seconds: matches.get_one::<u32>("timeout").unwrap_or(0),
+        is_loud: matches.get_flag("verbose"),
+    }
 }
 
 /// What two ends are run over, as the words behind `pair` say. The three paths are required, so none is missing.
@@ -145,6 +250,8 @@ pub fn task_of<'a, S: AsStr>(alloc: Global, words: &'a [S]) -> Result<Task<'a>, 
         }
         Some(("play", matches)) => Ok(Task::Play(matches.get_str("FILE"))),
         Some(("pair", matches)) => Ok(Task::Pair(pair_task(matches))),
+        Some(("call", matches)) => Ok(Task::Call(end_task(Side::Caller, matches))),
+        Some(("answer", matches)) => Ok(Task::Call(end_task(Side::Called, matches))),
         Some((_, matches)) => Ok(Task::Scan(matches.get_str("FILE"))),
         None => Ok(Task::Scan(None)),
     }

@@ -74,3 +74,22 @@ prints
   caller done pending 0 struck 1 failed 0
   called done pending 0 struck 0 failed 0
 and b/got/y is the file.";
+
+pub const END: &str = "LINE is
+  unix:PATH      a Unix socket: call connects to it, answer makes it, takes one call
+                 and removes it
+  tcp:HOST:PORT  the same over TCP; tcp:PORT is on this machine
+  PATH           a terminal device, whose speed and raw mode are set before (stty)
+DIR is a folder as those of pair are: jobs, send and got. A target may also be ~/NAME
+or /NAME, which is NAME in got.
+
+Status: 0 the session is done, 1 it is not, 2 bad usage or bad jobs, 3 a device fault,
+4 out of memory
+
+Example:
+  mkdir -p b/got && uucpair answer unix:line b --me beta --peer alpha &
+  mkdir -p a/send && echo hello > a/send/x && echo 'send x ~/y me' > a/jobs
+  uucpair call unix:line a --me alpha --peer beta
+prints
+  caller done pending 0 struck 1 failed 0
+and b/got/y is the file.";

@@ -17,7 +17,9 @@ use std::convert::AsStr;
 use std::fs::File;
 use std::net::Net;
 use std::rt::{Env, Files};
+use std::time::Clock;
 use std::{env, io};
+use uug_call::{SystemWatcher, call_run};
 use uug_pair::pair_run;
 use uug_play::play_stream;
 use uug_remark::play_remarked;
@@ -178,7 +180,7 @@ fn do_task<R, I, O>(
     remark: &mut String,
 ) -> Result<u8, ToolFault>
 where
-    R: Files + Net + AllocGlobal + Clone + Drop,
+    R: Files<File = File> + Net + AllocGlobal + Eprint + Clock + Clone + Drop,
     I: uug_tool::Input,
     O: Output,
     ensures { Does task.entry (streams (I.to_come input.old) (I.to_come input.new)
@@ -203,6 +205,10 @@ where
             pair.flip_every,
             output,
         ),
+        Task::Call(call) => {
+            let mut watcher = SystemWatcher::new(rt, call.is_loud);
+            call_run(alloc, rt, &call, &mut watcher, output)
+        }
     }
 }
 
@@ -226,7 +232,7 @@ pub fn perform<R, S, I, O>(
     output: &mut O,
 ) -> Result<u8, Stop>
 where
-    R: Files + Net + Eprint + AllocGlobal + Clone + Drop,
+    R: Files<File = File> + Net + Eprint + Clock + AllocGlobal + Clone + Drop,
     S: AsStr,
     I: uug_tool::Input,
     O: Output,
@@ -241,10 +247,10 @@ where
 }
 
 /// Does what the program's own command line asks for, on standard input and output.
-pub fn run<R: Env + Input + Print + Eprint + Files + Net + AllocGlobal + Clone + Drop>(
-    rt: &R,
-    at_terminal: bool,
-) -> Result<u8, Stop> {
+pub fn run<R>(rt: &R, at_terminal: bool) -> Result<u8, Stop>
+where
+    R: Env + Input + Print + Eprint + Clock + Files<File = File> + Net + AllocGlobal + Clone + Drop,
+{
     let words: Vec<String> = env::args(rt)
         .map_err(|error| match error.kind() {
             io::ErrorKind::OutOfMemory => ToolFault::Memory,

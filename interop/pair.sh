@@ -1,0 +1,88 @@
+#!/usr/bin/env bash
+# Two programs, one at each end of a line, move files of many sizes both ways, sent and requested: over a Unix socket,
+# over TCP, and over a pair of pseudo-terminals, which Debian's package socat makes (apt-get install socat). Run by hand:
+#     interop/pair.sh [PROGRAM]
+# PROGRAM is crates/uucpair/out/uucpair where none is named. SIZES has the sizes of the files, and TERMS_LIST the packet
+# sizes and windows, as 64:7, that are tried. Its last line is the number of lines over which all went well.
+set -u
+root=$(cd "$(dirname "$0")/.." && pwd)
+program=${1:-$root/crates/uucpair/out/uucpair}
+port=${PORT:-15540}
+work=$(mktemp -d)
+started=()
+trap 'kill "${started[@]}" 2>/dev/null; rm -rf "$work"' EXIT
+
+sizes=${SIZES:-0 1 63 64 65 4096 1048576}
+terms=${TERMS_LIST:-64:7 1024:3 4096:7}
+
+# fill DIR SIDE: files to send and to be asked for, and jobs for half of each
+fill() {
+    local dir=$1 side=$2 other=$3 size
+    mkdir -p "$dir/send" "$dir/got"
+    : >"$dir/jobs"
+    for size in $sizes; do
+        head -c "$size" /dev/urandom >"$dir/send/$side-s$size"
+        head -c "$size" /dev/urandom >"$dir/send/$side-r$size"
+        echo "send $side-s$size $side-s$size u" >>"$dir/jobs"
+        echo "request $other-r$size ~/$other-r$size u" >>"$dir/jobs"
+    done
+}
+
+# same_files FROM TO: each file of FROM is whole in TO
+same_files() {
+    local file bad=0
+    for file in "$1"/send/*; do
+        cmp -s "$file" "$2/got/$(basename "$file")" || { echo "  $(basename "$file") is not whole"; bad=1; }
+    done
+    return $bad
+}
+
+# wait_for SOCKET: until it is there
+wait_for() {
+    local tenths
+    for tenths in $(seq "${PATIENCE:-100}"); do
+        [ ! -S "$1" ] || return 0
+        sleep 0.1
+    done
+    echo "  $1 was not made"
+}
+
+# run NAME ANSWER_LINE CALL_LINE SIZE WINDOW
+run() {
+    local name=$1 answer=$2 call=$3 size=$4 window=$5 answered called answerer
+    rm -rf "$work/a" "$work/b"
+    fill "$work/a" a b
+    fill "$work/b" b a
+    "$program" answer "$answer" "$work/b" --me b --peer a --size "$size" --window "$window" --timeout 5 >"$work/b.out" 2>"$work/b.err" &
+    answerer=$!
+    started+=("$answerer")
+    case $answer in
+    unix:*) wait_for "${answer#unix:}" ;;
+    *) sleep "${WAIT:-1}" ;;
+    esac
+    "$program" call "$call" "$work/a" --me a --peer b --size "$size" --window "$window" --timeout 5 >"$work/a.out" 2>"$work/a.err"
+    called=$?
+    wait "$answerer"
+    answered=$?
+    echo "$name, size $size, window $window: call $called, answer $answered; $(head -1 "$work/a.out"); $(head -1 "$work/b.out")"
+    cat "$work/a.err" "$work/b.err"
+    [ "$called" = 0 ] && [ "$answered" = 0 ] && [ ! -s "$work/a/jobs" ] && [ ! -s "$work/b/jobs" ] &&
+        same_files "$work/a" "$work/b" && same_files "$work/b" "$work/a" && good=$((good + 1))
+}
+
+good=0
+all=0
+for pair in $terms; do
+    set -- "${pair%:*}" "${pair#*:}"
+    run "Unix socket" "unix:$work/line" "unix:$work/line" "$1" "$2"
+    [ ! -e "$work/line" ] || echo "  the socket is still there"
+    run "TCP" "tcp:$port" "tcp:127.0.0.1:$port" "$1" "$2"
+    port=$((port + 1))
+    socat "PTY,link=$work/tty_a,raw,echo=0" "PTY,link=$work/tty_b,raw,echo=0" &
+    started+=($!)
+    sleep 1
+    run "pseudo-terminals" "$work/tty_b" "$work/tty_a" "$1" "$2"
+    all=$((all + 3))
+done
+echo "$good of $all lines"
+[ "$good" = "$all" ]

@@ -1,0 +1,144 @@
+#!/usr/bin/env bash
+# The program at one end, Taylor UUCP's uucico at the other, in both roles: files of many sizes both ways, sent and
+# requested in one session. Needs Debian's packages (apt-get install uucp socat), and root, since uucico runs as the user
+# uucp. Run by hand:
+#     interop/taylor.sh [PROGRAM]
+# PROGRAM is crates/uucpair/out/uucpair where none is named. SIZES has the sizes of the files, and TERMS_LIST the packet
+# sizes and windows, as 64:7, that are tried. Its last line is the number of sessions in which all went well.
+set -u
+root=$(cd "$(dirname "$0")/.." && pwd)
+program=${1:-$root/crates/uucpair/out/uucpair}
+work=$(mktemp -d)
+chmod 755 "$work"
+started=()
+trap 'kill "${started[@]}" 2>/dev/null; rm -rf "$work"' EXIT
+
+sizes=${SIZES:-0 1 63 64 65 4096 1048576}
+terms=${TERMS_LIST:-64:3 64:7 1024:3 1024:7 4096:3 4096:7}
+
+as_uucp() {
+    runuser -u uucp -- "$@"
+}
+
+# wait_for SOCKET: until it is there
+wait_for() {
+    local tenths
+    for tenths in $(seq "${PATIENCE:-100}"); do
+        [ ! -S "$1" ] || return 0
+        sleep 0.1
+    done
+    echo "  $1 was not made"
+}
+
+# set_up SIZE WINDOW: Taylor's folders and settings, and a folder of ours
+set_up() {
+    rm -rf "$work/taylor" "$work/ours"
+    mkdir -p "$work"/taylor/{spool,pub,log} "$work"/ours/{send,got}
+    cat >"$work/taylor/config" <<END
+nodename taylor
+spool $work/taylor/spool
+pubdir $work/taylor/pub
+lockdir $work/taylor
+logfile $work/taylor/log/Log
+statfile $work/taylor/log/Stats
+debugfile $work/taylor/log/Debug
+sysfile $work/taylor/sys
+portfile $work/taylor/port
+END
+    cat >"$work/taylor/sys" <<END
+system ours
+time any
+port gate
+chat ""
+protocol g
+protocol-parameter g packet-size $1
+protocol-parameter g window $2
+remote-send ~
+remote-receive ~
+local-send ~
+local-receive ~
+END
+    cat >"$work/taylor/port" <<END
+port gate
+type pipe
+command /usr/bin/socat - UNIX-CONNECT:$work/line
+END
+    local size
+    for size in $sizes; do
+        head -c "$size" /dev/urandom >"$work/taylor/pub/t-s$size"
+        head -c "$size" /dev/urandom >"$work/taylor/pub/t-r$size"
+        head -c "$size" /dev/urandom >"$work/ours/send/o-s$size"
+        head -c "$size" /dev/urandom >"$work/ours/send/o-r$size"
+    done
+    chmod 644 "$work"/taylor/pub/*
+    # uucico puts a file only where everybody may.
+    chmod 777 "$work/taylor/pub"
+    chown -R uucp:uucp "$work/taylor"
+    : >"$work/ours/jobs"
+    for size in $sizes; do
+        echo "send o-s$size ~/o-s$size u" >>"$work/ours/jobs"
+        echo "request ~/t-r$size t-r$size u" >>"$work/ours/jobs"
+        as_uucp uucp -I "$work/taylor/config" -r "$work/taylor/pub/t-s$size" "ours!~/t-s$size"
+        as_uucp uucp -I "$work/taylor/config" -r -W "ours!o-r$size" "$work/taylor/pub/o-r$size"
+    done
+}
+
+# judge NAME STATUS: all files are whole, and both say so
+judge() {
+    local name=$1 status=$2 size bad=0
+    for size in $sizes; do
+        cmp -s "$work/ours/send/o-s$size" "$work/taylor/pub/o-s$size" || { echo "  o-s$size (we sent it) is not whole"; bad=1; }
+        cmp -s "$work/ours/send/o-r$size" "$work/taylor/pub/o-r$size" || { echo "  o-r$size (Taylor asked for it) is not whole"; bad=1; }
+        cmp -s "$work/taylor/pub/t-s$size" "$work/ours/got/t-s$size" || { echo "  t-s$size (Taylor sent it) is not whole"; bad=1; }
+        cmp -s "$work/taylor/pub/t-r$size" "$work/ours/got/t-r$size" || { echo "  t-r$size (we asked for it) is not whole"; bad=1; }
+    done
+    grep -q "Call complete" "$work/taylor/log/Log" || { echo "  Taylor's log has no 'Call complete'"; bad=1; }
+    [ "$status" = 0 ] || bad=1
+    [ ! -s "$work/ours/jobs" ] || bad=1
+    echo "$name: status $status; $(head -1 "$work/out"); $(grep -c "Call complete" "$work/taylor/log/Log") Call complete"
+    if [ "$bad" = 1 ]; then
+        cat "$work/err"
+        tail -n 5 "$work/taylor/log/Log"
+    else
+        good=$((good + 1))
+    fi
+}
+
+# we_call SIZE WINDOW
+we_call() {
+    set_up "$1" "$2"
+    rm -f "$work/line"
+    (cd / && exec socat "UNIX-LISTEN:$work/line,mode=666" \
+        "EXEC:runuser -u uucp -- /usr/sbin/uucico -I $work/taylor/config") &
+    started+=($!)
+    sleep 1
+    "$program" call "unix:$work/line" "$work/ours" --me ours --peer taylor --size "$1" --window "$2" >"$work/out" 2>"$work/err"
+    local status=$?
+    sleep 1
+    judge "we call, size $1, window $2" "$status"
+}
+
+# taylor_calls SIZE WINDOW
+taylor_calls() {
+    local status
+    set_up "$1" "$2"
+    "$program" answer "unix:$work/line" "$work/ours" --me ours --peer taylor --size "$1" --window "$2" >"$work/out" 2>"$work/err" &
+    local answerer=$!
+    started+=("$answerer")
+    wait_for "$work/line"
+    chmod 666 "$work/line"
+    (cd / && as_uucp /usr/sbin/uucico -I "$work/taylor/config" -f -s ours)
+    wait "$answerer"
+    status=$?
+    judge "Taylor calls, size $1, window $2" "$status"
+}
+
+good=0
+all=0
+for pair in $terms; do
+    we_call "${pair%:*}" "${pair#*:}"
+    taylor_calls "${pair%:*}" "${pair#*:}"
+    all=$((all + 2))
+done
+echo "$good of $all sessions"
+[ "$good" = "$all" ]
