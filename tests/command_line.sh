@@ -195,10 +195,10 @@ row "a call over a line without a name" 2 "uucpair: bad usage$line_feed" "" call
 row "an answer with a name that is none" 2 "uucpair: bad usage$line_feed" "" answer l a --me "a b" --peer b </dev/null
 row "a word that is no text" 2 "uucpair: bad usage$line_feed" "" $'\377' </dev/null
 row "help" 2 "Tools for the" "" --help </dev/null
-helps "help on scan" "scan  Reads bytes"
-helps "help on play" "play  Reads a script"
-helps "help on pair" "pair  Moves files"
-helps "help on call" "call  Calls another system"
+helps "help on scan" "scan    Reads bytes"
+helps "help on play" "play    Reads a script"
+helps "help on pair" "pair    Moves files"
+helps "help on call" "call    Calls another system"
 helps "help on answer" "answer  Waits for the call"
 row "help of scan" 2 "Reads bytes" "" scan --help </dev/null
 helps "a line of a listing" "  DATA N ACK N SIZE N VALID N"
