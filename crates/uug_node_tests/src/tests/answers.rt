@@ -21,11 +21,17 @@ const OFFERS_Y: Row<'static> = (Hear(&[InitC(2)]), &[OFFER]);
 const SENDS_Y: Row<'static> = (Hear(&[Command(1, 1, b"SY")]), &[Rr(1), Data(2, 1, b"")]);
 
 const SCRIPTS: &[Script<'static>] = &[
-    // none: the command goes out once more
+    // none: the command goes out once more each time, until it is acknowledged, and then nothing does
     Script {
         start: CALLER_STARTS,
         has: SENDER,
-        rows: &[OFFERS_Y, (Timeout, &[OFFER])],
+        rows: &[
+            OFFERS_Y,
+            (Timeout(1), &[OFFER]),
+            (Timeout(2), &[OFFER]),
+            (Hear(&[Rr(1)]), SILENCE),
+            (Timeout(1), SILENCE),
+        ],
         phase: Phase::Talking,
         left: &[Left::Pending(SEND)],
     },

@@ -41,8 +41,8 @@ pub(super) const CALLED_STARTS: Start<'static> = Start {
     ],
 };
 
-/// An end that has heard nothing gives up at the eighth timeout, and says nothing.
-const LATE: Row<'static> = (Timeout, SILENCE);
+/// An end that has heard nothing gives up at the eighth timeout, and says nothing. It tells none of them in the greeting.
+const LATE: Row<'static> = (Timeout(0), SILENCE);
 
 /// An end, what it hears and says, and how far it is then.
 type Greeting<'a> = (Side, &'a [Row<'a>], Phase);

@@ -36,7 +36,8 @@ pub(super) const SILENCE: &[Wire<'static>] = &[];
 #[derive(Clone, Copy)]
 pub(super) enum Act<'a> {
     Hear(&'a [Wire<'a>]),
-    Timeout,
+    /// Nothing for some time; the end then tells so many timeouts in a row.
+    Timeout(u8),
     CallAgain,
 }
 
@@ -186,7 +187,10 @@ fn follow(
     for (comes, says) in rows {
         match comes {
             Act::Hear(wires) => line.bring(&spelled(log, wires)?, node)?,
-            Act::Timeout => line.time_out(node)?,
+            Act::Timeout(counted) => {
+                line.time_out(node)?;
+                assert_eq!(rt; node.timeouts(), *counted);
+            }
             Act::CallAgain => line.call_again(node)?,
         }
         assert_says(rt, log, node, says)?;
