@@ -6,6 +6,7 @@
 # sizes and windows, as 64:7, that are tried. Its last line is the number of lines over which all went well.
 set -u
 root=$(cd "$(dirname "$0")/.." && pwd)
+. "$root/interop/common.sh"
 program=${1:-$root/crates/uucpair/out/uucpair}
 port=${PORT:-15540}
 work=$(mktemp -d)
@@ -35,16 +36,6 @@ same_files() {
         cmp -s "$file" "$2/got/$(basename "$file")" || { echo "  $(basename "$file") is not whole"; bad=1; }
     done
     return $bad
-}
-
-# wait_for SOCKET: until it is there
-wait_for() {
-    local tenths
-    for tenths in $(seq "${PATIENCE:-100}"); do
-        [ ! -S "$1" ] || return 0
-        sleep 0.1
-    done
-    echo "  $1 was not made"
 }
 
 # run NAME ANSWER_LINE CALL_LINE SIZE WINDOW

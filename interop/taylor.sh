@@ -7,6 +7,7 @@
 # sizes and windows, as 64:7, that are tried. Its last line is the number of sessions in which all went well.
 set -u
 root=$(cd "$(dirname "$0")/.." && pwd)
+. "$root/interop/common.sh"
 program=${1:-$root/crates/uucpair/out/uucpair}
 work=$(mktemp -d)
 chmod 755 "$work"
@@ -19,16 +20,6 @@ terms=${TERMS_LIST:-64:3 64:7 1024:3 1024:7 2048:7 4096:3}
 
 as_uucp() {
     runuser -u uucp -- "$@"
-}
-
-# wait_for SOCKET: until it is there
-wait_for() {
-    local tenths
-    for tenths in $(seq "${PATIENCE:-100}"); do
-        [ ! -S "$1" ] || return 0
-        sleep 0.1
-    done
-    echo "  $1 was not made"
 }
 
 # set_up SIZE WINDOW: Taylor's folders and settings, and a folder of ours
