@@ -1,5 +1,5 @@
 -- That the detailed listing is the plain one with what it adds, that its lines adjoin, and that each stream has one.
-use Rattle.std.proofs.Common.{◌≡◌, ℕ, ◌+◌, ◌-◌, ◌≤◌, ◌==◌, Bool, true, false, if◌then◌else◌, List, [], ◌∷◌, ◌++◌, length, drop, Option, Some, None, Result, Ok, Err, refl, sym, ap, ◌∙◌, arith, subst, append_assoc, length-append}
+use Rattle.std.proofs.Common.{◌≡◌, ℕ, ◌+◌, ◌-◌, ◌≤◌, ◌==◌, Bool, true, false, if◌then◌else◌, List, [], ◌∷◌, ◌++◌, length, drop, None, Result, Ok, Err, refl, sym, ap, ◌∙◌, arith, subst, append_assoc, length-append}
 use Rattle.std.proofs.lemmas.Bool.Decides.{nat_tests}
 use Rattle.std.proofs.lemmas.List.{append-nil}
 use Rattle.uug_packet.specs.Bytes.{AreBytes}
@@ -7,10 +7,10 @@ use Rattle.uug_packet.specs.Decoded.{decoded}
 use Rattle.uug_packet.specs.Packet.{PacketValue}
 use Rattle.uug_packet.specs.declared.decoding.NoPacket.{NoPacket}
 use Rattle.uug_packet.specs.declared.decoding.NoPacket.TheVariants as refusals
-use Rattle.uug_reader.specs.Cut.{Part, packet, broken, noise, CutsOff, IsCut, Item, found, bad, items_of}
+use Rattle.uug_reader.specs.Cut.{Part, packet, broken, noise, CutsOff, IsCut, found, bad, items_of}
 use Rattle.uug_talk.specs.Texts.{Heard, Passing, Open, Whole, is_whole}
-use Rattle.uug_tool.specs.Listing.{line_of, lines_of, rest_line, IsListing, ended}
-use Rattle.uug_detail.specs.Told.{What, of_packet, of_text, of_noise, of_rest, control_bad_checksum, Entry, Told, begin, noise_entries, puts, hears, heard_with, text_size, broken_as, passes, tells, part_size, told_of, entries_of}
+use Rattle.uug_tool.specs.Listing.{line_of, lines_of, rest_line, IsListing}
+use Rattle.uug_detail.specs.Told.{What, of_packet, of_text, of_noise, of_rest, control_bad_checksum, Entry, Told, begin, noise_entries, puts, hears, heard_with, text_size, broken_as, passes, tells, told_of, entries_of}
 use Rattle.uug_detail.specs.Detailed.{plain_words, line_of_words, plain_lines, Adjoin, IsDetailed, entry_lines}
 use Rattle.uug_detail.specs.Noise.{heard_size, tells_byte}
 

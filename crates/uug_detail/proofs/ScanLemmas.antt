@@ -1,5 +1,5 @@
 -- Lines that are written one piece after the other.
-use Rattle.std.proofs.Common.{◌≡◌, ℕ, ◌+◌, ◌*◌, ◌≤◌, List, [], ◌∷◌, ◌++◌, length, take, Option, Some, None, refl, sym, ap, ◌∙◌, arith, append_assoc, subst, length-append, length-take, IfSome, inl}
+use Rattle.std.proofs.Common.{◌≡◌, ℕ, ◌+◌, ◌*◌, ◌≤◌, List, [], ◌++◌, length, take, Option, Some, None, refl, sym, ap, ◌∙◌, arith, append_assoc, subst, length-append, length-take, IfSome, inl}
 use Rattle.std.specs.Prelude.{⊤}
 use Rattle.std.proofs.lemmas.List.{append-nil}
 use Rattle.uug_packet.specs.Waits.{Waits}
@@ -8,7 +8,7 @@ use Rattle.uug_tool.specs.Streams.{Appends, Moves}
 use Rattle.uug_tool.specs.declared.scan.TheConstants.{PIECE_SIZE}
 use Rattle.uug_tool.proofs.StreamLemmas.{Appends-join}
 use Rattle.uug_detail.specs.declared.noise.Noise.{Noise}
-use Rattle.uug_detail.specs.Told.{Told, Entry, begin, of_rest, puts, told_of}
+use Rattle.uug_detail.specs.Told.{Told, begin, of_rest, puts, told_of}
 use Rattle.uug_detail.specs.Detailed.{IsDetailed, AppendsDetailed, entry_lines}
 use Rattle.uug_detail.specs.Noise.{AddsParts, Holds, Tells, end_of, noise_at, told_by}
 use Rattle.uug_detail.proofs.ToldLemmas.{AddsParts-none, AddsParts-join, AddsParts-append, entry_lines-append, behind, puts-behind, told_by-behind}

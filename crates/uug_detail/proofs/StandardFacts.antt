@@ -4,7 +4,7 @@ use Rattle.std.specs.Fmt.{digits}
 use Rattle.uug_packet.specs.Checksum.{check}
 use Rattle.uug_packet.specs.Decoded.{decoded, header_at}
 use Rattle.uug_packet.specs.Packet.{init_a, control}
-use Rattle.uug_reader.specs.Cut.{Part, packet, broken, noise}
+use Rattle.uug_reader.specs.Cut.{packet, broken, noise}
 use Rattle.uug_tool.specs.Listing.{ended}
 use Rattle.uug_detail.specs.Told.{entries_of}
 use Rattle.uug_detail.specs.Detailed.{entry_lines, escaped, plain_lines}

@@ -1,15 +1,15 @@
 -- What is told step by step.
-use Rattle.std.proofs.Common.{◌≡◌, ◌≢◌, ℕ, ◌+◌, ◌-◌, ◌<◌, ◌≤◌, ◌==◌, Bool, true, false, if◌then◌else◌, List, [], ◌∷◌, ◌++◌, length, take, drop, slice_index, Result, Ok, Err, refl, sym, ap, ◌∙◌, arith, subst, append_assoc, inl, length-drop}
+use Rattle.std.proofs.Common.{◌≡◌, ◌≢◌, ℕ, ◌+◌, ◌-◌, ◌<◌, ◌≤◌, List, [], ◌∷◌, ◌++◌, length, take, drop, slice_index, Result, Ok, Err, refl, sym, ap, ◌∙◌, arith, subst, append_assoc, inl, length-drop}
 use Rattle.std.proofs.lemmas.List.{append-nil, take-append-drop, take_rest, length-take-le, get_or-drop, drop-drop}
 use Rattle.std.proofs.Math.Seq.{drop-append_seam}
 use Rattle.uug_packet.specs.Bytes.{AreBytes}
 use Rattle.uug_packet.specs.Decoded.{decoded}
 use Rattle.uug_packet.specs.Packet.{PacketValue, control, carry, shown}
 use Rattle.uug_packet.specs.Spelling.{IsSpelling}
-use Rattle.uug_packet.specs.Waits.{IsBroken, IsDamage}
+use Rattle.uug_packet.specs.Waits.{IsDamage}
 use Rattle.uug_packet.specs.declared.decoding.NoPacket.{NoPacket}
 use Rattle.uug_packet.specs.declared.decoding.NoPacket.TheVariants as refusals
-use Rattle.uug_reader.specs.Cut.{found, Part, packet, broken, noise, CutsOff, IsNoise}
+use Rattle.uug_reader.specs.Cut.{found, Part, packet, broken, noise, CutsOff}
 use Rattle.uug_reader.specs.PacketLaws.{PacketLaws}
 use Rattle.uug_reader.proofs.CutLemmas.{CutsOff-append, CutsOff-join, some_spelled}
 use Rattle.uug_reader.proofs.OneCut.{AreBytes-drop, refused_noise}
@@ -17,9 +17,8 @@ use Rattle.uug_talk.specs.Texts.{Heard, Passing, Open, Whole}
 use Rattle.uug_tool.specs.Listing.{HasSize}
 use Rattle.uug_detail.specs.Told.{What, of_packet, of_text, control_bad_checksum, text_size, Entry, Told, puts, hears, heard_with, broken_as, passes, tells, part_size, told_of}
 use Rattle.uug_detail.specs.Detailed.{entry_line, entry_lines}
-use Rattle.uug_detail.specs.Noise.{told_by, Tells, IsSized, what_of, IsDamaged, IsFront, front_size, tells_byte, tells_front, AddsParts}
+use Rattle.uug_detail.specs.Noise.{told_by, Tells, IsSized, IsFront, front_size, tells_byte, tells_front, AddsParts}
 use Rattle.uug_detail.specs.declared.noise.Noise.{Noise}
-use Rattle.uug_detail.specs.declared.front.Damage.{Damage}
 use Rattle.uug_detail.specs.declared.front.Damage.TheVariants as damages
 use Rattle.uug_detail.specs.declared.front.Front.{Front}
 use Rattle.uug_detail.specs.declared.front.Front.TheVariants as fronts

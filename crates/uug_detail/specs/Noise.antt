@@ -1,6 +1,5 @@
 -- What the code tells of some bytes, as the definitions have it: this crate's own, which no crate above needs.
-use Rattle.std.specs.Prelude.{◌≡◌, ◌≢◌, ℕ, ◌+◌, ◌<◌, ◌≤◌, ◌^◌, Bool, false, List, [], ◌++◌, length, slice_index, Ok, Err, ⊤}
-use Rattle.uug_packet.specs.declared.decoding.NoPacket.{NoPacket}
+use Rattle.std.specs.Prelude.{◌≡◌, ◌≢◌, ℕ, ◌+◌, ◌<◌, ◌≤◌, ◌^◌, false, List, [], ◌++◌, length, slice_index, Ok, Err, ⊤}
 use Rattle.uug_packet.specs.declared.decoding.NoPacket.TheVariants as refusals
 use Rattle.uug_packet.specs.declared.header.TheConstants.{CONTROL_K}
 use Rattle.uug_packet.specs.Decoded.{decoded}

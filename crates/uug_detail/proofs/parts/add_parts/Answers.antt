@@ -1,4 +1,4 @@
-use Rattle.std.proofs.Common.{drop, length, refl, sym, ap, ◌∙◌, arith, subst, Err}
+use Rattle.std.proofs.Common.{drop, refl, sym, ap, ◌∙◌, arith}
 use Rattle.std.proofs.lemmas.List.{take_rest}
 use Rattle.uug_packet.specs.Decoded.{decoded}
 use Rattle.uug_reader.proofs.OneCut.{AreBytes-drop}
