@@ -34,6 +34,8 @@ pub const PLAY: &str =
   deny SIDE NAME           the end refuses a file that is sent under this name,
   later SIDE NAME          puts it off,
   immovable SIDE NAME      or can't put it in its place
+  number SIDE N            the number of the end's conversations (0 to 4294967295);
+                           a called end that has one lets in only the same
   pass SIDE N              the next N bytes on the way to the side arrive
   drop SIDE N              they are lost
   flip SIDE HH             the bits HH of the next byte are inverted

@@ -76,6 +76,7 @@ fn read_terms<'a>(task: &CallTask<'a>) -> Option<Terms<'a>> {
             me: Name::new(task.me.as_bytes()).ok()?,
             peer: Name::new(task.peer.as_bytes()).ok()?,
             announce: Announce::new(window, task.size as usize).ok()?,
+            number: None,
         },
         patience: Duration::from_secs(u64::from(task.seconds)),
     })

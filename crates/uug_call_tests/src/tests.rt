@@ -59,6 +59,7 @@ fn place(me: &[u8], peer: &[u8]) -> Result<Place, Fail> {
         me: name(me)?,
         peer: name(peer)?,
         announce: Announce::new(7, 32)?,
+        number: None,
     })
 }
 

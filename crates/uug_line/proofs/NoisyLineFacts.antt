@@ -1,6 +1,6 @@
 -- Runs over a line that loses, changes and breaks off, worked out by hand, and computed with the two ends themselves and
 -- with two numbers an end.
-use Rattle.std.proofs.Common.{◌≡◌, ℕ, List, [], ◌∷◌, ◌++◌, take, replicate, codes, refl}
+use Rattle.std.proofs.Common.{◌≡◌, ℕ, List, [], ◌∷◌, ◌++◌, take, replicate, codes, None, refl}
 use Rattle.uug_packet.specs.Checksum.{check}
 use Rattle.uug_packet.specs.Decoded.{header_at, decoded}
 use Rattle.uug_packet.specs.Packet.{rj, rr, init_c, init_b, init_a, control}
@@ -208,9 +208,9 @@ called_name = codes "Shere=b"
 
 pub used_the_name_alone : ((came_in by_numbers idle broken_in_greeting).at_caller
     ≡ written_text called_name ++ written_text (codes "ROK") ++ written_text (codes "Pg"))
-    × GreetsOn (identity idle Caller) (called_name ∷ []) Admission
+    × GreetsOn (identity idle Caller) None (called_name ∷ []) Admission None
 used_the_name_alone =
-    (refl, record { greeting = record { awaited = Admission; timeouts = 0 }; goes_on = refl; awaits = refl })
+    (refl, record { greeting = record { awaited = Admission; timeouts = 0 }; goes_on = refl; awaits = refl; keeps = refl })
 
 -- ---- what was put off is offered again in a session to come
 
@@ -229,6 +229,7 @@ abbrev had_before : Belongings
 had_before = record {
   lists = record { passed = request ∷ []; ahead = send ∷ []; struck = send_copy ∷ []; failed = [] };
   kept = file q [] ∷ [];
+  number = None;
 }
 
 abbrev with_earlier : SetupValue
@@ -239,6 +240,7 @@ abbrev has_then : Belongings
 has_then = record {
   lists = record { passed = []; ahead = []; struck = send_copy ∷ request ∷ send ∷ []; failed = [] };
   kept = file q [] ∷ file y [] ∷ [];
+  number = None;
 }
 
 pub record StaysInFront : Type 0 where

@@ -1,5 +1,5 @@
 -- What is needed of the laws that stand below a run, for its proofs.
-use Rattle.std.specs.Prelude.{◌≡◌, ◌≢◌, ℕ, ◌≤◌, List, ◌++◌, length, slice_get, All, MatchOption, Ok, Some}
+use Rattle.std.specs.Prelude.{◌≡◌, ◌≢◌, ℕ, ◌≤◌, List, ◌++◌, Option, length, slice_get, All, MatchOption, Ok, Some}
 use Rattle.uug_link.specs.Announced.{Announced, announced}
 use Rattle.uug_link.specs.Arrivals.{IsPlace, place_of}
 use Rattle.uug_link.specs.declared.announce.Announce.{Announce}
@@ -30,8 +30,8 @@ ReadsWritten = (p : PacketValue) → IsWellFormed p → decoded (canonical p) �
 -- what an end emits can be written, and so it stays
 abbrev pub StaysInRange : Type 0
 StaysInRange = record {
-  first : (id : Identity) (own : Announced) (talk : Talk) → IsAnnouncement own
-      → IsEndInRange id.side (begins_session id own talk).state × All CanBeWritten (begins_session id own talk).emitted;
+  first : (id : Identity) (own : Announced) (number : Option ℕ) (talk : Talk) → IsAnnouncement own
+      → IsEndInRange id.side (begins_session id own number talk).state × All CanBeWritten (begins_session id own number talk).emitted;
   stays : (side : Side) (h : Holdings) (id : Identity) (event : EndEvent) (e : EndState Talk) → IsEndInRange id.side e → MayFind event
       → IsEndInRange id.side (end_step (end_keeper side h) id event e).state;
   emitted : (side : Side) (h : Holdings) (id : Identity) (event : EndEvent) (e : EndState Talk) → IsEndInRange id.side e → MayFind event
@@ -42,12 +42,13 @@ StaysInRange = record {
 abbrev pub CallsAreSteps : Type 0
 CallsAreSteps = record {
   late : (h : Holdings) (kept : List Kept) (before after : EngineState)
-      → Does (stage_late before.identity (talking_has_parted before.talking) before.stage before.link before.talking) (bare after) before after
+      → Does (stage_late before.number before.identity (talking_has_parted before.talking) before.stage before.link before.talking) (bare after) before after
       → Does (effect_of h kept time_ran_out before) (end_of h kept after) before after;
   lost : (h : Holdings) (kept : List Kept) (e : EngineState)
       → effect_of h kept line_lost e ≡ unmoved (end_of h kept (with_stage (hung_up (talking_has_parted e.talking) e.stage) e));
-  begins : (h : Holdings) (kept : List Kept) (id : Identity) (own : Announced) (l : Lists) (entries : List EntryValue)
-      (after : EngineState) → BeginsSession id own l entries after → end_of h kept after ≡ (begins_session id own (unopened l kept)).state;
+  begins : (h : Holdings) (kept : List Kept) (id : Identity) (own : Announced) (number : Option ℕ) (l : Lists) (entries : List EntryValue)
+      (after : EngineState) → BeginsSession id own number l entries after
+      → end_of h kept after ≡ (begins_session id own number (unopened l kept)).state;
 }
 
 -- what a search shows is what is found next, and it is one item

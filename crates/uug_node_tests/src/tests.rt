@@ -8,6 +8,7 @@ mod faulty;
 mod greetings;
 mod hostile;
 mod line;
+mod numbers;
 mod script;
 mod sessions;
 
@@ -95,7 +96,12 @@ fn place(side: Side, size: usize) -> Result<Place, Fail> {
         Side::Called => (b, a),
     };
     let announce = Announce::new(2, size)?;
-    Ok(Place { me, peer, announce })
+    Ok(Place {
+        me,
+        peer,
+        announce,
+        number: None,
+    })
 }
 
 fn give<A: Allocator + Copy>(

@@ -149,7 +149,7 @@ fn make_end<'a, A: Allocator + Copy, R: Files>(
     })
 }
 
-/// Where an end of this name stands, whose other end has that name.
+/// Where an end of this name stands, whose other end has that name. It keeps no number of its conversations.
 fn place(me: &[u8], peer: &[u8]) -> Place
     requires me { IsName me.now }
     requires peer { IsName peer.now }
@@ -161,7 +161,12 @@ fn place(me: &[u8], peer: &[u8]) -> Place
     ) else {
         unreachable!();
     };
-    Place { me, peer, announce }
+    Place {
+        me,
+        peer,
+        announce,
+        number: None,
+    }
 }
 
 /// The line over a socket that is made at this path. When both ends have it the path is not needed any more, and is

@@ -54,7 +54,7 @@ fn session_numbers<A: Allocator>(
     Ok(numbers)
 }
 
-/// What became of the jobs of an end, and what it stored.
+/// What became of the jobs of an end, what it stored, and the number that it keeps.
 fn shown_end<A: Allocator + Copy>(node: &Node<MemorySpool<A>, A>) -> ShownEnd<'_, A>
     ensures { end_shown result ≡ end_result (owned_by node.now) }
 {
@@ -64,6 +64,7 @@ fn shown_end<A: Allocator + Copy>(node: &Node<MemorySpool<A>, A>) -> ShownEnd<'_
         struck: queue.struck().len(),
         failed: queue.failed().len(),
         stored: node.spool().stored(),
+        number: node.number(),
     }
 }
 

@@ -37,7 +37,7 @@ talking next gathered waiting = record {
 
 abbrev pub after : Exception → Side → State → Talk → EndEvent → EndEffect Talk
 after exception side link talk event =
-    end_step (end_keeper side (holdings q None exception)) (id_of side) event (record { stage = linked; link = link; keeper = talk })
+    end_step (end_keeper side (holdings q None exception)) (id_of side) event (record { stage = linked; link = link; keeper = talk; number = None })
 
 abbrev pub closing : Side → State
 closing side = record (link_of side) { phase = phases.Closing }

@@ -57,6 +57,7 @@ pub mod NodeItemLemmas
 pub mod FoundLemmas
 pub mod NodeLemmas
 pub mod NodeSearchLemmas
+pub mod NumberLemmas
 mod NextItemLemmas
 pub mod PiecesLemmas
 pub mod QueueLemmas

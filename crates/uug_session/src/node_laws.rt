@@ -1,5 +1,5 @@
 //! Laws of a node's calls. The functions do nothing.
-ghost use Rattle.std.specs.Prelude.{◌≡◌, ℕ, List};
+ghost use Rattle.std.specs.Prelude.{◌≡◌, ℕ, List, Option};
 ghost use Rattle.uug_link.specs.Announced.{Announced};
 ghost use Rattle.uug_link.specs.Entries.{EntryValue};
 ghost use Rattle.uug_session.specs.declared.job.Job.{Job};
@@ -17,15 +17,15 @@ ghost use Rattle.uug_session.specs.Talking.{talking_has_parted};
 /// What is told of a call without the spool is the end's step beside it.
 pub fn calls_are_steps()
     ensures late { (h : Holdings) (kept : List Kept) (before after : EngineState)
-        → Does (stage_late before.identity (talking_has_parted before.talking) before.stage before.link before.talking)
+        → Does (stage_late before.number before.identity (talking_has_parted before.talking) before.stage before.link before.talking)
         (bare after) before after
         → Does (effect_of h kept time_ran_out before) (end_of h kept after) before after }
     ensures lost { (h : Holdings) (kept : List Kept) (e : EngineState)
         → effect_of h kept line_lost e
         ≡ unmoved (end_of h kept (with_stage (hung_up (talking_has_parted e.talking) e.stage) e)) }
-    ensures begins { (h : Holdings) (kept : List Kept) (id : Identity) (own : Announced) (l : Lists) (entries : List EntryValue)
-        (after : EngineState) → BeginsSession id own l entries after
-        → end_of h kept after ≡ (begins_session id own (unopened l kept)).state }
+    ensures begins { (h : Holdings) (kept : List Kept) (id : Identity) (own : Announced) (number : Option ℕ) (l : Lists)
+        (entries : List EntryValue) (after : EngineState) → BeginsSession id own number l entries after
+        → end_of h kept after ≡ (begins_session id own number (unopened l kept)).state }
 {}
 
 /// Whatever a node is called with, and however many sessions it has, the jobs of the three lists stay the same together,

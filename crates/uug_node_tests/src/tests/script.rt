@@ -177,7 +177,7 @@ pub(super) fn assert_says<S: Spool, A: Allocator + Copy>(
 }
 
 /// Does what the rows say, and takes away what the end says in each.
-fn follow(
+pub(super) fn follow(
     rt: &impl Abort,
     log: Global,
     node: &mut MemoryNode<Global>,

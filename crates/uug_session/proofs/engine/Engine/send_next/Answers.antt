@@ -31,6 +31,7 @@ returns-in_default-clause-done g c n =
       link = i.link;
       talking = i.dialogue;
       outbox = i.outbox;
+      number = i.place.number;
     } in
     ap (after_sends n h kept) (sym c.self.view_is)
     ∙ says_nothing_more n h kept e c.take_message.new.self
