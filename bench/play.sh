@@ -2,16 +2,22 @@
 # Measures `uucpair play` on scripts in which the caller sends 1 MiB, or half of that, over a clean line, and over one on
 # which each 50th piece is lost. The report must tell each file as the script has it, and that all was done.
 #
-# A time is the processor's, in seconds, the program's own and the system's on its behalf, of the best of three runs.
-# `read` is that of a script of the same files with nothing on the line: what it takes to start, to read the script and
-# to report that nothing was done. `rest` is the difference: the run, and the report of the files. Beside it stands what a C
-# program needs to check the same bytes, once for each end, and the quotient of the two.
+#   bench/play.sh [PROGRAM ..]
+#
+# With other builds of the program, each is measured beside it: one run of each in turn. ROUNDS says how many (11).
+#
+# A time is the processor's, in seconds, the program's own and the system's on its behalf. `read` is that of a script of
+# the same files with nothing on the line: what it takes to start, to read the script and to report that nothing was done.
+# `rest` is the difference of the two runs of a round: the run of both ends, and the report of the files. Of each the median
+# is printed, and of `rest` the least too. `check` is what a C program needs to check the same bytes, once for each end,
+# and `to C` the quotient of the two. `instr` is how many million instructions `rest` takes, as valgrind counts them, where
+# the machine has it.
 set -eu
 export LC_ALL=C
-rounds=3
+rounds=${ROUNDS:-11}
 mb=$((1 << 20))
 bench=$(dirname "$(readlink -f "$0")")
-uucpair=$bench/../uucpair
+programs=("$bench/../crates/uucpair/out/uucpair" "$@")
 work=$(mktemp -d)
 trap 'rm -rf "$work"' EXIT
 
@@ -20,16 +26,12 @@ fail() {
     exit 1
 }
 
-# seconds SCRIPT STATUS: plays the script, and says what the best run took.
-seconds() {
-    local TIMEFORMAT='%U %S' status
-    rm -f "$work/times"
-    for ((i = 0; i < rounds; i++)); do
-        status=0
-        { time "$uucpair" play <"$1" >"$work/report" 2>"$work/errors" || status=$?; } 2>>"$work/times"
-        [ "$status" -eq "$2" ] || fail "status $status: $(cat "$work/errors")"
-    done
-    awk '{ print $1 + $2 }' "$work/times" | sort -n | head -n 1
+# run_of PROGRAM SCRIPT STATUS: plays the script, and says how many seconds that took.
+run_of() {
+    local TIMEFORMAT='%U %S' status=0
+    { time "$1" play <"$2" >"$work/report" 2>"$work/errors" || status=$?; } 2>"$work/time"
+    [ "$status" -eq "$3" ] || fail "status $status: $(cat "$work/errors")"
+    awk '{ print $1 + $2 }' "$work/time"
 }
 
 # Each file of the script was stored as it is, and in order, and no job is left.
@@ -39,43 +41,75 @@ check_report() {
     grep -q '^caller pending 0 struck 64 failed 0$' "$work/report" || fail "a job was not done"
 }
 
-# quotient A B, with two places
-quotient() {
-    awk -v a="$1" -v b="$2" 'BEGIN { if (b > 0) printf "%.2f", a / b; else printf "-" }'
+# The median of the numbers on standard input.
+median() {
+    sort -g | awk '{ n[NR] = $1 } END { print (n[int((NR + 1) / 2)] + n[int(NR / 2) + 1]) / 2 }'
 }
 
-# row KIND BYTES WINDOW SIZE EVERY: prints a line, and sets `rest`.
+# instructions PROGRAM SCRIPT: how many the program takes to play it.
+instructions() {
+    valgrind --tool=cachegrind --cache-sim=no --cachegrind-out-file=/dev/null "$1" play <"$2" 2>&1 >/dev/null |
+        sed -n 's/.*I *refs: *//p' | tr -d ,
+}
+
+# count PROGRAM: of `rest`, in millions.
+count() {
+    command -v valgrind >/dev/null || return 0
+    awk -v whole="$(instructions "$1" "$work/text")" -v read="$(instructions "$1" "$work/files_only")" \
+        'BEGIN { printf "%.0f", (whole - read) / 1000000 }'
+}
+
+# round NUMBER: plays both scripts once with the program of this number.
+round() {
+    local read whole
+    read=$(run_of "${programs[$1]}" "$work/files_only" 1)
+    whole=$(run_of "${programs[$1]}" "$work/text" 0)
+    check_report
+    echo "$whole" >>"$work/whole$1"
+    echo "$read" >>"$work/read$1"
+    awk -v a="$whole" -v b="$read" 'BEGIN { print a - b }' >>"$work/rest$1"
+}
+
+# measure: plays the scripts that are made, with each program in turn.
+measure() {
+    local number i
+    rm -f "$work"/whole* "$work"/read* "$work"/rest*
+    for ((i = 0; i < rounds; i++)); do
+        for number in "${!programs[@]}"; do
+            round "$number"
+        done
+    done
+}
+
+# row KIND BYTES WINDOW SIZE EVERY: prints a line for each program.
 row() {
-    local whole read checked
+    local number checked rest
     "$work/make" "$2" 0 "$4" 0 >"$work/files_only"
     "$work/make" "$2" "$3" "$4" "$5" >"$work/text"
-    read=$(seconds "$work/files_only" 1)
-    whole=$(seconds "$work/text" 0)
-    check_report
+    measure
     read -r checked _ < <("$work/check" "$4" <"$work/text")
-    rest=$(awk -v a="$whole" -v b="$read" 'BEGIN { print a - b }')
-    printf '%-6s %9d  %d x %-4d  %6.3f  %6.3f  %6.3f  %7.4f  %8s\n' \
-        "$1" "$2" "$3" "$4" "$whole" "$read" "$rest" "$checked" "$(quotient "$rest" "$checked")"
-}
-
-# rows WINDOW SIZE: both lengths over a clean line, and how the times grow.
-rows() {
-    local all
-    row clean $mb "$1" "$2" 0
-    all=$rest
-    row clean $((mb / 2)) "$1" "$2" 0
-    echo "clean, all bytes to half of them: $(quotient "$all" "$rest")"
+    for number in "${!programs[@]}"; do
+        rest=$(median <"$work/rest$number")
+        printf '%-6s %9d  %d x %-4d  %7d  %6.3f  %6.3f  %6.3f  %6.3f  %7.4f  %6.1f  %6s\n' \
+            "$1" "$2" "$3" "$4" "$number" "$(median <"$work/whole$number")" "$(median <"$work/read$number")" \
+            "$rest" "$(sort -g "$work/rest$number" | head -n 1)" "$checked" \
+            "$(awk -v a="$rest" -v b="$checked" 'BEGIN { print (b > 0) ? a / b : 0 }')" \
+            "$(count "${programs[$number]}")"
+    done
 }
 
 gcc -O2 -Wall -Wextra -o "$work/make" "$bench/script.c"
 gcc -O2 -Wall -Wextra -o "$work/check" "$bench/check.c"
-"$uucpair" play </dev/null 2>/dev/null || true
+# The launcher builds the program where it is not there yet.
+"$bench/../uucpair" play </dev/null >/dev/null 2>&1 || true
 
-echo "                              uucpair                    C   uucpair"
-echo "line       bytes  packets   whole    read    rest    check      to C"
+for number in "${!programs[@]}"; do
+    echo "program $number: ${programs[$number]}"
+done
+echo "line       bytes  packets   program  whole    read    rest   least    check    to C   instr"
 for size in 64 1024 4096; do
-    rows 7 $size
+    row clean $mb 7 $size 0
+    row clean $((mb / 2)) 7 $size 0
 done
 row lossy $mb 7 64 50
 row lossy $mb 7 1024 50
-echo "all files came as they were"

@@ -32,7 +32,7 @@ use std::marker::Model;
 use uug_link::laws::what_a_link_answers;
 use uug_link::{Announce, Link, LinkFault, Outbox, Outcome, TIMEOUTS_MAX, WINDOW_MAX};
 use uug_packet::Packet;
-use uug_talk::Name;
+use uug_talk::{Message, Name};
 
 /// More than what a packet, a broken one or a timeout can bring an end to emit: the link's answer, as many new messages
 /// as a window has, CLOSE and the final text.
@@ -47,6 +47,8 @@ pub(crate) struct Engine<A: Allocator> {
     link: Link,
     dialogue: Dialogue<A>,
     outbox: Outbox<A>,
+    /// Where a message is made that goes out: what it holds means nothing between two calls.
+    message: Message,
 }
 
 impl<A: Allocator> Model for Engine<A> {
@@ -92,10 +94,10 @@ impl<A: Allocator + Copy> Engine<A> {
         if !self.link.room() {
             return false;
         }
-        let Some(message) = self.dialogue.take_message(spool) else {
+        if !self.dialogue.take_message(spool, &mut self.message) {
             return false;
-        };
-        let Ok(()) = self.link.send(&message, &mut self.outbox) else {
+        }
+        let Ok(()) = self.link.send(&self.message, &mut self.outbox) else {
             unreachable!();
         };
         true
@@ -578,6 +580,7 @@ impl<A: Allocator + Copy> Engine<A> {
             link: first_link(side, place.announce),
             dialogue: Dialogue::new(alloc, queue),
             outbox,
+            message: Message::new(),
         }
     }
 
