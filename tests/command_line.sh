@@ -163,6 +163,29 @@ called pending 0 struck 0 failed 0
 verdict fooled 14 called
 '
 
+# The packet that offers a file is lost, and nothing after it.
+lost='caller a 2 32
+called b 2 32
+file caller x 0644 -
+send caller x y u
+flow 5
+drop called 1000
+'
+lost_report='session 1
+caller sent 1 taken 0 most 1 talking
+called sent 0 taken 0 most 0 talking
+caller pending 1 struck 0 failed 0
+called pending 0 struck 0 failed 0
+verdict clean
+session 1
+caller sent 4 taken 3 most 1 done
+called sent 3 taken 4 most 1 done
+caller pending 0 struck 1 failed 0
+called pending 0 struck 0 failed 0
+called stored y 0644 -
+verdict clean
+'
+
 # Builds the program.
 "$root/uucpair" scan </dev/null >/dev/null
 
@@ -177,6 +200,12 @@ row "what is wrong with a bad script" 2 "uucpair: bad script at line 2${line_fee
 row "what is wrong with a window" 2 "uucpair: bad script at line 1${line_feed}uucpair: window 8 is not 1 to 7$line_feed" "" \
     play --verbose < <(printf 'caller a 8 32\n')
 row "nothing wrong with a script" 0 "" "$idle_report" play -v < <(printf '%s' "$idle")
+row "a play that settles" 0 "" "$lost_report" play --settle < <(printf '%s' "$lost")
+row "a play of what is done" 0 "" "${idle_report}not settled: caller is not talking$line_feed" play --settle < <(printf '%s' "$idle")
+row "a play that fools an end, and does not settle" 5 "" "${fooled_report}not settled: the line fooled an end$line_feed" \
+    play --settle < <(printf '%s' "$fooled")
+row "a bad script that does not settle" 2 "uucpair: bad script at line 2$line_feed" "" play --settle < <(printf '\ncall me\n')
+row "two options that exclude each other" 2 "error: " "" play --settle -v </dev/null
 
 row "no tool" 2 "error: " "" </dev/null
 row "an unknown tool" 2 "error: " "" copy s a b </dev/null

@@ -24,6 +24,8 @@ pub enum Task<'a> {
     Play(Option<&'a str>),
     /// The same; and where the script is bad, it is said what is wrong.
     PlayVerbose(Option<&'a str>),
+    /// The report of the script, and what the run settles to or why it doesn't.
+    PlaySettled(Option<&'a str>),
     /// Two ends over two folders, and a socket between them.
     Pair(PairTask<'a>),
     /// One end over a folder, and the line to the other one.
@@ -95,6 +97,13 @@ fn play_command<'a>(alloc: Global) -> Result<Command<'a>, AllocError> {
                 .long("verbose")
                 .action(ArgAction::SetTrue)
                 .help("Says what is wrong with a bad script"),
+        )?
+        .arg(
+            Arg::new(alloc, "settle")
+                .long("settle")
+                .action(ArgAction::SetTrue)
+                .conflicts_with("verbose")?
+                .help("Goes on to the end on a clean line, where it may, and reports that too"),
         )
 }
 
@@ -247,6 +256,9 @@ pub fn task_of<'a, S: AsStr>(alloc: Global, words: &'a [S]) -> Result<Task<'a>, 
     match matches.subcommand() {
         Some(("play", matches)) if matches.get_flag("verbose") => {
             Ok(Task::PlayVerbose(matches.get_str("FILE")))
+        }
+        Some(("play", matches)) if matches.get_flag("settle") => {
+            Ok(Task::PlaySettled(matches.get_str("FILE")))
         }
         Some(("play", matches)) => Ok(Task::Play(matches.get_str("FILE"))),
         Some(("pair", matches)) => Ok(Task::Pair(pair_task(matches))),

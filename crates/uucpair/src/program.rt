@@ -21,7 +21,7 @@ use std::time::Clock;
 use std::{env, io};
 use uug_call::{SystemWatcher, call_run};
 use uug_pair::pair_run;
-use uug_play::play_stream;
+use uug_play::{play_settled, play_stream};
 use uug_remark::play_remarked;
 use uug_tool::{Output, ToolFault, scan_stream, write_all};
 
@@ -104,6 +104,21 @@ fn play_file_remarked<R: Files, O: Output>(
     play_remarked(alloc, &mut file, output, remark)
 }
 
+/// Plays the script in a file, and goes on to what it settles to.
+fn play_file_settled<R: Files, O: Output>(
+    alloc: Global,
+    rt: &R,
+    path: &str,
+    output: &mut O,
+) -> Result<u8, ToolFault>
+    ensures nothing_written { BeforeReport result
+        (Keeps (O.written output.old) (O.written output.new)) }
+    ensures no_other { IfErr result IsPlayFault }
+{
+    let mut file = open(rt, path)?;
+    play_settled(alloc, &mut file, output)
+}
+
 /// That the file of this name can't be read, where there is memory to say so.
 fn names_file(alloc: Global, path: &str) -> Stop
     ensures { NamesFile path.now result }
@@ -149,7 +164,9 @@ fn stop_of(alloc: Global, task: Task<'_>, fault: ToolFault, remark: String) -> S
     ensures { StopsAs task.entry fault (string_bytes remark) result }
 {
     match task {
-        Task::Scan(Some(path)) | Task::Play(Some(path)) => stop_of_file(alloc, path, fault),
+        Task::Scan(Some(path)) | Task::Play(Some(path)) | Task::PlaySettled(Some(path)) => {
+            stop_of_file(alloc, path, fault)
+        }
         Task::PlayVerbose(None) => stop_of_script(fault, remark),
         Task::PlayVerbose(Some(path)) => stop_of_script_file(alloc, path, fault, remark),
         _ => Stop::Fault(fault),
@@ -195,6 +212,8 @@ where
         Task::Play(Some(path)) => play_file(alloc, rt, path, output),
         Task::PlayVerbose(None) => play_remarked(alloc, input, output, remark),
         Task::PlayVerbose(Some(path)) => play_file_remarked(alloc, rt, path, output, remark),
+        Task::PlaySettled(None) => play_settled(alloc, input, output),
+        Task::PlaySettled(Some(path)) => play_file_settled(alloc, rt, path, output),
         Task::Pair(pair) => pair_run(
             alloc,
             rt,
@@ -215,7 +234,8 @@ where
 /// Says that standard input is read, where somebody sits before it.
 fn greet(rt: &impl Eprint, task: Task<'_>, at_terminal: bool) {
     match task {
-        Task::Scan(None) | Task::Play(None) | Task::PlayVerbose(None) if at_terminal => {
+        Task::Scan(None) | Task::Play(None) | Task::PlayVerbose(None) | Task::PlaySettled(None)
+            if at_terminal => {
             let _ = eprint!(rt; "uucpair: reading standard input, up to Ctrl-D\n");
         }
         _ => (),
