@@ -162,6 +162,12 @@ fn end_command<'a>(
             SECONDS,
         ))?
         .arg(
+            Arg::new(alloc, "number")
+                .long("number")
+                .action(ArgAction::SetTrue)
+                .help("Keeps the number of its conversations in DIR, from 0 on"),
+        )?
+        .arg(
             Arg::new(alloc, "verbose")
                 .short('v')
                 .long("verbose")
@@ -226,6 +232,7 @@ fn end_task<'a>(side: Side, matches: &ArgMatches<'a>) -> CallTask<'a> {
         window: matches.get_one::<u32>("window").unwrap_or(0),
         size: matches.get_one::<u32>("size").unwrap_or(0),
         seconds: matches.get_one::<u32>("timeout").unwrap_or(0),
+        is_numbered: matches.get_flag("number"),
         is_loud: matches.get_flag("verbose"),
     }
 }

@@ -89,9 +89,12 @@ pub const END: &str = "LINE is
   PATH           a terminal device, whose speed and raw mode are set before (stty)
 DIR is a folder as those of pair are: jobs, send and got. A target may also be ~/NAME
 or /NAME, which is NAME in got.
+Where DIR has a file number this end keeps the number of its conversations in it, and
+--number makes one that begins at 0. A called end that keeps a number lets in only a
+caller with the same one, so both ends begin to keep it at once.
 
-Status: 0 the session is done, 1 it is not, 2 bad usage or bad jobs, 3 a device fault,
-4 out of memory
+Status: 0 the session is done, 1 it is not, 2 bad usage, bad jobs or a bad number file,
+3 a device fault, 4 out of memory
 
 Example:
   mkdir -p b/got && uucpair answer unix:line b --me beta --peer alpha &

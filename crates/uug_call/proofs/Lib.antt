@@ -1,4 +1,5 @@
 pub mod LineNameLemmas
 pub mod LocalLemmas
+pub mod NumberTextLemmas
 pub mod PatienceLemmas
 pub mod StandardFacts

@@ -43,7 +43,8 @@ pub(crate) enum Taking {
 impl<A: Allocator + Copy> LiveEnd<A> {
     /// The end's first session has begun.
     pub(crate) fn start(alloc: A, node: Node<MemorySpool<A>, A>) -> Result<Self, AllocError>
-        ensures { IfOk result (λ end. (id : Identity) (own : Announced) (number : Option ℕ) (l : Lists) → IsAnnouncement own
+        ensures { IfOk result (λ end. (id : Identity) (own : Announced) (number : Option ℕ)
+            (l : Lists) → IsAnnouncement own
             → BeginsSession id own number l [] (node_of node).engine → HoldsNothing (node_of node)
             → HasBegun id own number l (held_by node.spool) (parts_of end)) }
     {

@@ -43,7 +43,8 @@ pub fn own_messages_fit()
 /// Each packet that an end emits can be written, and so is read again as what it is, where the end has made a right
 /// announcement.
 pub fn what_an_end_emits_can_be_written()
-    ensures first { (id : Identity) (own : Announced) (number : Option ℕ) (talk : Talk) → IsAnnouncement own
+    ensures first { (id : Identity) (own : Announced) (number : Option ℕ) (talk : Talk)
+        → IsAnnouncement own
         → IsEndInRange id.side (begins_session id own number talk).state
         × All CanBeWritten (begins_session id own number talk).emitted }
     ensures stays { (side : Side) (h : Holdings) (id : Identity) (event : EndEvent) (e : EndState Talk)
@@ -77,5 +78,6 @@ pub fn a_number_rises_in_the_greeting_alone<C>()
     ensures first { (id : Identity) (own : Announced) (number : Option ℕ) (c : C)
         → (begins_session id own number c).state.number ≡ number }
     ensures step { (k : Keeper C) (id : Identity) (event : EndEvent) (e : EndState C)
-        → (end_step k id event e).state.number ≡ number_by (rises_at id e.number e.stage event) e.number }
+        → (end_step k id event e).state.number
+        ≡ number_by (rises_at id e.number e.stage event) e.number }
 {}

@@ -317,7 +317,8 @@ impl<A: Allocator + Copy> Engine<A> {
         ensures says { OnOk result (SaysWhatItCan self.new) }
         ensures err { OnErr result (Does (unmoved (bare self.old))
             (bare self.new) self.old self.new) }
-        ensures nothing_taken { (bad_came self.old.number (end_keeper self.old.identity.side (S.holdings spool.now))
+        ensures nothing_taken { (bad_came self.old.number
+            (end_keeper self.old.identity.side (S.holdings spool.now))
             self.old.identity
             self.old.link (talk_of (S.holdings spool.now) (S.kept spool.now) self.old.talking)).took
             ≡ false }
@@ -354,7 +355,8 @@ impl<A: Allocator + Copy> Engine<A> {
     /// Nothing has come on a link for some time.
     fn late(&mut self) -> Result<(), AllocError>
         requires linked { self.old.stage ≡ linked }
-        ensures ok { OnOk result (Does (late self.old.number self.old.identity (talking_has_parted self.old.talking)
+        ensures ok { OnOk result (Does (late self.old.number self.old.identity
+            (talking_has_parted self.old.talking)
             self.old.link self.old.talking) (bare self.new) self.old self.new) }
         ensures err { OnErr result (Does (unmoved (bare self.old))
             (bare self.new) self.old self.new) }
@@ -370,7 +372,8 @@ impl<A: Allocator + Copy> Engine<A> {
     /// The same on a link that has something to repeat, or that ends.
     fn repeat(&mut self) -> Result<(), AllocError>
         requires linked { self.old.stage ≡ linked }
-        ensures ok { OnOk result (Does (late self.old.number self.old.identity (talking_has_parted self.old.talking)
+        ensures ok { OnOk result (Does (late self.old.number self.old.identity
+            (talking_has_parted self.old.talking)
             self.old.link self.old.talking) (bare self.new) self.old self.new) }
         ensures err { OnErr result (Does (unmoved (bare self.old))
             (bare self.new) self.old self.new) }
@@ -434,7 +437,8 @@ impl<A: Allocator + Copy> Engine<A> {
     fn lead_to(&mut self, greeted: Greeted)
         requires hailing { IsHailing self.old.stage }
         requires spare { greeted ≡ Greeted.LinkBegins → WINDOW_MAX ≤ self.old.outbox.spare }
-        ensures does { Does (greeted_so self.old.number self.old.identity greeted [] self.old.link self.old.talking)
+        ensures does { Does (greeted_so self.old.number self.old.identity greeted []
+            self.old.link self.old.talking)
             (bare self.new) self.old self.new }
         ensures says { SaysWhatItCan self.new }
     {
@@ -449,7 +453,8 @@ impl<A: Allocator + Copy> Engine<A> {
     fn begin_link(&mut self)
         requires hailing { IsHailing self.old.stage }
         requires spare { WINDOW_MAX ≤ self.old.outbox.spare }
-        ensures does { Does (begins_link self.old.number self.old.identity.side self.old.link self.old.talking [])
+        ensures does { Does (begins_link self.old.number self.old.identity.side
+            self.old.link self.old.talking [])
             (bare self.new) self.old self.new }
         ensures says { SaysWhatItCan self.new }
     {

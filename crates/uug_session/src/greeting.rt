@@ -85,8 +85,8 @@ impl Greeting {
             ≡ (text_came place.now.me place.now.peer place.now.number self text.now).greeted) }
         ensures rises { IfOk result (λ led. led.rises
             ≡ (text_came place.now.me place.now.peer place.now.number self text.now).rises) }
-        ensures says { Says (text_came place.now.me place.now.peer place.now.number self text.now).says
-            out.old out.new result }
+        ensures says { Says (text_came place.now.me place.now.peer
+            place.now.number self text.now).says out.old out.new result }
     {
         match self.awaited {
             AwaitedText::CalledName => self.on_called_name(place, text, out),
@@ -136,8 +136,8 @@ impl Greeting {
             ≡ (called_name_came place.now.me place.now.peer place.now.number self text.now).greeted) }
         ensures rises { IfOk result (λ led. led.rises
             ≡ (called_name_came place.now.me place.now.peer place.now.number self text.now).rises) }
-        ensures says { Says (called_name_came place.now.me place.now.peer place.now.number self text.now).says
-            out.old out.new result }
+        ensures says { Says (called_name_came place.now.me place.now.peer
+            place.now.number self text.now).says out.old out.new result }
     {
         if text == b"Shere".as_slice() {
             return Greeting::tell_name(place, out);
@@ -153,7 +153,8 @@ impl Greeting {
 
     fn tell_name<A: Allocator>(place: &Place, out: &mut Outbox<A>) -> Result<Led, AllocError>
         ensures greeted { IfOk result (λ led. led.greeted
-            ≡ (goes_on (call_text place.now.me place.now.number ∷ []) AwaitedText.Admission).greeted) }
+            ≡ (goes_on (call_text place.now.me place.now.number ∷ [])
+            AwaitedText.Admission).greeted) }
         ensures rises { IfOk result (λ led. led.rises ≡ false) }
         ensures says { Says (call_text place.now.me place.now.number ∷ []) out.old out.new result }
     {
@@ -217,7 +218,8 @@ impl Greeting {
     }
 
     fn on_protocols<A: Allocator>(self, text: &[u8], out: &mut Outbox<A>) -> Result<Led, AllocError>
-        ensures greeted { IfOk result (λ led. led.greeted ≡ (protocols_came self text.now).greeted) }
+        ensures greeted { IfOk result (λ led. led.greeted
+            ≡ (protocols_came self text.now).greeted) }
         ensures rises { IfOk result (λ led. led.rises ≡ (protocols_came self text.now).rises) }
         ensures says { Says (protocols_came self text.now).says out.old out.new result }
     {

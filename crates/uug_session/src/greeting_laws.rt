@@ -33,22 +33,30 @@ pub fn one_greeting()
     ensures whole { (side : Side) (me peer : List ℕ) (number : Option ℕ) (delivered : List ℕ)
         → (behind : List ℕ) × Greets side me peer number delivered
         (whole_greeting side me peer number delivered) behind }
-    ensures only_whole { (side : Side) (me peer : List ℕ) (number : Option ℕ) (delivered : List ℕ) (run : GreetingRun)
+    ensures only_whole { (side : Side) (me peer : List ℕ) (number : Option ℕ) (delivered : List ℕ)
+        (run : GreetingRun)
         (behind : List ℕ)
-        → Greets side me peer number delivered run behind → run ≡ whole_greeting side me peer number delivered }
-    ensures one_rest_of_whole { (side : Side) (me peer : List ℕ) (number : Option ℕ) (delivered : List ℕ) (run : GreetingRun)
+        → Greets side me peer number delivered run behind
+        → run ≡ whole_greeting side me peer number delivered }
+    ensures one_rest_of_whole { (side : Side) (me peer : List ℕ) (number : Option ℕ)
+        (delivered : List ℕ) (run : GreetingRun)
         (behind other : List ℕ)
-        → Greets side me peer number delivered run behind → Greets side me peer number delivered run other
+        → Greets side me peer number delivered run behind
+        → Greets side me peer number delivered run other
         → behind ≡ other }
     ensures some { (me peer : List ℕ) (number : Option ℕ) (g : Greeting) (delivered : List ℕ)
         → (behind : List ℕ) × GreetsBy me peer number g delivered
         (greeting_run me peer number g delivered) behind }
-    ensures only { (me peer : List ℕ) (number : Option ℕ) (g : Greeting) (delivered : List ℕ) (run : GreetingRun)
+    ensures only { (me peer : List ℕ) (number : Option ℕ) (g : Greeting) (delivered : List ℕ)
+        (run : GreetingRun)
         (behind : List ℕ)
-        → GreetsBy me peer number g delivered run behind → run ≡ greeting_run me peer number g delivered }
-    ensures one_rest { (me peer : List ℕ) (number : Option ℕ) (g : Greeting) (delivered : List ℕ) (run : GreetingRun)
+        → GreetsBy me peer number g delivered run behind
+        → run ≡ greeting_run me peer number g delivered }
+    ensures one_rest { (me peer : List ℕ) (number : Option ℕ) (g : Greeting) (delivered : List ℕ)
+        (run : GreetingRun)
         (behind other : List ℕ)
-        → GreetsBy me peer number g delivered run behind → GreetsBy me peer number g delivered run other → behind
+        → GreetsBy me peer number g delivered run behind
+        → GreetsBy me peer number g delivered run other → behind
         ≡ other }
 {
     one_reading_of_texts();
@@ -65,15 +73,18 @@ pub fn greeting_in_pieces()
         ≡ GoesOn next
         → GreetsBy me peer run.number next (rest ++ more) later left
         → Greets side me peer number (delivered ++ more) (run_behind run later) left }
-    ensures whole_over { (side : Side) (me peer : List ℕ) (number : Option ℕ) (delivered more rest : List ℕ) (run : GreetingRun)
+    ensures whole_over { (side : Side) (me peer : List ℕ) (number : Option ℕ)
+        (delivered more rest : List ℕ) (run : GreetingRun)
         → Greets side me peer number delivered run rest → IsOver run.greeted
         → Greets side me peer number (delivered ++ more) run (rest ++ more) }
-    ensures goes_on { (me peer : List ℕ) (number : Option ℕ) (g next : Greeting) (delivered more rest left : List ℕ)
+    ensures goes_on { (me peer : List ℕ) (number : Option ℕ) (g next : Greeting)
+        (delivered more rest left : List ℕ)
         (run later : GreetingRun)
         → GreetsBy me peer number g delivered run rest → run.greeted ≡ GoesOn next
         → GreetsBy me peer run.number next (rest ++ more) later left
         → GreetsBy me peer number g (delivered ++ more) (run_behind run later) left }
-    ensures over { (me peer : List ℕ) (number : Option ℕ) (g : Greeting) (delivered more rest : List ℕ)
+    ensures over { (me peer : List ℕ) (number : Option ℕ) (g : Greeting)
+        (delivered more rest : List ℕ)
         (run : GreetingRun)
         → GreetsBy me peer number g delivered run rest → IsOver run.greeted
         → GreetsBy me peer number g (delivered ++ more) run (rest ++ more) }
@@ -94,19 +105,23 @@ pub fn ends_that_expect_each_other_begin()
         → IsName caller → IsName called → IsNumber m → IsNumber n → is_expected n m ≡ true
         → GreetEachOther caller called called caller m n at_caller at_called
         → BecomeOf at_caller at_called LinkBegins LinkBegins (risen m) (risen n) }
-    ensures wrong_called { (caller meant called expected : List ℕ) (m n : Option ℕ) (at_caller at_called : GreetingRun)
+    ensures wrong_called { (caller meant called expected : List ℕ) (m n : Option ℕ)
+        (at_caller at_called : GreetingRun)
         → IsName caller → IsName called → IsNumber m → IsNumber n → called ≢ meant
         → GreetEachOther caller meant called expected m n at_caller at_called
         → BecomeOf at_caller at_called (Ended WrongName) (GoesOn (first_greeting CallerName)) m n }
-    ensures wrong_caller { (caller called expected : List ℕ) (m n : Option ℕ) (at_caller at_called : GreetingRun)
+    ensures wrong_caller { (caller called expected : List ℕ) (m n : Option ℕ)
+        (at_caller at_called : GreetingRun)
         → IsName caller → IsName called → IsNumber m → IsNumber n → caller ≢ expected
         → GreetEachOther caller called called expected m n at_caller at_called
         → BecomeOf at_caller at_called (Ended Refused) (Ended Refused) m n }
-    ensures wrong_number { (caller called : List ℕ) (m n : Option ℕ) (at_caller at_called : GreetingRun)
+    ensures wrong_number { (caller called : List ℕ) (m n : Option ℕ)
+        (at_caller at_called : GreetingRun)
         → IsName caller → IsName called → IsNumber m → IsNumber n → is_expected n m ≡ false
         → GreetEachOther caller called called caller m n at_caller at_called
         → BecomeOf at_caller at_called (Ended BadSequence) (Ended BadSequence) m n }
-    ensures greet { (caller meant called expected : List ℕ) (m n : Option ℕ) → IsName caller → IsName called
+    ensures greet { (caller meant called expected : List ℕ) (m n : Option ℕ) → IsName caller
+        → IsName called
         → IsNumber m → IsNumber n
         → (at_caller : GreetingRun) × (at_called : GreetingRun)
         × GreetEachOther caller meant called expected m n at_caller at_called }
@@ -118,14 +133,22 @@ pub fn ends_that_expect_each_other_begin()
 /// In any greeting, whatever bytes come: the number of a called end rises exactly where it says that the caller is let in, and
 /// once; a caller's at most once; either has risen where the link begins; and a refused call leaves it as it was.
 pub fn a_number_rises_where_a_call_is_let_in()
-    ensures called { (me peer : List ℕ) (number : Option ℕ) (delivered behind : List ℕ) (run : GreetingRun)
-        → Greets called_side me peer number delivered run behind → run.number ≡ number_by (has_let_in run.says) number }
-    ensures caller { (me peer : List ℕ) (number : Option ℕ) (delivered behind : List ℕ) (run : GreetingRun)
-        → Greets caller_side me peer number delivered run behind → (run.number ≡ number) ⊎ (run.number ≡ risen number) }
-    ensures begun { (side : Side) (me peer : List ℕ) (number : Option ℕ) (delivered behind : List ℕ) (run : GreetingRun)
-        → Greets side me peer number delivered run behind → run.greeted ≡ LinkBegins → run.number ≡ risen number }
-    ensures refused { (side : Side) (me peer : List ℕ) (number : Option ℕ) (delivered behind : List ℕ) (run : GreetingRun)
-        (how : End) → Greets side me peer number delivered run behind → run.greeted ≡ Ended how → IsRefusal how
+    ensures called { (me peer : List ℕ) (number : Option ℕ) (delivered behind : List ℕ)
+        (run : GreetingRun)
+        → Greets called_side me peer number delivered run behind
+        → run.number ≡ number_by (has_let_in run.says) number }
+    ensures caller { (me peer : List ℕ) (number : Option ℕ) (delivered behind : List ℕ)
+        (run : GreetingRun)
+        → Greets caller_side me peer number delivered run behind
+        → (run.number ≡ number) ⊎ (run.number ≡ risen number) }
+    ensures begun { (side : Side) (me peer : List ℕ) (number : Option ℕ)
+        (delivered behind : List ℕ) (run : GreetingRun)
+        → Greets side me peer number delivered run behind → run.greeted ≡ LinkBegins
+        → run.number ≡ risen number }
+    ensures refused { (side : Side) (me peer : List ℕ) (number : Option ℕ)
+        (delivered behind : List ℕ) (run : GreetingRun)
+        (how : End) → Greets side me peer number delivered run behind → run.greeted ≡ Ended how
+        → IsRefusal how
         → run.number ≡ number }
 {}
 
@@ -147,29 +170,37 @@ pub fn a_node_greets()
         (entries : List EntryValue) (n : NodeState)
         → BeginsSession id own number l entries n.engine → HoldsNothing n
         → GreetsAt id (greeting_at_first id.side) [] [] n }
-    ensures goes_on { (h : Holdings) (id : Identity) (own : Announced) (number : Option ℕ) (entries : List EntryValue)
+    ensures goes_on { (h : Holdings) (id : Identity) (own : Announced) (number : Option ℕ)
+        (entries : List EntryValue)
         (came behind : List ℕ)
         (now : NodeState) (run : GreetingRun) (g : Greeting)
-        → HasHeard h id own number entries came now → Greets id.side id.me id.peer number came run behind
+        → HasHeard h id own number entries came now
+        → Greets id.side id.me id.peer number came run behind
         → run.greeted ≡ GoesOn g
         → GreetsStill id own entries run.says run.number g behind now }
-    ensures ended { (h : Holdings) (id : Identity) (own : Announced) (number : Option ℕ) (entries : List EntryValue)
+    ensures ended { (h : Holdings) (id : Identity) (own : Announced) (number : Option ℕ)
+        (entries : List EntryValue)
         (came behind : List ℕ)
         (now : NodeState) (run : GreetingRun) (how : End)
-        → HasHeard h id own number entries came now → Greets id.side id.me id.peer number came run behind
+        → HasHeard h id own number entries came now
+        → Greets id.side id.me id.peer number came run behind
         → run.greeted ≡ Ended how
         → HasEnded entries run.says run.number how now }
-    ensures link { (h : Holdings) (id : Identity) (own : Announced) (number : Option ℕ) (entries : List EntryValue)
+    ensures link { (h : Holdings) (id : Identity) (own : Announced) (number : Option ℕ)
+        (entries : List EntryValue)
         (came behind : List ℕ)
         (now : NodeState) (run : GreetingRun)
-        → (m : HasHeard h id own number entries came now) → Greets id.side id.me id.peer number came run behind
+        → (m : HasHeard h id own number entries came now)
+        → Greets id.side id.me id.peer number came run behind
         → run.greeted ≡ LinkBegins
         → HasBegunLink m run.says run.number behind }
     // The same as one equation, whatever the node keeps and its spool's device does: all bytes from the start lead to what the
     // bytes left lead to behind the whole greeting.
-    ensures comes { (h : Holdings) (id : Identity) (own : Announced) (number : Option ℕ) (talk : Talk)
+    ensures comes { (h : Holdings) (id : Identity) (own : Announced) (number : Option ℕ)
+        (talk : Talk)
         (failures : List Bool)
-        (came behind : List ℕ) (run : GreetingRun) → Greets id.side id.me id.peer number came run behind
+        (came behind : List ℕ) (run : GreetingRun)
+        → Greets id.side id.me id.peer number came run behind
         → takes_piece (node_taker h id) came (holding_nothing
         (come_to (begins_session id own number talk) failures))
         ≡ takes_piece (node_taker h id) behind (holding_nothing

@@ -17,14 +17,17 @@ ghost use Rattle.uug_session.specs.Talking.{talking_has_parted};
 /// What is told of a call without the spool is the end's step beside it.
 pub fn calls_are_steps()
     ensures late { (h : Holdings) (kept : List Kept) (before after : EngineState)
-        → Does (stage_late before.number before.identity (talking_has_parted before.talking) before.stage before.link before.talking)
+        → Does (stage_late before.number before.identity
+        (talking_has_parted before.talking) before.stage before.link before.talking)
         (bare after) before after
         → Does (effect_of h kept time_ran_out before) (end_of h kept after) before after }
     ensures lost { (h : Holdings) (kept : List Kept) (e : EngineState)
         → effect_of h kept line_lost e
         ≡ unmoved (end_of h kept (with_stage (hung_up (talking_has_parted e.talking) e.stage) e)) }
-    ensures begins { (h : Holdings) (kept : List Kept) (id : Identity) (own : Announced) (number : Option ℕ) (l : Lists)
-        (entries : List EntryValue) (after : EngineState) → BeginsSession id own number l entries after
+    ensures begins { (h : Holdings) (kept : List Kept) (id : Identity) (own : Announced)
+        (number : Option ℕ) (l : Lists)
+        (entries : List EntryValue) (after : EngineState)
+        → BeginsSession id own number l entries after
         → end_of h kept after ≡ (begins_session id own number (unopened l kept)).state }
 {}
 

@@ -111,9 +111,11 @@ impl<A: Allocator> Outgoing<A> {
     ) -> bool
         requires some { 0 < size }
         requires fits { size ≤ MESSAGE_MAX }
-        ensures first { OnTrue result (first_of (outgoing_messages (S.holdings spool.now) size self.old)
+        ensures first { OnTrue result
+            (first_of (outgoing_messages (S.holdings spool.now) size self.old)
             ≡ Some message.new.items) }
-        ensures none { OnFalse result (first_of (outgoing_messages (S.holdings spool.now) size self.old) ≡ None) }
+        ensures none { OnFalse result
+            (first_of (outgoing_messages (S.holdings spool.now) size self.old) ≡ None) }
         ensures behind { outgoing_messages (S.holdings spool.now) size self.new
             ≡ behind_first (outgoing_messages (S.holdings spool.now) size self.old) }
         ensures size { OnTrue result (length message.new.items ≤ size) }

@@ -27,7 +27,8 @@ pub(crate) fn part_of<S: Spool>(
     requires fits { size ≤ MESSAGE_MAX }
     ensures messages { messages_from size offset (said_by (S.holdings spool.now) saying.now)
         ≡ message.new.items
-        ∷ unless_last result (messages_from size (offset + size) (said_by (S.holdings spool.now) saying.now)) }
+        ∷ unless_last result (messages_from size (offset + size)
+        (said_by (S.holdings spool.now) saying.now)) }
     ensures size { length message.new.items ≤ size }
     ensures next { result ≡ false → IsWithin (saying.now ∷ []) (offset + size) }
     ensures limit { result ≡ false → offset < FILE_MAX }
@@ -48,7 +49,8 @@ fn part_of_text(text: &[u8], size: usize, offset: usize, message: &mut Message) 
     requires some { 0 < size }
     requires fits { size ≤ MESSAGE_MAX }
     ensures messages { command_messages size (drop offset text.now)
-        ≡ message.new.items ∷ unless_last result (command_messages size (drop (offset + size) text.now)) }
+        ≡ message.new.items ∷ unless_last result
+        (command_messages size (drop (offset + size) text.now)) }
     ensures size { length message.new.items ≤ size }
     ensures next { result ≡ false → offset + size ≤ length text.now }
 {
@@ -63,7 +65,8 @@ fn part_of_file(bytes: &[u8], size: usize, offset: usize, message: &mut Message)
     requires some { 0 < size }
     requires fits { size ≤ MESSAGE_MAX }
     ensures messages { file_messages size (drop offset bytes.now)
-        ≡ message.new.items ∷ unless_last result (file_messages size (drop (offset + size) bytes.now)) }
+        ≡ message.new.items ∷ unless_last result
+        (file_messages size (drop (offset + size) bytes.now)) }
     ensures size { length message.new.items ≤ size }
     ensures next { result ≡ false → offset < length bytes.now }
 {
