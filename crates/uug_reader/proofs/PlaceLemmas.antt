@@ -1,15 +1,16 @@
 -- Items and their places among bytes.
 use Rattle.std.proofs.Common.{◌≡◌, ℕ, ◌+◌, ◌-◌, ◌<◌, ◌≤◌, ◌↔◌, Bool, true, false, IsTrue, IsFalse, List, ◌++◌, length, take, drop, Option, Some, None, IfSome, IsNone, MatchOption, refl, sym, ap, ◌∙◌, arith, subst, [], ◌∷◌, zero, suc, length-append, length-take}
-use Rattle.std.proofs.lemmas.List.{drop-append-le, take-take, drop-take, drop-drop}
+use Rattle.std.proofs.lemmas.List.{append-nil, nil_from_length, drop-append-le, take-take, drop-take, drop-drop}
 use Rattle.circular_buffer.specs.Buffer.{Buffer, buffer}
 use Rattle.std.specs.Option.{is_some}
 use Rattle.uug_packet.specs.Bytes.{AreBytes}
 use Rattle.uug_packet.specs.Message.{LiesAt}
+use Rattle.uug_packet.specs.Waits.{Waits}
 use Rattle.uug_reader.specs.declared.found.Found.{Found}
 use Rattle.uug_reader.specs.declared.place.Standing.{Standing}
 use Rattle.uug_reader.specs.Cut.{Item}
 use Rattle.uug_reader.specs.Finding.{StandsFirst, PassesNoise, FindsFirst, FindsNothing}
-use Rattle.uug_reader.specs.Place.{item_at, item_beside, IsFirst, IsBeside, StandsBeside, size_of, left, Holds}
+use Rattle.uug_reader.specs.Place.{item_at, item_beside, IsFirst, IsBeside, StandsBeside, StandsThere, size_of, left, Holds}
 use Rattle.uug_reader.specs.Reading.{Reading, Shows, IsWaiting}
 use Rattle.uug_reader.specs.Shown.{item_of}
 use Rattle.uug_reader.specs.Search.{left_by, after_search}
@@ -56,6 +57,13 @@ lies_in_front message bytes start size h =
     ∙ ap (take n) (sym (drop-take start (size - start) bytes))
     ∙ ap (λ m. take n (drop start (take m bytes))) (sym whole)
     ∙ h.is
+
+-- where the first piece is searched to its end and the second is empty, both wait
+pub nothing_in_piece : (first : Option Standing) (front back beside : List ℕ) (passed : ℕ) → length back ≡ 0 → first ≡ None → StandsThere first (drop passed front) → StandsBeside first beside (drop passed (front ++ back))
+nothing_in_piece first front back beside passed empty is h =
+    subst (λ (f : Option Standing). StandsBeside f beside (drop passed (front ++ back))) (sym is)
+    (subst (λ (s : List ℕ). Waits (drop passed s)) (sym (ap (λ (b : List ℕ). front ++ b) (nil_from_length back empty) ∙ append-nil front))
+    (subst (λ (f : Option Standing). StandsThere f (drop passed front)) is h))
 
 -- what is kept of bytes that were passed
 pub kept : (bytes : List ℕ) (passed start end : ℕ) → start ≤ end → drop (passed + start) (take (passed + end) bytes) ≡ take (end - start) (drop start (drop passed bytes))

@@ -4,16 +4,20 @@ use Rattle.std.proofs.lemmas.Bool.Decides.{nat_tests}
 use Rattle.std.proofs.lemmas.List.{take_rest, drop-drop}
 use Rattle.uug_packet.specs.Bytes.{AreBytes}
 use Rattle.uug_packet.specs.Decoded.{decoded}
-use Rattle.uug_packet.specs.Packet.{PacketValue}
+use Rattle.uug_packet.specs.Packet.{PacketValue, shown}
+use Rattle.uug_packet.specs.declared.packet.Packet.{Packet}
 use Rattle.uug_packet.specs.Waits.{Waits, IsDamage}
 use Rattle.uug_packet.specs.declared.decoding.NoPacket.{NoPacket}
 use Rattle.uug_packet.specs.declared.decoding.NoPacket.TheVariants as refusals
 use Rattle.uug_packet.specs.declared.header.TheConstants.{CONTROL_K}
 use Rattle.uug_reader.specs.declared.search.FirstPart.{FirstPart}
 use Rattle.uug_reader.specs.declared.search.FirstPart.TheVariants.{Noise}
-use Rattle.uug_reader.specs.Cut.{IsNoise, noise, Item, bad}
+use Rattle.uug_reader.specs.declared.search.FirstPart.TheVariants as parts
+use Rattle.uug_reader.specs.declared.place.Place.{Place}
+use Rattle.uug_reader.specs.declared.place.Place.TheVariants as places
+use Rattle.uug_reader.specs.Cut.{IsNoise, noise, Item, bad, found}
 use Rattle.uug_reader.specs.Finding.{StandsFirst, PassesNoise}
-use Rattle.uug_reader.specs.Place.{BeginsWith}
+use Rattle.uug_reader.specs.Place.{BeginsWith, IsFirst, item_at, LiesIn}
 use Rattle.uug_reader.specs.Search.{Search, waiting, standing, search_by, search_of}
 use Rattle.uug_reader.proofs.FindingLemmas.{StandsFirst-not-Waits, StandsFirst-unique, StandsFirst-not-noise, PassesNoise-unique}
 use Rattle.uug_reader.proofs.OneCut.{AreBytes-drop, refused_noise}
@@ -23,6 +27,36 @@ use Rattle.uug_reader.specs.PacketLaws.{PacketLaws}
 pub record Passed (bytes : List ℕ) (at : ℕ) : Type 0 where
   pub within : at ≤ length bytes
   pub passes : PassesNoise bytes (drop at bytes)
+
+-- ---- where a search ends
+
+pub begins_packet : (part : FirstPart) (packet : Packet) (size : ℕ) (s : List ℕ) → part ≡ parts.Packet packet size → BeginsWith part s → BeginsWith (parts.Packet packet size) s
+begins_packet part packet size s is begins = subst (λ (p : FirstPart). BeginsWith p s) is begins
+
+pub first_packet : (part : FirstPart) (packet : Packet) (size : ℕ) (place : Place) (bytes : List ℕ) (at : ℕ) → part ≡ parts.Packet packet size → BeginsWith part (take (length bytes - at) (drop at bytes)) → item_at place (take (length bytes - at) (drop at bytes)) ≡ found (shown packet) → LiesIn place (take (length bytes - at) (drop at bytes)) → IsFirst (record { place = place; size = size }) (drop at bytes)
+first_packet part packet size place bytes at is begins item lies =
+    let rest = take_rest bytes at in
+    let first : BeginsWith (parts.Packet packet size) (drop at bytes) =
+    begins_packet part packet size (drop at bytes) is (subst (BeginsWith part) rest begins) in
+    let there : item_at place (drop at bytes) ≡ found (shown packet) =
+    subst (λ (s : List ℕ). item_at place s ≡ found (shown packet)) rest item in
+    record {
+      stands = subst (λ (i : Item). StandsFirst i size (drop at bytes)) (sym there) (first.2, first.1);
+      some = first.0;
+      within = first.1;
+      lies = subst (LiesIn place) rest lies;
+    }
+
+pub first_broken : (part : FirstPart) (bytes : List ℕ) (at : ℕ) → part ≡ parts.Bad → BeginsWith part (take (length bytes - at) (drop at bytes)) → IsFirst (record { place = places.Bad; size = 1 }) (drop at bytes)
+first_broken part bytes at is begins =
+    let first : BeginsWith parts.Bad (drop at bytes) =
+    subst (λ (p : FirstPart). BeginsWith p (drop at bytes)) is (subst (BeginsWith part) (take_rest bytes at) begins) in
+    record {
+      stands = (first.1, refl);
+      some = omega arith;
+      within = omega (arith, first.0);
+      lies = tt;
+    }
 
 module _ (laws : PacketLaws) where
   pub PassesNoise-byte : (s : List ℕ) → 0 < length s → IsNoise s → PassesNoise s (drop 1 s)
