@@ -12,6 +12,11 @@
 # is printed, and of `rest` the least too. `check` is what a C program needs to check the same bytes, once for each end,
 # and `to C` the quotient of the two. `instr` is how many million instructions `rest` takes, as valgrind counts them, where
 # the machine has it.
+#
+# After these rows come two of `play --settle`, on a lossy line that loses all that is on it when about half of the MiB has
+# come: `whole` is what it takes with that option, `played` without it, and `settle` the difference of the two runs of a
+# round, which is what it takes to go on to the end on a clean line, and to report that. The second report must tell each
+# file, and that all was done. A build that has no such option is left out.
 set -eu
 export LC_ALL=C
 rounds=${ROUNDS:-11}
@@ -26,10 +31,10 @@ fail() {
     exit 1
 }
 
-# run_of PROGRAM SCRIPT STATUS: plays the script, and says how many seconds that took.
+# run_of PROGRAM SCRIPT STATUS [OPTION]: plays the script, and says how many seconds that took.
 run_of() {
     local TIMEFORMAT='%U %S' status=0
-    { time "$1" play <"$2" >"$work/report" 2>"$work/errors" || status=$?; } 2>"$work/time"
+    { time "$1" play "${@:4}" <"$2" >"$work/report" 2>"$work/errors" || status=$?; } 2>"$work/time"
     [ "$status" -eq "$3" ] || fail "status $status: $(cat "$work/errors")"
     awk '{ print $1 + $2 }' "$work/time"
 }
@@ -46,17 +51,34 @@ median() {
     sort -g | awk '{ n[NR] = $1 } END { print (n[int((NR + 1) / 2)] + n[int(NR / 2) + 1]) / 2 }'
 }
 
-# instructions PROGRAM SCRIPT: how many the program takes to play it.
+# instructions PROGRAM SCRIPT [OPTION]: how many the program takes to play it.
 instructions() {
-    valgrind --tool=cachegrind --cache-sim=no --cachegrind-out-file=/dev/null "$1" play <"$2" 2>&1 >/dev/null |
+    valgrind --tool=cachegrind --cache-sim=no --cachegrind-out-file=/dev/null "$1" play "${@:3}" <"$2" 2>&1 >/dev/null |
         sed -n 's/.*I *refs: *//p' | tr -d ,
 }
 
 # count PROGRAM: of `rest`, in millions.
 count() {
     command -v valgrind >/dev/null || return 0
-    awk -v whole="$(instructions "$1" "$work/text")" -v read="$(instructions "$1" "$work/files_only")" \
-        'BEGIN { printf "%.0f", (whole - read) / 1000000 }'
+    millions "$(instructions "$1" "$work/text")" "$(instructions "$1" "$work/files_only")"
+}
+
+# settle_count PROGRAM: of `settle`, in millions.
+settle_count() {
+    command -v valgrind >/dev/null || return 0
+    millions "$(instructions "$1" "$work/text" --settle)" "$(instructions "$1" "$work/text")"
+}
+
+# millions MORE FEWER: how many there are between the two.
+millions() {
+    awk -v more="$1" -v fewer="$2" 'BEGIN { printf "%.0f", (more - fewer) / 1000000 }'
+}
+
+# note NUMBER LONGER SHORTER: the two times of a round of the program of this number, and their difference.
+note() {
+    echo "$2" >>"$work/longer$1"
+    echo "$3" >>"$work/shorter$1"
+    awk -v a="$2" -v b="$3" 'BEGIN { print a - b }' >>"$work/rest$1"
 }
 
 # round NUMBER: plays both scripts once with the program of this number.
@@ -65,18 +87,33 @@ round() {
     read=$(run_of "${programs[$1]}" "$work/files_only" 1)
     whole=$(run_of "${programs[$1]}" "$work/text" 0)
     check_report
-    echo "$whole" >>"$work/whole$1"
-    echo "$read" >>"$work/read$1"
-    awk -v a="$whole" -v b="$read" 'BEGIN { print a - b }' >>"$work/rest$1"
+    note "$1" "$whole" "$read"
 }
 
-# measure: plays the scripts that are made, with each program in turn.
+# settle_round NUMBER: plays the script that is cut off once without the option and once with it.
+settle_round() {
+    local played settled
+    has_settle "$1" || return 0
+    played=$(run_of "${programs[$1]}" "$work/text" 1)
+    settled=$(run_of "${programs[$1]}" "$work/text" 0 --settle)
+    sed '1,/^verdict/d' "$work/report" >"$work/second"
+    mv "$work/second" "$work/report"
+    check_report
+    note "$1" "$settled" "$played"
+}
+
+# has_settle NUMBER: whether the program of this number has the option.
+has_settle() {
+    "${programs[$1]}" play --help 2>&1 | grep -q -e '--settle'
+}
+
+# measure ROUND: makes rounds of this kind, with each program in turn.
 measure() {
     local number i
-    rm -f "$work"/whole* "$work"/read* "$work"/rest*
+    rm -f "$work"/longer* "$work"/shorter* "$work"/rest*
     for ((i = 0; i < rounds; i++)); do
         for number in "${!programs[@]}"; do
-            round "$number"
+            "$1" "$number"
         done
     done
 }
@@ -86,15 +123,40 @@ row() {
     local number checked rest
     "$work/make" "$2" 0 "$4" 0 >"$work/files_only"
     "$work/make" "$2" "$3" "$4" "$5" >"$work/text"
-    measure
+    measure round
     read -r checked _ < <("$work/check" "$4" <"$work/text")
     for number in "${!programs[@]}"; do
         rest=$(median <"$work/rest$number")
         printf '%-6s %9d  %d x %-4d  %7d  %6.3f  %6.3f  %6.3f  %6.3f  %7.4f  %6.1f  %6s\n' \
-            "$1" "$2" "$3" "$4" "$number" "$(median <"$work/whole$number")" "$(median <"$work/read$number")" \
+            "$1" "$2" "$3" "$4" "$number" "$(median <"$work/longer$number")" "$(median <"$work/shorter$number")" \
             "$rest" "$(sort -g "$work/rest$number" | head -n 1)" "$checked" \
             "$(awk -v a="$rest" -v b="$checked" 'BEGIN { print (b > 0) ? a / b : 0 }')" \
             "$(count "${programs[$number]}")"
+    done
+}
+
+# cut_off: a script that ends when about half of the bytes have come, with all lost that is on the line. Behind the lines
+# that set the ends up a third of the rest is enough, since more rounds are there than are needed.
+cut_off() {
+    local setup all
+    setup=$(grep -c '^[cfs]' "$1")
+    all=$(wc -l <"$1")
+    head -n $((setup + (all - setup) / 3)) "$1"
+    printf 'drop called 1000000000\ndrop caller 1000000000\n'
+}
+
+# settle_row BYTES WINDOW SIZE EVERY: prints a line for each program that has the option.
+settle_row() {
+    local number
+    "$work/make" "$1" "$2" "$3" "$4" >"$work/all"
+    cut_off "$work/all" >"$work/text"
+    measure settle_round
+    for number in "${!programs[@]}"; do
+        has_settle "$number" || continue
+        printf '%-6s %9d  %d x %-4d  %7d  %6.3f  %6.3f  %6.3f  %6.3f                   %6s\n' \
+            settle "$1" "$2" "$3" "$number" "$(median <"$work/longer$number")" "$(median <"$work/shorter$number")" \
+            "$(median <"$work/rest$number")" "$(sort -g "$work/rest$number" | head -n 1)" \
+            "$(settle_count "${programs[$number]}")"
     done
 }
 
@@ -113,3 +175,7 @@ for size in 64 1024 4096; do
 done
 row lossy $mb 7 64 50
 row lossy $mb 7 1024 50
+echo
+echo "line       bytes  packets   program  whole  played  settle   least                     instr"
+settle_row $mb 7 64 50
+settle_row $mb 7 1024 50

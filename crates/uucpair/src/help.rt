@@ -46,10 +46,10 @@ pub const PLAY: &str =
   flow N                   N times all bytes arrive, first at the called end
 Empty lines and lines that begin with # are skipped.
 
-With --settle the run goes on behind the script, on a line that loses nothing more,
-and a second report stands behind the first: the status is of that. It may where no
-end was fooled, both ends are talking, neither has timed out more than 6 times in a
-row, and nothing waits at an end or on the line; else a line says what is not so.
+With --settle the run goes on after the script, on a line that loses nothing more,
+and a second report follows the first: the status is of that. It may where no end was
+fooled, both ends are talking, neither has timed out more than 6 times in a row, and
+nothing waits at an end or on the line; else a line says what is not so.
 
 Status: 0 the last session is done at both ends, 1 it is not, 2 bad usage or a bad
 script, 3 a device fault, 4 out of memory, 5 the line fooled an end

@@ -21,20 +21,20 @@ use Rattle.uug_play.specs.Unsettled.{Fails, unsettled_line}
 abbrev pub result_by_world : SetupValue → List Event → RunResult
 result_by_world setup events = result_of (spelled (report_of_world setup events))
 
--- the report is of the events with those of the rounds behind them in which both sessions come to their end
+-- the report is of the events followed by those of the rounds in which both sessions come to their end
 pub record IsBehind (setup : SetupValue) (events : List Event) (text : List ℕ) (status : ℕ) : Type 0 where
   pub settles : Settles setup events
   pub text_is : text ≡ report_text (result_by_world setup (events ++ events_of settles.rounds))
   pub status_is : status ≡ status_of_result (result_by_world setup (events ++ events_of settles.rounds))
 
--- The run may settle: behind its report stands that report, and the status is of that.
+-- The run may settle: that report follows its own, and the status is of that.
 pub record HasSettled (setup : SetupValue) (events : List Event) (text : List ℕ) (status : ℕ) : Type 0 where
   pub may : MaySettle (world setup events)
   pub last : List ℕ
   pub behind : IsBehind setup events last status
   pub text_is : text ≡ report_text (result_by_world setup events) ++ last
 
--- It may not: behind its report stands which condition fails, and the status is of the report.
+-- It may not: which condition fails follows its report, and the status is of the report.
 pub record HasNotSettled (setup : SetupValue) (events : List Event) (text : List ℕ) (status : ℕ) : Type 0 where
   pub report : WholeReport
   pub is : IsRunOf setup events report

@@ -28,7 +28,7 @@ fn settled<A: Allocator + Copy>(alloc: A, report: Report<A>) -> Result<Played<A>
     Ok(last)
 }
 
-/// The text of the report, and behind it that of what it settles to, or why it may not.
+/// The text of the report, and after it that of what it settles to, or why it may not.
 fn shown_settled<A: Allocator + Copy>(alloc: A, report: Report<A>) -> Result<Played<A>, RunFault>
     ensures { IfOk result (λ played. GoesOnFrom report (string_bytes played.text) played.status) }
 {

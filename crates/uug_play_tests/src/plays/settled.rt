@@ -77,17 +77,18 @@ fn settles_only_where_nothing_waits(rt: HostRuntime) -> Result<(), Fail> {
     Ok(())
 }
 
+/// The report of what was lost, and that of what it settles to, which is the one of a line that loses nothing.
+const LOST_AND_SETTLED: &str =
+    "session 1\ncaller sent 1 taken 0 most 1 talking\ncalled sent 0 taken 0 most 0 talking\n\
+    caller pending 1 struck 0 failed 0\ncalled pending 0 struck 0 failed 0\nverdict clean\n\
+    session 1\ncaller sent 4 taken 3 most 1 done\ncalled sent 3 taken 4 most 1 done\n\
+    caller pending 0 struck 1 failed 0\ncalled pending 0 struck 0 failed 0\n\
+    called stored y 0644 -\nverdict clean\n";
+
 /// Scripts, the status, and what is written.
-const PLAYED: [(&str, u8, &str); 2] = [
-    (
-        LOST,
-        0,
-        "session 1\ncaller sent 1 taken 0 most 1 talking\ncalled sent 0 taken 0 most 0 talking\n\
-         caller pending 1 struck 0 failed 0\ncalled pending 0 struck 0 failed 0\nverdict clean\n\
-         session 1\ncaller sent 4 taken 3 most 1 done\ncalled sent 3 taken 4 most 1 done\n\
-         caller pending 0 struck 1 failed 0\ncalled pending 0 struck 0 failed 0\n\
-         called stored y 0644 -\nverdict clean\n",
-    ),
+const PLAYED: [(&str, u8, &str); 3] = [
+    (LOST, 0, LOST_AND_SETTLED),
+    (LOST_SEVEN_TIMES, 0, LOST_AND_SETTLED),
     (
         "caller a 2 32\ncalled b 2 32\n",
         1,
