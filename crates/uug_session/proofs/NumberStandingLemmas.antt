@@ -1,5 +1,5 @@
 -- The number of an end's conversations stands as its session does, whatever happens to the end.
-use Rattle.std.proofs.Common.{◌≡◌, ◌⊎◌, ◌&&◌, ℕ, zero, suc, ◌+◌, nat_lt, if◌then◌else◌, Bool, true, false, List, [], ◌∷◌, ◌++◌, length, codes, Option, Some, None, inl, inr, refl, sym, ap, subst, ◌∙◌}
+use Rattle.std.proofs.Common.{◌≡◌, ◌⊎◌, ◌&&◌, ℕ, zero, suc, ◌+◌, nat_lt, if◌then◌else◌, Bool, true, false, List, [], ◌++◌, length, codes, Option, inl, inr, refl, sym, ap, subst}
 use Rattle.std.specs.Prelude.{drop}
 use Rattle.std.specs.Str.{bytes_eq}
 use Rattle.uug_link.specs.declared.limits.TheConstants.{TIMEOUTS_MAX}
@@ -7,7 +7,7 @@ use Rattle.uug_link.specs.Announced.{Announced}
 use Rattle.uug_link.specs.Entries.{EntryValue}
 use Rattle.uug_link.specs.State.{State}
 use Rattle.uug_link.specs.Step.{Effect, OutcomeValue, nothing, up, taken, closed, gave_up, halted, step, packet_found, bad_found, timed_out}
-use Rattle.uug_talk.specs.Call.{call_text, number_in_call}
+use Rattle.uug_talk.specs.Call.{number_in_call}
 use Rattle.uug_session.specs.declared.end.End.{End}
 use Rattle.uug_session.specs.declared.end.End.TheVariants as ends
 use Rattle.uug_session.specs.declared.greeting.AwaitedText.{AwaitedText}
@@ -15,18 +15,18 @@ use Rattle.uug_session.specs.declared.greeting.AwaitedText.TheVariants.{CalledNa
 use Rattle.uug_session.specs.declared.greeting.Greeted.{Greeted}
 use Rattle.uug_session.specs.declared.greeting.Greeted.TheVariants.{GoesOn, LinkBegins, Ended}
 use Rattle.uug_session.specs.declared.greeting.Greeting.{Greeting}
-use Rattle.uug_session.specs.Arriving.{Taker, Hearer, Came, all_taken, holds, held_in, takes_up, takes_up_to, takes_piece}
-use Rattle.uug_session.specs.EndStep.{Stage, hailing, linked, ended, Emitted, EndEvent, EndState, Identity, text_found, long_text_found, packet_found_whole, broken_found, time_ran_out, line_lost, begins_link, begins_session, behind_link, end_step, greeted_so, hailing_step, how_it_ends, late, late_link, linked_step, message_of, stage_step, takes_by, talks_by}
-use Rattle.uug_session.specs.Engine.{BeginsSession, Does, EngineState, HasFailed, bare, end_of, hung_up, stage_late, with_stage}
+use Rattle.uug_session.specs.Arriving.{Taker, Hearer, Came, holds, held_in, takes_up, takes_up_to, takes_piece}
+use Rattle.uug_session.specs.EndStep.{Stage, hailing, linked, ended, Emitted, EndEvent, EndState, Identity, text_found, long_text_found, packet_found_whole, broken_found, time_ran_out, line_lost, begins_link, begins_session, behind_link, end_step, greeted_so, hailing_step, how_it_ends, late_link, linked_step, message_of, stage_step, takes_by, talks_by}
+use Rattle.uug_session.specs.Engine.{BeginsSession, Does, EngineState, bare, end_of, hung_up, stage_late, with_stage}
 use Rattle.uug_session.specs.Finding.{Finding, finds_nothing, finds, finds_packet, finding}
-use Rattle.uug_session.specs.Greeting.{GreetingStep, admission_came, begins_with, came_for, called_name_came, caller_name_came, choice_came, goes_on, is_expected, name_in_caller_text, number_by, number_came, offers_g, passes_over, protocols_came, risen, text_came, timed_out as greeting_timed_out}
+use Rattle.uug_session.specs.Greeting.{GreetingStep, begins_with, came_for, is_expected, name_in_caller_text, number_by, number_came, offers_g, risen, text_came, timed_out as greeting_timed_out}
 use Rattle.uug_session.specs.Holdings.{Kept, Holdings}
 use Rattle.uug_session.specs.Jobs.{Lists}
 use Rattle.uug_session.specs.Keeper.{Keeper}
 use Rattle.uug_session.specs.Node.{NodeState, effect_of}
 use Rattle.uug_session.specs.NodeArriving.{NodeEnd, TakesAll, fails_first, fails_later, hearer_of, node_taker, with_effect}
 use Rattle.uug_session.specs.NumberStanding.{EndsWithNumber, KeepsNumber, NumberStands, number_while}
-use Rattle.uug_session.specs.Talk.{Talk, end_keeper}
+use Rattle.uug_session.specs.Talk.{end_keeper}
 use Rattle.uug_session.specs.Talking.{Talking, talking_has_parted}
 use Rattle.uug_session.specs.Turns.{Side, caller, called}
 use Rattle.uug_session.specs.WholeGreeting.{IsRefusal}
@@ -214,10 +214,12 @@ module _ (n : Option ℕ) (id : Identity) (h : Holdings) where
 
 pub takes_all_keeps : (h : Holdings) (kept kept_after : List Kept) (failure : Type 0) (bytes : List ℕ) (before after : NodeState)
     → TakesAll h kept kept_after failure bytes before after → KeepsNumber before.engine after.engine
-takes_all_keeps h kept kept_after failure bytes before after g = λ number stands.
-    let from : Hearer NodeEnd = hearer_of h kept [] (g.course.failures ++ []) before in
-    subst (λ (c : Came NodeEnd). Stands number (end_in c).state) (g.taken [] [])
-    (piece_keeps number before.engine.identity h bytes from stands)
+takes_all_keeps h kept kept_after failure bytes before after g = record {
+  stands = λ number stands.
+      let from : Hearer NodeEnd = hearer_of h kept [] (g.course.failures ++ []) before in
+      subst (λ (c : Came NodeEnd). Stands number (end_in c).state) (g.taken [] [])
+      (piece_keeps number before.engine.identity h bytes from stands);
+}
 
 -- ---- a timeout, and the line's end
 
@@ -232,9 +234,11 @@ late_at n number id parted (ended how) s c h = h
 pub late_keeps : (before after : EngineState)
     → Does (stage_late before.number before.identity (talking_has_parted before.talking) before.stage before.link before.talking)
     (bare after) before after → KeepsNumber before after
-late_keeps before after d = λ number stands.
-    subst (λ (e : EndState Talking). Stands number e) (sym d.end)
-    (late_at number before.number before.identity (talking_has_parted before.talking) before.stage before.link before.talking stands)
+late_keeps before after d = record {
+  stands = λ number stands.
+      subst (λ (e : EndState Talking). Stands number e) (sym d.end)
+      (late_at number before.number before.identity (talking_has_parted before.talking) before.stage before.link before.talking stands);
+}
 
 lost_at : (n number : Option ℕ) (parted : Bool) (stage : Stage) → NumberStands n stage number → NumberStands n (hung_up parted stage) number
 lost_at n number parted (hailing g) h = breaks n number g ends.HungUp (λ is. is) h
@@ -242,7 +246,7 @@ lost_at n number parted linked h = over n number parted ends.HungUp (λ is. is) 
 lost_at n number parted (ended how) h = h
 
 pub lost_keeps : (e : EngineState) → KeepsNumber e (with_stage (hung_up (talking_has_parted e.talking) e.stage) e)
-lost_keeps e = λ number stands. lost_at number e.number (talking_has_parted e.talking) e.stage stands
+lost_keeps e = record { stands = λ number stands. lost_at number e.number (talking_has_parted e.talking) e.stage stands }
 
 -- ---- a session begins
 

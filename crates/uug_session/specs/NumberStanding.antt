@@ -28,6 +28,6 @@ NumberStands number linked now = now ≡ risen number
 NumberStands number (ended how) now = EndsWithNumber number how now
 
 -- Whatever happened to the end between: it stands as the session does, where it stood so before.
-abbrev pub KeepsNumber : (before after : EngineState) → Type 0
-KeepsNumber before after = (number : Option ℕ) → NumberStands number before.stage before.number
-    → NumberStands number after.stage after.number
+pub record KeepsNumber (before after : EngineState) : Type 0 where
+  pub stands : (number : Option ℕ) → NumberStands number before.stage before.number
+      → NumberStands number after.stage after.number
