@@ -186,6 +186,23 @@ called stored y 0644 -
 verdict clean
 '
 
+# The called end keeps a number, and the caller tells another one.
+misnumbered='caller a 2 32
+called b 2 32
+number caller 7
+number called 9
+flow 20
+'
+misnumbered_report='session 1
+caller sent 0 taken 0 most 0 badsequence
+called sent 0 taken 0 most 0 badsequence
+caller pending 0 struck 0 failed 0
+called pending 0 struck 0 failed 0
+caller number 7
+called number 9
+verdict clean
+'
+
 # Builds the program.
 "$root/uucpair" scan </dev/null >/dev/null
 
@@ -200,6 +217,9 @@ row "what is wrong with a bad script" 2 "uucpair: bad script at line 2${line_fee
 row "what is wrong with a window" 2 "uucpair: bad script at line 1${line_feed}uucpair: window 8 is not 1 to 7$line_feed" "" \
     play --verbose < <(printf 'caller a 8 32\n')
 row "nothing wrong with a script" 0 "" "$idle_report" play -v < <(printf '%s' "$idle")
+row "a play whose caller tells another number" 1 "" "$misnumbered_report" play < <(printf '%s' "$misnumbered")
+row "a number that is too great" 2 "uucpair: bad script at line 1${line_feed}uucpair: number 4294967296 is not 0 to 4294967295$line_feed" "" \
+    play -v < <(printf 'number caller 4294967296\n')
 row "a play that settles" 0 "" "$lost_report" play --settle < <(printf '%s' "$lost")
 row "a play of what is done" 0 "" "${idle_report}not settled: caller is not talking$line_feed" play --settle < <(printf '%s' "$idle")
 row "a play that fools an end, and does not settle" 5 "" "${fooled_report}not settled: the line fooled an end$line_feed" \
@@ -300,9 +320,9 @@ touch "$socket"
 row "a pair whose socket has no place" 3 "uucpair: device fault$line_feed" "" pair "$socket" "$a" "$b" </dev/null
 holds "the job that was not begun" "$a/jobs" "send x y u$line_feed"
 
-# answer_in_the_background: waits until the socket is there.
+# answer_in_the_background [OPTION]: waits until the socket is there.
 answer_in_the_background() {
-    "$program" answer "unix:$socket" "$b" --me b --peer a >"$work/answered" 2>&1 </dev/null &
+    "$program" answer "unix:$socket" "$b" --me b --peer a "$@" >"$work/answered" 2>&1 </dev/null &
     answerer=$!
     for _ in 1 2 3 4 5 6 7 8 9 10; do
         [ ! -e "$socket" ] || break
@@ -328,6 +348,31 @@ answer_in_the_background
 row "a call of a stranger" 1 "" "caller refused pending 0 struck 0 failed 0$line_feed" \
     call "unix:$socket" "$a" --me c --peer b </dev/null
 wait "$answerer" || true
+folders "send x y u"
+answer_in_the_background --number
+row "a call that begins to keep a number" 0 "" "caller done pending 0 struck 1 failed 0$line_feed" \
+    call "unix:$socket" "$a" --me a --peer b --number </dev/null
+wait "$answerer" || true
+holds "the caller's next number" "$a/number" "1$line_feed"
+holds "the called end's next number" "$b/number" "1$line_feed"
+answer_in_the_background
+row "a call with the number that is kept" 0 "" "caller done pending 0 struck 0 failed 0$line_feed" \
+    call "unix:$socket" "$a" --me a --peer b </dev/null
+wait "$answerer" || true
+holds "the caller's number after it" "$a/number" "2$line_feed"
+rm "$a/number"
+answer_in_the_background
+row "a call of a stranger who knows the names" 1 "" "caller badsequence pending 0 struck 0 failed 0$line_feed" \
+    call "unix:$socket" "$a" --me a --peer b </dev/null
+wait "$answerer" || true
+holds "what the end says that a stranger called" "$work/answered" "called badsequence pending 0 struck 0 failed 0$line_feed"
+holds "the called end's number after a stranger" "$b/number" "2$line_feed"
+folders "send x y u"
+printf 'seven\n' >"$a/number"
+row "a call with a bad number file" 2 "uucpair: bad number file$line_feed" "" \
+    call "unix:$socket" "$a" --me a --peer b --number </dev/null
+holds "the bad number" "$a/number" "seven$line_feed"
+holds "the job that is left behind a bad number" "$a/jobs" "send x y u$line_feed"
 folders "send x y u"
 row "a call where nobody listens" 3 "uucpair: device fault$line_feed" "" \
     call "unix:$socket" "$a" --me a --peer b </dev/null

@@ -1,5 +1,5 @@
 -- How one end at a real line finishes (this project's profile).
-use Rattle.std.specs.Prelude.{◌≡◌, ◌++◌, ℕ, List, if◌then◌else◌, ⊤}
+use Rattle.std.specs.Prelude.{◌≡◌, ◌++◌, ℕ, List, Result, Ok, Err, if◌then◌else◌, ⊤}
 use Rattle.uug_line.specs.declared.side.Side.{Side}
 use Rattle.uug_session.specs.Node.{NodeState}
 use Rattle.uug_session.specs.declared.phase.Phase.{Phase}
@@ -27,3 +27,9 @@ IsStartFault fault = IsReadingFault fault
 abbrev pub IsCallFault : ToolFault → Type 0
 IsCallFault faults.Number = ⊤
 IsCallFault fault = IsRunFault fault
+
+-- the fact, unless memory ran out
+abbrev pub UnlessMemory : {T : Type 0} → Result T ToolFault → Type 0 → Type 0
+UnlessMemory (Err faults.Memory) P = ⊤
+UnlessMemory (Err fault) P = P
+UnlessMemory (Ok value) P = P

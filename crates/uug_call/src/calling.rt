@@ -2,12 +2,13 @@
 ghost use Rattle.std.specs.Prelude.{◌≡◌, ◌≤◌, ◌⊎◌, IfErr, IfOk, OnOk};
 ghost use Rattle.uug_session.specs.Engine.{HasFailed, IsEnded};
 ghost use Rattle.uug_session.specs.Jobs.{pending};
+ghost use Rattle.uug_session.specs.NumberStanding.{KeepsNumber};
 ghost use Rattle.uug_tool.specs.Streams.{Appends, CountsFault};
 ghost use Rattle.uug_pair.specs.Folders.{holding};
 ghost use Rattle.uug_pair.specs.JobsText.{jobs_text};
 ghost use Rattle.uug_pair.specs.Pair.{IsPairFault, IsWhole, UnlessDevice, jobs_of_end, phase_of_end};
 ghost use Rattle.uug_pair.specs.Seats.{seated, spool_in, KeepsJobs};
-ghost use Rattle.uug_call.specs.Calling.{report_of, status_of_phase};
+ghost use Rattle.uug_call.specs.Calling.{UnlessMemory, report_of, status_of_phase};
 ghost use Rattle.uug_call.specs.NumberText.{IsNumberKept, holding_number, number_of_end};
 
 use crate::call_end::CallEnd;
@@ -54,6 +55,9 @@ where
     // The file of the number is as before, or has exactly the one that the end keeps then, if it keeps one.
     ensures number { IsNumberKept (number_of_end (seated end.new.seat))
         (N.text end.old.number) (N.text end.new.number) }
+    // It has risen once at most since the session began, and not where the call was refused.
+    ensures number_stands { UnlessMemory result
+        (KeepsNumber (seated end.old.seat).engine (seated end.new.seat).engine) }
     ensures number_ok { OnOk result (N.text end.new.number
         ≡ holding_number (number_of_end (seated end.new.seat)) (N.text end.old.number)) }
     ensures report { OnOk result (Appends (report_of side (seated end.new.seat))

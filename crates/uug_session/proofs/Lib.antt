@@ -58,6 +58,7 @@ pub mod FoundLemmas
 pub mod NodeLemmas
 pub mod NodeSearchLemmas
 pub mod NumberLemmas
+pub mod NumberStandingLemmas
 mod NextItemLemmas
 pub mod PiecesLemmas
 pub mod QueueLemmas

@@ -29,6 +29,7 @@ pub mod NodeCalls
 pub mod NodeGreeting
 pub mod NodeLoan
 pub mod NodeSteps
+pub mod NumberStanding
 pub mod Offers
 pub mod Outgoing
 pub mod OwnEntries
