@@ -60,7 +60,6 @@ pub mod NodeSearchLemmas
 pub mod NumberLemmas
 mod NextItemLemmas
 pub mod PiecesLemmas
-pub mod BacklogLemmas
 pub mod QueueLemmas
 pub mod RoomLemmas
 pub mod OverLemmas

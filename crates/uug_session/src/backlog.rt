@@ -52,7 +52,8 @@ impl<A: Allocator> Backlog<A> {
 
     /// The job that so many stand in front of, if there is one.
     pub(crate) fn get(&self, i: usize) -> Option<&Job>
-        ensures { MatchOption result (length self.now.jobs ≤ i) (λ job. slice_get self.now.jobs i ≡ Some job.now) }
+        ensures { MatchOption result (drop i self.now.jobs ≡ [])
+            (λ job. slice_get (drop i self.now.jobs) 0 ≡ Some job.now) }
     {
         self.as_slice().get(i)
     }

@@ -164,6 +164,7 @@ fn make_room<A: Allocator>(
     struck: &mut Vec<Job, A>,
     failed: &mut Vec<Job, A>,
 ) -> Result<(), AllocError>
+    requires { length pending.old.jobs < JOBS_MAX }
     ensures pending { pending.new.jobs ≡ pending.old.jobs }
     ensures struck { struck.new.items ≡ struck.old.items }
     ensures failed { failed.new.items ≡ failed.old.items }

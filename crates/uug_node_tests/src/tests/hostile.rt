@@ -2,9 +2,7 @@
 
 use super::greetings::{CALLED_STARTS, CALLER_STARTS};
 use super::script::Act::Hear;
-use super::script::Wire::{
-    Bytes, Close, Command, Data, Flood, InitC, Rj, Rr, RrFlood,
-};
+use super::script::Wire::{Bytes, Close, Command, Data, Flood, InitC, Rj, Rr, RrFlood};
 use super::script::{Row, SILENCE, Script, Wire};
 use super::{Given, Left, NO_WORK, NOTHING, SEND, wide_peers};
 use std::test::Fail;
