@@ -11,6 +11,7 @@ mod line;
 mod numbers;
 mod script;
 mod sessions;
+mod wide_peers;
 
 use std::alloc::Allocator;
 use std::process::Abort;

@@ -16,7 +16,7 @@ const REMARKS: [(&[u8], &str); 21] = [
     ),
     (
         b"caller a 2 32",
-        "the end is set up or numbered already, or has 64 jobs",
+        "the end is set up or numbered already, or has 1024 jobs",
     ),
     (b"caller a 2", "packet size is missing"),
     (b"caller a 2 32 x", "unexpected word x"),

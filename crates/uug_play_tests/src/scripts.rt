@@ -204,14 +204,14 @@ fn takes_lines_up_to_the_limit(rt: HostRuntime) -> Result<(), Fail> {
 #[test]
 fn takes_jobs_up_to_the_limit(rt: HostRuntime) -> Result<(), Fail> {
     let mut text = ENDS.to_vec(rt.alloc())?;
-    for _ in 0..64 {
+    for _ in 0..1024 {
         text.extend_from_slice(b"send caller x y u\n")?;
     }
     text.extend_from_slice(b"send called x y u\n")?;
     assert!(rt; read_script(rt.alloc(), text.as_slice()).is_ok());
     text.extend_from_slice(b"request caller x y u\n")?;
     let fault = read_script(rt.alloc(), text.as_slice()).err();
-    assert_eq!(rt; fault, Some(ScriptFault::Bad(68)));
+    assert_eq!(rt; fault, Some(ScriptFault::Bad(1028)));
     Ok(())
 }
 

@@ -1,5 +1,6 @@
 pub mod Alternation
 pub mod Arriving
+pub mod Backlog
 pub mod Choice
 pub mod Conversation
 pub mod Count

@@ -4,6 +4,7 @@
 mod arrive;
 pub mod arriving_laws;
 mod awaits;
+mod backlog;
 mod choice;
 pub mod conversation_laws;
 mod dialogue;

@@ -134,6 +134,21 @@ fn what_is_cut_is_gathered(rt: HostRuntime) {
     }
 }
 
+/// A text as long as a command may be, in messages of 32 bytes, and the message behind them.
+fn longest_and(message: &[u8]) -> Option<Result<Progress, BadText>> {
+    let mut command = Gather::<Global>::command();
+    for _ in 0..128 {
+        push(&mut command, &[b'x'; 32]);
+    }
+    push(&mut command, message)
+}
+
+#[test]
+fn a_command_has_at_most_4096_bytes(rt: HostRuntime) {
+    assert_eq!(rt; longest_and(&[0; 32]), Some(Ok(Progress::Whole)));
+    assert_eq!(rt; longest_and(&[b'x'; 32]), Some(Err(BadText::TooLong)));
+}
+
 /// A file's message makes one request. Refused, it changes nothing, and pushed again it is taken. The end of a file
 /// makes none.
 fn refuse_a_message(
