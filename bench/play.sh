@@ -11,7 +11,11 @@
 # `rest` is the difference of the two runs of a round: the run of both ends, and the report of the files. Of each the median
 # is printed, and of `rest` the least too. `check` is what a C program needs to check the same bytes, once for each end,
 # and `to C` the quotient of the two. `instr` is how many million instructions `rest` takes, as valgrind counts them, where
-# the machine has it.
+# the machine has it (`apt-get install valgrind`).
+#
+# Where Taylor UUCP is installed (`apt-get install uucp`), two `uucico`, joined by two pipes, send one file of 1 MiB in each
+# round too, with protocol g and the same packets and window (of 64 and 1,024 bytes): `whole` is then the time of both, `read` that of a session
+# with no job, and `rest` the difference.
 set -eu
 export LC_ALL=C
 rounds=${ROUNDS:-11}
@@ -20,6 +24,8 @@ bench=$(dirname "$(readlink -f "$0")")
 programs=("$bench/../crates/uucpair/out/uucpair" "$@")
 work=$(mktemp -d)
 trap 'rm -rf "$work"' EXIT
+# shellcheck source=uucico.bash
+source "$bench/uucico.bash"
 
 fail() {
     echo "play.sh: $*" >&2
@@ -70,7 +76,25 @@ round() {
     awk -v a="$whole" -v b="$read" 'BEGIN { print a - b }' >>"$work/rest$1"
 }
 
-# measure: plays the scripts that are made, with each program in turn.
+# uucico_time SIZE FILES: sends so many files once, and says how many seconds that took.
+uucico_time() {
+    rm -f "$work/uucico.times"
+    run_uucico "$1" "$2"
+    awk '{ print $2 + $3 }' "$work/uucico.times"
+}
+
+# uucico_round SIZE: a session with the file, and one with no job.
+uucico_round() {
+    local read whole
+    read=$(uucico_time "$1" 0)
+    whole=$(uucico_time "$1" 1)
+    echo "$whole" >>"$work/whole_uucico"
+    echo "$read" >>"$work/read_uucico"
+    awk -v a="$whole" -v b="$read" 'BEGIN { print a - b }' >>"$work/rest_uucico"
+}
+
+# measure SIZE IS_BESIDE: plays the scripts that are made, with each program in turn, and the two `uucico` where they are
+# beside them.
 measure() {
     local number i
     rm -f "$work"/whole* "$work"/read* "$work"/rest*
@@ -78,15 +102,18 @@ measure() {
         for number in "${!programs[@]}"; do
             round "$number"
         done
+        [ "$2" = no ] || uucico_round "$1"
     done
 }
 
-# row KIND BYTES WINDOW SIZE EVERY: prints a line for each program.
+# row KIND BYTES WINDOW SIZE EVERY: prints a line for each program, and one for the two `uucico` where they do the same.
 row() {
-    local number checked rest
+    local number checked rest beside=no
+    # With packets of 4,096 bytes and a window of seven `uucico` stores other bytes (docs/INTEROP.md).
+    [ -z "$uucico" ] || [ "$1 $2" != "clean $mb" ] || [ "$4" = 4096 ] || beside=yes
     "$work/make" "$2" 0 "$4" 0 >"$work/files_only"
     "$work/make" "$2" "$3" "$4" "$5" >"$work/text"
-    measure
+    measure "$4" $beside
     read -r checked _ < <("$work/check" "$4" <"$work/text")
     for number in "${!programs[@]}"; do
         rest=$(median <"$work/rest$number")
@@ -96,8 +123,15 @@ row() {
             "$(awk -v a="$rest" -v b="$checked" 'BEGIN { print (b > 0) ? a / b : 0 }')" \
             "$(count "${programs[$number]}")"
     done
+    [ $beside = yes ] || return 0
+    printf '%-6s %9d  %d x %-4d  %7s  %6.3f  %6.3f  %6.3f  %6.3f\n' "$1" "$2" "$3" "$4" uucico \
+        "$(median <"$work/whole_uucico")" "$(median <"$work/read_uucico")" "$(median <"$work/rest_uucico")" \
+        "$(sort -g "$work/rest_uucico" | head -n 1)"
 }
 
+# The user that `uucico` runs as reads what stands here.
+chmod a+rx "$work"
+head -c $mb /dev/urandom >"$work/file0"
 gcc -O2 -Wall -Wextra -o "$work/make" "$bench/script.c"
 gcc -O2 -Wall -Wextra -o "$work/check" "$bench/check.c"
 # The launcher builds the program where it is not there yet.
