@@ -6,6 +6,7 @@ use Rattle.uug_link.specs.declared.announce.Announce.{Announce}
 use Rattle.uug_link.specs.Entries.{EntryValue}
 use Rattle.uug_link.specs.InRange.{IsAnnouncement}
 use Rattle.uug_packet.specs.Decoded.{decoded}
+use Rattle.uug_packet.specs.Message.{message_if_data, message_in}
 use Rattle.uug_packet.specs.Packet.{PacketValue}
 use Rattle.uug_packet.specs.Spelling.{IsSpelling, canonical}
 use Rattle.uug_packet.specs.WellFormed.{IsWellFormed}
@@ -23,9 +24,12 @@ use Rattle.uug_session.specs.Talking.{talking_has_parted}
 use Rattle.uug_session.specs.Turns.{Side}
 use Rattle.uug_line.specs.LineEnd.{LineEnd}
 
--- what is written of a well-formed packet is read
+-- what is written of a well-formed packet is read, and so is its message alone
 abbrev pub ReadsWritten : Type 0
-ReadsWritten = (p : PacketValue) → IsWellFormed p → decoded (canonical p) ≡ Ok (p, length (canonical p))
+ReadsWritten = record {
+  packet : (p : PacketValue) → IsWellFormed p → decoded (canonical p) ≡ Ok (p, length (canonical p));
+  message : (p : PacketValue) → IsWellFormed p → message_in (canonical p) ≡ message_if_data p;
+}
 
 -- what an end emits can be written, and so it stays
 abbrev pub StaysInRange : Type 0
