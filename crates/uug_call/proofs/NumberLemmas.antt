@@ -1,5 +1,6 @@
 -- The number of an end at its line stands as its session does.
-use Rattle.std.proofs.Common.{◌≡◌, Ok, Err, Result, sym, subst, tt}
+use Rattle.std.proofs.Common.{◌≡◌, Ok, Err, Result, sym, subst}
+use Rattle.uug_session.specs.Engine.{EngineState}
 use Rattle.uug_session.specs.Node.{NodeState}
 use Rattle.uug_session.specs.NumberStanding.{KeepsNumber}
 use Rattle.uug_tool.specs.declared.fault.ToolFault.{ToolFault}
@@ -9,21 +10,21 @@ use Rattle.uug_pair.specs.declared.turn_fault.TurnFault.TheVariants as turn
 use Rattle.uug_call.specs.Calling.{UnlessMemory}
 use Rattle.uug_call.specs.Hearing.{UnlessRefused}
 
-pub same : (a b : NodeState) → b ≡ a → KeepsNumber a.engine b.engine
-same a b e = subst (λ (n : NodeState). KeepsNumber a.engine n.engine) (sym e) (record { stands = λ number h. h })
+pub same : {a b : NodeState} → b ≡ a → KeepsNumber a.engine b.engine
+same {a = a} e = subst (λ (n : NodeState). KeepsNumber a.engine n.engine) (sym e) (record { stands = λ number h. h })
 
-pub later : (a b c : NodeState) → KeepsNumber a.engine b.engine → KeepsNumber b.engine c.engine → KeepsNumber a.engine c.engine
-later a b c first second = record { stands = λ number h. second.stands number (first.stands number h) }
+pub later : {a b c : EngineState} → KeepsNumber a b → KeepsNumber b c → KeepsNumber a c
+later first second = record { stands = λ number h. second.stands number (first.stands number h) }
 
 pub unless_refused : {T : Type 0} (r : Result T TurnFault) (P : Type 0) → P → UnlessRefused r P
 unless_refused (Ok value) P p = p
 unless_refused (Err turn.Line) P p = p
 unless_refused (Err turn.Memory) P p = tt
 
-pub later_unless : {T : Type 0} (r : Result T TurnFault) (a b c : NodeState) → UnlessRefused r (KeepsNumber a.engine b.engine)
-    → KeepsNumber b.engine c.engine → UnlessRefused r (KeepsNumber a.engine c.engine)
-later_unless (Ok value) a b c first second = later a b c first second
-later_unless (Err turn.Line) a b c first second = later a b c first second
+pub later_unless : {T : Type 0} (r : Result T TurnFault) (a b c : EngineState) → UnlessRefused r (KeepsNumber a b) → KeepsNumber b c
+    → UnlessRefused r (KeepsNumber a c)
+later_unless (Ok value) a b c first second = later first second
+later_unless (Err turn.Line) a b c first second = later first second
 later_unless (Err turn.Memory) a b c first second = tt
 
 pub unless_memory : {T : Type 0} (r : Result T ToolFault) (P : Type 0) → P → UnlessMemory r P

@@ -1,5 +1,5 @@
 //! The number of an end's conversations as the text of a file.
-ghost use Rattle.std.specs.Prelude.{◌≡◌, MatchOption, Some};
+ghost use Rattle.std.specs.Prelude.{◌≡◌, ◌≤◌, MatchOption, Some};
 ghost use Rattle.uug_call.specs.NumberText.{begins_with, goes_on_with, number_in, number_line};
 
 use arrayvec::ArrayVec;
@@ -28,6 +28,13 @@ pub fn number_line(number: u32) -> ArrayVec<u8, NUMBER_LINE_MAX>
     // The number is read as the one given.
     ensures read_back { number_in result.items ≡ Some number }
 {
+    written_line(number)
+}
+
+fn written_line(number: u32) -> ArrayVec<u8, NUMBER_LINE_MAX>
+    ensures text { result.items ≡ number_line number }
+    ensures within { number ≤ NUMBER_MAX }
+{
     let mut line = ArrayVec::new();
     let Ok(()) = line.try_extend_from_slice(Buffer::new().format(number).as_bytes()) else {
         unreachable!();
@@ -39,7 +46,7 @@ pub fn number_line(number: u32) -> ArrayVec<u8, NUMBER_LINE_MAX>
 /// The number that an end keeps whose folder has this text of one, if it has any. Without a text it keeps none, but where it
 /// is told to: then it begins at 0.
 pub fn number_at_start(text: Option<&[u8]>, is_told: bool) -> Result<Option<u32>, ToolFault>
-    ensures { MatchOption text (result ≡ begins_with is_told)
+    ensures { MatchOption text.entry (result ≡ begins_with is_told)
         (λ text. result ≡ goes_on_with (number_in text.now)) }
 {
     match text {
