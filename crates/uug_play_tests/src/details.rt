@@ -157,7 +157,13 @@ fn in_pieces(bytes: &[u8], most: usize, reads: u32) -> SlowInput<'_> {
 fn lists_each_read_before_the_next(rt: HostRuntime) {
     for (reads, limit, fault, left, listing) in [
         (1, 100, ToolFault::Read, 0, "TEXT Sa AT 0 LENGTH 4\n"),
-        (100, 2, ToolFault::Device, 98, "TEXT Sa AT 0 LENGTH 4\n"),
+        (
+            100,
+            2,
+            ToolFault::Device,
+            98,
+            "TEXT Sa AT 0 LENGTH 4\nNOISE 6 AT 4 LENGTH 6\nINITA 3 AT 10 LENGTH 6\n",
+        ),
         (0, 100, ToolFault::Read, 0, ""),
     ] {
         let mut input = in_pieces(LINE, 8, reads);
