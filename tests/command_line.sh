@@ -208,6 +208,10 @@ verdict clean
 
 row "a scan of nothing" 0 "" "REST 0$line_feed" scan </dev/null
 row "a scan of a packet" 0 "" "INITA 3${line_feed}REST 0$line_feed" scan < <(packet)
+detailed="INITA 3 AT 0 LENGTH 6${line_feed}REST 0 AT 6 LENGTH 0$line_feed"
+row "a detailed scan of a packet" 0 "" "$detailed" scan -v < <(packet)
+row "a detailed scan of a text" 0 "" "TEXT Shere=b\\x0d AT 0 LENGTH 10${line_feed}REST 0 AT 10 LENGTH 0$line_feed" \
+    scan --verbose < <(printf '\020Shere=b\r\n')
 row "a play of idle ends" 0 "" "$idle_report" play < <(printf '%s' "$idle")
 row "a play of a silent line" 1 "" "$silent_report" play < <(printf '%s' "$silent")
 row "a play that fools an end" 5 "" "$fooled_report" play < <(printf '%s' "$fooled")
@@ -251,6 +255,7 @@ helps "help on call" "call    Calls another system"
 helps "help on answer" "answer  Waits for the call"
 row "help of scan" 2 "Reads bytes" "" scan --help </dev/null
 helps "a line of a listing" "  DATA N ACK N SIZE N VALID N"
+helps "a line of a detailed listing" "  CONTROL BAD checksum"
 helps "the statuses of scan" "Status: 0 done, 2 bad usage"
 helps "an example of scan" "printf '\\020\\011\\157\\252\\073\\367' | uucpair scan"
 row "help of play" 2 "Reads a script" "" play --help </dev/null
@@ -272,12 +277,14 @@ row "the version in short" 0 "" "uucpair 0.1.0$line_feed" -V </dev/null
 packet >"$work/packet"
 printf '%s' "$idle" >"$work/script"
 row "a scan of a file" 0 "" "INITA 3${line_feed}REST 0$line_feed" scan "$work/packet" <"$work"
+row "a detailed scan of a file" 0 "" "$detailed" scan -v "$work/packet" <"$work"
 row "a play of a file" 0 "" "$idle_report" play "$work/script" <"$work"
 row "a bad script in a file" 2 "uucpair: bad script at line 1$line_feed" "" play "$work/packet" </dev/null
 row "what is wrong with a bad script in a file" 2 "uucpair: bad script at line 1${line_feed}uucpair: unknown statement$line_feed" "" \
     play -v "$work/packet" </dev/null
 absent="uucpair: device fault${line_feed}uucpair: can't read $work/absent$line_feed"
 row "a scan of no file" 3 "$absent" "" scan "$work/absent" </dev/null
+row "a detailed scan of no file" 3 "$absent" "" scan -v "$work/absent" </dev/null
 row "a play of no file" 3 "$absent" "" play "$work/absent" </dev/null
 row "what is wrong with no file" 3 "$absent" "" play -v "$work/absent" </dev/null
 folder="uucpair: device fault${line_feed}uucpair: can't read $work$line_feed"
@@ -285,6 +292,7 @@ row "a scan of a folder by name" 3 "$folder" "" scan "$work" </dev/null
 row "a play of a folder by name" 3 "$folder" "" play "$work" </dev/null
 reading="uucpair: reading standard input, up to Ctrl-D$line_feed"
 by=at_a_terminal row "a scan at a terminal" 0 "$reading" "REST 0$line_feed" scan
+by=at_a_terminal row "a detailed scan at a terminal" 0 "$reading" "REST 0 AT 0 LENGTH 0$line_feed" scan -v
 by=at_a_terminal row "a play at a terminal" 2 "${reading}uucpair: bad script at line 1$line_feed" "" play
 by=at_a_terminal row "a scan of a file at a terminal" 0 "" "INITA 3${line_feed}REST 0$line_feed" scan "$work/packet"
 
@@ -383,8 +391,10 @@ fault="uucpair: device fault$line_feed"
 row "a scan of a folder" 3 "$fault" "" scan <"$work"
 row "a play of a folder" 3 "$fault" "" play <"$work"
 by=on_a_broken_line row "a scan whose input fails" 3 "$fault" "INITA 3$line_feed" scan < <(packet)
+by=on_a_broken_line row "a detailed scan whose input fails" 3 "$fault" "INITA 3 AT 0 LENGTH 6$line_feed" scan -v < <(packet)
 by=on_a_broken_line row "a play whose input fails" 3 "$fault" "" play < <(printf '%s' "$idle")
 by=to_a_full_disk row "a scan whose output fails" 3 "$fault" "" scan < <(packet)
+by=to_a_full_disk row "a detailed scan whose output fails" 3 "$fault" "" scan -v < <(packet)
 by=to_a_full_disk row "a play whose output fails" 3 "$fault" "" play < <(printf '%s' "$idle")
 by=with_little_memory row "a script that memory does not hold" 4 "uucpair: out of memory$line_feed" "" \
     play < <(head -c 67108864 /dev/zero)

@@ -20,6 +20,8 @@ pub enum Task<'a> {
     Version,
     /// The listing of a file, or of standard input, to standard output.
     Scan(Option<&'a str>),
+    /// The detailed listing of a file, or of standard input, to standard output.
+    ScanVerbose(Option<&'a str>),
     /// The report of the script in a file, or on standard input, to standard output.
     Play(Option<&'a str>),
     /// The same; and where the script is bad, it is said what is wrong.
@@ -79,7 +81,14 @@ fn scan_command<'a>(alloc: Global) -> Result<Command<'a>, AllocError> {
         .arg(file(
             alloc,
             "The file of the bytes; without it standard input is read",
-        ))
+        ))?
+        .arg(
+            Arg::new(alloc, "verbose")
+                .short('v')
+                .long("verbose")
+                .action(ArgAction::SetTrue)
+                .help("Says where each packet stands, and lists texts, noise and what is damaged"),
+        )
 }
 
 /// The tool that plays a script.
@@ -271,6 +280,9 @@ pub fn task_of<'a, S: AsStr>(alloc: Global, words: &'a [S]) -> Result<Task<'a>, 
         Some(("pair", matches)) => Ok(Task::Pair(pair_task(matches))),
         Some(("call", matches)) => Ok(Task::Call(end_task(Side::Caller, matches))),
         Some(("answer", matches)) => Ok(Task::Call(end_task(Side::Called, matches))),
+        Some((_, matches)) if matches.get_flag("verbose") => {
+            Ok(Task::ScanVerbose(matches.get_str("FILE")))
+        }
         Some((_, matches)) => Ok(Task::Scan(matches.get_str("FILE"))),
         None => Ok(Task::Scan(None)),
     }

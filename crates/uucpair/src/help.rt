@@ -13,6 +13,15 @@ pub const SCAN: &str = "A line for each packet, and a last one:
   BAD               a data packet with a wrong checksum or a bad length
   REST N            the end: the last N bytes may begin a packet
 
+With -v each line ends with AT N LENGTH N: where its bytes begin, counted from 0, and
+how many they are. BAD is followed by what is wrong, and there are more lines:
+  BAD checksum, BAD length
+                    the first byte of such a data packet
+  CONTROL BAD checksum
+                    the first byte of a control packet with a wrong checksum
+  TEXT WORDS        a handshake text; what can't be seen, and a backslash, as \\x0d
+  NOISE N           N bytes that are none of these
+
 Status: 0 done, 2 bad usage, 3 a device fault, 4 out of memory
 
 Example:

@@ -1,0 +1,5 @@
+pub mod DecodedLemmas
+pub mod ToldLemmas
+pub mod ScanLemmas
+pub mod LawLemmas
+pub mod StandardFacts

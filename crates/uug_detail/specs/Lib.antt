@@ -1,0 +1,3 @@
+pub mod Told
+pub mod Detailed
+pub mod Noise
