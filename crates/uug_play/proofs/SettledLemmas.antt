@@ -16,7 +16,7 @@ use Rattle.uug_script.specs.ReportText.{report_text}
 use Rattle.uug_tool.specs.Streams.{AppendsFront}
 use Rattle.uug_play.specs.declared.unsettled.Unsettled.{Unsettled}
 use Rattle.uug_play.specs.Numbers.{result_of, status_of_result}
-use Rattle.uug_play.specs.Settled.{BeginsSettled, GoesOn, GoesOnFrom, IsBehind, IsRunOfScript, IsSettled, RunsOutSettling}
+use Rattle.uug_play.specs.Settled.{BeginsSettled, GoesOnFrom, IsBehind, IsRunOfScript, IsSettled, RunsOutSettling}
 use Rattle.uug_play.specs.Unsettled.{Fails, IsQuietEnd, unsettled_line}
 use Rattle.uug_play.specs.Whole.{BringsAll}
 
