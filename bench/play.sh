@@ -11,7 +11,11 @@
 # `rest` is the difference of the two runs of a round: the run of both ends, and the report of the files. Of each the median
 # is printed, and of `rest` the least too. `check` is what a C program needs to check the same bytes, once for each end,
 # and `to C` the quotient of the two. `instr` is how many million instructions `rest` takes, as valgrind counts them, where
-# the machine has it.
+# the machine has it (`apt-get install valgrind`).
+#
+# Where Taylor UUCP is installed (`apt-get install uucp`), two `uucico`, joined by two pipes, send one file of 1 MiB in each
+# round too, with protocol g and the same packets and window (of 64 and 1,024 bytes): `whole` is then the time of both,
+# `read` that of a session with no job, and `rest` the difference.
 #
 # After these rows come two of `play --settle`, on a lossy line that loses all that is on it when about half of the MiB has
 # come: `whole` is what it takes with that option, `played` without it, and `settle` the difference of the two runs of a
@@ -25,6 +29,8 @@ bench=$(dirname "$(readlink -f "$0")")
 programs=("$bench/../crates/uucpair/out/uucpair" "$@")
 work=$(mktemp -d)
 trap 'rm -rf "$work"' EXIT
+# shellcheck source=uucico.bash
+source "$bench/uucico.bash"
 
 fail() {
     echo "play.sh: $*" >&2
@@ -107,7 +113,23 @@ has_settle() {
     "${programs[$1]}" play --help 2>&1 | grep -q -e '--settle'
 }
 
-# measure ROUND: makes rounds of this kind, with each program in turn.
+# uucico_time SIZE FILES: sends so many files once, and says how many seconds that took.
+uucico_time() {
+    rm -f "$work/uucico.times"
+    run_uucico "$1" "$2"
+    awk '{ print $2 + $3 }' "$work/uucico.times"
+}
+
+# uucico_round SIZE: a session with the file, and one with no job.
+uucico_round() {
+    local read whole
+    read=$(uucico_time "$1" 0)
+    whole=$(uucico_time "$1" 1)
+    note _uucico "$whole" "$read"
+}
+
+# measure ROUND [SIZE]: makes rounds of this kind, with each program in turn, and beside them, where a size is given, with
+# the two `uucico`.
 measure() {
     local number i
     rm -f "$work"/longer* "$work"/shorter* "$work"/rest*
@@ -115,15 +137,18 @@ measure() {
         for number in "${!programs[@]}"; do
             "$1" "$number"
         done
+        [ -z "${2:-}" ] || uucico_round "$2"
     done
 }
 
-# row KIND BYTES WINDOW SIZE EVERY: prints a line for each program.
+# row KIND BYTES WINDOW SIZE EVERY: prints a line for each program, and one for the two `uucico` where they do the same.
 row() {
-    local number checked rest
+    local number checked rest beside=
+    # With packets of 4,096 bytes and a window of seven `uucico` stores other bytes (docs/INTEROP.md).
+    [ -z "$uucico" ] || [ "$1 $2" != "clean $mb" ] || [ "$4" = 4096 ] || beside=$4
     "$work/make" "$2" 0 "$4" 0 >"$work/files_only"
     "$work/make" "$2" "$3" "$4" "$5" >"$work/text"
-    measure round
+    measure round $beside
     read -r checked _ < <("$work/check" "$4" <"$work/text")
     for number in "${!programs[@]}"; do
         rest=$(median <"$work/rest$number")
@@ -133,6 +158,10 @@ row() {
             "$(awk -v a="$rest" -v b="$checked" 'BEGIN { print (b > 0) ? a / b : 0 }')" \
             "$(count "${programs[$number]}")"
     done
+    [ -n "$beside" ] || return 0
+    printf '%-6s %9d  %d x %-4d  %7s  %6.3f  %6.3f  %6.3f  %6.3f\n' "$1" "$2" "$3" "$4" uucico \
+        "$(median <"$work/longer_uucico")" "$(median <"$work/shorter_uucico")" "$(median <"$work/rest_uucico")" \
+        "$(sort -g "$work/rest_uucico" | head -n 1)"
 }
 
 # cut_off: a script that ends when about half of the bytes have come, with all lost that is on the line. Behind the lines
@@ -160,6 +189,9 @@ settle_row() {
     done
 }
 
+# The user that `uucico` runs as reads what stands here.
+chmod a+rx "$work"
+head -c $mb /dev/urandom >"$work/file0"
 gcc -O2 -Wall -Wextra -o "$work/make" "$bench/script.c"
 gcc -O2 -Wall -Wextra -o "$work/check" "$bench/check.c"
 # The launcher builds the program where it is not there yet.
