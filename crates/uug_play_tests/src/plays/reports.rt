@@ -191,7 +191,7 @@ fn writes_nothing_of_a_bad_script(rt: HostRuntime) -> Result<(), Fail> {
     for (lines, jobs, bad) in [
         ("", 0, 1),
         ("caller a 2 32\ncalled b 8 32\n", 0, 2),
-        ("caller a 2 32\ncalled b 2 32\n", 65, 67),
+        ("caller a 2 32\ncalled b 2 32\n", 1_025, 1_027),
     ] {
         let mut script = String::from_str(rt.alloc(), lines)?;
         with_jobs(&mut script, jobs)?;
