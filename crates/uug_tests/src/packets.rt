@@ -54,7 +54,7 @@ fn writes_and_reads_packets(rt: HostRuntime) {
     assert_eq!(rt; &out[..7], front.as_slice());
     assert_eq!(rt; message_start(&out), 7);
     assert_eq!(rt; message_in(&out), Some([].as_slice()));
-    assert!(rt; is_written(&packet, &out));
+    assert!(rt; is_written(&packet, out.as_slice()));
     assert_eq!(rt; decode(&out), Ok((packet, 38)));
     let init = [0x10, 0x09, 0x6f, 0xaa, 0x3b, 0xf7];
     assert_eq!(rt; control_packet(Control::InitA(number(3))), init);
