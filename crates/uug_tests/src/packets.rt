@@ -6,7 +6,7 @@ use std::process::Abort;
 use uug_packet::{
     NoPacket, Packet, Seq, check, decode, encode, field_code, field_size, message_start, re_ack,
 };
-use uug_refusal::{assert_same};
+use uug_refusal::assert_same;
 
 /// The number of a packet: all that are written here are below eight.
 pub fn number(value: u8) -> Seq {

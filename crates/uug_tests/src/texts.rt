@@ -37,7 +37,11 @@ fn what_is_read_is_written(rt: HostRuntime) -> Result<(), Fail> {
 fn a_caller_writes_its_number_and_a_called_end_reads_it(rt: HostRuntime) -> Result<(), Fail> {
     let name = Name::new(b"a")?;
     assert_same(&rt, write_call(&name, None).as_slice(), b"Sa".as_slice());
-    assert_same(&rt, write_call(&name, Some(7)).as_slice(), b"Sa -Q7".as_slice());
+    assert_same(
+        &rt,
+        write_call(&name, Some(7)).as_slice(),
+        b"Sa -Q7".as_slice(),
+    );
     assert_same(&rt, caller_number(b"Sa -p -Q7 -Q8"), Some(7));
     assert_same(&rt, read_number(b"007", 6), None);
     Ok(())
