@@ -44,9 +44,13 @@ struct Manner {
 struct Nobody;
 
 impl Watcher for Nobody {
-    fn writes(&mut self, _count: usize) {}
+    fn writes(&mut self, _piece: &[u8]) {}
 
-    fn heard(&mut self, _heard: Heard, _standing: Standing) {}
+    fn heard(&mut self, _heard: Heard, _piece: &[u8]) {}
+
+    fn stands(&mut self, _standing: Standing) {}
+
+    fn is_over(&mut self, _standing: Standing) {}
 }
 
 fn name(text: &[u8]) -> Result<Name, Fail> {
