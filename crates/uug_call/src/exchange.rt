@@ -56,9 +56,9 @@ impl Exchange {
 
     /// One of the ends has said this.
     fn begin(&mut self, way: Way, order: &Order) -> Option<News> {
-        let job = Transfer::of(way, order)?;
-        self.job = Some(job);
+        self.job = Transfer::of(way, order);
         self.bytes = 0;
+        let job = self.job?;
         Some(News::Begins(job))
     }
 

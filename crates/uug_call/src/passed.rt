@@ -40,10 +40,10 @@ impl Passed {
 
     /// This has passed. The message of the next data packet is given.
     pub(crate) fn take<'a>(&mut self, found: Found<'a>) -> Option<&'a [u8]>
-        ensures counts { self.new.counts ≡ counted self.old.next self.old.counts (item_of found) }
-        ensures next { self.new.next ≡ next_behind self.old.next (item_of found) }
-        ensures message { MatchOption result (next_message self.old.next (item_of found) ≡ None)
-            (λ message. next_message self.old.next (item_of found) ≡ Some message.now) }
+        ensures counts { self.new.counts ≡ counted self.old.next self.old.counts (item_of found.entry) }
+        ensures next { self.new.next ≡ next_behind self.old.next (item_of found.entry) }
+        ensures message { MatchOption result (next_message self.old.next (item_of found.entry) ≡ None)
+            (λ message. next_message self.old.next (item_of found.entry) ≡ Some message.now) }
     {
         match found {
             Found::Bad => {

@@ -80,8 +80,10 @@ impl<R: Eprint + Clock, A: Allocator + Copy> Watcher for SystemWatcher<'_, R, A>
             return;
         };
         self.voice.say_standing(standing);
-        self.voice.say_counts("wrote", self.written, observer.counts(Way::Out));
-        self.voice.say_counts("read", self.read, observer.counts(Way::In));
+        self.voice
+            .say_counts("wrote", self.written, observer.counts(Way::Out));
+        self.voice
+            .say_counts("read", self.read, observer.counts(Way::In));
         self.voice.say_silences(self.silences);
     }
 }

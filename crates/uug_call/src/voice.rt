@@ -108,7 +108,9 @@ impl<'a, R: Eprint + Clock> Voice<'a, R> {
         if is_due {
             let (whose, wish) = (whose(job), wish_word(job));
             let source = job.source.as_str();
-            let _ = eprint!(self.rt; "{WIPE}uucpair: {seconds} s: {whose}{wish} {source}: {bytes} bytes");
+            let _ = eprint!(self.rt;
+                "{WIPE}uucpair: {seconds} s: {whose}{wish} {source}: {bytes} bytes"
+            );
             self.shown = Some(seconds);
         }
     }
