@@ -15,9 +15,10 @@ rounds=${1:-5}
 mb=$((1 << 20))
 bench=$(dirname "$(readlink -f "$0")")
 uucpair=$bench/../uucpair
-uucico=$(PATH=$PATH:/usr/sbin:/usr/lib/uucp command -v uucico || true)
 work=$(mktemp -d)
 trap 'rm -rf "$work"' EXIT
+# shellcheck source=uucico.bash
+source "$bench/uucico.bash"
 
 fail() {
     echo "pair.sh: $*" >&2
@@ -35,14 +36,6 @@ new_folders() {
     done >"$work/a/jobs"
 }
 
-# check_files FILES FOLDER: all are there, as they are.
-check_files() {
-    local i
-    for ((i = 0; i < $1; i++)); do
-        cmp "$work/file$i" "$2/file$i" || fail "file$i is another"
-    done
-}
-
 # run_pair FILES OPTION..: one run, timed.
 run_pair() {
     local files=$1 TIMEFORMAT='%R %U %S'
@@ -52,58 +45,6 @@ run_pair() {
         fail "uucpair failed: $(cat "$work/errors" "$work/report")"
     check_files "$files" "$work/b/got"
     [ ! -s "$work/a/jobs" ] || fail "jobs are left"
-}
-
-# uucico_end ME OTHER: the files of one end of Taylor UUCP. It runs as a user of its own, so all may write there.
-uucico_end() {
-    local here=$work/uucp/$1
-    mkdir -p "$here"/{spool,public}
-    {
-        echo "nodename $1"
-        echo "spool $here/spool"
-        echo "lockdir $here"
-        echo "pubdir $here/public"
-        echo "logfile $here/log"
-        echo "statfile $here/stats"
-        echo "debugfile $here/debug"
-        echo "sysfile $here/sys"
-        echo "portfile $here/port"
-    } >"$here/config"
-    {
-        echo "system $2"
-        echo "time any"
-        echo "port line"
-        echo 'chat ""'
-        echo "protocol g"
-        echo "protocol-parameter g window 7"
-        echo "protocol-parameter g packet-size 64"
-        echo "local-send /"
-        echo "remote-receive /"
-    } >"$here/sys"
-    printf 'port line\ntype stdin\n' >"$here/port"
-}
-
-# run_uucico FILES: one run, timed, of what was queued before.
-run_uucico() {
-    local i there=$work/uucp/there back=$work/uucp/back TIMEFORMAT='%R %U %S'
-    rm -rf "$work/uucp"
-    mkdir -p "$work/uucp"
-    uucico_end a b
-    uucico_end b a
-    mkfifo "$there" "$back"
-    chmod -R a+rwX "$work/uucp"
-    for ((i = 0; i < $1; i++)); do
-        uucp -I "$work/uucp/a/config" -r -C "$work/file$i" "b!$work/uucp/b/public/" || fail "uucp failed"
-    done
-    {
-        time {
-            "$uucico" -q -D -I "$work/uucp/b/config" <"$there" >"$back" 2>"$work/uucp/errors" &
-            "$uucico" -q -D -I "$work/uucp/a/config" -S b >"$there" <"$back" 2>>"$work/uucp/errors" || true
-            wait
-        }
-    } 2>>"$work/uucico.times"
-    grep -q 'packet/window 64/7' "$work/uucp/a/log" || fail "other packets: $(cat "$work/uucp/a/log")"
-    check_files "$1" "$work/uucp/b/public"
 }
 
 # median COLUMNS FILE: that of the sums, and in brackets the least and the greatest.
@@ -119,7 +60,7 @@ row() {
     rm -f "$work"/*.times
     for ((i = 0; i < rounds; i++)); do
         run_pair "$files" "$@"
-        [ "$is_beside" = no ] || run_uucico "$files"
+        [ "$is_beside" = no ] || run_uucico 64 "$files"
     done
     if [ "$is_beside" = yes ]; then
         theirs_cpu=$(median cpu "$work/uucico.times")

@@ -3,7 +3,8 @@
 # over TCP, and over a pair of pseudo-terminals, which Debian's package socat makes (apt-get install socat). Run by hand:
 #     interop/pair.sh [PROGRAM]
 # PROGRAM is crates/uucpair/out/uucpair where none is named. SIZES has the sizes of the files, and TERMS_LIST the packet
-# sizes and windows, as 64:7, that are tried. Its last line is the number of lines over which all went well.
+# sizes and windows, as 64:7, that are tried. Then both ends keep a number of their conversations, and a stranger calls. Its
+# last line is the number of lines and calls at which all went well.
 set -u
 root=$(cd "$(dirname "$0")/.." && pwd)
 . "$root/interop/common.sh"
@@ -61,6 +62,26 @@ run() {
         same_files "$work/a" "$work/b" && same_files "$work/b" "$work/a" && good=$((good + 1))
 }
 
+# meet DIR STATUS NUMBERS [OPTION]: the end over DIR calls the one over b, both with this option and ending with this
+# status; the files number of a and b then have these
+meet() {
+    local dir=$1 status=$2 numbers=$3 answerer called answered kept
+    shift 3
+    "$program" answer "unix:$work/line" "$work/b" --me b --peer a --timeout 5 "$@" >"$work/b.out" 2>"$work/b.err" &
+    answerer=$!
+    started+=("$answerer")
+    wait_for "$work/line"
+    "$program" call "unix:$work/line" "$dir" --me a --peer b --timeout 5 "$@" >"$work/a.out" 2>"$work/a.err"
+    called=$?
+    wait "$answerer"
+    answered=$?
+    kept="$(cat "$work/a/number") $(cat "$work/b/number")"
+    echo "numbers $kept: call $called, answer $answered; $(head -1 "$work/a.out"); $(head -1 "$work/b.out")"
+    cat "$work/a.err" "$work/b.err"
+    all=$((all + 1))
+    [ "$called" = "$status" ] && [ "$answered" = "$status" ] && [ "$kept" = "$numbers" ] && good=$((good + 1))
+}
+
 good=0
 all=0
 for pair in $terms; do
@@ -75,5 +96,12 @@ for pair in $terms; do
     run "pseudo-terminals" "$work/tty_b" "$work/tty_a" "$1" "$2"
     all=$((all + 3))
 done
-echo "$good of $all lines"
+rm -rf "$work/a" "$work/b"
+mkdir -p "$work/a/got" "$work/b/got" "$work/stranger/got"
+meet "$work/a" 0 "1 1" --number
+meet "$work/a" 0 "2 2"
+# it knows the names, and keeps no number
+meet "$work/stranger" 1 "2 2"
+meet "$work/a" 0 "3 3"
+echo "$good of $all lines and calls"
 [ "$good" = "$all" ]

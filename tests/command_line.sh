@@ -163,11 +163,55 @@ called pending 0 struck 0 failed 0
 verdict fooled 14 called
 '
 
+# The packet that offers a file is lost, and nothing after it.
+lost='caller a 2 32
+called b 2 32
+file caller x 0644 -
+send caller x y u
+flow 5
+drop called 1000
+'
+lost_report='session 1
+caller sent 1 taken 0 most 1 talking
+called sent 0 taken 0 most 0 talking
+caller pending 1 struck 0 failed 0
+called pending 0 struck 0 failed 0
+verdict clean
+session 1
+caller sent 4 taken 3 most 1 done
+called sent 3 taken 4 most 1 done
+caller pending 0 struck 1 failed 0
+called pending 0 struck 0 failed 0
+called stored y 0644 -
+verdict clean
+'
+
+# The called end keeps a number, and the caller tells another one.
+misnumbered='caller a 2 32
+called b 2 32
+number caller 7
+number called 9
+flow 20
+'
+misnumbered_report='session 1
+caller sent 0 taken 0 most 0 badsequence
+called sent 0 taken 0 most 0 badsequence
+caller pending 0 struck 0 failed 0
+called pending 0 struck 0 failed 0
+caller number 7
+called number 9
+verdict clean
+'
+
 # Builds the program.
 "$root/uucpair" scan </dev/null >/dev/null
 
 row "a scan of nothing" 0 "" "REST 0$line_feed" scan </dev/null
 row "a scan of a packet" 0 "" "INITA 3${line_feed}REST 0$line_feed" scan < <(packet)
+detailed="INITA 3 AT 0 LENGTH 6${line_feed}REST 0 AT 6 LENGTH 0$line_feed"
+row "a detailed scan of a packet" 0 "" "$detailed" scan -v < <(packet)
+row "a detailed scan of a text" 0 "" "TEXT Shere=b\\x0d AT 0 LENGTH 10${line_feed}REST 0 AT 10 LENGTH 0$line_feed" \
+    scan --verbose < <(printf '\020Shere=b\r\n')
 row "a play of idle ends" 0 "" "$idle_report" play < <(printf '%s' "$idle")
 row "a play of a silent line" 1 "" "$silent_report" play < <(printf '%s' "$silent")
 row "a play that fools an end" 5 "" "$fooled_report" play < <(printf '%s' "$fooled")
@@ -177,6 +221,15 @@ row "what is wrong with a bad script" 2 "uucpair: bad script at line 2${line_fee
 row "what is wrong with a window" 2 "uucpair: bad script at line 1${line_feed}uucpair: window 8 is not 1 to 7$line_feed" "" \
     play --verbose < <(printf 'caller a 8 32\n')
 row "nothing wrong with a script" 0 "" "$idle_report" play -v < <(printf '%s' "$idle")
+row "a play whose caller tells another number" 1 "" "$misnumbered_report" play < <(printf '%s' "$misnumbered")
+row "a number that is too great" 2 "uucpair: bad script at line 1${line_feed}uucpair: number 4294967296 is not 0 to 4294967295$line_feed" "" \
+    play -v < <(printf 'number caller 4294967296\n')
+row "a play that settles" 0 "" "$lost_report" play --settle < <(printf '%s' "$lost")
+row "a play of what is done" 0 "" "${idle_report}not settled: caller is not talking$line_feed" play --settle < <(printf '%s' "$idle")
+row "a play that fools an end, and does not settle" 5 "" "${fooled_report}not settled: the line fooled an end$line_feed" \
+    play --settle < <(printf '%s' "$fooled")
+row "a bad script that does not settle" 2 "uucpair: bad script at line 2$line_feed" "" play --settle < <(printf '\ncall me\n')
+row "two options that exclude each other" 2 "error: " "" play --settle -v </dev/null
 
 row "no tool" 2 "error: " "" </dev/null
 row "an unknown tool" 2 "error: " "" copy s a b </dev/null
@@ -202,6 +255,7 @@ helps "help on call" "call    Calls another system"
 helps "help on answer" "answer  Waits for the call"
 row "help of scan" 2 "Reads bytes" "" scan --help </dev/null
 helps "a line of a listing" "  DATA N ACK N SIZE N VALID N"
+helps "a line of a detailed listing" "  CONTROL BAD checksum"
 helps "the statuses of scan" "Status: 0 done, 2 bad usage"
 helps "an example of scan" "printf '\\020\\011\\157\\252\\073\\367' | uucpair scan"
 row "help of play" 2 "Reads a script" "" play --help </dev/null
@@ -223,12 +277,14 @@ row "the version in short" 0 "" "uucpair 0.1.0$line_feed" -V </dev/null
 packet >"$work/packet"
 printf '%s' "$idle" >"$work/script"
 row "a scan of a file" 0 "" "INITA 3${line_feed}REST 0$line_feed" scan "$work/packet" <"$work"
+row "a detailed scan of a file" 0 "" "$detailed" scan -v "$work/packet" <"$work"
 row "a play of a file" 0 "" "$idle_report" play "$work/script" <"$work"
 row "a bad script in a file" 2 "uucpair: bad script at line 1$line_feed" "" play "$work/packet" </dev/null
 row "what is wrong with a bad script in a file" 2 "uucpair: bad script at line 1${line_feed}uucpair: unknown statement$line_feed" "" \
     play -v "$work/packet" </dev/null
 absent="uucpair: device fault${line_feed}uucpair: can't read $work/absent$line_feed"
 row "a scan of no file" 3 "$absent" "" scan "$work/absent" </dev/null
+row "a detailed scan of no file" 3 "$absent" "" scan -v "$work/absent" </dev/null
 row "a play of no file" 3 "$absent" "" play "$work/absent" </dev/null
 row "what is wrong with no file" 3 "$absent" "" play -v "$work/absent" </dev/null
 folder="uucpair: device fault${line_feed}uucpair: can't read $work$line_feed"
@@ -236,6 +292,7 @@ row "a scan of a folder by name" 3 "$folder" "" scan "$work" </dev/null
 row "a play of a folder by name" 3 "$folder" "" play "$work" </dev/null
 reading="uucpair: reading standard input, up to Ctrl-D$line_feed"
 by=at_a_terminal row "a scan at a terminal" 0 "$reading" "REST 0$line_feed" scan
+by=at_a_terminal row "a detailed scan at a terminal" 0 "$reading" "REST 0 AT 0 LENGTH 0$line_feed" scan -v
 by=at_a_terminal row "a play at a terminal" 2 "${reading}uucpair: bad script at line 1$line_feed" "" play
 by=at_a_terminal row "a scan of a file at a terminal" 0 "" "INITA 3${line_feed}REST 0$line_feed" scan "$work/packet"
 
@@ -271,9 +328,9 @@ touch "$socket"
 row "a pair whose socket has no place" 3 "uucpair: device fault$line_feed" "" pair "$socket" "$a" "$b" </dev/null
 holds "the job that was not begun" "$a/jobs" "send x y u$line_feed"
 
-# answer_in_the_background: waits until the socket is there.
+# answer_in_the_background [OPTION]: waits until the socket is there.
 answer_in_the_background() {
-    "$program" answer "unix:$socket" "$b" --me b --peer a >"$work/answered" 2>&1 </dev/null &
+    "$program" answer "unix:$socket" "$b" --me b --peer a "$@" >"$work/answered" 2>&1 </dev/null &
     answerer=$!
     for _ in 1 2 3 4 5 6 7 8 9 10; do
         [ ! -e "$socket" ] || break
@@ -300,6 +357,31 @@ row "a call of a stranger" 1 "" "caller refused pending 0 struck 0 failed 0$line
     call "unix:$socket" "$a" --me c --peer b </dev/null
 wait "$answerer" || true
 folders "send x y u"
+answer_in_the_background --number
+row "a call that begins to keep a number" 0 "" "caller done pending 0 struck 1 failed 0$line_feed" \
+    call "unix:$socket" "$a" --me a --peer b --number </dev/null
+wait "$answerer" || true
+holds "the caller's next number" "$a/number" "1$line_feed"
+holds "the called end's next number" "$b/number" "1$line_feed"
+answer_in_the_background
+row "a call with the number that is kept" 0 "" "caller done pending 0 struck 0 failed 0$line_feed" \
+    call "unix:$socket" "$a" --me a --peer b </dev/null
+wait "$answerer" || true
+holds "the caller's number after it" "$a/number" "2$line_feed"
+rm "$a/number"
+answer_in_the_background
+row "a call of a stranger who knows the names" 1 "" "caller badsequence pending 0 struck 0 failed 0$line_feed" \
+    call "unix:$socket" "$a" --me a --peer b </dev/null
+wait "$answerer" || true
+holds "what the end says that a stranger called" "$work/answered" "called badsequence pending 0 struck 0 failed 0$line_feed"
+holds "the called end's number after a stranger" "$b/number" "2$line_feed"
+folders "send x y u"
+printf 'seven\n' >"$a/number"
+row "a call with a bad number file" 2 "uucpair: bad number file$line_feed" "" \
+    call "unix:$socket" "$a" --me a --peer b --number </dev/null
+holds "the bad number" "$a/number" "seven$line_feed"
+holds "the job that is left behind a bad number" "$a/jobs" "send x y u$line_feed"
+folders "send x y u"
 row "a call where nobody listens" 3 "uucpair: device fault$line_feed" "" \
     call "unix:$socket" "$a" --me a --peer b </dev/null
 row "a call over what is no device" 3 "uucpair: device fault$line_feed" "" call "$a/jobs" "$a" --me a --peer b </dev/null
@@ -309,8 +391,10 @@ fault="uucpair: device fault$line_feed"
 row "a scan of a folder" 3 "$fault" "" scan <"$work"
 row "a play of a folder" 3 "$fault" "" play <"$work"
 by=on_a_broken_line row "a scan whose input fails" 3 "$fault" "INITA 3$line_feed" scan < <(packet)
+by=on_a_broken_line row "a detailed scan whose input fails" 3 "$fault" "INITA 3 AT 0 LENGTH 6$line_feed" scan -v < <(packet)
 by=on_a_broken_line row "a play whose input fails" 3 "$fault" "" play < <(printf '%s' "$idle")
 by=to_a_full_disk row "a scan whose output fails" 3 "$fault" "" scan < <(packet)
+by=to_a_full_disk row "a detailed scan whose output fails" 3 "$fault" "" scan -v < <(packet)
 by=to_a_full_disk row "a play whose output fails" 3 "$fault" "" play < <(printf '%s' "$idle")
 by=with_little_memory row "a script that memory does not hold" 4 "uucpair: out of memory$line_feed" "" \
     play < <(head -c 67108864 /dev/zero)

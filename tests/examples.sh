@@ -1,10 +1,12 @@
 #!/usr/bin/env bash
-# Plays each script in `examples` and compares the report, to the last byte, and the status with what is expected.
+# Plays each script in `examples` and lists each stream in detail, and compares the report or the listing, to the last byte,
+# and the status with what is expected.
 #
 #     tests/examples.sh [PROGRAM]
 #
-# PROGRAM is run as `PROGRAM play`; without it `uucpair` is, which is proved and built first where that is needed. Says how
-# many examples passed, and ends with status 1 where one did not, or where a script has no report or a report no script.
+# PROGRAM is run as `PROGRAM play` and `PROGRAM scan -v`; without it `uucpair` is, which is proved and built first where that
+# is needed. Says how many examples passed, and ends with status 1 where one did not, or where a script has no report, a
+# report no script, a stream no listing or a listing no stream.
 set -eu
 export LC_ALL=C
 root=$(dirname "$(dirname "$(readlink -f "$0")")")
@@ -35,19 +37,38 @@ check() {
     [ "$status" -eq "$expected" ] || echo "status $status, not $expected: $(cat "$work/said")"
 }
 
+# check_stream NAME: lists the stream of this name, and says what is wrong with its listing, or with the plain one.
+check_stream() {
+    local stream=$root/examples/$1.bytes listing=$root/examples/$1.listing status=0
+    [ -f "$stream" ] && [ -f "$listing" ] || { echo "a stream or a listing is missing"; return; }
+    "$program" scan -v <"$stream" >"$work/printed" 2>"$work/said" || status=$?
+    cmp -s "$listing" "$work/printed" || diff "$listing" "$work/printed" || true
+    [ "$status" -eq 0 ] || echo "status $status, not 0: $(cat "$work/said")"
+    "$program" scan <"$stream" >"$work/plain"
+    sed -E '/^(TEXT|NOISE|CONTROL) /d; s/ AT [0-9]+ LENGTH [0-9]+$//; s/^BAD .*/BAD/' "$listing" |
+        diff - "$work/plain" || true
+}
+
+# count NAME FAULT: counts the example, which passed where the fault is empty.
+count() {
+    if [ -z "$2" ]; then
+        passed=$((passed + 1))
+    else
+        failed=$((failed + 1))
+        printf '%s: %s\n' "$1" "$2" >&2
+    fi
+}
+
 if [ -z "$program" ]; then
     # builds it where that is needed
     "$root/uucpair" scan </dev/null >/dev/null
     program=$root/uucpair
 fi
 for name in $(ls "$root/examples" | sed -n 's/\.\(script\|report\)$//p' | sort -u); do
-    fault=$(check "$name")
-    if [ -z "$fault" ]; then
-        passed=$((passed + 1))
-    else
-        failed=$((failed + 1))
-        printf '%s: %s\n' "$name" "$fault" >&2
-    fi
+    count "$name" "$(check "$name")"
+done
+for name in $(ls "$root/examples" | sed -n 's/\.\(bytes\|listing\)$//p' | sort -u); do
+    count "$name" "$(check_stream "$name")"
 done
 
 echo "$passed passed, $failed failed"

@@ -6,10 +6,12 @@ use Rattle.uug_tool.specs.Scan.{AppendsListing, IsScanFault}
 use Rattle.uug_tool.specs.Streams.{Appends, ReadsAll}
 use Rattle.uug_tool.specs.declared.fault.ToolFault.{ToolFault}
 use Rattle.uug_tool.specs.declared.fault.ToolFault.TheVariants as faults
+use Rattle.uug_detail.specs.Detailed.{AppendsDetailed}
 use Rattle.uug_play.specs.Played.{AppendsReport, BeforeReport, IsFirstBad, IsPlayFault, OnceRead}
+use Rattle.uug_play.specs.Settled.{AppendsSettled}
 use Rattle.uug_remark.specs.Remarks.{remark_text, wrong_at}
 use Rattle.uucpair.specs.declared.command_line.Task.{Task}
-use Rattle.uucpair.specs.declared.command_line.Task.TheVariants.{Version, Scan, Play, PlayVerbose, Pair, Call}
+use Rattle.uucpair.specs.declared.command_line.Task.TheVariants.{Version, Scan, ScanVerbose, Play, PlayVerbose, PlaySettled, Pair, Call}
 use Rattle.uucpair.specs.declared.stop.Stop.{Stop}
 use Rattle.uucpair.specs.declared.stop.Stop.TheVariants.{Fault, Remarked, File, CommandLine}
 use Rattle.uucpair.specs.Stop.{EndsSo}
@@ -45,6 +47,12 @@ pub record Scans (s : Streams) (answer : Result ℕ ToolFault) : Type 0 where
   pub reads : OnOk answer (ReadsAll s.to_come s.left)
   pub writes : OnOk answer (IfSome s.to_come (λ bytes. AppendsListing bytes s.before s.after))
 
+-- `scan -v`: the same with the detailed listing
+pub record ScansVerbose (s : Streams) (answer : Result ℕ ToolFault) : Type 0 where
+  pub status : IfOk answer (λ status. status ≡ 0)
+  pub reads : OnOk answer (ReadsAll s.to_come s.left)
+  pub writes : OnOk answer (IfSome s.to_come (λ bytes. AppendsDetailed bytes s.before s.after))
+
 -- `play`: the whole input was read as a script, and the report written that gives the status; nothing was written of a
 -- bad script
 pub record Plays (s : Streams) (answer : Result ℕ ToolFault) : Type 0 where
@@ -59,7 +67,7 @@ pub record Pairs (s : Streams) (answer : Result ℕ ToolFault) : Type 0 where
   pub status : IfOk answer (λ status. status ≤ 1)
   pub reads : StaysUnread s
 
--- `scan` of a file, whose bytes no proof knows
+-- `scan` of a file, with -v or not, whose bytes no proof knows
 pub record ScansFile (s : Streams) (answer : Result ℕ ToolFault) : Type 0 where
   pub unread : StaysUnread s
   pub status : IfOk answer (λ status. status ≡ 0)
@@ -76,14 +84,26 @@ pub record PlaysRemarked (s : Streams) (remark : List ℕ) (answer : Result ℕ 
   pub plays : Plays s answer
   pub remarks : (line : ℕ) → answer ≡ Err (faults.Script line) → IfSome s.to_come (λ script. remark ≡ remark_text (wrong_at line script))
 
+-- `play --settle`: the same, and what the run settles to was written too, or which condition of that fails
+pub record PlaysSettled (s : Streams) (answer : Result ℕ ToolFault) : Type 0 where
+  pub reads : OnceRead answer (ReadsAll s.to_come s.left)
+  pub writes : IfOk answer (λ status. IfSome s.to_come
+      (λ script. AppendsSettled script status s.before s.after))
+  pub bad : (line : ℕ) → answer ≡ Err (faults.Script line) → IfSome s.to_come (λ script. IsFirstBad script line)
+  pub nothing_written : BeforeReport answer (StaysUnwritten s)
+
 abbrev pub Does : Task → Streams → (remark : List ℕ) → Result ℕ ToolFault → Type 0
 Does Version s remark answer = ShowsVersion s answer
 Does (Scan None) s remark answer = Scans s answer
 Does (Scan (Some path)) s remark answer = ScansFile s answer
+Does (ScanVerbose None) s remark answer = ScansVerbose s answer
+Does (ScanVerbose (Some path)) s remark answer = ScansFile s answer
 Does (Play None) s remark answer = Plays s answer
 Does (Play (Some path)) s remark answer = PlaysFile s answer
 Does (PlayVerbose None) s remark answer = PlaysRemarked s remark answer
 Does (PlayVerbose (Some path)) s remark answer = PlaysFile s answer
+Does (PlaySettled None) s remark answer = PlaysSettled s answer
+Does (PlaySettled (Some path)) s remark answer = PlaysFile s answer
 Does (Pair pair) s remark answer = Pairs s answer
 Does (Call call) s remark answer = Pairs s answer
 

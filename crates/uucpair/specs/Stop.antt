@@ -4,7 +4,7 @@ use Rattle.uug_tool.specs.Fault.{status_of}
 use Rattle.uug_tool.specs.declared.fault.ToolFault.{ToolFault}
 use Rattle.uug_tool.specs.declared.fault.ToolFault.TheVariants.{Memory, Read, Script, Usage}
 use Rattle.uucpair.specs.declared.command_line.Task.{Task}
-use Rattle.uucpair.specs.declared.command_line.Task.TheVariants.{Scan, Play, PlayVerbose}
+use Rattle.uucpair.specs.declared.command_line.Task.TheVariants.{Scan, ScanVerbose, Play, PlayVerbose, PlaySettled}
 use Rattle.uucpair.specs.declared.stop.Stop.{Stop}
 use Rattle.uucpair.specs.declared.stop.Stop.TheVariants.{Fault, Remarked, File, CommandLine}
 
@@ -47,7 +47,9 @@ StopsOnScriptFile path fault remark stop = StopsOnScript fault remark stop
 
 abbrev pub StopsAs : Task → ToolFault → (remark : List ℕ) → Stop → Type 0
 StopsAs (Scan (Some path)) fault remark stop = StopsOnFile path.now fault stop
+StopsAs (ScanVerbose (Some path)) fault remark stop = StopsOnFile path.now fault stop
 StopsAs (Play (Some path)) fault remark stop = StopsOnFile path.now fault stop
+StopsAs (PlaySettled (Some path)) fault remark stop = StopsOnFile path.now fault stop
 StopsAs (PlayVerbose None) fault remark stop = StopsOnScript fault remark stop
 StopsAs (PlayVerbose (Some path)) fault remark stop = StopsOnScriptFile path.now fault remark stop
 StopsAs task fault remark stop = stop ≡ Fault fault

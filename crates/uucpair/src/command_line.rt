@@ -20,10 +20,14 @@ pub enum Task<'a> {
     Version,
     /// The listing of a file, or of standard input, to standard output.
     Scan(Option<&'a str>),
+    /// The detailed listing of a file, or of standard input, to standard output.
+    ScanVerbose(Option<&'a str>),
     /// The report of the script in a file, or on standard input, to standard output.
     Play(Option<&'a str>),
     /// The same; and where the script is bad, it is said what is wrong.
     PlayVerbose(Option<&'a str>),
+    /// The report of the script, and what the run settles to or why it doesn't.
+    PlaySettled(Option<&'a str>),
     /// Two ends over two folders, and a socket between them.
     Pair(PairTask<'a>),
     /// One end over a folder, and the line to the other one.
@@ -77,7 +81,14 @@ fn scan_command<'a>(alloc: Global) -> Result<Command<'a>, AllocError> {
         .arg(file(
             alloc,
             "The file of the bytes; without it standard input is read",
-        ))
+        ))?
+        .arg(
+            Arg::new(alloc, "verbose")
+                .short('v')
+                .long("verbose")
+                .action(ArgAction::SetTrue)
+                .help("Says where each packet stands, and lists texts, noise and what is damaged"),
+        )
 }
 
 /// The tool that plays a script.
@@ -95,6 +106,13 @@ fn play_command<'a>(alloc: Global) -> Result<Command<'a>, AllocError> {
                 .long("verbose")
                 .action(ArgAction::SetTrue)
                 .help("Says what is wrong with a bad script"),
+        )?
+        .arg(
+            Arg::new(alloc, "settle")
+                .long("settle")
+                .action(ArgAction::SetTrue)
+                .conflicts_with("verbose")?
+                .help("Goes on to the end on a clean line, where it may, and reports that too"),
         )
 }
 
@@ -152,6 +170,12 @@ fn end_command<'a>(
             "How long the line waits, 1 to 600",
             SECONDS,
         ))?
+        .arg(
+            Arg::new(alloc, "number")
+                .long("number")
+                .action(ArgAction::SetTrue)
+                .help("Keeps the number of its conversations in DIR, from 0 on"),
+        )?
         .arg(
             Arg::new(alloc, "verbose")
                 .short('v')
@@ -217,6 +241,7 @@ fn end_task<'a>(side: Side, matches: &ArgMatches<'a>) -> CallTask<'a> {
         window: matches.get_one::<u32>("window").unwrap_or(0),
         size: matches.get_one::<u32>("size").unwrap_or(0),
         seconds: matches.get_one::<u32>("timeout").unwrap_or(0),
+        is_numbered: matches.get_flag("number"),
         is_loud: matches.get_flag("verbose"),
     }
 }
@@ -248,10 +273,16 @@ pub fn task_of<'a, S: AsStr>(alloc: Global, words: &'a [S]) -> Result<Task<'a>, 
         Some(("play", matches)) if matches.get_flag("verbose") => {
             Ok(Task::PlayVerbose(matches.get_str("FILE")))
         }
+        Some(("play", matches)) if matches.get_flag("settle") => {
+            Ok(Task::PlaySettled(matches.get_str("FILE")))
+        }
         Some(("play", matches)) => Ok(Task::Play(matches.get_str("FILE"))),
         Some(("pair", matches)) => Ok(Task::Pair(pair_task(matches))),
         Some(("call", matches)) => Ok(Task::Call(end_task(Side::Caller, matches))),
         Some(("answer", matches)) => Ok(Task::Call(end_task(Side::Called, matches))),
+        Some((_, matches)) if matches.get_flag("verbose") => {
+            Ok(Task::ScanVerbose(matches.get_str("FILE")))
+        }
         Some((_, matches)) => Ok(Task::Scan(matches.get_str("FILE"))),
         None => Ok(Task::Scan(None)),
     }

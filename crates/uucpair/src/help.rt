@@ -13,6 +13,15 @@ pub const SCAN: &str = "A line for each packet, and a last one:
   BAD               a data packet with a wrong checksum or a bad length
   REST N            the end: the last N bytes may begin a packet
 
+With -v each line ends with AT N LENGTH N: where its bytes begin, counted from 0, and
+how many they are. BAD is followed by what is wrong, and there are more lines:
+  BAD checksum, BAD length
+                    the first byte of such a data packet
+  CONTROL BAD checksum
+                    the first byte of a control packet with a wrong checksum
+  TEXT WORDS        a handshake text; what can't be seen, and a backslash, as \\x0d
+  NOISE N           N bytes that are none of these
+
 Status: 0 done, 2 bad usage, 3 a device fault, 4 out of memory
 
 Example:
@@ -34,6 +43,8 @@ pub const PLAY: &str =
   deny SIDE NAME           the end refuses a file that is sent under this name,
   later SIDE NAME          puts it off,
   immovable SIDE NAME      or can't put it in its place
+  number SIDE N            the number of the end's conversations (0 to 4294967295);
+                           a called end that has one lets in only the same
   pass SIDE N              the next N bytes on the way to the side arrive
   drop SIDE N              they are lost
   flip SIDE HH             the bits HH of the next byte are inverted
@@ -43,6 +54,11 @@ pub const PLAY: &str =
   call                     both ends hang up, and a new session begins
   flow N                   N times all bytes arrive, first at the called end
 Empty lines and lines that begin with # are skipped.
+
+With --settle the run goes on after the script, on a line that loses nothing more,
+and a second report follows the first: the status is of that. It may where no end was
+fooled, both ends are talking, neither has timed out more than 6 times in a row, and
+nothing waits at an end or on the line; else a line says what is not so.
 
 Status: 0 the last session is done at both ends, 1 it is not, 2 bad usage or a bad
 script, 3 a device fault, 4 out of memory, 5 the line fooled an end
@@ -82,9 +98,12 @@ pub const END: &str = "LINE is
   PATH           a terminal device, whose speed and raw mode are set before (stty)
 DIR is a folder as those of pair are: jobs, send and got. A target may also be ~/NAME
 or /NAME, which is NAME in got.
+Where DIR has a file number this end keeps the number of its conversations in it, and
+--number makes one that begins at 0. A called end that keeps a number lets in only a
+caller with the same one, so both ends begin to keep it at once.
 
-Status: 0 the session is done, 1 it is not, 2 bad usage or bad jobs, 3 a device fault,
-4 out of memory
+Status: 0 the session is done, 1 it is not, 2 bad usage, bad jobs or a bad number file,
+3 a device fault, 4 out of memory
 
 Example:
   mkdir -p b/got && uucpair answer unix:line b --me beta --peer alpha &

@@ -5,7 +5,7 @@ ghost use Rattle.std.specs.Io.KnownBytes.{Keeps};
 ghost use Rattle.uug_play.specs.Played.{BeforeReport, IsPlayFault};
 ghost use Rattle.uug_tool.specs.Scan.{IsScanFault};
 ghost use Rattle.uug_tool.specs.Streams.{Appends};
-ghost use Rattle.uucpair.specs.Performed.{Does, Performs, Scans, streams, version_line};
+ghost use Rattle.uucpair.specs.Performed.{Does, Performs, Scans, ScansVerbose, streams, version_line};
 ghost use Rattle.uucpair.specs.Stop.{EndsSo, NamesFile, StopsAs, StopsOnFile, StopsOnScript, StopsOnScriptFile, status_of_stop};
 
 use crate::command_line::{Task, VERSION, task_of};
@@ -20,8 +20,9 @@ use std::rt::{Env, Files};
 use std::time::Clock;
 use std::{env, io};
 use uug_call::{SystemWatcher, call_run};
+use uug_detail::scan_detailed;
 use uug_pair::pair_run;
-use uug_play::play_stream;
+use uug_play::{play_settled, play_stream};
 use uug_remark::play_remarked;
 use uug_tool::{Output, ToolFault, scan_stream, write_all};
 
@@ -49,6 +50,19 @@ where
     Ok(0)
 }
 
+/// Lists the input in detail.
+fn scan_verbose<I, O>(alloc: Global, input: &mut I, output: &mut O) -> Result<u8, ToolFault>
+where
+    I: uug_tool::Input,
+    O: Output,
+    ensures scans { ScansVerbose (streams (I.to_come input.old) (I.to_come input.new)
+        (O.written output.old) (O.written output.new)) result }
+    ensures no_other { IfErr result IsScanFault }
+{
+    scan_detailed(alloc, input, output)?;
+    Ok(0)
+}
+
 /// Opens a file as an input.
 fn open<R: Files>(rt: &R, path: &str) -> Result<SystemInput<R::File>, ToolFault>
     ensures { IfErr result (λ fault. fault ≡ read) }
@@ -71,6 +85,20 @@ fn scan_file<R: Files, O: Output>(
 {
     let mut file = open(rt, path)?;
     scan(alloc, &mut file, output)
+}
+
+/// Lists a file in detail.
+fn scan_file_verbose<R: Files, O: Output>(
+    alloc: Global,
+    rt: &R,
+    path: &str,
+    output: &mut O,
+) -> Result<u8, ToolFault>
+    ensures status { IfOk result (λ status. status ≡ 0) }
+    ensures no_other { IfErr result IsScanFault }
+{
+    let mut file = open(rt, path)?;
+    scan_verbose(alloc, &mut file, output)
 }
 
 /// Plays the script in a file.
@@ -102,6 +130,21 @@ fn play_file_remarked<R: Files, O: Output>(
 {
     let mut file = open(rt, path)?;
     play_remarked(alloc, &mut file, output, remark)
+}
+
+/// Plays the script in a file, and goes on to what it settles to.
+fn play_file_settled<R: Files, O: Output>(
+    alloc: Global,
+    rt: &R,
+    path: &str,
+    output: &mut O,
+) -> Result<u8, ToolFault>
+    ensures nothing_written { BeforeReport result
+        (Keeps (O.written output.old) (O.written output.new)) }
+    ensures no_other { IfErr result IsPlayFault }
+{
+    let mut file = open(rt, path)?;
+    play_settled(alloc, &mut file, output)
 }
 
 /// That the file of this name can't be read, where there is memory to say so.
@@ -149,7 +192,10 @@ fn stop_of(alloc: Global, task: Task<'_>, fault: ToolFault, remark: String) -> S
     ensures { StopsAs task.entry fault (string_bytes remark) result }
 {
     match task {
-        Task::Scan(Some(path)) | Task::Play(Some(path)) => stop_of_file(alloc, path, fault),
+        Task::Scan(Some(path))
+        | Task::ScanVerbose(Some(path))
+        | Task::Play(Some(path))
+        | Task::PlaySettled(Some(path)) => stop_of_file(alloc, path, fault),
         Task::PlayVerbose(None) => stop_of_script(fault, remark),
         Task::PlayVerbose(Some(path)) => stop_of_script_file(alloc, path, fault, remark),
         _ => Stop::Fault(fault),
@@ -191,10 +237,14 @@ where
         Task::Version => show_version(alloc, output),
         Task::Scan(None) => scan(alloc, input, output),
         Task::Scan(Some(path)) => scan_file(alloc, rt, path, output),
+        Task::ScanVerbose(None) => scan_verbose(alloc, input, output),
+        Task::ScanVerbose(Some(path)) => scan_file_verbose(alloc, rt, path, output),
         Task::Play(None) => play_stream(alloc, input, output),
         Task::Play(Some(path)) => play_file(alloc, rt, path, output),
         Task::PlayVerbose(None) => play_remarked(alloc, input, output, remark),
         Task::PlayVerbose(Some(path)) => play_file_remarked(alloc, rt, path, output, remark),
+        Task::PlaySettled(None) => play_settled(alloc, input, output),
+        Task::PlaySettled(Some(path)) => play_file_settled(alloc, rt, path, output),
         Task::Pair(pair) => pair_run(
             alloc,
             rt,
@@ -215,7 +265,12 @@ where
 /// Says that standard input is read, where somebody sits before it.
 fn greet(rt: &impl Eprint, task: Task<'_>, at_terminal: bool) {
     match task {
-        Task::Scan(None) | Task::Play(None) | Task::PlayVerbose(None) if at_terminal => {
+        Task::Scan(None)
+        | Task::ScanVerbose(None)
+        | Task::Play(None)
+        | Task::PlayVerbose(None)
+        | Task::PlaySettled(None)
+            if at_terminal => {
             let _ = eprint!(rt; "uucpair: reading standard input, up to Ctrl-D\n");
         }
         _ => (),

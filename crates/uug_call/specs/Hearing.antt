@@ -1,10 +1,12 @@
 -- What is heard at the line of one end, and what it does to the end (this project's profile).
 use Rattle.std.specs.Io.KnownBytes.{Consumes, IsAtEnd, Keeps}
-use Rattle.std.specs.Prelude.{◌≡◌, ◌<◌, ◌≤◌, ℕ, List, Option, take, ⊤}
+use Rattle.std.specs.Prelude.{◌≡◌, ◌<◌, ◌≤◌, ℕ, List, Option, Result, Ok, Err, take, ⊤}
 use Rattle.uug_session.specs.Holdings.{Holdings, Kept}
 use Rattle.uug_session.specs.Node.{NodeState}
 use Rattle.uug_pair.specs.Seats.{Hears, Waits}
 use Rattle.uug_pair.specs.declared.noise.Noise.{Noise}
+use Rattle.uug_pair.specs.declared.turn_fault.TurnFault.{TurnFault}
+use Rattle.uug_pair.specs.declared.turn_fault.TurnFault.TheVariants as faults
 use Rattle.uug_call.specs.declared.heard.Heard.{Heard}
 use Rattle.uug_call.specs.declared.heard.Heard.TheVariants.{Bytes, Silence, End}
 
@@ -28,3 +30,9 @@ TakesHeard h kept kept_after failure (Bytes n) buffer noise noise_after bytes by
 TakesHeard h kept kept_after failure Silence buffer noise noise_after bytes bytes_after before after =
     Waits noise noise_after bytes bytes_after before after
 TakesHeard h kept kept_after failure End buffer noise noise_after bytes bytes_after before after = after ≡ before
+
+-- the fact, unless memory was refused
+abbrev pub UnlessRefused : {T : Type 0} → Result T TurnFault → Type 0 → Type 0
+UnlessRefused (Ok done) P = P
+UnlessRefused (Err faults.Line) P = P
+UnlessRefused (Err faults.Memory) P = ⊤

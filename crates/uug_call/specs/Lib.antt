@@ -3,4 +3,5 @@ pub mod Hearing
 pub mod LineNames
 pub mod LocalFiles
 pub mod LocalNames
+pub mod NumberText
 pub mod Patience

@@ -2,31 +2,34 @@
 ghost use Rattle.std.specs.Prelude.{◌≡◌, ◌≤◌, ◌⊎◌, IfErr, IfOk, OnOk};
 ghost use Rattle.uug_session.specs.Engine.{HasFailed, IsEnded};
 ghost use Rattle.uug_session.specs.Jobs.{pending};
+ghost use Rattle.uug_session.specs.NumberStanding.{KeepsNumber};
 ghost use Rattle.uug_tool.specs.Streams.{Appends, CountsFault};
 ghost use Rattle.uug_pair.specs.Folders.{holding};
 ghost use Rattle.uug_pair.specs.JobsText.{jobs_text};
 ghost use Rattle.uug_pair.specs.Pair.{IsPairFault, IsWhole, UnlessDevice, jobs_of_end, phase_of_end};
 ghost use Rattle.uug_pair.specs.Seats.{seated, spool_in, KeepsJobs};
-ghost use Rattle.uug_call.specs.Calling.{report_of, status_of_phase};
+ghost use Rattle.uug_call.specs.Calling.{UnlessMemory, report_of, status_of_phase};
+ghost use Rattle.uug_call.specs.NumberText.{IsNumberKept, holding_number, number_of_end};
 
+use crate::call_end::CallEnd;
 use crate::call_texts::CallTexts;
 use crate::end_line::EndLine;
 use crate::talking::talk;
 use crate::watcher::Watcher;
 use std::alloc::Allocator;
 use uug_line::Side;
-use uug_pair::{JobsFile, Noise, PairEnd, TurnFault};
+use uug_pair::{Noise, TextFile, TurnFault};
 use uug_session::{End, Phase, Spool};
 use uug_tool::{Output, ToolFault};
 
 /// An end stays at its line until its session is over, and reads so many bytes at most. Then its pending jobs are written
-/// to their file, and the report to the output. The answer is the program's status: 0 where the session is done, even if
+/// to their file, its number to its own, if it keeps one, and the report to the output. The answer is the program's status: 0 where the session is done, even if
 /// the line has failed behind it, and 1 where it is not. Of several faults the first is answered, and none of them keeps
 /// what comes behind it from being done, but want of memory before the first write.
-pub fn call_over<S, L, J, W, O, A>(
+pub fn call_over<S, L, J, N, W, O, A>(
     alloc: A,
     side: Side,
-    end: &mut PairEnd<S, J, A>,
+    end: &mut CallEnd<S, J, N, A>,
     line: &mut L,
     noise: &mut Noise,
     most: u64,
@@ -36,7 +39,8 @@ pub fn call_over<S, L, J, W, O, A>(
 where
     S: Spool + Drop,
     L: EndLine,
-    J: JobsFile,
+    J: TextFile,
+    N: TextFile,
     W: Watcher,
     O: Output,
     A: Allocator + Copy,
@@ -48,26 +52,38 @@ where
         (J.text end.old.jobs) (J.text end.new.jobs) }
     ensures ok { OnOk result (J.text end.new.jobs
         ≡ holding (jobs_text (pending (jobs_of_end (seated end.new.seat)))) (J.text end.old.jobs)) }
+    // The file of the number is as before, or has exactly the one that the end keeps then, if it keeps one.
+    ensures number { IsNumberKept (number_of_end (seated end.new.seat))
+        (N.text end.old.number) (N.text end.new.number) }
+    // It has risen once at most since the session began, and not where the call was refused.
+    ensures number_stands { UnlessMemory result
+        (KeepsNumber (seated end.old.seat).engine (seated end.new.seat).engine) }
+    ensures number_ok { OnOk result (N.text end.new.number
+        ≡ holding_number (number_of_end (seated end.new.seat)) (N.text end.old.number)) }
     ensures report { OnOk result (Appends (report_of side (seated end.new.seat))
         (O.written output.old) (O.written output.new)) }
     ensures status { IfOk result (λ status. status ≡ status_of_phase (phase_of_end (seated end.new.seat))) }
     // Where the line has failed and the session is not done, that is answered, whatever fails later but memory.
     ensures line_calm { result ≡ Ok 1 → L.fault_count line.new ≡ L.fault_count line.old }
     ensures jobs_calm { UnlessDevice result (J.fault_count end.new.jobs ≡ J.fault_count end.old.jobs) }
-    ensures device { result ≡ Err ToolFault.Device → HasFailed u64.MAX (L.fault_count line.old) (L.fault_count line.new)
-        ⊎ HasFailed u64.MAX (J.fault_count end.old.jobs) (J.fault_count end.new.jobs) }
+    ensures number_calm { UnlessDevice result
+        (N.fault_count end.new.number ≡ N.fault_count end.old.number) }
+    ensures device { result ≡ Err ToolFault.Device
+        → HasFailed u64.MAX (L.fault_count line.old) (L.fault_count line.new)
+        ⊎ (HasFailed u64.MAX (J.fault_count end.old.jobs) (J.fault_count end.new.jobs)
+        ⊎ HasFailed u64.MAX (N.fault_count end.old.number) (N.fault_count end.new.number)) }
     ensures write { result ≡ Err ToolFault.Write → CountsFault (O.fault_count output.old) (O.fault_count output.new) }
     ensures no_other { IfErr result IsPairFault }
 {
     match talk(&mut end.seat, line, noise, most, watcher) {
         Ok(()) => {
             let texts = CallTexts::new(alloc, side, end.seat.node())?;
-            texts.write(&mut end.jobs, output)?;
+            texts.write(&mut end.jobs, &mut end.number, output)?;
             Ok(status(end.seat.node().phase()))
         }
         Err(TurnFault::Line) => {
             let texts = CallTexts::new(alloc, side, end.seat.node())?;
-            let written = texts.write(&mut end.jobs, output);
+            let written = texts.write(&mut end.jobs, &mut end.number, output);
             // The line's fault came before all that this may meet.
             if status(end.seat.node().phase()) > 0 {
                 return Err(ToolFault::Device);

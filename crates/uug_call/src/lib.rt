@@ -2,6 +2,7 @@
 //! report are written.
 #![tactic(auto)]
 
+mod call_end;
 mod call_texts;
 mod calling;
 mod device_line;
@@ -9,6 +10,7 @@ mod end_line;
 mod heard;
 mod line_name;
 mod local_names;
+mod number_text;
 mod patience;
 mod stream_line;
 mod system_call;
@@ -16,12 +18,14 @@ mod system_watcher;
 mod talking;
 mod watcher;
 
+pub use call_end::CallEnd;
 pub use calling::call_over;
 pub use device_line::DeviceLine;
 pub use end_line::EndLine;
 pub use heard::Heard;
 pub use line_name::{LineName, read_line_name};
 pub use local_names::LocalNames;
+pub use number_text::{NUMBER_LINE_MAX, number_at_start, number_line, read_number_text};
 pub use patience::{BYTES_MAX, SILENCES_MAX};
 pub use stream_line::StreamLine;
 pub use system_call::{CallTask, SECONDS_MAX, call_run};

@@ -1,13 +1,15 @@
 //! One end over a folder, and the line to the other one.
 ghost use Rattle.std.specs.Prelude.{◌≡◌, ◌≤◌, IfErr, IfOk};
 ghost use Rattle.uug_tool.specs.Streams.{CountsFault};
-ghost use Rattle.uug_pair.specs.Pair.{IsReadingFault, IsRunFault};
+ghost use Rattle.uug_call.specs.Calling.{IsCallFault, IsStartFault};
 
+use crate::call_end::CallEnd;
 use crate::calling::call_over;
 use crate::device_line::DeviceLine;
 use crate::end_line::EndLine;
 use crate::line_name::{LineName, read_line_name};
 use crate::local_names::LocalNames;
+use crate::number_text::number_at_start;
 use crate::patience::BYTES_MAX;
 use crate::stream_line::StreamLine;
 use crate::watcher::Watcher;
@@ -21,7 +23,7 @@ use std::{fs, io};
 use uug_line::Side;
 use uug_link::Announce;
 use uug_pair::{
-    FolderSpool, Noise, PairEnd, Seat, SystemFolder, SystemJobs, read_queue, read_send,
+    FolderSpool, Noise, Seat, SystemFolder, SystemText, read_queue, read_send, read_text,
 };
 use uug_session::{Node, Place, Queue, Stored};
 use uug_talk::Name;
@@ -49,12 +51,19 @@ pub struct CallTask<'a> {
     pub size: u32,
     /// For so many seconds the line waits.
     pub seconds: u32,
+    /// Whether it begins to keep a number of its conversations, where it keeps none yet.
+    pub is_numbered: bool,
     /// Whether it says on standard error how the end stands.
     pub is_loud: bool,
 }
 
 /// An end over a folder of the system.
-type SystemEnd<'a, R, A> = PairEnd<LocalNames<SystemFolder<'a, R, A>, A>, SystemJobs<'a, R, A>, A>;
+type SystemEnd<'a, R, A> = CallEnd<
+    LocalNames<SystemFolder<'a, R, A>, A>,
+    SystemText<'a, R, A>,
+    SystemText<'a, R, A>,
+    A,
+>;
 
 /// What is known once the words of a task were read.
 #[derive(Clone, Copy)]
@@ -76,6 +85,7 @@ fn read_terms<'a>(task: &CallTask<'a>) -> Option<Terms<'a>> {
             me: Name::new(task.me.as_bytes()).ok()?,
             peer: Name::new(task.peer.as_bytes()).ok()?,
             announce: Announce::new(window, task.size as usize).ok()?,
+            number: None,
         },
         patience: Duration::from_secs(u64::from(task.seconds)),
     })
@@ -97,12 +107,12 @@ where
     O: Output,
     ensures status { IfOk result (λ status. status ≤ 1) }
     ensures write { result ≡ Err ToolFault.Write → CountsFault (O.fault_count output.old) (O.fault_count output.new) }
-    ensures no_other { IfErr result IsRunFault }
+    ensures no_other { IfErr result IsCallFault }
 {
     let Some(terms) = read_terms(task) else {
         return Err(ToolFault::Usage);
     };
-    let mut end = read_end(alloc, rt, task.side, task.dir, terms.place)?;
+    let mut end = read_end(alloc, rt, task, terms.place)?;
     match terms.line {
         LineName::Unix(path) => {
             let stream = open_unix(rt, task.side, path, terms.patience);
@@ -150,7 +160,7 @@ where
     O: Output,
     ensures status { IfOk result (λ status. status ≤ 1) }
     ensures write { result ≡ Err ToolFault.Write → CountsFault (O.fault_count output.old) (O.fault_count output.new) }
-    ensures no_other { IfErr result IsRunFault }
+    ensures no_other { IfErr result IsCallFault }
 {
     let Ok(mut line) = line else {
         return Err(ToolFault::Device);
@@ -167,16 +177,31 @@ where
 fn read_end<'a, A: Allocator + Copy, R: Files + Alloc + Clone + Drop>(
     alloc: A,
     rt: &'a R,
-    side: Side,
-    dir: &str,
-    place: Place,
+    task: &CallTask<'_>,
+    mut place: Place,
 ) -> Result<SystemEnd<'a, R, A>, ToolFault>
-    ensures { IfErr result IsReadingFault }
+    ensures { IfErr result IsStartFault }
 {
-    let jobs = read_queue(alloc, rt, dir)?;
-    let files = read_send(alloc, rt, dir)?;
-    let end = make_end(alloc, rt, side, dir, place, jobs, files)?;
+    place.number = read_number_at_start(alloc, rt, task.dir, task.is_numbered)?;
+    let jobs = read_queue(alloc, rt, task.dir)?;
+    let files = read_send(alloc, rt, task.dir)?;
+    let end = make_end(alloc, rt, task.side, task.dir, place, jobs, files)?;
     Ok(end)
+}
+
+/// The number that the end over the folder `dir` keeps.
+fn read_number_at_start<A: Allocator + Copy, R: Files>(
+    alloc: A,
+    rt: &R,
+    dir: &str,
+    is_told: bool,
+) -> Result<Option<u32>, ToolFault>
+    ensures { IfErr result IsStartFault }
+{
+    match read_text(alloc, rt, dir, "number")? {
+        Some(text) => number_at_start(Some(text.as_slice()), is_told),
+        None => number_at_start(None, is_told),
+    }
 }
 
 /// An end over the folder `dir`, with these jobs and these files to give.
@@ -201,9 +226,10 @@ fn make_end<'a, A: Allocator + Copy, R: Files>(
     let Some(mut noise) = Noise::new(None, None) else {
         unreachable!();
     };
-    Ok(PairEnd {
+    Ok(CallEnd {
         seat: Seat::new(alloc, node, &mut noise)?,
-        jobs: SystemJobs::new(alloc, rt, dir)?,
+        jobs: SystemText::new(alloc, rt, dir, "jobs")?,
+        number: SystemText::new(alloc, rt, dir, "number")?,
     })
 }
 

@@ -1,9 +1,10 @@
 //! One end stays at its line until its session is over.
 ghost use Rattle.std.specs.Prelude.{◌≡◌, ◌≤◌, [], length, OnErr, OnOk};
 ghost use Rattle.uug_session.specs.Engine.{HasFailed, IsEnded};
+ghost use Rattle.uug_session.specs.NumberStanding.{KeepsNumber};
 ghost use Rattle.uug_pair.specs.Seats.{seated, spool_in, to_write, KeepsJobs};
 ghost use Rattle.uug_pair.specs.Turns.{UnlessLineFailed};
-ghost use Rattle.uug_call.specs.Hearing.{IsWithin, TakesHeard};
+ghost use Rattle.uug_call.specs.Hearing.{IsWithin, TakesHeard, UnlessRefused};
 
 use crate::end_line::EndLine;
 use crate::heard::Heard;
@@ -25,6 +26,8 @@ pub fn talk<S: Spool + Drop, L: EndLine, W: Watcher, A: Allocator + Copy>(
 ) -> Result<(), TurnFault>
     ensures jobs { KeepsJobs (S.kept (spool_in seat.old)) (S.kept (spool_in seat.new))
         (seated seat.old) (seated seat.new) }
+    ensures number { UnlessRefused result
+        (KeepsNumber (seated seat.old).engine (seated seat.new).engine) }
     ensures over { IsEnded (seated seat.new).engine.stage }
     ensures calm { UnlessLineFailed result (L.fault_count line.new ≡ L.fault_count line.old) }
     ensures fault { result ≡ Err TurnFault.Line → HasFailed u64.MAX (L.fault_count line.old) (L.fault_count line.new) }
@@ -47,6 +50,8 @@ fn take_turns<S: Spool + Drop, L: EndLine, W: Watcher, A: Allocator + Copy>(
 ) -> Result<(), TurnFault>
     ensures jobs { KeepsJobs (S.kept (spool_in seat.old)) (S.kept (spool_in seat.new))
         (seated seat.old) (seated seat.new) }
+    ensures number { UnlessRefused result
+        (KeepsNumber (seated seat.old).engine (seated seat.new).engine) }
     ensures calm { UnlessLineFailed result (L.fault_count line.new ≡ L.fault_count line.old) }
     ensures fault { result ≡ Err TurnFault.Line → HasFailed u64.MAX (L.fault_count line.old) (L.fault_count line.new) }
     ensures grows { L.fault_count line.old ≤ L.fault_count line.new }
@@ -98,6 +103,8 @@ fn take_heard<S: Spool + Drop, A: Allocator + Copy>(
     requires goes_on { IsEnded (seated seat.old).engine.stage → ⊥ }
     ensures jobs { KeepsJobs (S.kept (spool_in seat.old)) (S.kept (spool_in seat.new))
         (seated seat.old) (seated seat.new) }
+    ensures number { OnOk result
+        (KeepsNumber (seated seat.old).engine (seated seat.new).engine) }
     ensures takes { OnOk result (TakesHeard (S.holdings (spool_in seat.old)) (S.kept (spool_in seat.old))
         (S.kept (spool_in seat.new)) (HasFailed u64.MAX (S.faults (spool_in seat.old)) (S.faults (spool_in seat.new)))
         heard buffer.now noise.old noise.new (to_write seat.old) (to_write seat.new) (seated seat.old) (seated seat.new)) }

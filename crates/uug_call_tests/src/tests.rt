@@ -2,6 +2,8 @@
 //! over, and when a fault is answered; these tests say how the session ends and what is done then, and that calls succeed
 //! while there is memory. Above each table stands what it is of.
 
+mod memory_text;
+mod numbers;
 mod scenes;
 mod scripted_line;
 
@@ -53,12 +55,13 @@ fn name(text: &[u8]) -> Result<Name, Fail> {
     Ok(Name::new(text)?)
 }
 
-/// Where an end of window 7 and size 32 stands.
-fn place(me: &[u8], peer: &[u8]) -> Result<Place, Fail> {
+/// Where an end of window 7 and size 32 stands that keeps this number, or none.
+fn place(me: &[u8], peer: &[u8], number: Option<u32>) -> Result<Place, Fail> {
     Ok(Place {
         me: name(me)?,
         peer: name(peer)?,
         announce: Announce::new(7, 32)?,
+        number,
     })
 }
 
@@ -85,16 +88,16 @@ fn noise() -> Result<Noise, Fail> {
     Ok(Noise::new(None, None).ok_or("no noise")?)
 }
 
-fn caller(alloc: Global, bytes: &[u8]) -> Result<MemorySeat, Fail> {
+fn caller(alloc: Global, bytes: &[u8], number: Option<u32>) -> Result<MemorySeat, Fail> {
     let spool = spool(alloc, bytes)?;
-    let node = Node::caller(alloc, place(b"a", b"b")?, queue(alloc)?, spool);
+    let node = Node::caller(alloc, place(b"a", b"b", number)?, queue(alloc)?, spool);
     Ok(Seat::new(alloc, node.ok().ok_or("an end")?, &mut noise()?)?)
 }
 
-fn called(alloc: Global) -> Result<MemorySeat, Fail> {
+fn called(alloc: Global, number: Option<u32>) -> Result<MemorySeat, Fail> {
     let node = Node::called(
         alloc,
-        place(b"b", b"a")?,
+        place(b"b", b"a", number)?,
         Queue::new(alloc),
         MemorySpool::new(alloc),
     );
@@ -114,8 +117,8 @@ struct Left {
 
 /// Plays a session of a caller that sends `x`, which has these bytes, and reads so many bytes at most.
 fn play(alloc: Global, bytes: &[u8], manner: Manner, most: u64) -> Result<Left, Fail> {
-    let mut seat = caller(alloc, bytes)?;
-    let mut line = ScriptedLine::new(called(alloc)?, noise()?, manner);
+    let mut seat = caller(alloc, bytes, None)?;
+    let mut line = ScriptedLine::new(called(alloc, None)?, noise()?, manner);
     let answer = talk(&mut seat, &mut line, &mut noise()?, most, &mut Nobody);
     Ok(what_is_left(answer, &seat, line.other()))
 }

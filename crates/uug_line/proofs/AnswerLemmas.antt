@@ -1,5 +1,5 @@
 -- What an end does by its link's answer, told by two numbers.
-use Rattle.std.proofs.Common.{◌≡◌, ℕ, suc, Bool, true, false, List, [], ◌∷◌, ◌++◌, length, refl, sym, ap, subst, ◌∙◌, arith, true≢false}
+use Rattle.std.proofs.Common.{◌≡◌, ℕ, suc, Bool, true, false, List, [], ◌∷◌, ◌++◌, Option, length, refl, sym, ap, subst, ◌∙◌, arith, true≢false}
 use Rattle.std.proofs.lemmas.List.{length-append}
 use Rattle.uug_link.specs.Outcomes.{MayAnswer, MovesPhase, NoneIsFirst}
 use Rattle.uug_link.specs.State.{State}
@@ -51,57 +51,57 @@ module _ (law : Laws) (me : Side) (h : Holdings) (v : List Seen) (J : Moment →
     (IsThere : Moment → PacketValue → ℕ → Type 0) (is : IsInvariant me h v J IsThere) (first : State) (id : Identity) where
   -- ---- a broken packet, or a timeout
 
-  bad_by : (m : Moment) → J m → (o : OutcomeValue) → MayAnswer o bad_found → J (moved m bad_found m.talk) →
-      DoesAlike J first m (behind_link (end_keeper me h) id false o (step m.link bad_found) [] m.talk)
-      (behind_link (count_keeper v) id false o (step m.link bad_found) [] (count m))
-  bad_by m j nothing may then_j =
-      goes_on_alike law me h v J IsThere is first m false (step m.link bad_found) m.talk (count m) then_j
+  bad_by : (number : Option ℕ) (m : Moment) → J m → (o : OutcomeValue) → MayAnswer o bad_found → J (moved m bad_found m.talk) →
+      DoesAlike J first m (behind_link number (end_keeper me h) id false o (step m.link bad_found) [] m.talk)
+      (behind_link number (count_keeper v) id false o (step m.link bad_found) [] (count m))
+  bad_by number m j nothing may then_j =
+      goes_on_alike number law me h v J IsThere is first m false (step m.link bad_found) m.talk (count m) then_j
       (quiet_count m bad_found (law.firsts m.link bad_found))
-  bad_by m j halted may then_j =
-      goes_on_alike law me h v J IsThere is first m false (step m.link bad_found) m.talk (count m) then_j
+  bad_by number m j halted may then_j =
+      goes_on_alike number law me h v J IsThere is first m false (step m.link bad_found) m.talk (count m) then_j
       (quiet_count m bad_found (law.firsts m.link bad_found))
-  bad_by m j up may then_j = absurd may
-  bad_by m j taken may then_j = absurd may
-  bad_by m j closed may then_j = absurd may
-  bad_by m j gave_up may then_j = absurd may
+  bad_by number m j up may then_j = absurd may
+  bad_by number m j taken may then_j = absurd may
+  bad_by number m j closed may then_j = absurd may
+  bad_by number m j gave_up may then_j = absurd may
 
-  pub bad_alike : (m : Moment) → J m →
-      DoesAlike J first m (bad_came (end_keeper me h) id m.link m.talk) (bad_came (count_keeper v) id m.link (count m))
-  bad_alike m j =
-      bad_by m j (step m.link bad_found).outcome (law.answers m.link bad_found) (is.finds_bad m j)
+  pub bad_alike : (number : Option ℕ) (m : Moment) → J m →
+      DoesAlike J first m (bad_came number (end_keeper me h) id m.link m.talk) (bad_came number (count_keeper v) id m.link (count m))
+  bad_alike number m j =
+      bad_by number m j (step m.link bad_found).outcome (law.answers m.link bad_found) (is.finds_bad m j)
 
-  late_by : (m : Moment) → J m → (parted also_parted : Bool) → parted ≡ also_parted → (o : OutcomeValue) →
+  late_by : (number : Option ℕ) (m : Moment) → J m → (parted also_parted : Bool) → parted ≡ also_parted → (o : OutcomeValue) →
       J (moved m timed_out m.talk) →
-      DoesAlike J first m (late_link id parted o (step m.link timed_out) m.talk)
-      (late_link id also_parted o (step m.link timed_out) (count m))
-  late_by m j parted also_parted agree gave_up then_j =
-      ends_alike J first id m parted also_parted ends.GaveUp (step m.link timed_out) m.talk (count m) false agree then_j
+      DoesAlike J first m (late_link number id parted o (step m.link timed_out) m.talk)
+      (late_link number id also_parted o (step m.link timed_out) (count m))
+  late_by number m j parted also_parted agree gave_up then_j =
+      ends_alike number J first id m parted also_parted ends.GaveUp (step m.link timed_out) m.talk (count m) false agree then_j
       (quiet_count m timed_out (law.firsts m.link timed_out))
-  late_by m j parted also_parted agree _ then_j =
-      stays_alike J first m (step m.link timed_out) m.talk (count m) then_j
+  late_by number m j parted also_parted agree _ then_j =
+      stays_alike number J first m (step m.link timed_out) m.talk (count m) then_j
       (quiet_count m timed_out (law.firsts m.link timed_out))
 
-  pub late_alike : (m : Moment) → J m →
-      DoesAlike J first m (late id ((end_keeper me h).has_parted m.talk) m.link m.talk)
-      (late id ((count_keeper v).has_parted (count m)) m.link (count m))
-  late_alike m j =
-      late_by m j ((end_keeper me h).has_parted m.talk) ((count_keeper v).has_parted (count m)) (is.parted m j)
+  pub late_alike : (number : Option ℕ) (m : Moment) → J m →
+      DoesAlike J first m (late number id ((end_keeper me h).has_parted m.talk) m.link m.talk)
+      (late number id ((count_keeper v).has_parted (count m)) m.link (count m))
+  late_alike number m j =
+      late_by number m j ((end_keeper me h).has_parted m.talk) ((count_keeper v).has_parted (count m)) (is.parted m j)
       (step m.link timed_out).outcome (is.times_out m j)
 
   -- ---- a packet
 
   -- the message fitted its turn
-  talks_alike : (m : Moment) (p : PacketValue) (place : ℕ) (bad : Bool) → bad ≡ false →
+  talks_alike : (number : Option ℕ) (m : Moment) (p : PacketValue) (place : ℕ) (bad : Bool) → bad ≡ false →
       J (heard_by (end_keeper me h) m p place taken) → MayAnswer taken (packet_found p) → m.talk.opened ≡ true →
       Heard J first m p place
-      (talks_by bad (end_keeper me h) id (step m.link (packet_found p)) m.talk ((end_keeper me h).taking (message_of p) m.talk))
-      (talks_by false (count_keeper v) id (step m.link (packet_found p)) (count m)
+      (talks_by number bad (end_keeper me h) id (step m.link (packet_found p)) m.talk ((end_keeper me h).taking (message_of p) m.talk))
+      (talks_by number false (count_keeper v) id (step m.link (packet_found p)) (count m)
       ((count_keeper v).taking (message_of p) (count m)))
-  talks_alike m p place true good then_j may opened = absurd (true≢false good)
-  talks_alike m p place false good then_j may opened =
+  talks_alike number m p place true good then_j may opened = absurd (true≢false good)
+  talks_alike number m p place false good then_j may opened =
       let talk = (end_keeper me h).taking (message_of p) m.talk in
       let at : List (List ℕ) → Moment = λ messages. found m place messages in
-      goes_on_alike law me h v J IsThere is first (at (m.taken ++ message_of p ∷ [])) true (step m.link (packet_found p)) talk
+      goes_on_alike number law me h v J IsThere is first (at (m.taken ++ message_of p ∷ [])) true (step m.link (packet_found p)) talk
       ((count_keeper v).taking (message_of p) (count m))
       (subst (λ (l : List (List ℕ)). J (moved (at l) (packet_found p) talk)) (taken_message p m.taken may) then_j)
       (ap (λ (b : Bool). record { opened = b; sent = length m.sent; taken = suc (length m.taken) }) opened
@@ -109,39 +109,39 @@ module _ (law : Laws) (me : Side) (h : Holdings) (v : List Seen) (J : Moment →
       ∙ ap (λ (n : ℕ). record { opened = true; sent = n; taken = length (m.taken ++ message_of p ∷ []) })
       (ap (λ (c : Count). c.sent) (quiet_count m (packet_found p) (law.firsts m.link (packet_found p)))))
 
-  packet_by : (m : Moment) (p : PacketValue) (place : ℕ) → J m → (o : OutcomeValue) → MayAnswer o (packet_found p) →
+  packet_by : (number : Option ℕ) (m : Moment) (p : PacketValue) (place : ℕ) → J m → (o : OutcomeValue) → MayAnswer o (packet_found p) →
       MovesPhase o m.link.phase (step m.link (packet_found p)).state.phase →
       J (heard_by (end_keeper me h) m p place o) →
-      Heard J first m p place (behind_link (end_keeper me h) id false o (step m.link (packet_found p)) (message_of p) m.talk)
-      (behind_link (count_keeper v) id false o (step m.link (packet_found p)) (message_of p) (count m))
-  packet_by m p place j nothing may moves then_j =
-      goes_on_alike law me h v J IsThere is first (found m place m.taken) false (step m.link (packet_found p)) m.talk (count m)
+      Heard J first m p place (behind_link number (end_keeper me h) id false o (step m.link (packet_found p)) (message_of p) m.talk)
+      (behind_link number (count_keeper v) id false o (step m.link (packet_found p)) (message_of p) (count m))
+  packet_by number m p place j nothing may moves then_j =
+      goes_on_alike number law me h v J IsThere is first (found m place m.taken) false (step m.link (packet_found p)) m.talk (count m)
       then_j
       (quiet_count (found m place m.taken) (packet_found p) (law.firsts m.link (packet_found p)))
-  packet_by m p place j halted may moves then_j =
-      goes_on_alike law me h v J IsThere is first (found m place m.taken) false (step m.link (packet_found p)) m.talk (count m)
+  packet_by number m p place j halted may moves then_j =
+      goes_on_alike number law me h v J IsThere is first (found m place m.taken) false (step m.link (packet_found p)) m.talk (count m)
       then_j
       (quiet_count (found m place m.taken) (packet_found p) (law.firsts m.link (packet_found p)))
-  packet_by m p place j up may moves then_j =
-      goes_on_alike law me h v J IsThere is first (found m place m.taken) false (step m.link (packet_found p))
+  packet_by number m p place j up may moves then_j =
+      goes_on_alike number law me h v J IsThere is first (found m place m.taken) false (step m.link (packet_found p))
       (heard_by (end_keeper me h) m p place up).talk
       ((count_keeper v).opened (size_of_code (step m.link (packet_found p)).state.size_code) (count m)) then_j
       (ap (λ (c : Count). record { opened = true; sent = c.sent; taken = c.taken })
       (quiet_count (found m place m.taken) (packet_found p) (law.firsts m.link (packet_found p))))
-  packet_by m p place j taken may moves then_j =
+  packet_by number m p place j taken may moves then_j =
       let then_m = heard_by (end_keeper me h) m p place taken in
-      talks_alike m p place ((end_keeper me h).is_bad then_m.talk) (is.good then_m then_j) then_j may
+      talks_alike number m p place ((end_keeper me h).is_bad then_m.talk) (is.good then_m then_j) then_j may
       (is.opened m j moves.0)
-  packet_by m p place j closed may moves then_j =
-      ends_alike J first id (found m place m.taken) ((end_keeper me h).has_parted m.talk)
+  packet_by number m p place j closed may moves then_j =
+      ends_alike number J first id (found m place m.taken) ((end_keeper me h).has_parted m.talk)
       ((count_keeper v).has_parted (count m)) ends.PeerClosed (step m.link (packet_found p)) m.talk (count m) false
       (is.parted m j) then_j
       (quiet_count (found m place m.taken) (packet_found p) (law.firsts m.link (packet_found p)))
-  packet_by m p place j gave_up may moves then_j = absurd may
+  packet_by number m p place j gave_up may moves then_j = absurd may
 
-  pub packet_alike : (m : Moment) (p : PacketValue) (place : ℕ) → J m → IsThere m p place →
-      Heard J first m p place (packet_came (end_keeper me h) id false p m.link m.talk)
-      (packet_came (count_keeper v) id false p m.link (count m))
-  packet_alike m p place j there =
-      packet_by m p place j (answer_to m p) (law.answers m.link (packet_found p))
+  pub packet_alike : (number : Option ℕ) (m : Moment) (p : PacketValue) (place : ℕ) → J m → IsThere m p place →
+      Heard J first m p place (packet_came number (end_keeper me h) id false p m.link m.talk)
+      (packet_came number (count_keeper v) id false p m.link (count m))
+  packet_alike number m p place j there =
+      packet_by number m p place j (answer_to m p) (law.answers m.link (packet_found p))
       (law.phases m.link (packet_found p) tt) (is.hears m p place j there)

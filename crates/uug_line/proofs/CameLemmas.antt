@@ -166,7 +166,7 @@ module _ {C : Type 0} (k : RunKeeper C) (setup : SetupValue) (names : (side : Si
 
   began_gives : (brought : AtBoth Belongings) (side : Side) → Gives (first_end k setup brought side).end []
   began_gives brought side =
-      call_gives nothing_done [] [] (begins_session (identity setup side) (at side setup).own (k.first (at side brought)))
+      call_gives nothing_done [] [] (begins_session (identity setup side) (at side setup).own (at side brought).number (k.first (at side brought)))
       (first_says (session_side side) (at side setup).name (names side))
       (record { line_is = λ right. All-nil IsByte; came_is = λ right. All-nil IsByte })
 

@@ -73,12 +73,12 @@ close_at s is =
     subst (λ (phase : Phase). (if is_halted phase then answers_halted s else on_event to_close s) ≡ on_event to_close s) (sym is)
     refl
 
-closes_so : (over : Bool) (v : List Seen) (p : PacketValue) (s : State) (took : Bool) (emitted : List Emission)
+closes_so : (number : Option ℕ) (over : Bool) (v : List Seen) (p : PacketValue) (s : State) (took : Bool) (emitted : List Emission)
     (x : Sending Count) → (count_keeper v).is_over x.keeper ≡ over → Hears p s x.link (packets_of (emitted ++ x.emissions)) →
-    TalksOrCloses v p s (goes_on_with took emitted (closes_by over x))
-closes_so false v p s took emitted x is h =
+    TalksOrCloses v p s (goes_on_with number took emitted (closes_by over x))
+closes_so number false v p s took emitted x is h =
     inl (record { stage = refl; emissions = emitted ++ x.emissions; emitted = refl; hears = h })
-closes_so true v p s took emitted x is h =
+closes_so number true v p s took emitted x is h =
     let closed_at = close_at x.link h.is_up in
     inr (record {
       stage = refl;
@@ -99,28 +99,28 @@ low_with : (p : PacketValue) (e : ℕ) → e < 8 → expected_with p e < 8
 low_with (carry seq ack k message) e low = low_if (seq == e) e low
 low_with (control c) e low = low
 
-goes_on_so : (v : List Seen) (p : PacketValue) (s : State) (took : Bool) (e : Effect) (c : Count) → s.expected < 8 →
-    Hears p s e.state (packets_of e.emitted) → TalksOrCloses v p s (goes_on (count_keeper v) took e c)
-goes_on_so v p s took e c low h =
+goes_on_so : (number : Option ℕ) (v : List Seen) (p : PacketValue) (s : State) (took : Bool) (e : Effect) (c : Count) → s.expected < 8 →
+    Hears p s e.state (packets_of e.emitted) → TalksOrCloses v p s (goes_on number (count_keeper v) took e c)
+goes_on_so number v p s took e c low h =
     let k = count_keeper v in
     let x = sends k e.state c in
     let speaks = speaks_up_to WINDOW_MAX k e.state c h.is_up
     (subst (λ (n : ℕ). n < 8) (sym h.expected) (low_with p s.expected low)) in
-    subst (λ (b : Bool). TalksOrCloses v p s (goes_on_with took e.emitted (speaks_by b k e.state c))) (sym (ap is_up h.is_up))
-    (closes_so (k.is_over x.keeper) v p s took e.emitted x refl
+    subst (λ (b : Bool). TalksOrCloses v p s (goes_on_with number took e.emitted (speaks_by b k e.state c))) (sym (ap is_up h.is_up))
+    (closes_so number (k.is_over x.keeper) v p s took e.emitted x refl
     (subst (λ (l : List PacketValue). Hears p s x.link l) (sym (packets_of-append e.emitted x.emissions))
     (hears_on p s e.state x.link (packets_of e.emitted) (packets_of x.emissions) h speaks)))
 
-talks_behind : (v : List Seen) (id : Identity) (p : PacketValue) (s : State) (c : Count) (o : OutcomeValue) (e : Effect) → IsUp s →
+talks_behind : (number : Option ℕ) (v : List Seen) (id : Identity) (p : PacketValue) (s : State) (c : Count) (o : OutcomeValue) (e : Effect) → IsUp s →
     s.expected < 8 → MovesPhase o s.phase e.state.phase → Hears p s e.state (packets_of e.emitted) →
-    TalksOrCloses v p s (behind_link (count_keeper v) id false o e (message_of p) c)
-talks_behind v id p s c nothing e is low moves h = goes_on_so v p s false e c low h
-talks_behind v id p s c up e is low moves h = absurd (let never : Up ≡ AwaitsInitC = sym is ∙ moves.0 in cc)
-talks_behind v id p s c taken e is low moves h =
-    goes_on_so v p s true e ((count_keeper v).taking (message_of p) c) low h
-talks_behind v id p s c closed e is low moves h = absurd (let never : Up ≡ Halted = sym h.is_up ∙ moves.1 in cc)
-talks_behind v id p s c gave_up e is low moves h = absurd (let never : Up ≡ Halted = sym h.is_up ∙ moves.1 in cc)
-talks_behind v id p s c halted e is low moves h = absurd (let never : Up ≡ Halted = sym is ∙ moves.0 in cc)
+    TalksOrCloses v p s (behind_link number (count_keeper v) id false o e (message_of p) c)
+talks_behind number v id p s c nothing e is low moves h = goes_on_so number v p s false e c low h
+talks_behind number v id p s c up e is low moves h = absurd (let never : Up ≡ AwaitsInitC = sym is ∙ moves.0 in cc)
+talks_behind number v id p s c taken e is low moves h =
+    goes_on_so number v p s true e ((count_keeper v).taking (message_of p) c) low h
+talks_behind number v id p s c closed e is low moves h = absurd (let never : Up ≡ Halted = sym h.is_up ∙ moves.1 in cc)
+talks_behind number v id p s c gave_up e is low moves h = absurd (let never : Up ≡ Halted = sym h.is_up ∙ moves.1 in cc)
+talks_behind number v id p s c halted e is low moves h = absurd (let never : Up ≡ Halted = sym is ∙ moves.0 in cc)
 
 pub talks_or_closes : (v : List Seen) (id : Identity) (p : PacketValue) (e : EndState Count) → e.stage ≡ linked → IsUp e.link →
     e.link.expected < 8 →
@@ -129,25 +129,25 @@ pub talks_or_closes : (v : List Seen) (id : Identity) (p : PacketValue) (e : End
     TalksOrCloses v p e.link (end_step (count_keeper v) id (packet_found_whole false p) e)
 talks_or_closes v id p e on is low moves h =
     subst (λ stage. TalksOrCloses v p e.link (stage_step (count_keeper v) id stage (packet_found_whole false p) e)) (sym on)
-    (talks_behind v id p e.link e.keeper (step e.link (packet_found p)).outcome (step e.link (packet_found p)) is low moves h)
+    (talks_behind e.number v id p e.link e.keeper (step e.link (packet_found p)).outcome (step e.link (packet_found p)) is low moves h)
 
 -- ---- an end that closes
 
-abbrev pub closing_end : State → Count → EndState Count
-closing_end before c = record { stage = linked; link = moved before Closing; keeper = c }
+abbrev pub closing_end : (number : Option ℕ) → State → Count → EndState Count
+closing_end number before c = record { stage = linked; link = moved before Closing; keeper = c; number = number }
 
 -- nothing but CLOSE does anything
-pub closing_ignores : (v : List Seen) (id : Identity) (p : PacketValue) (before : State) (c : Count) → IsTalk p →
-    end_step (count_keeper v) id (packet_found_whole false p) (closing_end before c)
-    ≡ record { state = closing_end before c; emitted = []; took = false }
-closing_ignores v id (control (rr y)) before c talk = refl
-closing_ignores v id (control (rj y)) before c talk = refl
-closing_ignores v id (control (srj y)) before c talk = absurd talk
-closing_ignores v id (control close) before c talk = absurd talk
-closing_ignores v id (control (init_a y)) before c talk = absurd talk
-closing_ignores v id (control (init_b y)) before c talk = absurd talk
-closing_ignores v id (control (init_c y)) before c talk = absurd talk
-closing_ignores v id (carry seq ack k message) before c talk = refl
+pub closing_ignores : (number : Option ℕ) (v : List Seen) (id : Identity) (p : PacketValue) (before : State) (c : Count) → IsTalk p →
+    end_step (count_keeper v) id (packet_found_whole false p) (closing_end number before c)
+    ≡ record { state = closing_end number before c; emitted = []; took = false }
+closing_ignores number v id (control (rr y)) before c talk = refl
+closing_ignores number v id (control (rj y)) before c talk = refl
+closing_ignores number v id (control (srj y)) before c talk = absurd talk
+closing_ignores number v id (control close) before c talk = absurd talk
+closing_ignores number v id (control (init_a y)) before c talk = absurd talk
+closing_ignores number v id (control (init_b y)) before c talk = absurd talk
+closing_ignores number v id (control (init_c y)) before c talk = absurd talk
+closing_ignores number v id (carry seq ack k message) before c talk = refl
 
 over_has_parted : (opened sent took : Bool) → (opened && (sent && took)) ≡ true → (opened && (sent || took)) ≡ true
 over_has_parted true true true is = refl
@@ -156,18 +156,18 @@ over_has_parted true false took is = absurd cc
 over_has_parted false sent took is = absurd cc
 
 -- with CLOSE its session is done
-abbrev pub done_end : Identity → State → Count → EndEffect Count
-done_end id before c = record {
-  state = record { stage = ended ends.Done; link = halt (moved before Closing); keeper = c };
+abbrev pub done_end : (number : Option ℕ) → Identity → State → Count → EndEffect Count
+done_end number id before c = record {
+  state = record { stage = ended ends.Done; link = halt (moved before Closing); keeper = c; number = number };
   emitted = says_text (final_text id.side) ∷ [];
   took = false;
 }
 
-pub closing_ends : (v : List Seen) (id : Identity) (before : State) (c : Count) → (count_keeper v).is_over c ≡ true →
-    end_step (count_keeper v) id (packet_found_whole false (control close)) (closing_end before c) ≡ done_end id before c
-closing_ends v id before c over =
+pub closing_ends : (number : Option ℕ) (v : List Seen) (id : Identity) (before : State) (c : Count) → (count_keeper v).is_over c ≡ true →
+    end_step (count_keeper v) id (packet_found_whole false (control close)) (closing_end number before c) ≡ done_end number id before c
+closing_ends number v id before c over =
     ap (λ (parted : Bool). record {
-      state = record { stage = ended (how_it_ends parted ends.PeerClosed); link = halt (moved before Closing); keeper = c };
+      state = record { stage = ended (how_it_ends parted ends.PeerClosed); link = halt (moved before Closing); keeper = c; number = number };
       emitted = leave parted id.side;
       took = false;
     }) (over_has_parted c.opened (all_sent v c) (all_taken v c) over)
@@ -182,9 +182,9 @@ pub record WaitsOn (s : State) (c : Count) (x : EndEffect Count) : Type 0 where
   pub emitted : x.emitted ≡ packets emissions
   pub repeats : Repeats s x.state.link (packets_of emissions)
 
-waits_with : (s : State) (c : Count) (e : Effect) → Repeats s e.state (packets_of e.emitted) →
-    WaitsOn s c (goes_on_with false e.emitted (sending_nothing e.state c))
-waits_with s c e r = record {
+waits_with : (number : Option ℕ) (s : State) (c : Count) (e : Effect) → Repeats s e.state (packets_of e.emitted) →
+    WaitsOn s c (goes_on_with number false e.emitted (sending_nothing e.state c))
+waits_with number s c e r = record {
   stage = refl;
   keeper = refl;
   emissions = e.emitted;
@@ -192,14 +192,14 @@ waits_with s c e r = record {
   repeats = r;
 }
 
-waits_behind : (id : Identity) (parted : Bool) (s : State) (c : Count) (o : OutcomeValue) (e : Effect) →
-    MovesPhase o s.phase e.state.phase → Repeats s e.state (packets_of e.emitted) → WaitsOn s c (late_link id parted o e c)
-waits_behind id parted s c nothing e moves r = waits_with s c e r
-waits_behind id parted s c up e moves r = waits_with s c e r
-waits_behind id parted s c taken e moves r = waits_with s c e r
-waits_behind id parted s c closed e moves r = waits_with s c e r
-waits_behind id parted s c gave_up e moves r = absurd (let never : Up ≡ Halted = sym r.is_up ∙ moves.1 in cc)
-waits_behind id parted s c halted e moves r = waits_with s c e r
+waits_behind : (number : Option ℕ) (id : Identity) (parted : Bool) (s : State) (c : Count) (o : OutcomeValue) (e : Effect) →
+    MovesPhase o s.phase e.state.phase → Repeats s e.state (packets_of e.emitted) → WaitsOn s c (late_link number id parted o e c)
+waits_behind number id parted s c nothing e moves r = waits_with number s c e r
+waits_behind number id parted s c up e moves r = waits_with number s c e r
+waits_behind number id parted s c taken e moves r = waits_with number s c e r
+waits_behind number id parted s c closed e moves r = waits_with number s c e r
+waits_behind number id parted s c gave_up e moves r = absurd (let never : Up ≡ Halted = sym r.is_up ∙ moves.1 in cc)
+waits_behind number id parted s c halted e moves r = waits_with number s c e r
 
 pub waits_on : (v : List Seen) (id : Identity) (e : EndState Count) → e.stage ≡ linked → IsUp e.link → e.link.oldest < 8 →
     e.link.expected < 8 → length e.link.unacked ≤ 7 → e.link.timeouts + 1 < TIMEOUTS_MAX →
@@ -209,5 +209,5 @@ waits_on v id e on is low expected few lasts moves =
     let k = count_keeper v in
     let s = e.link in
     subst (λ stage. WaitsOn s e.keeper (stage_step k id stage time_ran_out e)) (sym on)
-    (waits_behind id (k.has_parted e.keeper) s e.keeper (step s timed_out).outcome (step s timed_out) moves
+    (waits_behind e.number id (k.has_parted e.keeper) s e.keeper (step s timed_out).outcome (step s timed_out) moves
     (repeats_so s is low expected few lasts))

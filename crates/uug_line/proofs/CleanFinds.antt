@@ -30,4 +30,4 @@ pub found_first : ReadsWritten → FindingLaws → (p : PacketValue) (rest : Lis
     finding linked (canonical p ++ rest) ≡ finds_packet p (canonical p ++ rest) rest
 found_first reads laws p rest formed =
     laws.more linked (canonical p) rest
-    ∙ ap (found_with linked rest) (found_alone p (canonical p) (has_bytes p) (reads p formed))
+    ∙ ap (found_with linked rest) (found_alone p (canonical p) (has_bytes p) (reads.packet p formed))

@@ -1,6 +1,6 @@
 -- What an end does with packets that come to it, one after the other, on a line where nothing is lost: it talks on, or closes
 -- when all is said and taken.
-use Rattle.std.proofs.Common.{◌≡◌, ◌⊎◌, inl, inr, ℕ, ◌<◌, Bool, true, false, All, List, [], ◌∷◌, ◌++◌, ap, ap₂, sym, subst, ◌∙◌, arith}
+use Rattle.std.proofs.Common.{◌≡◌, ◌⊎◌, inl, inr, ℕ, ◌<◌, Bool, true, false, All, List, [], ◌∷◌, ◌++◌, Option, ap, ap₂, sym, subst, ◌∙◌, arith}
 use Rattle.std.proofs.lemmas.List.{append_assoc}
 use Rattle.std.proofs.lemmas.List.Elements.{All-append, All-head, All-tail}
 use Rattle.uug_link.specs.declared.phase.Phase.TheVariants.{Closing}
@@ -62,7 +62,8 @@ StaysKnown K = (p : PacketValue) (a b : State) (ps qs answer : List PacketValue)
 pub record Shutting (v : List Seen) (x y : LineEnd Count) : Type 0 where
   pub before : State
   pub count : Count
-  pub state : y.state ≡ closing_end before count
+  pub number : Option ℕ
+  pub state : y.state ≡ closing_end number before count
   pub over : (count_keeper v).is_over count ≡ true
   pub last : List PacketValue
   pub line : y.line ≡ written (last ++ control close ∷ [])
@@ -93,8 +94,8 @@ all_there P [] p ps all = All-head P p ps all
 all_there P (q ∷ before) p ps all = all_there P before p ps (All-tail P q (before ++ p ∷ ps) all)
 
 same_state : (e : EndState Count) (before : State) → e.stage ≡ linked → e.link ≡ moved before Closing →
-    e ≡ closing_end before e.keeper
-same_state e before on is = ap₂ (λ stage link. record { stage = stage; link = link; keeper = e.keeper }) on is
+    e ≡ closing_end e.number before e.keeper
+same_state e before on is = ap₂ (λ stage link. record { stage = stage; link = link; keeper = e.keeper; number = e.number }) on is
 
 module _ (law : CleanLaws) (setup : SetupValue) (brought : AtBoth Belongings) (B : Side → LineEnd Count → LineEnd Count → Type 0)
     (base : Base setup brought B) (side : Side) where
@@ -164,6 +165,7 @@ module _ (law : CleanLaws) (setup : SetupValue) (brought : AtBoth Belongings) (B
         shutting = record {
           before = shut.before;
           count = eff.state.keeper;
+          number = eff.state.number;
           state = same_state eff.state shut.before shut.stage shut.link;
           over = shut.over;
           last = last;

@@ -1,5 +1,5 @@
 -- A clean line finishes: from every world that may settle rounds lead to the end.
-use Rattle.std.proofs.Common.{◌≡◌, ℕ, ◌+◌, ◌≤◌, Bool, true, List, [], ◌∷◌, length, refl, ap, ap₂, sym, subst, ◌∙◌, arith}
+use Rattle.std.proofs.Common.{◌≡◌, ℕ, ◌+◌, ◌≤◌, Bool, true, List, [], ◌∷◌, Option, length, refl, ap, ap₂, sym, subst, ◌∙◌, arith}
 use Rattle.std.proofs.lemmas.List.{take_all}
 use Rattle.uug_link.specs.InRange.{IsAnnouncement}
 use Rattle.uug_session.specs.declared.end.End.TheVariants as ends
@@ -38,10 +38,10 @@ use Rattle.uug_line.proofs.Standing.{Stands, run_goes}
 
 -- ---- two ends that have settled
 
-has_all : (parties_now : AtBoth Party) (side : Side) (brought : Belongings) (c : Count) (n : ℕ) → c.opened ≡ true → c.taken ≡ n →
-    by_numbers.has parties_now side brought c ≡ has_after parties_now side brought n
-has_all parties_now side brought c n is same =
-    ap₂ (λ (opened : Bool) (taken : ℕ). has_by opened parties_now side brought taken) is same
+has_all : (parties_now : AtBoth Party) (side : Side) (brought : Belongings) (number : Option ℕ) (c : Count) (n : ℕ) → c.opened ≡ true → c.taken ≡ n →
+    by_numbers.has parties_now side brought number c ≡ has_after parties_now side brought number n
+has_all parties_now side brought number c n is same =
+    ap₂ (λ (opened : Bool) (taken : ℕ). has_by opened parties_now side brought number taken) is same
 
 -- what the law says, from what it says for the program's loop
 pub settles_of : (setup : SetupValue) (events : List Event) → SettlesFrom setup (length events) (world setup events) → Settles setup events
@@ -91,7 +91,7 @@ module _ (law : Laws) (clean : CleanLaws) (sessions : SessionLaws) (setup : Setu
     settled_caller past x y done t = record {
       done = done;
       taken = t.taken;
-      has = has_all (parties setup brought) Caller brought.at_caller x.state.keeper
+      has = has_all (parties setup brought) Caller brought.at_caller x.state.number x.state.keeper
           (length (others_messages (seen setup brought Caller))) t.opened t.number;
     }
 
@@ -100,7 +100,7 @@ module _ (law : Laws) (clean : CleanLaws) (sessions : SessionLaws) (setup : Setu
     settled_called past x y done t = record {
       done = done;
       taken = t.taken;
-      has = has_all (parties setup brought) Called brought.at_called y.state.keeper
+      has = has_all (parties setup brought) Called brought.at_called y.state.number y.state.keeper
           (length (others_messages (seen setup brought Called))) t.opened t.number;
     }
 

@@ -1,6 +1,7 @@
 -- Whole sessions over a clean line, worked out by hand, and computed with the two ends themselves and with two
 -- numbers an end.
 use Rattle.std.proofs.Common.{ℕ, List, [], ◌∷◌, replicate, codes, refl}
+use Rattle.uug_link.specs.Terms.{smallest_code}
 use Rattle.uug_packet.specs.Checksum.{check}
 use Rattle.uug_packet.specs.Decoded.{header_at, decoded}
 use Rattle.uug_packet.specs.Packet.{close, rr, init_c, init_b, init_a, control, carry}
@@ -27,47 +28,47 @@ nothing_left = owns 0 0 0 []
 
 pub file_is_sent : ComeTo (sends_to no_holdings) (flow 20)
     (done (talks 4 3 1 (Ended Done)) (talks 3 4 1 (Ended Done)) (owns 0 1 0 []) (owns 0 0 0 (file y [] ∷ [])))
-unfolding check header_at decoded
+unfolding check header_at decoded smallest_code
 file_is_sent = record { themselves = refl; numbers = refl; same = refl }
 
 pub file_is_denied : ComeTo (sends_to denies_y) (flow 20)
     (done (talks 3 2 1 (Ended Done)) (talks 2 3 1 (Ended Done)) (owns 0 0 1 []) nothing_left)
-unfolding check header_at decoded
+unfolding check header_at decoded smallest_code
 file_is_denied = record { themselves = refl; numbers = refl; same = refl }
 
 pub file_is_put_off : ComeTo (sends_to puts_y_off) (flow 20)
     (done (talks 3 2 1 (Ended Done)) (talks 2 3 1 (Ended Done)) (owns 1 0 0 []) nothing_left)
-unfolding check header_at decoded
+unfolding check header_at decoded smallest_code
 file_is_put_off = record { themselves = refl; numbers = refl; same = refl }
 
 pub file_has_no_place : ComeTo (sends_to cannot_place_y) (flow 20)
     (done (talks 4 3 1 (Ended Done)) (talks 3 4 1 (Ended Done)) (owns 0 0 1 []) nothing_left)
-unfolding check header_at decoded
+unfolding check header_at decoded smallest_code
 file_has_no_place = record { themselves = refl; numbers = refl; same = refl }
 
 -- ---- the caller asks for a file
 
 pub file_is_given : ComeTo (two_ends (request ∷ []) no_holdings [] (gives (file q []))) (flow 20)
     (done (talks 4 3 2 (Ended Done)) (talks 3 4 2 (Ended Done)) (owns 0 1 0 (file y [] ∷ [])) nothing_left)
-unfolding check header_at decoded
+unfolding check header_at decoded smallest_code
 file_is_given = record { themselves = refl; numbers = refl; same = refl }
 
 pub file_is_not_there : ComeTo (two_ends (request ∷ []) (gives (file x [])) [] no_holdings) (flow 20)
     (done (talks 3 2 1 (Ended Done)) (talks 2 3 1 (Ended Done)) (owns 0 0 1 []) nothing_left)
-unfolding check header_at decoded
+unfolding check header_at decoded smallest_code
 file_is_not_there = record { themselves = refl; numbers = refl; same = refl }
 
 -- ---- the called end sends a file: the roles are exchanged
 
 pub roles_are_exchanged : ComeTo (two_ends [] no_holdings (send ∷ []) (gives (file x []))) (flow 20)
     (done (talks 4 5 1 (Ended Done)) (talks 5 4 2 (Ended Done)) (owns 0 0 0 (file y [] ∷ [])) (owns 0 1 0 []))
-unfolding check header_at decoded
+unfolding check header_at decoded smallest_code
 roles_are_exchanged = record { themselves = refl; numbers = refl; same = refl }
 
 -- the bytes come one by one
 pub file_is_sent_byte_by_byte : ComeTo (sends_to no_holdings) (trickle 500)
     (done (talks 4 3 1 (Ended Done)) (talks 3 4 1 (Ended Done)) (owns 0 1 0 []) (owns 0 0 0 (file y [] ∷ [])))
-unfolding check header_at decoded
+unfolding check header_at decoded smallest_code
 file_is_sent_byte_by_byte = record { themselves = refl; numbers = refl; same = refl }
 
 -- ---- the called end announces size 32 and the caller size 64: the file goes out in messages of 32
@@ -82,7 +83,7 @@ pub size_is_the_others : ComeTo
     })
     (flow 20)
     (done (talks 6 3 2 (Ended Done)) (talks 3 6 1 (Ended Done)) (owns 0 1 0 []) (owns 0 0 0 (file y forty_bytes ∷ [])))
-unfolding check header_at decoded
+unfolding check header_at decoded smallest_code
 size_is_the_others = record { themselves = refl; numbers = refl; same = refl }
 
 -- ---- what is written down of a session, with all its packets
@@ -119,5 +120,5 @@ called_log = record {
 }
 
 pub all_packets : Logs (sends_to no_holdings) (flow 20) caller_log called_log
-unfolding check header_at decoded
+unfolding check header_at decoded smallest_code
 all_packets = record { themselves = refl; numbers = refl }

@@ -1,5 +1,5 @@
 -- All packets of a line come to an end, where nothing on it is lost: to one that talks, or to one that has closed.
-use Rattle.std.proofs.Common.{◌≡◌, ◌⊎◌, inl, inr, ℕ, ◌≤◌, true, false, All, List, [], ◌∷◌, ◌++◌, length, refl, ap, sym, subst, ◌∙◌}
+use Rattle.std.proofs.Common.{◌≡◌, ◌⊎◌, inl, inr, ℕ, ◌≤◌, true, false, All, List, [], ◌∷◌, ◌++◌, Option, length, refl, ap, sym, subst, ◌∙◌}
 use Rattle.std.proofs.lemmas.List.{append-nil}
 use Rattle.std.proofs.lemmas.List.Elements.{All-head, All-tail}
 use Rattle.uug_link.specs.OnTheWay.{AreComing, IsTalk}
@@ -40,11 +40,12 @@ pub record Ignores (setup : SetupValue) (brought : AtBoth Belongings) (B : Side 
 pub record Closed (v : List Seen) (y : LineEnd Count) : Type 0 where
   pub before : State
   pub count : Count
-  pub state : y.state ≡ closing_end before count
+  pub number : Option ℕ
+  pub state : y.state ≡ closing_end number before count
   pub over : (count_keeper v).is_over count ≡ true
 
 pub closed_of : (v : List Seen) (x y : LineEnd Count) → Shutting v x y → Closed v y
-closed_of v x y s = record { before = s.before; count = s.count; state = s.state; over = s.over }
+closed_of v x y s = record { before = s.before; count = s.count; number = s.number; state = s.state; over = s.over }
 
 -- one whose session is done then: CLOSE is the last packet that it has emitted
 pub record Leaves (setup : SetupValue) (brought : AtBoth Belongings) (B : Side → LineEnd Count → LineEnd Count → Type 0)
@@ -62,6 +63,7 @@ still_shutting : (v : List Seen) (x y then : LineEnd Count) → then.state ≡ y
 still_shutting v x y then state line packets s = record {
   before = s.before;
   count = s.count;
+  number = s.number;
   state = state ∙ s.state;
   over = s.over;
   last = s.last;
@@ -92,10 +94,10 @@ module _ (law : CleanLaws) (setup : SetupValue) (brought : AtBoth Belongings) (B
     (base : Base setup brought B) (side : Side) where
   -- ---- to one that closes
 
-  ignores_as : (x y : LineEnd Count) (p : PacketValue) (rest : List PacketValue) (before : State) (count : Count) → B side y x →
-      y.state ≡ closing_end before count → IsTalk p → AreComing (as_end x) (as_end y) (p ∷ rest) →
+  ignores_as : (x y : LineEnd Count) (p : PacketValue) (rest : List PacketValue) (before : State) (count : Count) (number : Option ℕ) → B side y x →
+      y.state ≡ closing_end number before count → IsTalk p → AreComing (as_end x) (as_end y) (p ∷ rest) →
       Ignores setup brought B side x y (canonical p) rest
-  ignores_as x y p rest before count is state talk coming =
+  ignores_as x y p rest before count number is state talk coming =
       let at_place = next_found law (as_end x) (as_end y) p rest coming in
       let player = count_player setup brought side in
       let id = identity setup side in
@@ -103,9 +105,9 @@ module _ (law : CleanLaws) (setup : SetupValue) (brought : AtBoth Belongings) (B
       let effect = end_step player.keeper player.identity (packet_found_whole false p) y.state in
       let then = packet_taken_up player p at_place.place y in
       let on : y.state.stage ≡ linked = ap (λ (e : EndState Count). e.stage) state in
-      let same : then ≡ with_packet p at_place.place y (record { state = closing_end before count; emitted = []; took = false }) =
+      let same : then ≡ with_packet p at_place.place y (record { state = closing_end number before count; emitted = []; took = false }) =
       ap (with_packet p at_place.place y)
-      (ap (end_step player.keeper player.identity (packet_found_whole false p)) state ∙ closing_ignores v id p before count talk) in
+      (ap (end_step player.keeper player.identity (packet_found_whole false p)) state ∙ closing_ignores number v id p before count talk) in
       record {
         then = then;
         came = came_so law setup brought B base side x y p at_place.place on
@@ -117,10 +119,10 @@ module _ (law : CleanLaws) (setup : SetupValue) (brought : AtBoth Belongings) (B
         packets = ap (λ (e : LineEnd Count). e.log.packets) same ∙ append-nil y.log.packets;
       }
 
-  ignores_all : (ps : List PacketValue) (x y : LineEnd Count) (rest : List PacketValue) (before : State) (count : Count) → B side y x →
-      y.state ≡ closing_end before count → All IsTalk ps → AreComing (as_end x) (as_end y) (ps ++ rest) →
+  ignores_all : (ps : List PacketValue) (x y : LineEnd Count) (rest : List PacketValue) (before : State) (count : Count) (number : Option ℕ) → B side y x →
+      y.state ≡ closing_end number before count → All IsTalk ps → AreComing (as_end x) (as_end y) (ps ++ rest) →
       Ignores setup brought B side x y (written ps) rest
-  ignores_all [] x y rest before count is state talk coming = record {
+  ignores_all [] x y rest before count number is state talk coming = record {
     then = y;
     came = nothing_came setup brought B side x y is;
     coming = coming;
@@ -128,9 +130,9 @@ module _ (law : CleanLaws) (setup : SetupValue) (brought : AtBoth Belongings) (B
     line = refl;
     packets = refl;
   }
-  ignores_all (p ∷ ps) x y rest before count is state talk coming =
-      let first = ignores_as x y p (ps ++ rest) before count is state (All-head IsTalk p ps talk) coming in
-      let later = ignores_all ps x first.then rest before count first.came.base (first.state ∙ state)
+  ignores_all (p ∷ ps) x y rest before count number is state talk coming =
+      let first = ignores_as x y p (ps ++ rest) before count number is state (All-head IsTalk p ps talk) coming in
+      let later = ignores_all ps x first.then rest before count number first.came.base (first.state ∙ state)
       (All-tail IsTalk p ps talk) first.coming in
       record {
         then = later.then;
@@ -152,10 +154,10 @@ module _ (law : CleanLaws) (setup : SetupValue) (brought : AtBoth Belongings) (B
       let v = seen setup brought side in
       let then = packet_taken_up player p at_place.place y in
       let on : y.state.stage ≡ linked = ap (λ (e : EndState Count). e.stage) s.state in
-      let same : then ≡ with_packet p at_place.place y (done_end id s.before s.count) =
+      let same : then ≡ with_packet p at_place.place y (done_end s.number id s.before s.count) =
       ap (with_packet p at_place.place y)
       (ap (end_step player.keeper player.identity (packet_found_whole false p)) s.state
-      ∙ closing_ends v id s.before s.count s.over) in
+      ∙ closing_ends s.number v id s.before s.count s.over) in
       record {
         then = then;
         came = came_so law setup brought B base side x y p at_place.place on
@@ -172,9 +174,9 @@ module _ (law : CleanLaws) (setup : SetupValue) (brought : AtBoth Belongings) (B
       AreComing (as_end x) (as_end y) (ps ++ control close ∷ []) →
       Leaves setup brought B side x y (written ps ++ canonical (control close))
   closes_with x y ps is s talk coming =
-      let first = ignores_all ps x y (control close ∷ []) s.before s.count is s.state talk coming in
+      let first = ignores_all ps x y (control close ∷ []) s.before s.count s.number is s.state talk coming in
       let later = leaves x first.then first.came.base
-      (record { before = s.before; count = s.count; state = first.state ∙ s.state; over = s.over }) first.coming in
+      (record { before = s.before; count = s.count; number = s.number; state = first.state ∙ s.state; over = s.over }) first.coming in
       record {
         then = later.then;
         came = came_on setup brought B side x y first.then later.then (written ps) (canonical (control close)) first.came later.came;
@@ -203,7 +205,7 @@ module _ (law : CleanLaws) (setup : SetupValue) (brought : AtBoth Belongings) (B
   unfolding still_shutting
   heard_shut K x y ps behind is talk coming shut =
       let s = shut.shutting in
-      let i = ignores_all ps x y behind s.before s.count is s.state talk coming in
+      let i = ignores_all ps x y behind s.before s.count s.number is s.state talk coming in
       record {
         then = i.then;
         came = i.came;

@@ -269,6 +269,7 @@ module _ (law : CleanLaws) (setup : SetupValue) (brought : AtBoth Belongings) (B
               closed = record {
                 before = s.shutting.before;
                 count = s.shutting.count;
+                number = s.shutting.number;
                 state = s.shutting.state;
                 over = s.shutting.over;
               };

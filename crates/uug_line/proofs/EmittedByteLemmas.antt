@@ -1,7 +1,11 @@
 -- What an end emits is bytes, where its name is and its packets carry bytes.
-use Rattle.std.proofs.Common.{ℕ, Bool, true, false, ◌&&◌, nat_lt, ◌+◌, if◌then◌else◌, List, [], ◌∷◌, ◌++◌, drop, map, codes, All, arith}
+use Rattle.std.proofs.Common.{ℕ, zero, suc, Bool, true, false, ◌&&◌, nat_lt, ◌<◌, ◌+◌, ◌/◌, ◌%◌, ◌==◌, if◌then◌else◌, List, [], ◌∷◌, ◌++◌, drop, map, codes, All, Option, None, Some, arith}
 use Rattle.std.specs.Bool.{⊤}
+use Rattle.std.specs.Fmt.{decimal, digit_glyph, digits, digits_onto}
 use Rattle.std.specs.Str.{bytes_eq}
+use Rattle.std.proofs.Math.Nat.{mod-lt}
+use Rattle.std.proofs.lemmas.Bool.Decides.{nat_tests}
+use Rattle.uug_talk.specs.Call.{call_text, number_in_call, number_word}
 use Rattle.std.proofs.lemmas.List.Elements.{All-nil, All-cons, All-head, All-tail, All-append, All-replicate}
 use Rattle.uug_link.specs.declared.limits.TheConstants.{TIMEOUTS_MAX}
 use Rattle.uug_link.specs.Step.{Effect, Emission, OutcomeValue, nothing, up, taken, closed, gave_up, halted, bad_found, packet_found, step, timed_out, to_begin}
@@ -17,7 +21,7 @@ use Rattle.uug_session.specs.declared.greeting.Greeted.{Greeted}
 use Rattle.uug_session.specs.declared.greeting.Greeted.TheVariants.{GoesOn, LinkBegins, Ended}
 use Rattle.uug_session.specs.declared.greeting.Greeting.{Greeting}
 use Rattle.uug_session.specs.EndStep.{EndEvent, EndState, Emitted, Identity, Stage, behind_link, begins_link, broken_found, ended, first_words, goes_on as link_goes_on, greeted_so, hailing, hailing_step, is_up, late_link, leave, line_lost, linked, linked_step, long_text_found, message_of, packet_found_whole, packets, says_text, sends_packet, speaks_by, stage_step, takes_by, talks_by, text_found, then_closes, time_ran_out}
-use Rattle.uug_session.specs.Greeting.{GreetingStep, begins_with, called_text, caller_text, came_for, fails, goes_on, begins, name_in_caller_text, offers_g, passes_over, text_came, timed_out as greeting_timed_out}
+use Rattle.uug_session.specs.Greeting.{GreetingStep, begins_with, called_text, came_for, fails, goes_on, begins, is_expected, lets_in, name_in_caller_text, number_by, number_came, offers_g, passes_over, text_came, timed_out as greeting_timed_out}
 use Rattle.uug_session.specs.Keeper.{Keeper}
 use Rattle.uug_session.specs.Says.{written_text}
 use Rattle.uug_session.specs.Turns.{Side, caller, called}
@@ -61,40 +65,40 @@ ends_say emissions parted side =
     both_say (packets emissions) (leave parted side) (packets_say emissions) (leave_says parted side)
 
 module _ {C : Type 0} (k : Keeper C) (id : Identity) where
-  on_says : (took : Bool) (e : Effect) (c : C) → SaysBytes (link_goes_on k took e c).emitted
-  on_says took e c = packets_say (e.emitted ++ (speaks_by (is_up e.state.phase) k e.state c).emissions)
+  on_says : (number : Option ℕ) (took : Bool) (e : Effect) (c : C) → SaysBytes (link_goes_on number k took e c).emitted
+  on_says number took e c = packets_say (e.emitted ++ (speaks_by (is_up e.state.phase) k e.state c).emissions)
 
-  talk_says : (bad_talk : Bool) (e : Effect) (before after : C) → SaysBytes (talks_by bad_talk k id e before after).emitted
-  talk_says true e before after = ends_say (then_closes e).emitted (k.has_parted before) id.side
-  talk_says false e before after = on_says true e after
+  talk_says : (number : Option ℕ) (bad_talk : Bool) (e : Effect) (before after : C) → SaysBytes (talks_by number bad_talk k id e before after).emitted
+  talk_says number true e before after = ends_say (then_closes e).emitted (k.has_parted before) id.side
+  talk_says number false e before after = on_says number true e after
 
-  take_says : (failed : Bool) (e : Effect) (message : List ℕ) (c : C) → SaysBytes (takes_by failed k id e message c).emitted
-  take_says true e message c = ends_say (then_closes e).emitted (k.has_parted c) id.side
-  take_says false e message c = talk_says (k.is_bad (k.taking message c)) e c (k.taking message c)
+  take_says : (number : Option ℕ) (failed : Bool) (e : Effect) (message : List ℕ) (c : C) → SaysBytes (takes_by number failed k id e message c).emitted
+  take_says number true e message c = ends_say (then_closes e).emitted (k.has_parted c) id.side
+  take_says number false e message c = talk_says number (k.is_bad (k.taking message c)) e c (k.taking message c)
 
-  link_says : (failed : Bool) (o : OutcomeValue) (e : Effect) (message : List ℕ) (c : C)
-      → SaysBytes (behind_link k id failed o e message c).emitted
-  link_says failed nothing e message c = on_says false e c
-  link_says failed up e message c = on_says false e (k.opened (size_of_code e.state.size_code) c)
-  link_says failed taken e message c = take_says (failed && k.asks_spool message c) e message c
-  link_says failed closed e message c = ends_say e.emitted (k.has_parted c) id.side
-  link_says failed gave_up e message c = ends_say e.emitted (k.has_parted c) id.side
-  link_says failed halted e message c = on_says false e c
+  link_says : (number : Option ℕ) (failed : Bool) (o : OutcomeValue) (e : Effect) (message : List ℕ) (c : C)
+      → SaysBytes (behind_link number k id failed o e message c).emitted
+  link_says number failed nothing e message c = on_says number false e c
+  link_says number failed up e message c = on_says number false e (k.opened (size_of_code e.state.size_code) c)
+  link_says number failed taken e message c = take_says number (failed && k.asks_spool message c) e message c
+  link_says number failed closed e message c = ends_say e.emitted (k.has_parted c) id.side
+  link_says number failed gave_up e message c = ends_say e.emitted (k.has_parted c) id.side
+  link_says number failed halted e message c = on_says number false e c
 
-  late_says : (parted : Bool) (o : OutcomeValue) (e : Effect) (c : C) → SaysBytes (late_link id parted o e c).emitted
-  late_says parted nothing e c = packets_say (e.emitted ++ [])
-  late_says parted up e c = packets_say (e.emitted ++ [])
-  late_says parted taken e c = packets_say (e.emitted ++ [])
-  late_says parted closed e c = packets_say (e.emitted ++ [])
-  late_says parted gave_up e c = ends_say e.emitted parted id.side
-  late_says parted halted e c = packets_say (e.emitted ++ [])
+  late_says : (number : Option ℕ) (parted : Bool) (o : OutcomeValue) (e : Effect) (c : C) → SaysBytes (late_link number id parted o e c).emitted
+  late_says number parted nothing e c = packets_say (e.emitted ++ [])
+  late_says number parted up e c = packets_say (e.emitted ++ [])
+  late_says number parted taken e c = packets_say (e.emitted ++ [])
+  late_says number parted closed e c = packets_say (e.emitted ++ [])
+  late_says number parted gave_up e c = ends_say e.emitted parted id.side
+  late_says number parted halted e c = packets_say (e.emitted ++ [])
 
   linked_says : (event : EndEvent) (e : EndState C) → SaysBytes (linked_step k id event e).emitted
   linked_says (packet_found_whole failed p) e =
-      let effect : Effect = step e.link (packet_found p) in link_says failed effect.outcome effect (message_of p) e.keeper
-  linked_says broken_found e = let effect : Effect = step e.link bad_found in link_says false effect.outcome effect [] e.keeper
+      let effect : Effect = step e.link (packet_found p) in link_says e.number failed effect.outcome effect (message_of p) e.keeper
+  linked_says broken_found e = let effect : Effect = step e.link bad_found in link_says e.number false effect.outcome effect [] e.keeper
   linked_says time_ran_out e =
-      let effect : Effect = step e.link timed_out in late_says (k.has_parted e.keeper) effect.outcome effect e.keeper
+      let effect : Effect = step e.link timed_out in late_says e.number (k.has_parted e.keeper) effect.outcome effect e.keeper
   linked_says line_lost e = tt
   linked_says (text_found text) e = tt
   linked_says long_text_found e = tt
@@ -108,8 +112,37 @@ either_greets : (b : Bool) (x y : GreetingStep) → GreetsInBytes x → GreetsIn
 either_greets true x y s t = s
 either_greets false x y s t = t
 
-caller_says : (me : List ℕ) → AllBytes me → TextsOfBytes (caller_text me ∷ [])
-caller_says me is = (All-append IsByte (codes "S") me (bytewise (codes "S") (omega arith, tt)) is, tt)
+-- a decimal digit is a byte, and so is all that a number writes
+digit_is : (d : ℕ) → d < 10 → IsByte (digit_glyph false d)
+digit_is d less = grind (arith, nat_tests, less)
+
+either_bytes : (b : Bool) (xs ys : List ℕ) → AllBytes xs → AllBytes ys → AllBytes (if b then xs else ys)
+either_bytes true xs ys x y = x
+either_bytes false xs ys x y = y
+
+digits_are : (k n : ℕ) (behind : List ℕ) → AllBytes behind → AllBytes (digits_onto k 10 false n behind)
+digits_are zero n behind is = is
+digits_are (suc k) n behind is =
+    let digit = digit_glyph false (n % 10) in
+    let with_digit : AllBytes (digit ∷ behind) = All-cons IsByte digit behind (digit_is (n % 10) (mod-lt n (omega arith))) is in
+    either_bytes (n / 10 == 0) (digit ∷ behind) (digits_onto k 10 false (n / 10) (digit ∷ behind)) with_digit
+    (digits_are k (n / 10) (digit ∷ behind) with_digit)
+
+decimal_bytes : (n : ℕ) → AllBytes (decimal n)
+unfolding digits
+decimal_bytes n = digits_are 64 n [] (All-nil IsByte)
+
+named_bytes : (me : List ℕ) → AllBytes me → AllBytes (codes "S" ++ me)
+named_bytes me is = All-append IsByte (codes "S") me (bytewise (codes "S") (omega arith, tt)) is
+
+caller_says : (me : List ℕ) (number : Option ℕ) → AllBytes me → TextsOfBytes (call_text me number ∷ [])
+caller_says me None is = (named_bytes me is, tt)
+caller_says me (Some number) is = (
+  All-append IsByte (codes "S" ++ me) (32 ∷ number_word number) (named_bytes me is)
+      (All-append IsByte (32 ∷ codes "-Q") (decimal number)
+      (bytewise (32 ∷ codes "-Q") (omega arith, (omega arith, (omega arith, tt)))) (decimal_bytes number)),
+  tt,
+)
 
 called_says : (me : List ℕ) → AllBytes me → TextsOfBytes (called_text me ∷ [])
 called_says me is = (
@@ -179,37 +212,50 @@ refused = (each, tt)
       ),
     )
 
-greeting_says : (awaited : AwaitedText) (me peer : List ℕ) (g : Greeting) (text : List ℕ) → AllBytes me
-    → GreetsInBytes (came_for awaited me peer g text)
-greeting_says CalledName me peer g text is =
-    either_greets (bytes_eq text (codes "Shere")) (goes_on (caller_text me ∷ []) Admission)
+seven_letters : (a b c d e f g : ℕ) → IsByte a → IsByte b → IsByte c → IsByte d → IsByte e → IsByte f → IsByte g → AllBytes (a ∷ b ∷ c ∷ d ∷ e ∷ f ∷ g ∷ [])
+seven_letters a b c d e f g ia ib ic id ie if_ ig = bytewise (a ∷ b ∷ c ∷ d ∷ e ∷ f ∷ g ∷ []) (ia, (ib, (ic, (id, (ie, (if_, (ig, tt)))))))
+
+number_says : (expected : Bool) → GreetsInBytes (number_came expected)
+number_says false =
+    (seven_letters 82 66 65 68 83 69 81 (omega arith) (omega arith) (omega arith) (omega arith) (omega arith) (omega arith) (omega arith), tt)
+number_says true = admitted
+
+greeting_says : (awaited : AwaitedText) (me peer : List ℕ) (number : Option ℕ) (g : Greeting) (text : List ℕ) → AllBytes me
+    → GreetsInBytes (came_for awaited me peer number g text)
+greeting_says CalledName me peer number g text is =
+    let told : GreetingStep = goes_on (call_text me number ∷ []) Admission in
+    either_greets (bytes_eq text (codes "Shere")) told
     (if begins_with text (codes "Shere=")
-    then (if bytes_eq (drop 6 text) peer then goes_on (caller_text me ∷ []) Admission else fails [] ends.WrongName)
+    then (if bytes_eq (drop 6 text) peer then told else fails [] ends.WrongName)
     else passes_over g)
-    (caller_says me is)
+    (caller_says me number is)
     (either_greets (begins_with text (codes "Shere="))
-    (if bytes_eq (drop 6 text) peer then goes_on (caller_text me ∷ []) Admission else fails [] ends.WrongName) (passes_over g)
-    (either_greets (bytes_eq (drop 6 text) peer) (goes_on (caller_text me ∷ []) Admission) (fails [] ends.WrongName)
-    (caller_says me is) tt) tt)
-greeting_says CallerName me peer g text is =
+    (if bytes_eq (drop 6 text) peer then told else fails [] ends.WrongName) (passes_over g)
+    (either_greets (bytes_eq (drop 6 text) peer) told (fails [] ends.WrongName)
+    (caller_says me number is) tt) tt)
+greeting_says CallerName me peer number g text is =
+    let expected = is_expected number (number_in_call text) in
     either_greets (begins_with text (codes "S"))
     (if bytes_eq (name_in_caller_text text) peer
-    then goes_on (codes "ROK" ∷ codes "Pg" ∷ []) Choice
+    then number_came expected
     else fails (codes "RYou are unknown to me" ∷ []) ends.Refused)
     (passes_over g)
-    (either_greets (bytes_eq (name_in_caller_text text) peer) (goes_on (codes "ROK" ∷ codes "Pg" ∷ []) Choice)
-    (fails (codes "RYou are unknown to me" ∷ []) ends.Refused) admitted refused)
+    (either_greets (bytes_eq (name_in_caller_text text) peer) (number_came expected)
+    (fails (codes "RYou are unknown to me" ∷ []) ends.Refused) (number_says expected) refused)
     tt
-greeting_says Admission me peer g text is =
-    either_greets (begins_with text (codes "ROK")) (goes_on [] Protocols)
-    (if begins_with text (codes "R") then fails [] ends.Refused else passes_over g) tt
-    (either_greets (begins_with text (codes "R")) (fails [] ends.Refused) (passes_over g) tt tt)
-greeting_says Protocols me peer g text is =
+greeting_says Admission me peer number g text is =
+    let bad : GreetingStep = fails [] ends.BadSequence in
+    let other : GreetingStep = if begins_with text (codes "R") then fails [] ends.Refused else passes_over g in
+    either_greets (begins_with text (codes "ROK")) (lets_in [] Protocols)
+    (if begins_with text (codes "RBADSEQ") then bad else other) tt
+    (either_greets (begins_with text (codes "RBADSEQ")) bad other tt
+    (either_greets (begins_with text (codes "R")) (fails [] ends.Refused) (passes_over g) tt tt))
+greeting_says Protocols me peer number g text is =
     either_greets (begins_with text (codes "P"))
     (if offers_g text then begins (codes "Ug" ∷ []) else fails (codes "UN" ∷ []) ends.NoProtocol) (passes_over g)
     (either_greets (offers_g text) (begins (codes "Ug" ∷ [])) (fails (codes "UN" ∷ []) ends.NoProtocol)
     (two_letters 85 103 (omega arith) (omega arith), tt) (two_letters 85 78 (omega arith) (omega arith), tt)) tt
-greeting_says Choice me peer g text is =
+greeting_says Choice me peer number g text is =
     either_greets (bytes_eq text (codes "Ug")) (begins [])
     (if begins_with text (codes "U") then fails [] ends.NoProtocol else passes_over g) tt
     (either_greets (begins_with text (codes "U")) (fails [] ends.NoProtocol) (passes_over g) tt tt)
@@ -217,30 +263,30 @@ greeting_says Choice me peer g text is =
 late_greets : (g : Greeting) → GreetsInBytes (greeting_timed_out g)
 late_greets g =
     either_greets (nat_lt (g.timeouts + 1) TIMEOUTS_MAX)
-    (record { says = []; greeted = GoesOn (record { awaited = g.awaited; timeouts = g.timeouts + 1 }) })
+    (record { says = []; greeted = GoesOn (record { awaited = g.awaited; timeouts = g.timeouts + 1 }); rises = false })
     (fails [] ends.GaveUp) tt tt
 
-begin_says : {C : Type 0} (side : Side) (s : State) (c : C) (said : List Emitted) → SaysBytes said
-    → SaysBytes (begins_link side s c said).emitted
-begin_says caller s c said is = both_say said (packets (step s to_begin).emitted) is (packets_say (step s to_begin).emitted)
-begin_says called s c said is = is
+begin_says : {C : Type 0} (number : Option ℕ) (side : Side) (s : State) (c : C) (said : List Emitted) → SaysBytes said
+    → SaysBytes (begins_link number side s c said).emitted
+begin_says number caller s c said is = both_say said (packets (step s to_begin).emitted) is (packets_say (step s to_begin).emitted)
+begin_says number called s c said is = is
 
-greeted_says : {C : Type 0} (id : Identity) (how : Greeted) (said : List Emitted) (s : State) (c : C) → SaysBytes said
-    → SaysBytes (greeted_so id how said s c).emitted
-greeted_says id (GoesOn g) said s c is = is
-greeted_says id LinkBegins said s c is = begin_says id.side s c said is
-greeted_says id (Ended how) said s c is = is
+greeted_says : {C : Type 0} (number : Option ℕ) (id : Identity) (how : Greeted) (said : List Emitted) (s : State) (c : C) → SaysBytes said
+    → SaysBytes (greeted_so number id how said s c).emitted
+greeted_says number id (GoesOn g) said s c is = is
+greeted_says number id LinkBegins said s c is = begin_says number id.side s c said is
+greeted_says number id (Ended how) said s c is = is
 
 hail_says : {C : Type 0} (id : Identity) (g : Greeting) (event : EndEvent) (e : EndState C) → AllBytes id.me
     → SaysBytes (hailing_step id g event e).emitted
 hail_says id g (text_found text) e is =
-    let came : GreetingStep = text_came id.me id.peer g text in
-    greeted_says id came.greeted (map says_text came.says) e.link e.keeper
-    (texts_say came.says (greeting_says g.awaited id.me id.peer g text is))
+    let came : GreetingStep = text_came id.me id.peer e.number g text in
+    greeted_says (number_by came.rises e.number) id came.greeted (map says_text came.says) e.link e.keeper
+    (texts_say came.says (greeting_says g.awaited id.me id.peer e.number g text is))
 hail_says id g long_text_found e is = tt
 hail_says id g time_ran_out e is =
     let came : GreetingStep = greeting_timed_out g in
-    greeted_says id came.greeted (map says_text came.says) e.link e.keeper (texts_say came.says (late_greets g))
+    greeted_says (number_by came.rises e.number) id came.greeted (map says_text came.says) e.link e.keeper (texts_say came.says (late_greets g))
 hail_says id g line_lost e is = tt
 hail_says id g (packet_found_whole failed p) e is = tt
 hail_says id g broken_found e is = tt

@@ -1,5 +1,5 @@
 -- What the calls of an end of the program come to.
-use Rattle.std.proofs.Common.{◌≡◌, ℕ, ◌+◌, ◌<◌, Bool, true, false, nat_lt, if◌then◌else◌, List, [], ◌++◌, map, length, ap, sym, subst, ◌∙◌, refl, arith}
+use Rattle.std.proofs.Common.{◌≡◌, ℕ, ◌+◌, ◌<◌, Bool, true, false, nat_lt, if◌then◌else◌, List, [], ◌++◌, map, length, ap, sym, subst, ◌∙◌, refl, arith, Option}
 use Rattle.std.proofs.lemmas.List.{append-nil}
 use Rattle.std.proofs.lemmas.List.Elements.{recursion_from_All}
 use Rattle.uug_link.specs.Announced.{Announced}
@@ -40,27 +40,27 @@ same_bytes (hailing g) a b texts packets = ap (λ (t : TextsHeld). t.bytes) text
 same_bytes linked a b texts packets = ap (λ (r : Reading). r.bytes) packets
 same_bytes (ended how) a b texts packets = refl
 
-greeting_late : (in_time : Bool) (id : Identity) (g : Greeting) (s : State) (c : Talk) (n : NodeState)
-    → HoldsOn (behind_greeting id (if in_time
-    then record { says = []; greeted = GoesOn (record { awaited = g.awaited; timeouts = g.timeouts + 1 }) }
+greeting_late : (number : Option ℕ) (in_time : Bool) (id : Identity) (g : Greeting) (s : State) (c : Talk) (n : NodeState)
+    → HoldsOn (behind_greeting number id (if in_time
+    then record { says = []; greeted = GoesOn (record { awaited = g.awaited; timeouts = g.timeouts + 1 }); rises = false }
     else fails [] ends.GaveUp) s c) (hailing g) n
-greeting_late true id g s c n = refl
-greeting_late false id g s c n = refl
+greeting_late number true id g s c n = refl
+greeting_late number false id g s c n = refl
 
-link_late : (id : Identity) (parted : Bool) (o : OutcomeValue) (e : Effect) (c : Talk) (n : NodeState)
-    → HoldsOn (late_link id parted o e c) linked n
-link_late id parted nothing e c n = refl
-link_late id parted up e c n = refl
-link_late id parted taken e c n = refl
-link_late id parted closed e c n = refl
-link_late id parted gave_up e c n = refl
-link_late id parted halted e c n = refl
+link_late : (number : Option ℕ) (id : Identity) (parted : Bool) (o : OutcomeValue) (e : Effect) (c : Talk) (n : NodeState)
+    → HoldsOn (late_link number id parted o e c) linked n
+link_late number id parted nothing e c n = refl
+link_late number id parted up e c n = refl
+link_late number id parted taken e c n = refl
+link_late number id parted closed e c n = refl
+link_late number id parted gave_up e c n = refl
+link_late number id parted halted e c n = refl
 
-held_late : (k : Keeper Talk) (id : Identity) (stage : Stage) (s : State) (c : Talk) (n : NodeState)
-    → HoldsOn (stage_step k id stage time_ran_out (record { stage = stage; link = s; keeper = c })) stage n
-held_late k id (hailing g) s c n = greeting_late (nat_lt (g.timeouts + 1) TIMEOUTS_MAX) id g s c n
-held_late k id linked s c n = link_late id (k.has_parted c) (step s timed_out).outcome (step s timed_out) c n
-held_late k id (ended how) s c n = refl
+held_late : (number : Option ℕ) (k : Keeper Talk) (id : Identity) (stage : Stage) (s : State) (c : Talk) (n : NodeState)
+    → HoldsOn (stage_step k id stage time_ran_out (record { stage = stage; link = s; keeper = c; number = number })) stage n
+held_late number k id (hailing g) s c n = greeting_late number (nat_lt (g.timeouts + 1) TIMEOUTS_MAX) id g s c n
+held_late number k id linked s c n = link_late number id (k.has_parted c) (step s timed_out).outcome (step s timed_out) c n
+held_late number k id (ended how) s c n = refl
 
 -- ---- a call that uses no bytes
 
@@ -102,7 +102,7 @@ stage_after e old called new calls = ap (λ (x : LineEnd Talk). x.state.stage) c
 
 -- nothing has come for some time
 pub timed_out_so : ReadsWritten → StaysInRange → CallsAreSteps → (old called new : Parts) → IsOrdered old → HasRoom old
-    → Does (stage_late old.node.engine.identity (talking_has_parted old.node.engine.talking) old.node.engine.stage old.node.engine.link old.node.engine.talking)
+    → Does (stage_late old.node.engine.number old.node.engine.identity (talking_has_parted old.node.engine.talking) old.node.engine.stage old.node.engine.link old.node.engine.talking)
     (bare called.node.engine) old.node.engine called.node.engine
     → called.node.texts ≡ old.node.texts → called.node.packets ≡ old.node.packets → called.spool ≡ old.spool
     → called.jottings ≡ old.jottings → called.line ≡ old.line → IsNoted called new
@@ -117,7 +117,7 @@ timed_out_so reads in_range steps old called new ordered room does texts packets
     calls_so time_ran_out old called new e refl room calls jottings line
     (ap (λ (x : Stage). bytes_at x new.node) (stage_after e old called new calls)
     ∙ same_bytes e.state.stage new.node old.node (noted_so.texts ∙ texts) (noted_so.packets ∙ packets)
-    ∙ held_late (player_of old).keeper old.node.engine.identity old.node.engine.stage old.node.engine.link (state_of old).keeper old.node)
+    ∙ held_late old.node.engine.number (player_of old).keeper old.node.engine.identity old.node.engine.stage old.node.engine.link (state_of old).keeper old.node)
 
 -- ---- the line is gone
 
@@ -184,17 +184,17 @@ none_held linked = refl
 none_held (ended how) = refl
 
 pub begun_so : ReadsWritten → StaysInRange
-    → CallsAreSteps → (id : Identity) (own : Announced) (l : Lists) (called new : Parts) → IsAnnouncement own
-    → BeginsSession id own l [] called.node.engine → HoldsNothing called.node
+    → CallsAreSteps → (id : Identity) (own : Announced) (number : Option ℕ) (l : Lists) (called new : Parts) → IsAnnouncement own
+    → BeginsSession id own number l [] called.node.engine → HoldsNothing called.node
     → called.jottings ≡ nothing_done → called.line ≡ [] → IsNoted called new
-    → HasBegun id own l called.spool new
+    → HasBegun id own number l called.spool new
 unfolding with_nothing_said
-begun_so reads in_range steps id own l called new announces session nothing_held jottings line noted_so =
+begun_so reads in_range steps id own number l called new announces session nothing_held jottings line noted_so =
     let old = with_nothing_said id own called in
-    let e = begins_session id own (unopened l called.spool.stored) in
-    let range = in_range.first id own (unopened l called.spool.stored) announces in
+    let e = begins_session id own number (unopened l called.spool.stored) in
+    let range = in_range.first id own number (unopened l called.spool.stored) announces in
     let does : Does e (state_of called) old.node.engine called.node.engine = record {
-      end = steps.begins (holdings_of called.spool) called.spool.stored id own l [] called.node.engine session;
+      end = steps.begins (holdings_of called.spool) called.spool.stored id own number l [] called.node.engine session;
       emitted = session.emitted;
       identity = session.identity;
       own = session.own;
@@ -219,13 +219,13 @@ begun_so reads in_range steps id own l called new announces session nothing_held
 
 -- the next one begins
 pub begun_again : LineLaws → (old called new : Parts) → IsOrdered old
-    → BeginsSession old.node.engine.identity old.node.engine.own (all_ahead old.node.engine.talking.machine.lists) old.node.engine.outbox.entries
+    → BeginsSession old.node.engine.identity old.node.engine.own old.node.engine.number (all_ahead old.node.engine.talking.machine.lists) old.node.engine.outbox.entries
     called.node.engine → HoldsNothing called.node → called.spool ≡ old.spool
     → called.jottings ≡ nothing_done → called.line ≡ [] → IsNoted called new → BeginsAgain old new
 begun_again laws old called new ordered session nothing_held spool jottings line noted_so =
     let e = old.node.engine in
     let l = all_ahead e.talking.machine.lists in
-    subst (λ (m : MemoryHoldings). HasBegun e.identity e.own l m new) spool
-    (begun_so laws.reads laws.in_range laws.steps e.identity e.own l called new ordered.own
-    (subst (λ (es : List EntryValue). BeginsSession e.identity e.own l es called.node.engine) ordered.cleared session)
+    subst (λ (m : MemoryHoldings). HasBegun e.identity e.own e.number l m new) spool
+    (begun_so laws.reads laws.in_range laws.steps e.identity e.own e.number l called new ordered.own
+    (subst (λ (es : List EntryValue). BeginsSession e.identity e.own e.number l es called.node.engine) ordered.cleared session)
     nothing_held jottings line noted_so)

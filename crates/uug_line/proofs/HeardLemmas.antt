@@ -13,13 +13,15 @@ use Rattle.uug_reader.specs.Scan.{Finds}
 use Rattle.uug_reader.specs.Search.{Search, waiting, standing, search_of}
 use Rattle.uug_session.specs.declared.end.End.{End}
 use Rattle.uug_session.specs.declared.end.End.TheVariants as ends
+use Rattle.uug_session.specs.declared.greeting.AwaitedText.{AwaitedText}
 use Rattle.uug_session.specs.declared.greeting.Greeting.{Greeting}
-use Rattle.uug_session.specs.Greeting.{greeting_at_first}
+use Rattle.uug_session.specs.Greeting.{greeting_at_first, number_by}
 use Rattle.uug_session.specs.Arriving.{Taker, Hearer, held_in, holds, Came, all_taken, stopped, takes_if, takes_up, takes_up_to, takes_piece}
-use Rattle.uug_session.specs.EndStep.{EndEffect, EndEvent, EndState, Identity, time_ran_out, line_lost, text_found, long_text_found, packet_found_whole, broken_found, Stage, hailing, linked, ended, message_of, behind_link, takes_by, talks_by, begins_session, stage_step, end_step}
+use Rattle.uug_session.specs.EndStep.{rises_at, EndEffect, EndEvent, EndState, Identity, time_ran_out, line_lost, text_found, long_text_found, packet_found_whole, broken_found, Stage, hailing, linked, ended, message_of, behind_link, takes_by, talks_by, begins_session, stage_step, end_step}
 use Rattle.uug_session.specs.Finding.{Finding, finds_nothing, finds, finds_packet, text_finding, item_finding, finding, behind_long_text, FindingLaws}
 use Rattle.uug_session.specs.Keeper.{Keeper}
 use Rattle.uug_session.specs.TextsFound.{Taken}
+use Rattle.uug_session.proofs.NumberLemmas.{step_number}
 use Rattle.uug_session.specs.TextsHeld.{TextSearch, text_waits, text_stands, text_too_long, size_of_text, search_text}
 use Rattle.uug_talk.specs.StreamTexts.{StandBefore}
 use Rattle.uug_talk.specs.Texts.{Passing}
@@ -64,12 +66,12 @@ pub record HeardLaws : Type 0 where
 
 -- ---- what an end has heard, and how many packets were found or gone past
 
-pub record HearsSo {C : Type 0} (p : Player C) (came : List ℕ) (now : EndState C) (held arrivals : List ℕ) (passed : ℕ) (emitted : List PacketValue) : Type 0 where
-  pub heard : HasHeard p came now held arrivals emitted
+pub record HearsSo {C : Type 0} (p : Player C) (brought : Option ℕ) (came : List ℕ) (now : EndState C) (held arrivals : List ℕ) (passed : ℕ) (emitted : List PacketValue) : Type 0 where
+  pub heard : HasHeard p brought came now held arrivals emitted
   pub past : passed ≡ passed_at arrivals 0
 
-abbrev pub Hears : {C : Type 0} → Player C → (came : List ℕ) → Hearer (LineEnd C) → (emitted : List PacketValue) → Type 0
-Hears p came h emitted = HearsSo p came h.end.state h.held h.end.log.arrivals h.end.log.passed emitted
+abbrev pub Hears : {C : Type 0} → Player C → (brought : Option ℕ) → (came : List ℕ) → Hearer (LineEnd C) → (emitted : List PacketValue) → Type 0
+Hears p brought came h emitted = HearsSo p brought came h.end.state h.held h.end.log.arrivals h.end.log.passed emitted
 
 packets_joined : (items more : List Item) → packets_among (items ++ more) ≡ packets_among items ++ packets_among more
 packets_joined [] more = refl
@@ -77,9 +79,9 @@ packets_joined (found p ∷ items) more = ap (λ (ps : List PacketValue). p ∷ 
 packets_joined (bad ∷ items) more = packets_joined items more
 
 -- the other end emits more
-pub emits_more : {C : Type 0} (p : Player C) (came : List ℕ) (now : EndState C) (held arrivals : List ℕ) (passed : ℕ) (emitted more : List PacketValue)
-    → HearsSo p came now held arrivals passed emitted → HearsSo p came now held arrivals passed (emitted ++ more)
-emits_more p came now held arrivals passed emitted more x = record {
+pub emits_more : {C : Type 0} (p : Player C) (brought : Option ℕ) (came : List ℕ) (now : EndState C) (held arrivals : List ℕ) (passed : ℕ) (emitted more : List PacketValue)
+    → HearsSo p brought came now held arrivals passed emitted → HearsSo p brought came now held arrivals passed (emitted ++ more)
+emits_more p brought came now held arrivals passed emitted more x = record {
   heard = record {
     texts = x.heard.texts;
     begins = x.heard.begins;
@@ -103,28 +105,53 @@ over_by_call p long_text_found e items uses on = absurd uses
 over_by_call p (packet_found_whole failed q) e items uses on = absurd uses
 over_by_call p broken_found e items uses on = absurd uses
 
--- the stage moves, and no bytes are used
-left_then : {C : Type 0} (p : Player C) (event : EndEvent) (e : EndState C) (s t : Stage) (texts : List (List ℕ)) (items : List Item)
-    (others came held : List ℕ) → UsesNoBytes event → e.stage ≡ s → StaysOrEnds s t → IsLeft p s e texts items others came held
-    → IsLeft p t (end_step p.keeper p.identity event e).state texts items others came (held_in t held)
-left_then p event e (hailing g) (ended how) texts items others came held uses is stays left = inl (left.0, inl (g.awaited, left.2))
-left_then p event e linked (ended how) texts items others came held uses is stays left =
-    inr (left.1, over_by_call p event e items uses is)
-left_then p event e (ended so) (ended how) texts items others came held uses is stays left =
-    let same : (end_step p.keeper p.identity event e).state ≡ e = ap (λ t. (stage_step p.keeper p.identity t event e).state) is in
-    subst (λ now. IsLeft p (ended how) now texts items others came []) (sym same)
-    (subst (λ (h : End). IsLeft p (ended h) e texts items others came []) stays left)
-left_then p event e (hailing g) (hailing h) texts items others came held uses is stays left =
-    (left.0, left.1, subst (GreetsOn p.identity texts) stays left.2)
-left_then p event e linked linked texts items others came held uses is stays left = left
-left_then p event e (hailing g) linked texts items others came held uses is stays left = absurd stays
-left_then p event e linked (hailing h) texts items others came held uses is stays left = absurd stays
-left_then p event e (ended how) (hailing h) texts items others came held uses is stays left = absurd stays
-left_then p event e (ended how) linked texts items others came held uses is stays left = absurd stays
+-- the number that an end keeps stays
+quiet_call : (id : Identity) (number : Option ℕ) (stage : Stage) (event : EndEvent) → UsesNoBytes event → rises_at id number stage event ≡ false
+quiet_call id number (hailing g) time_ran_out uses = refl
+quiet_call id number (hailing g) line_lost uses = refl
+quiet_call id number (hailing g) (text_found text) uses = absurd uses
+quiet_call id number (hailing g) long_text_found uses = absurd uses
+quiet_call id number (hailing g) (packet_found_whole failed q) uses = absurd uses
+quiet_call id number (hailing g) broken_found uses = absurd uses
+quiet_call id number linked event uses = refl
+quiet_call id number (ended how) event uses = refl
 
-pub called_hears : {C : Type 0} (p : Player C) (event : EndEvent) (h : Hearer (LineEnd C)) (came : List ℕ) (emitted : List PacketValue)
-    → UsesNoBytes event → Hears p came h emitted → Hears p came (called_with p event h) emitted
-called_hears p event h came emitted uses x = record {
+call_keeps : {C : Type 0} (p : Player C) (event : EndEvent) (e : EndState C) → UsesNoBytes event → (end_step p.keeper p.identity event e).state.number ≡ e.number
+call_keeps p event e uses =
+    step_number p.keeper p.identity event e ∙ ap (λ (b : Bool). number_by b e.number) (quiet_call p.identity e.number e.stage event uses)
+
+on_link_keeps : {C : Type 0} (p : Player C) (event : EndEvent) (e : EndState C) → e.stage ≡ linked → (end_step p.keeper p.identity event e).state.number ≡ e.number
+on_link_keeps p event e on =
+    step_number p.keeper p.identity event e ∙ ap (λ (s : Stage). number_by (rises_at p.identity e.number s event) e.number) on
+
+-- the stage moves, and no bytes are used
+left_then : {C : Type 0} (p : Player C) (brought : Option ℕ) (event : EndEvent) (e : EndState C) (s t : Stage) (texts : List (List ℕ)) (items : List Item)
+    (others came held : List ℕ) → UsesNoBytes event → e.stage ≡ s → StaysOrEnds s t → IsLeft p brought s e texts items others came held
+    → IsLeft p brought t (end_step p.keeper p.identity event e).state texts items others came (held_in t held)
+left_then p brought event e (hailing g) (ended how) texts items others came held uses is stays left =
+    inl (left.0, inl (g.awaited, subst (GreetsOn p.identity brought texts g.awaited) (sym (call_keeps p event e uses)) left.2))
+left_then p brought event e linked (ended how) texts items others came held uses is stays left =
+    inr (subst (LinkBeganWith p.identity brought texts) (sym (call_keeps p event e uses)) left.1, over_by_call p event e items uses is)
+left_then p brought event e (ended so) (ended how) texts items others came held uses is stays left =
+    let same : (end_step p.keeper p.identity event e).state ≡ e = ap (λ t. (stage_step p.keeper p.identity t event e).state) is in
+    subst (λ now. IsLeft p brought (ended how) now texts items others came []) (sym same)
+    (subst (λ (h : End). IsLeft p brought (ended h) e texts items others came []) stays left)
+left_then p brought event e (hailing g) (hailing h) texts items others came held uses is stays left = (
+  left.0,
+  left.1,
+  subst (GreetsOn p.identity brought texts h.awaited) (sym (call_keeps p event e uses))
+      (subst (λ (a : AwaitedText). GreetsOn p.identity brought texts a e.number) stays left.2),
+)
+left_then p brought event e linked linked texts items others came held uses is stays left =
+    (left.0, subst (LinkBeganWith p.identity brought texts) (sym (call_keeps p event e uses)) left.1)
+left_then p brought event e (hailing g) linked texts items others came held uses is stays left = absurd stays
+left_then p brought event e linked (hailing h) texts items others came held uses is stays left = absurd stays
+left_then p brought event e (ended how) (hailing h) texts items others came held uses is stays left = absurd stays
+left_then p brought event e (ended how) linked texts items others came held uses is stays left = absurd stays
+
+pub called_hears : {C : Type 0} (p : Player C) (brought : Option ℕ) (event : EndEvent) (h : Hearer (LineEnd C)) (came : List ℕ) (emitted : List PacketValue)
+    → UsesNoBytes event → Hears p brought came h emitted → Hears p brought came (called_with p event h) emitted
+called_hears p brought event h came emitted uses x = record {
   heard = record {
     texts = x.heard.texts;
     begins = x.heard.begins;
@@ -135,7 +162,7 @@ called_hears p event h came emitted uses x = record {
     places = x.heard.places;
     left =
         let s = h.end.state.stage in
-        left_then p event h.end.state s (end_step p.keeper p.identity event h.end.state).state.stage x.heard.texts x.heard.items
+        left_then p brought event h.end.state s (end_step p.keeper p.identity event h.end.state).state.stage x.heard.texts x.heard.items
         x.heard.others came h.held uses refl (call_stays p.keeper p.identity s event h.end.state refl uses) x.heard.left;
   };
   past = x.past;
@@ -143,36 +170,36 @@ called_hears p event h came emitted uses x = record {
 
 -- ---- on the link an end does not go back to the greeting
 
-talk_stays : {C : Type 0} (bad_talk : Bool) (k : Keeper C) (id : Identity) (e : Effect) (before after : C)
-    → StaysOrEnds linked (talks_by bad_talk k id e before after).state.stage
-talk_stays true k id e before after = tt
-talk_stays false k id e before after = tt
+talk_stays : {C : Type 0} (number : Option ℕ) (bad_talk : Bool) (k : Keeper C) (id : Identity) (e : Effect) (before after : C)
+    → StaysOrEnds linked (talks_by number bad_talk k id e before after).state.stage
+talk_stays number true k id e before after = tt
+talk_stays number false k id e before after = tt
 
-take_stays : {C : Type 0} (failed : Bool) (k : Keeper C) (id : Identity) (e : Effect) (message : List ℕ) (c : C)
-    → StaysOrEnds linked (takes_by failed k id e message c).state.stage
-take_stays true k id e message c = tt
-take_stays false k id e message c = talk_stays (k.is_bad (k.taking message c)) k id e c (k.taking message c)
+take_stays : {C : Type 0} (number : Option ℕ) (failed : Bool) (k : Keeper C) (id : Identity) (e : Effect) (message : List ℕ) (c : C)
+    → StaysOrEnds linked (takes_by number failed k id e message c).state.stage
+take_stays number true k id e message c = tt
+take_stays number false k id e message c = talk_stays number (k.is_bad (k.taking message c)) k id e c (k.taking message c)
 
-link_stays : {C : Type 0} (k : Keeper C) (id : Identity) (failed : Bool) (o : OutcomeValue) (e : Effect) (message : List ℕ) (c : C)
-    → StaysOrEnds linked (behind_link k id failed o e message c).state.stage
-link_stays k id failed nothing e message c = tt
-link_stays k id failed up e message c = tt
-link_stays k id failed taken e message c = take_stays (failed && k.asks_spool message c) k id e message c
-link_stays k id failed closed e message c = tt
-link_stays k id failed gave_up e message c = tt
-link_stays k id failed halted e message c = tt
+link_stays : {C : Type 0} (number : Option ℕ) (k : Keeper C) (id : Identity) (failed : Bool) (o : OutcomeValue) (e : Effect) (message : List ℕ) (c : C)
+    → StaysOrEnds linked (behind_link number k id failed o e message c).state.stage
+link_stays number k id failed nothing e message c = tt
+link_stays number k id failed up e message c = tt
+link_stays number k id failed taken e message c = take_stays number (failed && k.asks_spool message c) k id e message c
+link_stays number k id failed closed e message c = tt
+link_stays number k id failed gave_up e message c = tt
+link_stays number k id failed halted e message c = tt
 
 packet_stays : {C : Type 0} (k : Keeper C) (id : Identity) (q : PacketValue) (e : EndState C) → e.stage ≡ linked
     → StaysOrEnds linked (end_step k id (packet_found_whole false q) e).state.stage
 packet_stays k id q e on =
     subst (λ s. StaysOrEnds linked (stage_step k id s (packet_found_whole false q) e).state.stage) (sym on)
-    (link_stays k id false (step e.link (packet_found q)).outcome (step e.link (packet_found q)) (message_of q) e.keeper)
+    (link_stays e.number k id false (step e.link (packet_found q)).outcome (step e.link (packet_found q)) (message_of q) e.keeper)
 
 broken_stays : {C : Type 0} (k : Keeper C) (id : Identity) (e : EndState C) → e.stage ≡ linked
     → StaysOrEnds linked (end_step k id broken_found e).state.stage
 broken_stays k id e on =
     subst (λ s. StaysOrEnds linked (stage_step k id s broken_found e).state.stage) (sym on)
-    (link_stays k id false (step e.link bad_found).outcome (step e.link bad_found) [] e.keeper)
+    (link_stays e.number k id false (step e.link bad_found).outcome (step e.link bad_found) [] e.keeper)
 
 -- ---- bytes are taken up
 
@@ -217,18 +244,18 @@ module _ {C : Type 0} (p : Player C) (others : List PacketValue) (Far : List Pac
       let held = holds far_taker (h.held ++ piece) h.end in
       far_up_to (suc (length held.held)) held far
 
-module _ (steps : FindingLaws) (laws : HeardLaws) (place_is : PlaceIs) {C : Type 0} (p : Player C) (emitted : List PacketValue)
+module _ (steps : FindingLaws) (laws : HeardLaws) (place_is : PlaceIs) {C : Type 0} (p : Player C) (brought : Option ℕ) (emitted : List PacketValue)
     (came : List ℕ) (all : AreBytes came) where
   abbrev taker : Taker (LineEnd C)
   taker = line_taker p emitted
 
   abbrev HearsUpTo : ℕ → Type 0
-  HearsUpTo n = (h : Hearer (LineEnd C)) → length h.held < n → Hears p came h emitted → Hears p came (hearer_of (takes_up_to n taker h)) emitted
+  HearsUpTo n = (h : Hearer (LineEnd C)) → length h.held < n → Hears p brought came h emitted → Hears p brought came (hearer_of (takes_up_to n taker h)) emitted
 
   -- so the end stands with these bytes, told by its stage
   held_at : (now : EndState C) (s : Stage) (texts : List (List ℕ)) (items : List Item) (others bytes : List ℕ) → now.stage ≡ s
-      → IsLeft p s now texts items others came (held_in s bytes) → IsLeft p now.stage now texts items others came (held_in now.stage bytes)
-  held_at now s texts items others bytes is left = subst (λ t. IsLeft p t now texts items others came (held_in t bytes)) (sym is) left
+      → IsLeft p brought s now texts items others came (held_in s bytes) → IsLeft p brought now.stage now texts items others came (held_in now.stage bytes)
+  held_at now s texts items others bytes is left = subst (λ t. IsLeft p brought t now texts items others came (held_in t bytes)) (sym is) left
 
   nothing_among : (items : List Item) (arrivals : List ℕ) → items ≡ [] → HavePlaces (packets_among items) arrivals emitted 0 → HavePlaces [] arrivals emitted 0
   nothing_among items arrivals is places = subst (λ (l : List Item). HavePlaces (packets_among l) arrivals emitted 0) is places
@@ -237,15 +264,15 @@ module _ (steps : FindingLaws) (laws : HeardLaws) (place_is : PlaceIs) {C : Type
 
   -- wherever the text leads
   left_behind_text : (t : Stage) (now : EndState C) (texts : List (List ℕ)) (behind : List ℕ) → StandBefore texts behind came
-      → StandsBehind p.identity texts t → IsLeft p t now texts [] behind came (held_in t behind)
+      → StandsBehind p.identity brought texts t now.number → IsLeft p brought t now texts [] behind came (held_in t behind)
   left_behind_text (hailing g) now texts behind stand stands = (refl, laws.right_behind texts came behind stand, stands)
   left_behind_text linked now texts behind stand stands = (refl, stands)
   left_behind_text (ended how) now texts behind stand stands = inl (refl, inr stands)
 
   by_text : (n : ℕ) → HearsUpTo n → (h : Hearer (LineEnd C)) (g : Greeting) → h.end.state.stage ≡ hailing g → length h.held < suc n
-      → (x : Hears p came h emitted) → (x.heard.items ≡ []) × Taken x.heard.texts came h.held × GreetsOn p.identity x.heard.texts g.awaited
+      → (x : Hears p brought came h emitted) → (x.heard.items ≡ []) × Taken x.heard.texts came h.held × GreetsOn p.identity brought x.heard.texts g.awaited h.end.state.number
       → (search : TextSearch) → search_text h.held ≡ search
-      → Hears p came (hearer_of (takes_up (takes_up_to n taker) taker (text_finding h.held search) h.end)) emitted
+      → Hears p brought came (hearer_of (takes_up (takes_up_to n taker) taker (text_finding h.held search) h.end)) emitted
   by_text n more h g is enough x (none, front, on) (text_waits rest) e =
       let waits : Taken x.heard.texts came rest = laws.texts_wait x.heard.texts came h.held rest front e in record {
         heard = record {
@@ -265,9 +292,10 @@ module _ (steps : FindingLaws) (laws : HeardLaws) (place_is : PlaceIs) {C : Type
       let y = does p (text_found text) h.end in
       let texts = x.heard.texts ++ text ∷ [] in
       let stand : StandBefore texts behind came = laws.text_stands_there x.heard.texts came h.held text others front e in
-      let stands : StandsBehind p.identity texts y.state.stage =
-      subst (λ s. StandsBehind p.identity texts (stage_step p.keeper p.identity s (text_found text) h.end.state).state.stage) (sym is)
-      (text_leads p.keeper p.identity x.heard.texts text g h.end.state on) in
+      let after : Stage → EndState C = λ s. (stage_step p.keeper p.identity s (text_found text) h.end.state).state in
+      let stands : StandsBehind p.identity brought texts y.state.stage y.state.number =
+      subst (λ s. StandsBehind p.identity brought texts (after s).stage (after s).number) (sym is)
+      (text_leads p.keeper p.identity brought x.heard.texts text g h.end.state on) in
       more (holds taker behind y)
       (omega (
         arith,
@@ -293,6 +321,8 @@ module _ (steps : FindingLaws) (laws : HeardLaws) (place_is : PlaceIs) {C : Type
       let behind = behind_long_text Passing h.held in
       let over : y.state.stage ≡ ended ends.BadTalk =
       ap (λ t. (stage_step p.keeper p.identity t long_text_found h.end.state).state.stage) is in
+      let stays : y.state.number ≡ h.end.state.number =
+      ap (λ t. (stage_step p.keeper p.identity t long_text_found h.end.state).state.number) is in
       more (holds taker behind y)
       (omega (
         arith,
@@ -310,14 +340,14 @@ module _ (steps : FindingLaws) (laws : HeardLaws) (place_is : PlaceIs) {C : Type
           link = laws.none (front.passed ++ h.held);
           places = nothing_among x.heard.items h.end.log.arrivals none x.heard.places;
           left = held_at y.state (ended ends.BadTalk) x.heard.texts [] (front.passed ++ h.held) behind over
-              (inl (refl, inl (g.awaited, on)));
+              (inl (refl, inl (g.awaited, subst (GreetsOn p.identity brought x.heard.texts g.awaited) (sym stays) on)));
         };
         past = x.past;
       })
 
   -- ---- on the link
 
-  bytes_held : (h : Hearer (LineEnd C)) (x : Hears p came h emitted) → x.heard.others ≡ h.held → AreBytes h.held
+  bytes_held : (h : Hearer (LineEnd C)) (x : Hears p brought came h emitted) → x.heard.others ≡ h.held → AreBytes h.held
   bytes_held h x same =
       subst AreBytes same
       (laws.item_bytes x.heard.begins x.heard.others x.heard.items x.heard.link
@@ -325,23 +355,25 @@ module _ (steps : FindingLaws) (laws : HeardLaws) (place_is : PlaceIs) {C : Type
 
   -- by where the item leads
   left_behind_item : (t : Stage) (now : EndState C) (texts : List (List ℕ)) (items : List Item) (behind : List ℕ) → StaysOrEnds linked t
-      → LinkBeganWith p.identity texts → EndedOnLink p items now → IsLeft p t now texts items behind came (held_in t behind)
+      → LinkBeganWith p.identity brought texts now.number → EndedOnLink p items now → IsLeft p brought t now texts items behind came (held_in t behind)
   left_behind_item (hailing g) now texts items behind stays began over = absurd stays
   left_behind_item linked now texts items behind stays began over = (refl, began)
   left_behind_item (ended how) now texts items behind stays began over = inr (began, over)
 
   -- an item is taken up, and the end stands behind it
-  behind_item : (n : ℕ) → HearsUpTo n → (h : Hearer (LineEnd C)) → h.end.state.stage ≡ linked → length h.held < suc n → (x : Hears p came h emitted)
-      → x.heard.others ≡ h.held → LinkBeganWith p.identity x.heard.texts → (item : Item) (size : ℕ) (from : List ℕ) → search_of h.held ≡ standing item size from
+  behind_item : (n : ℕ) → HearsUpTo n → (h : Hearer (LineEnd C)) → h.end.state.stage ≡ linked → length h.held < suc n → (x : Hears p brought came h emitted)
+      → x.heard.others ≡ h.held → LinkBeganWith p.identity brought x.heard.texts h.end.state.number → (item : Item) (size : ℕ) (from : List ℕ) → search_of h.held ≡ standing item size from
       → length (drop size from) < length h.held → (y : LineEnd C) → StaysOrEnds linked y.state.stage
       → (end_step p.keeper p.identity (event_of item) h.end.state).state ≡ y.state
       → HavePlaces (packets_among (x.heard.items ++ item ∷ [])) y.log.arrivals emitted 0 → y.log.passed ≡ passed_at y.log.arrivals 0
-      → Hears p came (hearer_of (takes_up_to n taker (holds taker (drop size from) y))) emitted
+      → Hears p brought came (hearer_of (takes_up_to n taker (holds taker (drop size from) y))) emitted
   behind_item n more h on enough x same began item size from e fewer y stays step places past =
       let behind = drop size from in
       let stands = (laws.stands h.held from item size (bytes_held h x same)).0 e in
       let here : Finds h.held (item ∷ []) behind = laws.more h.held from behind [] (item ∷ []) stands.0 (laws.item from item size stands.1) in
       let items = x.heard.items ++ item ∷ [] in
+      let kept : y.state.number ≡ h.end.state.number =
+      ap (λ (e : EndState C). e.number) (sym step) ∙ on_link_keeps p (event_of item) h.end.state on in
       more (holds taker behind y) (omega (arith, enough, fewer, held_fewer y.state.stage behind)) (record {
         heard = record {
           texts = x.heard.texts;
@@ -352,7 +384,7 @@ module _ (steps : FindingLaws) (laws : HeardLaws) (place_is : PlaceIs) {C : Type
           link = laws.more x.heard.begins h.held behind x.heard.items (item ∷ [])
               (subst (Finds x.heard.begins x.heard.items) same x.heard.link) here;
           places = places;
-          left = left_behind_item y.state.stage y.state x.heard.texts items behind stays began (inl (record {
+          left = left_behind_item y.state.stage y.state x.heard.texts items behind stays (subst (LinkBeganWith p.identity brought x.heard.texts) (sym kept) began) (inl (record {
             earlier = x.heard.items;
             last = item;
             item = refl;
@@ -363,7 +395,7 @@ module _ (steps : FindingLaws) (laws : HeardLaws) (place_is : PlaceIs) {C : Type
       })
 
   -- a packet has its place
-  packet_placed : (q : PacketValue) (place : ℕ) (h : Hearer (LineEnd C)) (x : Hears p came h emitted)
+  packet_placed : (q : PacketValue) (place : ℕ) (h : Hearer (LineEnd C)) (x : Hears p brought came h emitted)
       → place_of q emitted h.end.log.passed ≡ Some place
       → HavePlaces (packets_among (x.heard.items ++ found q ∷ [])) (h.end.log.arrivals ++ place ∷ []) emitted 0
   packet_placed q place h x at =
@@ -371,7 +403,7 @@ module _ (steps : FindingLaws) (laws : HeardLaws) (place_is : PlaceIs) {C : Type
       (next_place (packets_among x.heard.items) emitted h.end.log.arrivals q place 0 x.heard.places
       (subst (λ n. IsPlace q emitted n place) x.past (place_is_there place_is q emitted h.end.log.passed place at)))
 
-  took_arrivals : (t : Bool) (q : PacketValue) (place : ℕ) (h : Hearer (LineEnd C)) → (x : Hears p came h emitted)
+  took_arrivals : (t : Bool) (q : PacketValue) (place : ℕ) (h : Hearer (LineEnd C)) → (x : Hears p brought came h emitted)
       → place_of q emitted h.end.log.passed ≡ Some place → (effect : EndEffect C) → effect.took ≡ t
       → HavePlaces (packets_among (x.heard.items ++ found q ∷ [])) (with_packet q place h.end effect).log.arrivals emitted 0
       × ((with_packet q place h.end effect).log.passed ≡ passed_at (with_packet q place h.end effect).log.arrivals 0)
@@ -389,10 +421,10 @@ module _ (steps : FindingLaws) (laws : HeardLaws) (place_is : PlaceIs) {C : Type
       same_passed true = refl
       same_passed false = refl
 
-  by_place : (n : ℕ) → HearsUpTo n → (h : Hearer (LineEnd C)) → h.end.state.stage ≡ linked → length h.held < suc n → (x : Hears p came h emitted)
-      → x.heard.others ≡ h.held → LinkBeganWith p.identity x.heard.texts → (q : PacketValue) (size : ℕ) (from : List ℕ) → search_of h.held ≡ standing (found q) size from
+  by_place : (n : ℕ) → HearsUpTo n → (h : Hearer (LineEnd C)) → h.end.state.stage ≡ linked → length h.held < suc n → (x : Hears p brought came h emitted)
+      → x.heard.others ≡ h.held → LinkBeganWith p.identity brought x.heard.texts h.end.state.number → (q : PacketValue) (size : ℕ) (from : List ℕ) → search_of h.held ≡ standing (found q) size from
       → (place : Option ℕ) → place_of q emitted h.end.log.passed ≡ place
-      → Hears p came (hearer_of (takes_if (takes_up_to n taker) taker (takes_sent p q place h.end) from (drop size from) h.end)) emitted
+      → Hears p brought came (hearer_of (takes_if (takes_up_to n taker) taker (takes_sent p q place h.end) from (drop size from) h.end)) emitted
   by_place n more h on enough x same began q size from e None at =
       let stands = (laws.stands h.held from (found q) size (bytes_held h x same)).0 e in record {
         heard = record {
@@ -416,9 +448,9 @@ module _ (steps : FindingLaws) (laws : HeardLaws) (place_is : PlaceIs) {C : Type
       (packet_takes steps linked h.held from (drop size from) q (ap item_finding e))
       (packet_taken_up p q place h.end) (packet_stays p.keeper p.identity q h.end.state on) refl placed.0 placed.1
 
-  by_item : (n : ℕ) → HearsUpTo n → (h : Hearer (LineEnd C)) → h.end.state.stage ≡ linked → length h.held < suc n → (x : Hears p came h emitted)
-      → x.heard.others ≡ h.held → LinkBeganWith p.identity x.heard.texts → (search : Search) → search_of h.held ≡ search
-      → Hears p came (hearer_of (takes_up (takes_up_to n taker) taker (item_finding search) h.end)) emitted
+  by_item : (n : ℕ) → HearsUpTo n → (h : Hearer (LineEnd C)) → h.end.state.stage ≡ linked → length h.held < suc n → (x : Hears p brought came h emitted)
+      → x.heard.others ≡ h.held → LinkBeganWith p.identity brought x.heard.texts h.end.state.number → (search : Search) → search_of h.held ≡ search
+      → Hears p brought came (hearer_of (takes_up (takes_up_to n taker) taker (item_finding search) h.end)) emitted
   by_item n more h on enough x same began (waiting rest) e =
       let waits = (laws.waits h.held rest (bytes_held h x same)).0 e in record {
         heard = record {
@@ -446,14 +478,14 @@ module _ (steps : FindingLaws) (laws : HeardLaws) (place_is : PlaceIs) {C : Type
 
   -- ---- by how far the end has come
 
-  by_stage : (n : ℕ) → HearsUpTo n → (h : Hearer (LineEnd C)) → length h.held < suc n → (x : Hears p came h emitted) → (s : Stage)
-      → h.end.state.stage ≡ s → Hears p came (hearer_of (takes_up (takes_up_to n taker) taker (finding s h.held) h.end)) emitted
+  by_stage : (n : ℕ) → HearsUpTo n → (h : Hearer (LineEnd C)) → length h.held < suc n → (x : Hears p brought came h emitted) → (s : Stage)
+      → h.end.state.stage ≡ s → Hears p brought came (hearer_of (takes_up (takes_up_to n taker) taker (finding s h.held) h.end)) emitted
   by_stage n more h enough x (hailing g) is =
-      by_text n more h g is enough x (subst (λ s. IsLeft p s h.end.state x.heard.texts x.heard.items x.heard.others came h.held) is x.heard.left)
+      by_text n more h g is enough x (subst (λ s. IsLeft p brought s h.end.state x.heard.texts x.heard.items x.heard.others came h.held) is x.heard.left)
       (search_text h.held) refl
   by_stage n more h enough x linked is =
-      let left : IsLeft p linked h.end.state x.heard.texts x.heard.items x.heard.others came h.held =
-      subst (λ s. IsLeft p s h.end.state x.heard.texts x.heard.items x.heard.others came h.held) is x.heard.left in
+      let left : IsLeft p brought linked h.end.state x.heard.texts x.heard.items x.heard.others came h.held =
+      subst (λ s. IsLeft p brought s h.end.state x.heard.texts x.heard.items x.heard.others came h.held) is x.heard.left in
       by_item n more h is enough x left.0 left.1 (search_of h.held) refl
   by_stage n more h enough x (ended how) is = record {
     heard = record {
@@ -465,7 +497,7 @@ module _ (steps : FindingLaws) (laws : HeardLaws) (place_is : PlaceIs) {C : Type
       link = x.heard.link;
       places = x.heard.places;
       left = held_at h.end.state (ended how) x.heard.texts x.heard.items x.heard.others [] is
-          (subst (λ s. IsLeft p s h.end.state x.heard.texts x.heard.items x.heard.others came h.held) is x.heard.left);
+          (subst (λ s. IsLeft p brought s h.end.state x.heard.texts x.heard.items x.heard.others came h.held) is x.heard.left);
     };
     past = x.past;
   }
@@ -482,12 +514,12 @@ stand_more (text ∷ texts) rest stream more (front, behind, e, first, later) =
     (front, behind ++ more, ap (λ s. s ++ more) e ∙ append_assoc front behind more, first, stand_more texts rest behind more later)
 
 -- with the piece behind what is held
-with_piece : HeardLaws → {C : Type 0} (p : Player C) (before piece : List ℕ) (now : EndState C) (s : Stage) (held arrivals : List ℕ)
-    (passed : ℕ) (emitted : List PacketValue) → now.stage ≡ s → HearsSo p before now held arrivals passed emitted
-    → HearsSo p (before ++ piece) now (held_in now.stage (held ++ piece)) arrivals passed emitted
-with_piece laws p before piece now (hailing g) held arrivals passed emitted is x =
-    let left : IsLeft p (hailing g) now x.heard.texts x.heard.items x.heard.others before held =
-    subst (λ t. IsLeft p t now x.heard.texts x.heard.items x.heard.others before held) is x.heard.left in
+with_piece : HeardLaws → {C : Type 0} (p : Player C) (brought : Option ℕ) (before piece : List ℕ) (now : EndState C) (s : Stage) (held arrivals : List ℕ)
+    (passed : ℕ) (emitted : List PacketValue) → now.stage ≡ s → HearsSo p brought before now held arrivals passed emitted
+    → HearsSo p brought (before ++ piece) now (held_in now.stage (held ++ piece)) arrivals passed emitted
+with_piece laws p brought before piece now (hailing g) held arrivals passed emitted is x =
+    let left : IsLeft p brought (hailing g) now x.heard.texts x.heard.items x.heard.others before held =
+    subst (λ t. IsLeft p brought t now x.heard.texts x.heard.items x.heard.others before held) is x.heard.left in
     let whole : Taken x.heard.texts (before ++ piece) (held ++ piece) = laws.texts_more x.heard.texts before held piece left.1 in
     let begins = whole.passed ++ (held ++ piece) in record {
       heard = record {
@@ -498,13 +530,13 @@ with_piece laws p before piece now (hailing g) held arrivals passed emitted is x
         others = begins;
         link = laws.none begins;
         places = subst (λ (l : List Item). HavePlaces (packets_among l) arrivals emitted 0) left.0 x.heard.places;
-        left = subst (λ t. IsLeft p t now x.heard.texts [] begins (before ++ piece) (held_in t (held ++ piece))) (sym is) (refl, whole, left.2);
+        left = subst (λ t. IsLeft p brought t now x.heard.texts [] begins (before ++ piece) (held_in t (held ++ piece))) (sym is) (refl, whole, left.2);
       };
       past = x.past;
     }
-with_piece laws p before piece now linked held arrivals passed emitted is x =
-    let left : IsLeft p linked now x.heard.texts x.heard.items x.heard.others before held =
-    subst (λ t. IsLeft p t now x.heard.texts x.heard.items x.heard.others before held) is x.heard.left in record {
+with_piece laws p brought before piece now linked held arrivals passed emitted is x =
+    let left : IsLeft p brought linked now x.heard.texts x.heard.items x.heard.others before held =
+    subst (λ t. IsLeft p brought t now x.heard.texts x.heard.items x.heard.others before held) is x.heard.left in record {
       heard = record {
         texts = x.heard.texts;
         begins = x.heard.begins ++ piece;
@@ -513,12 +545,12 @@ with_piece laws p before piece now linked held arrivals passed emitted is x =
         others = x.heard.others ++ piece;
         link = laws.behind x.heard.begins x.heard.others piece x.heard.items x.heard.link;
         places = x.heard.places;
-        left = subst (λ t. IsLeft p t now x.heard.texts x.heard.items (x.heard.others ++ piece) (before ++ piece) (held_in t (held ++ piece))) (sym is)
+        left = subst (λ t. IsLeft p brought t now x.heard.texts x.heard.items (x.heard.others ++ piece) (before ++ piece) (held_in t (held ++ piece))) (sym is)
             (ap (λ (l : List ℕ). l ++ piece) left.0, left.1);
       };
       past = x.past;
     }
-with_piece laws p before piece now (ended how) held arrivals passed emitted is x = record {
+with_piece laws p brought before piece now (ended how) held arrivals passed emitted is x = record {
   heard = record {
     texts = x.heard.texts;
     begins = x.heard.begins ++ piece;
@@ -527,36 +559,36 @@ with_piece laws p before piece now (ended how) held arrivals passed emitted is x
     others = x.heard.others ++ piece;
     link = laws.behind x.heard.begins x.heard.others piece x.heard.items x.heard.link;
     places = x.heard.places;
-    left = subst (λ t. IsLeft p t now x.heard.texts x.heard.items (x.heard.others ++ piece) (before ++ piece) (held_in t (held ++ piece))) (sym is)
-        (subst (λ t. IsLeft p t now x.heard.texts x.heard.items x.heard.others before held) is x.heard.left);
+    left = subst (λ t. IsLeft p brought t now x.heard.texts x.heard.items (x.heard.others ++ piece) (before ++ piece) (held_in t (held ++ piece))) (sym is)
+        (subst (λ t. IsLeft p brought t now x.heard.texts x.heard.items x.heard.others before held) is x.heard.left);
   };
   past = x.past;
 }
 
-pub hears_piece : (steps : FindingLaws) (laws : HeardLaws) (place_is : PlaceIs) {C : Type 0} (p : Player C) (emitted : List PacketValue)
-    (before piece : List ℕ) (h : Hearer (LineEnd C)) → AreBytes (before ++ piece) → Hears p before h emitted
-    → Hears p (before ++ piece) (hearer_of (takes_piece (line_taker p emitted) piece h)) emitted
-hears_piece steps laws place_is p emitted before piece h all x =
+pub hears_piece : (steps : FindingLaws) (laws : HeardLaws) (place_is : PlaceIs) {C : Type 0} (p : Player C) (brought : Option ℕ) (emitted : List PacketValue)
+    (before piece : List ℕ) (h : Hearer (LineEnd C)) → AreBytes (before ++ piece) → Hears p brought before h emitted
+    → Hears p brought (before ++ piece) (hearer_of (takes_piece (line_taker p emitted) piece h)) emitted
+hears_piece steps laws place_is p brought emitted before piece h all x =
     let held = holds (line_taker p emitted) (h.held ++ piece) h.end in
-    hears_up_to steps laws place_is p emitted (before ++ piece) all (suc (length held.held)) held (omega arith)
-    (with_piece laws p before piece h.end.state h.end.state.stage h.held h.end.log.arrivals h.end.log.passed emitted refl x)
+    hears_up_to steps laws place_is p brought emitted (before ++ piece) all (suc (length held.held)) held (omega arith)
+    (with_piece laws p brought before piece h.end.state h.end.state.stage h.held h.end.log.arrivals h.end.log.passed emitted refl x)
 
 -- ---- a run
 
 -- what both ends have heard, where bytes came to them
-pub record BothHear {C : Type 0} (p q : Player C) (came : AtBoth (List ℕ)) (x y : Hearer (LineEnd C)) : Type 0 where
-  pub near : AreBytes came.at_caller → Hears p came.at_caller x y.end.log.packets
-  pub far : AreBytes came.at_called → Hears q came.at_called y x.end.log.packets
+pub record BothHear {C : Type 0} (p q : Player C) (brought far_brought : Option ℕ) (came : AtBoth (List ℕ)) (x y : Hearer (LineEnd C)) : Type 0 where
+  pub near : AreBytes came.at_caller → Hears p brought came.at_caller x y.end.log.packets
+  pub far : AreBytes came.at_called → Hears q far_brought came.at_called y x.end.log.packets
 
 abbrev pub RunHears : {C : Type 0} → RunKeeper C → SetupValue → (came : AtBoth (List ℕ)) → Run C → Type 0
 RunHears k setup came run =
-    BothHear (player k setup run Caller) (player k setup run Called) came run.ends.at_caller run.ends.at_called
+    BothHear (player k setup run Caller) (player k setup run Called) run.brought.at_caller.number run.brought.at_called.number came run.ends.at_caller run.ends.at_called
 
 module _ (steps : FindingLaws) (laws : HeardLaws) (place_is : PlaceIs) {C : Type 0} (k : RunKeeper C) (setup : SetupValue) where
   -- an end with which nothing has happened yet
-  first_heard : (p : Player C) (own : Announced) (c : C) {emitted : List PacketValue}
-      → HearsSo p [] (begins_session p.identity own c).state [] [] 0 emitted
-  first_heard p own c = record {
+  first_heard : (p : Player C) (brought : Option ℕ) (own : Announced) (c : C) {emitted : List PacketValue}
+      → HearsSo p brought [] (begins_session p.identity own brought c).state [] [] 0 emitted
+  first_heard p brought own c = record {
     heard = record {
       texts = [];
       begins = [];
@@ -568,7 +600,7 @@ module _ (steps : FindingLaws) (laws : HeardLaws) (place_is : PlaceIs) {C : Type
       left = (
         refl,
         laws.right_behind [] [] [] refl,
-        record { greeting = greeting_at_first p.identity.side; goes_on = refl; awaits = refl },
+        record { greeting = greeting_at_first p.identity.side; goes_on = refl; awaits = refl; keeps = refl },
       );
     };
     past = refl;
@@ -577,8 +609,8 @@ module _ (steps : FindingLaws) (laws : HeardLaws) (place_is : PlaceIs) {C : Type
   begins_heard : (past : List (AtBoth EndReportValue)) (brought : AtBoth Belongings) → RunHears k setup nothing_came (session_begins k setup past brought)
   begins_heard past brought =
       let run = session_begins k setup past brought in record {
-        near = λ all. first_heard (player k setup run Caller) setup.at_caller.own (k.first brought.at_caller);
-        far = λ all. first_heard (player k setup run Called) setup.at_called.own (k.first brought.at_called);
+        near = λ all. first_heard (player k setup run Caller) run.brought.at_caller.number setup.at_caller.own (k.first brought.at_caller);
+        far = λ all. first_heard (player k setup run Called) run.brought.at_called.number setup.at_called.own (k.first brought.at_called);
       }
 
   line_heard : (side : Side) (change : List ℕ → List ℕ) (came : AtBoth (List ℕ)) (run : Run C) → RunHears k setup came run
@@ -592,27 +624,27 @@ module _ (steps : FindingLaws) (laws : HeardLaws) (place_is : PlaceIs) {C : Type
       let x = run.ends.at_caller in
       let y = run.ends.at_called in
       let p = player k setup run Caller in record {
-        near = λ all. called_hears p event x came.at_caller y.end.log.packets uses (b.near all);
-        far = λ all. emits_more (player k setup run Called) came.at_called y.end.state y.held y.end.log.arrivals y.end.log.passed x.end.log.packets
+        near = λ all. called_hears p run.brought.at_caller.number event x came.at_caller y.end.log.packets uses (b.near all);
+        far = λ all. emits_more (player k setup run Called) run.brought.at_called.number came.at_called y.end.state y.held y.end.log.arrivals y.end.log.passed x.end.log.packets
             (packets_in (end_step p.keeper p.identity event x.end.state).emitted) (b.far all);
       }
   call_heard Called event came run uses b =
       let x = run.ends.at_caller in
       let y = run.ends.at_called in
       let p = player k setup run Called in record {
-        near = λ all. emits_more (player k setup run Caller) came.at_caller x.end.state x.held x.end.log.arrivals x.end.log.passed y.end.log.packets
+        near = λ all. emits_more (player k setup run Caller) run.brought.at_caller.number came.at_caller x.end.state x.held x.end.log.arrivals x.end.log.passed y.end.log.packets
             (packets_in (end_step p.keeper p.identity event y.end.state).emitted) (b.near all);
-        far = λ all. called_hears p event y came.at_called x.end.log.packets uses (b.far all);
+        far = λ all. called_hears p run.brought.at_called.number event y came.at_called x.end.log.packets uses (b.far all);
       }
 
   after_caller : (number n : ℕ) (came : AtBoth (List ℕ)) (run : Run C) (c : Came (LineEnd C))
-      → BothHear (player k setup run Caller) (player k setup run Called) came (hearer_of c) run.ends.at_called
+      → BothHear (player k setup run Caller) (player k setup run Called) run.brought.at_caller.number run.brought.at_called.number came (hearer_of c) run.ends.at_called
       → RunHears k setup came (after_hearing number Caller c (with_line_to Caller (drop n) run))
   after_caller number n came run (all_taken h) b = record { near = b.near; far = b.far }
   after_caller number n came run (stopped h) b = record { near = b.near; far = b.far }
 
   after_called : (number n : ℕ) (came : AtBoth (List ℕ)) (run : Run C) (c : Came (LineEnd C))
-      → BothHear (player k setup run Caller) (player k setup run Called) came run.ends.at_caller (hearer_of c)
+      → BothHear (player k setup run Caller) (player k setup run Called) run.brought.at_caller.number run.brought.at_called.number came run.ends.at_caller (hearer_of c)
       → RunHears k setup came (after_hearing number Called c (with_line_to Called (drop n) run))
   after_called number n came run (all_taken h) b = record { near = b.near; far = b.far }
   after_called number n came run (stopped h) b = record { near = b.near; far = b.far }
@@ -625,10 +657,10 @@ module _ (steps : FindingLaws) (laws : HeardLaws) (place_is : PlaceIs) {C : Type
       let p = player k setup run Caller in
       let piece = take n y.end.line in
       after_caller number n (comes (Pass Caller n) run came) run (hears_next k setup Caller n run) (record {
-        near = λ all. hears_piece steps laws place_is p y.end.log.packets came.at_caller piece x all
+        near = λ all. hears_piece steps laws place_is p run.brought.at_caller.number y.end.log.packets came.at_caller piece x all
             (b.near (laws.front_bytes came.at_caller piece all));
-        far = far_piece p y.end.log.packets (λ ps. AreBytes came.at_called → Hears (player k setup run Called) came.at_called y ps)
-            (λ emitted more far all. emits_more (player k setup run Called) came.at_called y.end.state y.held y.end.log.arrivals y.end.log.passed emitted more (far all))
+        far = far_piece p y.end.log.packets (λ ps. AreBytes came.at_called → Hears (player k setup run Called) run.brought.at_called.number came.at_called y ps)
+            (λ emitted more far all. emits_more (player k setup run Called) run.brought.at_called.number came.at_called y.end.state y.held y.end.log.arrivals y.end.log.passed emitted more (far all))
             piece x b.far;
       })
   pass_heard number Called n came run b =
@@ -637,10 +669,10 @@ module _ (steps : FindingLaws) (laws : HeardLaws) (place_is : PlaceIs) {C : Type
       let p = player k setup run Called in
       let piece = take n x.end.line in
       after_called number n (comes (Pass Called n) run came) run (hears_next k setup Called n run) (record {
-        near = far_piece p x.end.log.packets (λ ps. AreBytes came.at_caller → Hears (player k setup run Caller) came.at_caller x ps)
-            (λ emitted more near all. emits_more (player k setup run Caller) came.at_caller x.end.state x.held x.end.log.arrivals x.end.log.passed emitted more (near all))
+        near = far_piece p x.end.log.packets (λ ps. AreBytes came.at_caller → Hears (player k setup run Caller) run.brought.at_caller.number came.at_caller x ps)
+            (λ emitted more near all. emits_more (player k setup run Caller) run.brought.at_caller.number came.at_caller x.end.state x.held x.end.log.arrivals x.end.log.passed emitted more (near all))
             piece y b.near;
-        far = λ all. hears_piece steps laws place_is p x.end.log.packets came.at_called piece y all
+        far = λ all. hears_piece steps laws place_is p run.brought.at_called.number x.end.log.packets came.at_called piece y all
             (b.far (laws.front_bytes came.at_called piece all));
       })
 
@@ -697,8 +729,8 @@ module _ (steps : FindingLaws) (laws : HeardLaws) (place_is : PlaceIs) {C : Type
       let h = end_at side (run_of k setup events) in
       let came = at side (came_in k setup events) in
       let p = player k setup (run_of k setup events) side in
-      let left : IsLeft p linked h.end.state heard.texts heard.items heard.others came h.held =
-      subst (λ s. IsLeft p s h.end.state heard.texts heard.items heard.others came h.held) on heard.left in
+      let left : IsLeft p (at side (run_of k setup events).brought).number linked h.end.state heard.texts heard.items heard.others came h.held =
+      subst (λ s. IsLeft p (at side (run_of k setup events).brought).number s h.end.state heard.texts heard.items heard.others came h.held) on heard.left in
       let same : heard.others ≡ h.held = left.0 in
       let link : Finds heard.begins heard.items h.held = subst (Finds heard.begins heard.items) same heard.link in
       let are : AreBytes h.held = laws.item_bytes heard.begins h.held heard.items link (laws.text_bytes heard.texts heard.begins came heard.greeting all) in

@@ -81,7 +81,7 @@ counted_sending m x = record { link = x.link; keeper = count m; emissions = x.em
 
 abbrev pub counted_effect : Moment → EndEffect Talk → EndEffect Count
 counted_effect m x = record {
-  state = record { stage = x.state.stage; link = x.state.link; keeper = count m };
+  state = record { stage = x.state.stage; link = x.state.link; keeper = count m; number = x.state.number };
   emitted = x.emitted;
   took = x.took;
 }

@@ -44,41 +44,41 @@ NotHailing (hailing g) = ⊥
 NotHailing linked = ⊤
 NotHailing (ended how) = ⊤
 
-talks_on : (bad : Bool) (k : Keeper Talk) (id : Identity) (e : Effect) (before after : Talk) → NotHailing (talks_by bad k id e before after).state.stage
-talks_on true k id e before after = tt
-talks_on false k id e before after = tt
+talks_on : (number : Option ℕ) (bad : Bool) (k : Keeper Talk) (id : Identity) (e : Effect) (before after : Talk) → NotHailing (talks_by number bad k id e before after).state.stage
+talks_on number true k id e before after = tt
+talks_on number false k id e before after = tt
 
-takes_on : (device_failed : Bool) (k : Keeper Talk) (id : Identity) (e : Effect) (message : List ℕ) (c : Talk)
-    → NotHailing (takes_by device_failed k id e message c).state.stage
-takes_on true k id e message c = tt
-takes_on false k id e message c = talks_on (k.is_bad (k.taking message c)) k id e c (k.taking message c)
+takes_on : (number : Option ℕ) (device_failed : Bool) (k : Keeper Talk) (id : Identity) (e : Effect) (message : List ℕ) (c : Talk)
+    → NotHailing (takes_by number device_failed k id e message c).state.stage
+takes_on number true k id e message c = tt
+takes_on number false k id e message c = talks_on number (k.is_bad (k.taking message c)) k id e c (k.taking message c)
 
-link_on : (k : Keeper Talk) (id : Identity) (device_failed : Bool) (o : OutcomeValue) (e : Effect) (message : List ℕ) (c : Talk)
-    → NotHailing (behind_link k id device_failed o e message c).state.stage
-link_on k id device_failed nothing e message c = tt
-link_on k id device_failed up e message c = tt
-link_on k id device_failed taken e message c = takes_on (device_failed && k.asks_spool message c) k id e message c
-link_on k id device_failed closed e message c = tt
-link_on k id device_failed gave_up e message c = tt
-link_on k id device_failed halted e message c = tt
+link_on : (number : Option ℕ) (k : Keeper Talk) (id : Identity) (device_failed : Bool) (o : OutcomeValue) (e : Effect) (message : List ℕ) (c : Talk)
+    → NotHailing (behind_link number k id device_failed o e message c).state.stage
+link_on number k id device_failed nothing e message c = tt
+link_on number k id device_failed up e message c = tt
+link_on number k id device_failed taken e message c = takes_on number (device_failed && k.asks_spool message c) k id e message c
+link_on number k id device_failed closed e message c = tt
+link_on number k id device_failed gave_up e message c = tt
+link_on number k id device_failed halted e message c = tt
 
 abbrev MayBeAt : ItemValue → Stage → Type 0
 MayBeAt (text_item text) stage = ⊤
 MayBeAt (packet_item p) stage = NotHailing stage
 MayBeAt bad_item stage = NotHailing stage
 
-item_on : (k : Keeper Talk) (id : Identity) (device_failed : Bool) (stage : Stage) (texts : TextsHeld) (packets : Reading) (item : ItemValue)
+item_on : (number : Option ℕ) (k : Keeper Talk) (id : Identity) (device_failed : Bool) (stage : Stage) (texts : TextsHeld) (packets : Reading) (item : ItemValue)
     (s : State) (c : Talk) → ShowsItem stage texts packets item
-    → MayBeAt item (stage_step k id stage (event_of device_failed item) (record { stage = stage; link = s; keeper = c })).state.stage
-item_on k id device_failed stage texts packets (text_item text) s c shows = tt
-item_on k id device_failed linked texts packets (packet_item p) s c shows =
-    link_on k id device_failed (step s (packet_found p)).outcome (step s (packet_found p)) (message_of p) c
-item_on k id device_failed linked texts packets bad_item s c shows =
-    link_on k id false (step s bad_found).outcome (step s bad_found) [] c
-item_on k id device_failed (hailing g) texts packets (packet_item p) s c shows = absurd shows
-item_on k id device_failed (hailing g) texts packets bad_item s c shows = absurd shows
-item_on k id device_failed (ended how) texts packets (packet_item p) s c shows = absurd shows
-item_on k id device_failed (ended how) texts packets bad_item s c shows = absurd shows
+    → MayBeAt item (stage_step k id stage (event_of device_failed item) (record { stage = stage; link = s; keeper = c; number = number })).state.stage
+item_on number k id device_failed stage texts packets (text_item text) s c shows = tt
+item_on number k id device_failed linked texts packets (packet_item p) s c shows =
+    link_on number k id device_failed (step s (packet_found p)).outcome (step s (packet_found p)) (message_of p) c
+item_on number k id device_failed linked texts packets bad_item s c shows =
+    link_on number k id false (step s bad_found).outcome (step s bad_found) [] c
+item_on number k id device_failed (hailing g) texts packets (packet_item p) s c shows = absurd shows
+item_on number k id device_failed (hailing g) texts packets bad_item s c shows = absurd shows
+item_on number k id device_failed (ended how) texts packets (packet_item p) s c shows = absurd shows
+item_on number k id device_failed (ended how) texts packets bad_item s c shows = absurd shows
 
 -- ---- the bytes behind it
 
@@ -196,7 +196,7 @@ item_taken laws old new item found ordered shows keeps taken_up =
       end = calls.end ∙ ap by_jottings taken_up.jottings ∙ ap by_line taken_up.line ∙ ap by_took took_is ∙ ap by_effect same;
       held = ap (λ (x : Stage). bytes_at x new.node) stage
           ∙ left_at n.engine.stage effect.state.stage n.texts n.packets item n taken_up.called.node new.node refl refl shows
-          (item_on (player_of (sought old)).keeper n.engine.identity false n.engine.stage n.texts n.packets item n.engine.link (state_of (sought old)).keeper shows)
+          (item_on (state_of (sought old)).number (player_of (sought old)).keeper n.engine.identity false n.engine.stage n.texts n.packets item n.engine.link (state_of (sought old)).keeper shows)
           takes.left taken_up.noted.texts taken_up.noted.packets
           ∙ ap (λ (x : EndEffect Talk). held_in x.state.stage behind) same;
       ordered = calls.ordered;

@@ -126,7 +126,7 @@ module _ (law : Laws) (setup : SetupValue) (brought : AtBoth Belongings) (sound 
       (step_alike law (session_side side) (at side setup).holdings (seen_at setup brought side)
       (λ m. Joined setup brought side m (moment_of f)) (StandsThere (moment_of f))
       (is_invariant law setup brought sound side (moment_of f)) (at side setup).own (at side setup).name
-      (at (other side) setup).name (moment_of e) e.state.stage event none joined.joined joined.near_hails)
+      (at (other side) setup).name e.state.number (moment_of e) e.state.stage event none joined.joined joined.near_hails)
 
   -- ---- a packet of the other end
 
@@ -159,7 +159,7 @@ module _ (law : Laws) (setup : SetupValue) (brought : AtBoth Belongings) (sound 
       let alike = packet_step_alike law (session_side side) (at side setup).holdings (seen_at setup brought side)
       (λ m. Joined setup brought side m (moment_of f)) (StandsThere (moment_of f))
       (is_invariant law setup brought sound side (moment_of f)) (at side setup).own (at side setup).name
-      (at (other side) setup).name (moment_of e) p place e.state.stage on_link
+      (at (other side) setup).name e.state.number (moment_of e) p place e.state.stage on_link
       (place_found law p f.log.packets e.log.passed place found_there) joined.joined in
       packet_done e f p place x y joined (sym (ap (λ (z : EndEffect Count). z.took) alike.same))
       (λ within. spoken_after (end_keeper (session_side side) (at side setup).holdings) (identity setup side) event e.state within joined.near_spoken)

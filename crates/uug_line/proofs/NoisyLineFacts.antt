@@ -1,6 +1,7 @@
 -- Runs over a line that loses, changes and breaks off, worked out by hand, and computed with the two ends themselves and
 -- with two numbers an end.
-use Rattle.std.proofs.Common.{◌≡◌, ℕ, List, [], ◌∷◌, ◌++◌, take, replicate, codes, refl}
+use Rattle.std.proofs.Common.{◌≡◌, ℕ, List, [], ◌∷◌, ◌++◌, take, replicate, codes, None, refl}
+use Rattle.uug_link.specs.Terms.{smallest_code}
 use Rattle.uug_packet.specs.Checksum.{check}
 use Rattle.uug_packet.specs.Decoded.{header_at, decoded}
 use Rattle.uug_packet.specs.Packet.{rj, rr, init_c, init_b, init_a, control}
@@ -37,7 +38,7 @@ pub damage_is_repaired : ComeTo (sends_to no_holdings) a_byte_changed (record {
   ends = at_ends (owns 0 1 0 []) (owns 0 0 0 (file y [] ∷ []));
   verdict = Clean;
 })
-unfolding check header_at decoded
+unfolding check header_at decoded smallest_code
 damage_is_repaired = record { themselves = refl; numbers = refl; same = refl }
 
 -- ---- the line breaks after the file was stored, and before the caller hears of it: it is stored again
@@ -51,7 +52,7 @@ pub stored_twice : ComeTo (sends_to no_holdings) broken_off (record {
   ends = at_ends (owns 0 1 0 []) (owns 0 0 0 (file y [] ∷ file y [] ∷ []));
   verdict = Clean;
 })
-unfolding check header_at decoded
+unfolding check header_at decoded smallest_code
 stored_twice = record { themselves = refl; numbers = refl; same = refl }
 
 -- ---- a header is lost, and an image of a packet in its field is found, which was not sent
@@ -68,7 +69,7 @@ pub image_is_found : ComeTo (two_ends (send ∷ []) (gives (file x image)) [] no
   ends = at_ends (owns 1 0 0 []) nothing_left;
   verdict = Fooled 14 Called;
 })
-unfolding check header_at decoded
+unfolding check header_at decoded smallest_code
 image_is_found = record { themselves = refl; numbers = refl; same = refl }
 
 -- what would happen then does not
@@ -78,7 +79,7 @@ pub nothing_behind_it : ComeTo (two_ends (send ∷ []) (gives (file x image)) []
       ends = at_ends (owns 1 0 0 []) nothing_left;
       verdict = Fooled 14 Called;
     })
-unfolding check header_at decoded
+unfolding check header_at decoded smallest_code
 nothing_behind_it = record { themselves = refl; numbers = refl; same = refl }
 
 -- ---- a packet comes out of nowhere; one is found once more than it was sent
@@ -91,7 +92,7 @@ pub forged_packet_is_found : ComeTo (sends_to no_holdings) forged (record {
   ends = at_ends (owns 1 0 0 []) nothing_left;
   verdict = Fooled 16 Caller;
 })
-unfolding check header_at decoded
+unfolding check header_at decoded smallest_code
 forged_packet_is_found = record { themselves = refl; numbers = refl; same = refl }
 
 -- the called end's INITC 2, which the caller has found
@@ -106,7 +107,7 @@ pub repeated_packet_is_found : ComeTo (sends_to no_holdings) found_again (record
   ends = at_ends (owns 1 0 0 []) nothing_left;
   verdict = Fooled 16 Caller;
 })
-unfolding check header_at decoded
+unfolding check header_at decoded smallest_code
 repeated_packet_is_found = record { themselves = refl; numbers = refl; same = refl }
 
 -- what was found before it, in the same piece, is taken up: the link comes up, and a message is sent
@@ -119,14 +120,14 @@ pub good_is_taken_up : ComeTo (sends_to no_holdings) good_and_forged (record {
   ends = at_ends (owns 1 0 0 []) nothing_left;
   verdict = Fooled 22 Caller;
 })
-unfolding check header_at decoded
+unfolding check header_at decoded smallest_code
 good_is_taken_up = record { themselves = refl; numbers = refl; same = refl }
 
 -- ---- an equal packet that was lost counts as the one that is found: its place is the least
 
 pub least_place : (logs by_numbers (sends_to no_holdings) a_byte_changed).at_called.arrivals
     ≡ 0 ∷ 1 ∷ 2 ∷ 3 ∷ 5 ∷ 6 ∷ 7 ∷ 8 ∷ 9 ∷ 10 ∷ 11 ∷ []
-unfolding check header_at decoded
+unfolding check header_at decoded smallest_code
 least_place = refl
 
 -- ---- a byte of a packet's field is changed: the packet is rejected, and comes again
@@ -139,12 +140,12 @@ pub broken_packet_is_rejected : ComeTo (sends_to no_holdings) field_changed (rec
   ends = at_ends (owns 0 1 0 []) (owns 0 0 0 (file y [] ∷ []));
   verdict = Clean;
 })
-unfolding check header_at decoded
+unfolding check header_at decoded smallest_code
 broken_packet_is_rejected = record { themselves = refl; numbers = refl; same = refl }
 
 pub reject_goes_out : take 5 (logs by_numbers (sends_to no_holdings) field_changed).at_called.packets
     ≡ control (init_a 2) ∷ control (init_b 0) ∷ control (init_c 2) ∷ control (rj 0) ∷ control (rr 1) ∷ []
-unfolding check header_at decoded
+unfolding check header_at decoded smallest_code
 reject_goes_out = refl
 
 -- ---- noise between packets
@@ -160,7 +161,7 @@ pub noise_is_passed_over : ComeTo (sends_to no_holdings) with_noise (record {
   ends = at_ends (owns 0 1 0 []) (owns 0 0 0 (file y [] ∷ []));
   verdict = Clean;
 })
-unfolding check header_at decoded
+unfolding check header_at decoded smallest_code
 noise_is_passed_over = record { themselves = refl; numbers = refl; same = refl }
 
 -- ---- the greeting: the called end's name is lost; a text is too long
@@ -199,7 +200,7 @@ pub goes_on_after_hang_up : ComeTo (sends_to no_holdings) (broken_in_greeting ++
   ends = at_ends (owns 0 1 0 []) (owns 0 0 0 (file y [] ∷ []));
   verdict = Clean;
 })
-unfolding check header_at decoded
+unfolding check header_at decoded smallest_code
 goes_on_after_hang_up = record { themselves = refl; numbers = refl; same = refl }
 
 -- of the texts that came its greeting has used this one, and would have gone on
@@ -208,9 +209,9 @@ called_name = codes "Shere=b"
 
 pub used_the_name_alone : ((came_in by_numbers idle broken_in_greeting).at_caller
     ≡ written_text called_name ++ written_text (codes "ROK") ++ written_text (codes "Pg"))
-    × GreetsOn (identity idle Caller) (called_name ∷ []) Admission
+    × GreetsOn (identity idle Caller) None (called_name ∷ []) Admission None
 used_the_name_alone =
-    (refl, record { greeting = record { awaited = Admission; timeouts = 0 }; goes_on = refl; awaits = refl })
+    (refl, record { greeting = record { awaited = Admission; timeouts = 0 }; goes_on = refl; awaits = refl; keeps = refl })
 
 -- ---- what was put off is offered again in a session to come
 
@@ -220,7 +221,7 @@ pub put_off_twice : ComeTo (sends_to puts_y_off) (flow_then 20 (Call ∷ flow 20
   ends = at_ends (owns 1 0 0 []) nothing_left;
   verdict = Clean;
 })
-unfolding check header_at decoded
+unfolding check header_at decoded smallest_code
 put_off_twice = record { themselves = refl; numbers = refl; same = refl }
 
 -- ---- what an end had before the first session stays in front
@@ -229,6 +230,7 @@ abbrev had_before : Belongings
 had_before = record {
   lists = record { passed = request ∷ []; ahead = send ∷ []; struck = send_copy ∷ []; failed = [] };
   kept = file q [] ∷ [];
+  number = None;
 }
 
 abbrev with_earlier : SetupValue
@@ -239,6 +241,7 @@ abbrev has_then : Belongings
 has_then = record {
   lists = record { passed = []; ahead = []; struck = send_copy ∷ request ∷ send ∷ []; failed = [] };
   kept = file q [] ∷ file y [] ∷ [];
+  number = None;
 }
 
 pub record StaysInFront : Type 0 where
@@ -246,7 +249,7 @@ pub record StaysInFront : Type 0 where
   pub numbers : (report_of_world with_earlier (flow 20)).belongings.at_caller ≡ has_then
 
 pub stays_in_front : StaysInFront
-unfolding check header_at decoded
+unfolding check header_at decoded smallest_code
 stays_in_front = record { themselves = refl; numbers = refl }
 
 -- ---- nothing happens; nothing comes
@@ -279,5 +282,5 @@ pub record HoldWhatWaits : Type 0 where
   pub ended : held_at_caller idle (flow_then 20 (inserted_then (0x10 ∷ []) (Pass Caller all ∷ []))) ≡ []
 
 pub hold_what_waits : HoldWhatWaits
-unfolding check header_at decoded
+unfolding check header_at decoded smallest_code
 hold_what_waits = record { text = refl; packet = refl; hung_up = refl; ended = refl }

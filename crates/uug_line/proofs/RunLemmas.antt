@@ -1,5 +1,5 @@
 -- What happens to the program's run is what happens in the definitions' one.
-use Rattle.std.proofs.Common.{◌≡◌, ℕ, suc, ◌+◌, ◌<◌, ◌≤◌, Bool, true, false, List, [], ◌∷◌, ◌++◌, length, get_or, map, take, drop, ap, sym, subst, ◌∙◌, refl, arith}
+use Rattle.std.proofs.Common.{◌≡◌, ℕ, suc, ◌+◌, ◌<◌, ◌≤◌, Bool, true, false, List, [], ◌∷◌, ◌++◌, length, get_or, map, take, drop, ap, sym, subst, ◌∙◌, refl, arith, Option}
 use Rattle.std.proofs.lemmas.List.{drop_all, drop_more, map-append, take_all}
 use Rattle.uug_reader.specs.declared.reader.TheConstants.{READER_SIZE}
 use Rattle.uug_link.specs.Announced.{Announced}
@@ -302,21 +302,32 @@ kept_as_lost old lost is =
     ap (λ (h : Hearer (LineEnd Talk)). h.end.state.keeper) is.hearer
     ∙ lost_keeper (player_of old).keeper (player_of old).identity old.node.engine.stage (line_end_of old).state
 
-owned_by_talk : Talk → Belongings
-owned_by_talk talk = record { lists = talk.machine.lists; kept = talk.kept }
+lost_number : (k : Keeper Talk) (id : Identity) (stage : Stage) (e : EndState Talk) → (stage_step k id stage line_lost e).state.number ≡ e.number
+lost_number k id (hailing g) e = refl
+lost_number k id linked e = refl
+lost_number k id (ended how) e = refl
+
+number_as_lost : (old lost : Parts) → IsCalled line_lost old lost → (line_end_of lost).state.number ≡ (line_end_of old).state.number
+number_as_lost old lost is =
+    ap (λ (h : Hearer (LineEnd Talk)). h.end.state.number) is.hearer
+    ∙ lost_number (player_of old).keeper (player_of old).identity old.node.engine.stage (line_end_of old).state
+
+owned_by_talk : (number : Option ℕ) → Talk → Belongings
+owned_by_talk number talk = record { lists = talk.machine.lists; kept = talk.kept; number = number }
 
 -- at an end that has begun again
 began_so : (setup : SetupValue) (side : Side) (old lost new : Parts) (now : Hearer (LineEnd Talk)) → standing_of old ≡ standing_at setup side
     → now ≡ hearer_of old → IsCalled line_lost old lost → BeginsAgain lost new
-    → begins (begins_session (standing_at setup side).identity (standing_at setup side).own
-    (by_themselves.first (renewed (owned_by_talk now.end.state.keeper)))) ≡ hearer_of new
+    → begins (begins_session (standing_at setup side).identity (standing_at setup side).own now.end.state.number
+    (by_themselves.first (renewed (owned_by_talk now.end.state.number now.end.state.keeper)))) ≡ hearer_of new
 unfolding owned_by_talk
 began_so setup side old lost new now standing is lost_is begun =
-    let first : Standing → Talk → Hearer (LineEnd Talk) =
-    λ s talk. begins (begins_session s.identity s.own (by_themselves.first (renewed (owned_by_talk talk)))) in
-    ap (λ (h : Hearer (LineEnd Talk)). first (standing_at setup side) h.end.state.keeper) is
-    ∙ ap (first (standing_at setup side)) (sym (kept_as_lost old lost lost_is))
-    ∙ ap (λ (s : Standing). first s (line_end_of lost).state.keeper) (sym (lost_is.standing ∙ standing))
+    let first : Standing → Option ℕ → Talk → Hearer (LineEnd Talk) =
+    λ s number talk. begins (begins_session s.identity s.own number (by_themselves.first (renewed (owned_by_talk number talk)))) in
+    ap (λ (h : Hearer (LineEnd Talk)). first (standing_at setup side) h.end.state.number h.end.state.keeper) is
+    ∙ ap (λ (n : Option ℕ). first (standing_at setup side) n (line_end_of old).state.keeper) (sym (number_as_lost old lost lost_is))
+    ∙ ap (first (standing_at setup side) (line_end_of lost).state.number) (sym (kept_as_lost old lost lost_is))
+    ∙ ap (λ (s : Standing). first s (line_end_of lost).state.number (line_end_of lost).state.keeper) (sym (lost_is.standing ∙ standing))
     ∙ sym begun.hearer
 
 began_standing : (setup : SetupValue) (side : Side) (old lost new : Parts) → standing_of old ≡ standing_at setup side
@@ -548,8 +559,8 @@ told_as setup run verdict r ends =
       sessions = x;
       ends = record { at_caller = end_now (end_at Caller run).end; at_called = end_now (end_at Called run).end };
       belongings = record {
-        at_caller = owned_by_talk (end_at Caller run).end.state.keeper;
-        at_called = owned_by_talk (end_at Called run).end.state.keeper;
+        at_caller = owned_by_talk (end_at Caller run).end.state.number (end_at Caller run).end.state.keeper;
+        at_called = owned_by_talk (end_at Called run).end.state.number (end_at Called run).end.state.keeper;
       };
       verdict = run.verdict;
     } in
@@ -558,15 +569,15 @@ told_as setup run verdict r ends =
       sessions = told;
       ends = record { at_caller = end_now x; at_called = end_now (end_at Called run).end };
       belongings = record {
-        at_caller = owned_by_talk x.state.keeper;
-        at_called = owned_by_talk (end_at Called run).end.state.keeper;
+        at_caller = owned_by_talk x.state.number x.state.keeper;
+        at_called = owned_by_talk (end_at Called run).end.state.number (end_at Called run).end.state.keeper;
       };
       verdict = run.verdict;
     } in
     let by_called : LineEnd Talk → SpelledReport = λ x. record {
       sessions = told;
       ends = record { at_caller = parts_now r.caller; at_called = end_now x };
-      belongings = record { at_caller = owned_parts r.caller; at_called = owned_by_talk x.state.keeper };
+      belongings = record { at_caller = owned_parts r.caller; at_called = owned_by_talk x.state.number x.state.keeper };
       verdict = run.verdict;
     } in
     let by_verdict : LineVerdict → SpelledReport = λ x. record {
@@ -599,12 +610,13 @@ give_as_set_up setup run verdict r ends Called = ap (λ (s : Standing). s.holdin
 pub starts_as : (setup : SetupValue) (caller_spool called_spool : MemoryHoldings) (r : RunParts) → r.past ≡ []
     → setup.at_caller.holdings ≡ holdings_of caller_spool → setup.at_called.holdings ≡ holdings_of called_spool
     → setup.at_caller.belongings.kept ≡ caller_spool.stored → setup.at_called.belongings.kept ≡ called_spool.stored
-    → HasBegun (standing_at setup Caller).identity (standing_at setup Caller).own (renewed setup.at_caller.belongings).lists caller_spool r.caller
-    → HasBegun (standing_at setup Called).identity (standing_at setup Called).own (renewed setup.at_called.belongings).lists called_spool r.called
+    → HasBegun (standing_at setup Caller).identity (standing_at setup Caller).own setup.at_caller.belongings.number (renewed setup.at_caller.belongings).lists caller_spool r.caller
+    → HasBegun (standing_at setup Called).identity (standing_at setup Called).own setup.at_called.belongings.number (renewed setup.at_called.belongings).lists called_spool r.called
     → StandsAs setup (first_run by_themselves setup) r
 starts_as setup caller_spool called_spool r none caller_holdings called_holdings caller_kept called_kept caller called =
     let first : Side → Lists → List Kept → Hearer (LineEnd Talk) =
-    λ side l kept. begins (begins_session (standing_at setup side).identity (standing_at setup side).own (unopened l kept)) in
+    λ side l kept. begins (begins_session (standing_at setup side).identity (standing_at setup side).own
+    (at side setup).belongings.number (unopened l kept)) in
     let caller_lists = (renewed setup.at_caller.belongings).lists in
     let called_lists = (renewed setup.at_called.belongings).lists in
     record {
@@ -671,14 +683,16 @@ none_left events number past = drop_all number events past
 
 -- ---- the ends as they are set up
 
-pub begun_as : (side : SessionSide) (me peer my_name other_name : List ℕ) (own announced_so : Announced) (l : Lists) (spool : MemoryHoldings) (new : Parts)
-    → me ≡ my_name → peer ≡ other_name → own ≡ announced_so
-    → HasBegun (record { side = side; me = me; peer = peer }) own l spool new
-    → HasBegun (record { side = side; me = my_name; peer = other_name }) announced_so l spool new
-begun_as side me peer my_name other_name own announced_so l spool new a b o begun =
-    subst (λ (x : List ℕ). HasBegun (record { side = side; me = x; peer = other_name }) announced_so l spool new) a
-    (subst (λ (x : List ℕ). HasBegun (record { side = side; me = me; peer = x }) announced_so l spool new) b
-    (subst (λ (x : Announced). HasBegun (record { side = side; me = me; peer = peer }) x l spool new) o begun))
+pub begun_as : (side : SessionSide) (me peer my_name other_name : List ℕ) (own announced_so : Announced) (number set_up : Option ℕ)
+    (l : Lists) (spool : MemoryHoldings) (new : Parts)
+    → me ≡ my_name → peer ≡ other_name → own ≡ announced_so → number ≡ set_up
+    → HasBegun (record { side = side; me = me; peer = peer }) own number l spool new
+    → HasBegun (record { side = side; me = my_name; peer = other_name }) announced_so set_up l spool new
+begun_as side me peer my_name other_name own announced_so number set_up l spool new a b o n begun =
+    subst (λ (x : List ℕ). HasBegun (record { side = side; me = x; peer = other_name }) announced_so set_up l spool new) a
+    (subst (λ (x : List ℕ). HasBegun (record { side = side; me = me; peer = x }) announced_so set_up l spool new) b
+    (subst (λ (x : Announced). HasBegun (record { side = side; me = me; peer = peer }) x set_up l spool new) o
+    (subst (λ (x : Option ℕ). HasBegun (record { side = side; me = me; peer = peer }) own x l spool new) n begun)))
 
 pub sessions_none : {A : Type 0} (sessions : List (SessionReport A)) → sessions ≡ [] → map session_shown sessions ≡ []
 sessions_none {A} sessions none = let shown : SessionReport A → AtBoth SpelledEnd = λ s. session_shown s in ap (map shown) none

@@ -1,5 +1,5 @@
 -- Two joined ends seen from the other side, at a session's start, and what they have come to by numbers.
-use Rattle.std.proofs.Common.{◌≡◌, inl, inr, ℕ, ◌≤◌, true, List, ◌++◌, length, refl, sym, ap, subst, ◌∙◌, arith}
+use Rattle.std.proofs.Common.{◌≡◌, inl, inr, ℕ, ◌≤◌, true, List, ◌++◌, length, refl, sym, ap, subst, ◌∙◌, arith, Option}
 use Rattle.uug_link.specs.declared.phase.Phase.TheVariants as phases
 use Rattle.uug_link.specs.TwoLinks.{IsFrontOf}
 use Rattle.uug_session.specs.EarlierJobs.{behind}
@@ -113,9 +113,9 @@ module _ (law : Laws) (setup : SetupValue) (brought : AtBoth Belongings) where
     near_passed = refl;
     far_passed = refl;
     near_spoken = spoken_at_first (end_keeper caller setup.at_caller.holdings) (identity setup Caller) setup.at_caller.own
-        (by_themselves.first brought.at_caller);
+        brought.at_caller.number (by_themselves.first brought.at_caller);
     far_spoken = spoken_at_first (end_keeper called setup.at_called.holdings) (identity setup Called) setup.at_called.own
-        (by_themselves.first brought.at_called);
+        brought.at_called.number (by_themselves.first brought.at_called);
   }
 
 pub first_counted : (setup : SetupValue) (brought : AtBoth Belongings) (side : Side) →
@@ -126,39 +126,39 @@ first_counted setup brought Called = refl
 module _ (law : Laws) (setup : SetupValue) (brought : AtBoth Belongings) (sound : IsSoundSession setup brought) where
   -- ---- what an end has
 
-  abbrev HasSame : Side → Talk → (sent taken : ℕ) → Type 0
-  HasSame side talk sent taken =
-      by_numbers.has (parties setup brought) side (at side brought) (record { opened = talk.opened; sent = sent; taken = taken })
-      ≡ by_themselves.has (parties setup brought) side (at side brought) talk
+  abbrev HasSame : Side → (number : Option ℕ) → Talk → (sent taken : ℕ) → Type 0
+  HasSame side number talk sent taken =
+      by_numbers.has (parties setup brought) side (at side brought) number (record { opened = talk.opened; sent = sent; taken = taken })
+      ≡ by_themselves.has (parties setup brought) side (at side brought) number talk
 
-  has_behind : (side : Side) (t : Talker) (taken : List (List ℕ)) →
+  has_behind : (side : Side) (number : Option ℕ) (t : Talker) (taken : List (List ℕ)) →
       t.taken ≡ taken →
       t.state.lists ≡ lists_after (session_side side) (party setup brought Caller) (party setup brought Called) (length t.taken) →
       t.kept ≡ kept_after (length t.taken) (seen_at setup brought side) → (sent : ℕ) →
-      HasSame side (talk_at setup brought side t) sent (length taken)
-  has_behind side t taken told lists kept sent =
+      HasSame side number (talk_at setup brought side t) sent (length taken)
+  has_behind side number t taken told lists kept sent =
       let b : Belongings = at side brought in
       let having : (Lists → List Kept → Belongings) = λ l k.
-      record { lists = behind b.lists.struck b.lists.failed l; kept = b.kept ++ k } in
-      ap (λ (l : List (List ℕ)). has_by true (parties setup brought) side b (length l)) (sym told)
+      record { lists = behind b.lists.struck b.lists.failed l; kept = b.kept ++ k; number = number } in
+      ap (λ (l : List (List ℕ)). has_by true (parties setup brought) side b number (length l)) (sym told)
       ∙ ap (λ (l : Lists). having l (kept_after (length t.taken) (seen_at setup brought side))) (sym lists)
       ∙ ap (λ (k : List Kept). having t.state.lists k) (sym kept)
 
   pub has_joined : (side : Side) (e f : LineEnd Talk) → EndsJoined setup brought side e f →
-      by_numbers.has (parties setup brought) side (at side brought) (count_of e)
-      ≡ by_themselves.has (parties setup brought) side (at side brought) e.state.keeper
+      by_numbers.has (parties setup brought) side (at side brought) e.state.number (count_of e)
+      ≡ by_themselves.has (parties setup brought) side (at side brought) e.state.number e.state.keeper
   has_joined side e f joined = by joined.joined.near_talk
     where
       by : IsTalk (session_side side) (party setup brought side) (at side brought) e.state.keeper
           (talker_at setup brought side joined.joined.two) →
-          HasSame side e.state.keeper (length e.log.sent) (length e.log.taken)
+          HasSame side e.state.number e.state.keeper (length e.log.sent) (length e.log.taken)
       by (inl fresh) =
-          subst (λ (x : Talk). HasSame side x (length e.log.sent) (length e.log.taken)) (sym fresh.0) refl
+          subst (λ (x : Talk). HasSame side e.state.number x (length e.log.sent) (length e.log.taken)) (sym fresh.0) refl
       by (inr is_behind) =
           let two = joined.joined.two in
           let told : IsToldAt setup brought side two = told_at setup brought law sound side two joined.joined.reached in
-          subst (λ (x : Talk). HasSame side x (length e.log.sent) (length e.log.taken)) (sym is_behind)
-          (has_behind side (talker_at setup brought side two) e.log.taken
+          subst (λ (x : Talk). HasSame side e.state.number x (length e.log.sent) (length e.log.taken)) (sym is_behind)
+          (has_behind side e.state.number (talker_at setup brought side two) e.log.taken
           joined.joined.near_taken told.stands.lists told.stands.kept (length e.log.sent))
 
   -- ---- how far the ends have come

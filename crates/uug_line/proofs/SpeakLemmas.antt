@@ -1,5 +1,5 @@
 -- What an end says behind its link's answer, and how its session ends, told by two numbers.
-use Rattle.std.proofs.Common.{◌≡◌, ℕ, Bool, true, false, List, ◌++◌, refl, sym, ap, subst, ◌∙◌, true≢false}
+use Rattle.std.proofs.Common.{◌≡◌, ℕ, Bool, true, false, List, ◌++◌, Option, refl, sym, ap, subst, ◌∙◌, true≢false}
 use Rattle.uug_link.specs.declared.limits.TheConstants.{WINDOW_MAX}
 use Rattle.uug_link.specs.State.{State, IsUp}
 use Rattle.uug_link.specs.Step.{Effect, Emission, to_close, step}
@@ -67,57 +67,57 @@ module _ (law : Laws) (me : Side) (h : Holdings) (v : List Seen) (J : Moment →
 
 -- ---- the session goes on
 
-goes_on_with_alike : (J : Moment → Type 0) (first : State) (m : Moment) (took : Bool) (es : List Emission) (link : State)
+goes_on_with_alike : (number : Option ℕ) (J : Moment → Type 0) (first : State) (m : Moment) (took : Bool) (es : List Emission) (link : State)
     (talk : Talk) (x : Sending Talk) (y : Sending Count) → SendsAlike J (emits m (packets es) link talk) x y →
-    DoesAlike J first m (goes_on_with took es x) (goes_on_with took es y)
-goes_on_with_alike J first m took es link talk x y alike =
-    let all : sent_all (emits m (packets es) link talk) x ≡ done_all m (goes_on_with took es x) =
+    DoesAlike J first m (goes_on_with number took es x) (goes_on_with number took es y)
+goes_on_with_alike number J first m took es link talk x y alike =
+    let all : sent_all (emits m (packets es) link talk) x ≡ done_all m (goes_on_with number took es x) =
     emits_more_packets m es x.emissions link x.link talk x.keeper in
     record {
       holds = subst J all alike.holds;
-      same = ap (λ (z : Sending Count). goes_on_with took es z) alike.same
-          ∙ ap (λ (z : Moment). counted_effect z (goes_on_with took es x)) all;
+      same = ap (λ (z : Sending Count). goes_on_with number took es z) alike.same
+          ∙ ap (λ (z : Moment). counted_effect z (goes_on_with number took es x)) all;
       hails = linked_hails_not first x.link;
     }
 
 -- behind a link's effect, where the talk and the numbers are then so
-pub goes_on_alike : Laws → (me : Side) (h : Holdings) (v : List Seen) (J : Moment → Type 0)
+pub goes_on_alike : (number : Option ℕ) → Laws → (me : Side) (h : Holdings) (v : List Seen) (J : Moment → Type 0)
     (IsThere : Moment → PacketValue → ℕ → Type 0) → IsInvariant me h v J IsThere →
     (first : State) (m : Moment) (took : Bool) (e : Effect) (talk : Talk) (c : Count) →
     J (emits m (packets e.emitted) e.state talk) → c ≡ count (emits m (packets e.emitted) e.state talk) →
-    DoesAlike J first m (goes_on (end_keeper me h) took e talk) (goes_on (count_keeper v) took e c)
-goes_on_alike law me h v J IsThere is first m took e talk c j same =
+    DoesAlike J first m (goes_on number (end_keeper me h) took e talk) (goes_on number (count_keeper v) took e c)
+goes_on_alike number law me h v J IsThere is first m took e talk c j same =
     let then_m = emits m (packets e.emitted) e.state talk in
-    subst (λ (d : Count). DoesAlike J first m (goes_on (end_keeper me h) took e talk) (goes_on (count_keeper v) took e d))
+    subst (λ (d : Count). DoesAlike J first m (goes_on number (end_keeper me h) took e talk) (goes_on number (count_keeper v) took e d))
     (sym same)
-    (goes_on_with_alike J first m took e.emitted e.state talk (speaks_by (is_up e.state.phase) (end_keeper me h) e.state talk)
+    (goes_on_with_alike number J first m took e.emitted e.state talk (speaks_by (is_up e.state.phase) (end_keeper me h) e.state talk)
     (speaks_by (is_up e.state.phase) (count_keeper v) e.state (count then_m))
     (speaks_alike law me h v J IsThere is then_m j (is_up e.state.phase) refl))
 
 -- it says nothing
-pub stays_alike : (J : Moment → Type 0) (first : State) (m : Moment) (e : Effect) (talk : Talk) (c : Count) →
+pub stays_alike : (number : Option ℕ) (J : Moment → Type 0) (first : State) (m : Moment) (e : Effect) (talk : Talk) (c : Count) →
     J (emits m (packets e.emitted) e.state talk) → c ≡ count (emits m (packets e.emitted) e.state talk) →
-    DoesAlike J first m (goes_on_with false e.emitted (sending_nothing e.state talk))
-    (goes_on_with false e.emitted (sending_nothing e.state c))
-stays_alike J first m e talk c j same =
+    DoesAlike J first m (goes_on_with number false e.emitted (sending_nothing e.state talk))
+    (goes_on_with number false e.emitted (sending_nothing e.state c))
+stays_alike number J first m e talk c j same =
     let then_m = emits m (packets e.emitted) e.state talk in
-    subst (λ (d : Count). DoesAlike J first m (goes_on_with false e.emitted (sending_nothing e.state talk))
-    (goes_on_with false e.emitted (sending_nothing e.state d))) (sym same)
-    (goes_on_with_alike J first m false e.emitted e.state talk (sending_nothing e.state talk)
+    subst (λ (d : Count). DoesAlike J first m (goes_on_with number false e.emitted (sending_nothing e.state talk))
+    (goes_on_with number false e.emitted (sending_nothing e.state d))) (sym same)
+    (goes_on_with_alike number J first m false e.emitted e.state talk (sending_nothing e.state talk)
     (sending_nothing e.state (count then_m)) (nothing_alike J then_m j))
 
 -- ---- the session ends
 
-pub ends_alike : (J : Moment → Type 0) (first : State) (id : Identity) (m : Moment) (parted also_parted : Bool) (how : End)
+pub ends_alike : (number : Option ℕ) (J : Moment → Type 0) (first : State) (id : Identity) (m : Moment) (parted also_parted : Bool) (how : End)
     (e : Effect) (talk : Talk) (c : Count) (took : Bool) → parted ≡ also_parted → J (emits m (packets e.emitted) e.state talk) →
     c ≡ count (emits m (packets e.emitted) e.state talk) →
-    DoesAlike J first m (ends_so id parted how e talk took) (ends_so id also_parted how e c took)
-ends_alike J first id m parted also_parted how e talk c took agree j same =
-    let all : emits m (packets e.emitted) e.state talk ≡ done_all m (ends_so id parted how e talk took) =
+    DoesAlike J first m (ends_so number id parted how e talk took) (ends_so number id also_parted how e c took)
+ends_alike number J first id m parted also_parted how e talk c took agree j same =
+    let all : emits m (packets e.emitted) e.state talk ≡ done_all m (ends_so number id parted how e talk took) =
     sym (emits_and_leaves m (packets e.emitted) parted id.side e.state talk) in
     record {
       holds = subst J all j;
-      same = ap (λ (b : Bool). ends_so id b how e c took) (sym agree)
-          ∙ ap (λ (d : Count). ends_so id parted how e d took) (same ∙ ap count all);
+      same = ap (λ (b : Bool). ends_so number id b how e c took) (sym agree)
+          ∙ ap (λ (d : Count). ends_so number id parted how e d took) (same ∙ ap count all);
       hails = ended_hails_not first e.state (how_it_ends parted how);
     }

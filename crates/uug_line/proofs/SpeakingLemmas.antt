@@ -1,5 +1,5 @@
 -- Whatever an end does, it has then said what it can, where the window of its link is one that may be announced.
-use Rattle.std.proofs.Common.{◌≡◌, inl, ◌≤◌, Bool, true, false, refl, sym, ◌∙◌, true≢false}
+use Rattle.std.proofs.Common.{◌≡◌, inl, ℕ, ◌≤◌, Bool, true, false, refl, sym, ◌∙◌, true≢false, Option}
 use Rattle.uug_link.specs.Announced.{Announced}
 use Rattle.uug_link.specs.declared.limits.TheConstants.{WINDOW_MAX}
 use Rattle.uug_link.specs.declared.phase.Phase.{Phase}
@@ -48,6 +48,6 @@ pub spoken_after : {C : Type 0} (k : Keeper C) (id : Identity) (event : EndEvent
 spoken_after k id event e within spoken =
     spoken_by k id event e (is_up (end_step k id event e).state.link.phase) refl within spoken
 
-pub spoken_at_first : {C : Type 0} (k : Keeper C) (id : Identity) (own : Announced) (c : C) →
-    HasSpoken k (begins_session id own c).state
-spoken_at_first k id own c = record { said = begins_so k id own c; goes_on = begins_open k id own c }
+pub spoken_at_first : {C : Type 0} (k : Keeper C) (id : Identity) (own : Announced) (number : Option ℕ) (c : C) →
+    HasSpoken k (begins_session id own number c).state
+spoken_at_first k id own number c = record { said = begins_so k id own number c; goes_on = begins_open k id own number c }

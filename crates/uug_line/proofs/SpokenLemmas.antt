@@ -7,6 +7,7 @@ use Rattle.uug_link.specs.Announced.{Announced}
 use Rattle.uug_link.specs.InRange.{IsAnnouncement}
 use Rattle.uug_link.specs.State.{State}
 use Rattle.uug_link.specs.Entries.{EntryValue, joined}
+use Rattle.uug_packet.specs.Message.{message_if_data, message_in}
 use Rattle.uug_packet.specs.Packet.{PacketValue, control, carry}
 use Rattle.uug_packet.specs.Spelling.{canonical}
 use Rattle.uug_packet.specs.WellFormed.{IsWellFormed}
@@ -18,7 +19,7 @@ use Rattle.uug_session.specs.MemoryHoldings.{MemoryHoldings, holdings_of}
 use Rattle.uug_session.specs.Says.{written_text}
 use Rattle.uug_session.specs.Talk.{Talk}
 use Rattle.uug_session.specs.Turns.{Side}
-use Rattle.uug_line.specs.Jottings.{Jottings, if_first, log_of, message_if_data, message_in, message_read, messages_said, packet_in, packet_read, packets_said, saying, with_most}
+use Rattle.uug_line.specs.Jottings.{Jottings, if_first, log_of, messages_said, packet_in, packet_read, packets_said, saying, with_most}
 use Rattle.uug_line.specs.LineLaws.{ReadsWritten, StaysInRange}
 use Rattle.uug_line.specs.LineEnd.{LineEnd, Log, after_call, bytes_in, emitting, messages_sent, packets_in, sent_by}
 use Rattle.uug_line.specs.Live.{AreWritten, IsNoted, IsOrdered, Parts, Standing, line_end_of, player_of, standing_of, state_of}
@@ -38,7 +39,7 @@ packets_spelled (says_text text ∷ es) = packets_spelled es
 packets_spelled (sends_packet e ∷ es) = ap (λ (packets : List (List ℕ)). canonical e.packet ∷ packets) (packets_spelled es)
 
 pub packet_back : ReadsWritten → (p : PacketValue) → IsWellFormed p → packet_in (canonical p) ≡ p
-packet_back reads p well = ap packet_read (reads p well)
+packet_back reads p well = ap packet_read (reads.packet p well)
 
 packets_back : ReadsWritten → (es : List Emitted) → AllByRecursion CanBeWritten es → map packet_in (map canonical (packets_in es)) ≡ packets_in es
 packets_back reads [] well = refl
@@ -70,7 +71,7 @@ messages_back : ReadsWritten → (es : List Emitted) → AllByRecursion CanBeWri
 messages_back reads [] well = refl
 messages_back reads (says_text text ∷ es) well = messages_back reads es well.1
 messages_back reads (sends_packet e ∷ es) well =
-    let read : message_in (canonical e.packet) ≡ message_if_data e.packet = ap message_read (reads e.packet well.0) in
+    let read : message_in (canonical e.packet) ≡ message_if_data e.packet = reads.message e.packet well.0 in
     ap (λ (m : Option (List ℕ)). if_first e.first m ++ messages_said (map entry_of es)) read
     ∙ ap (λ (ms : List (List ℕ)). ms ++ messages_said (map entry_of es)) (sent_of e.first e.packet)
     ∙ ap (λ (ms : List (List ℕ)). sent_by e.first e.packet ++ ms) (messages_back reads es well.1)

@@ -62,8 +62,8 @@ pub record Steps (setup : SetupValue) (brought : AtBoth Belongings) : Type 0 whe
       ≡ packet_taken_up (count_player setup brought side) p place (counted_end e)
   -- what an end has, and how far it may be
   pub has_counted : (side : Side) (e f : LineEnd Talk) → EndsJoined setup brought side e f →
-      by_numbers.has (parties setup brought) side (at side brought) (count_of e)
-      ≡ by_themselves.has (parties setup brought) side (at side brought) e.state.keeper
+      by_numbers.has (parties setup brought) side (at side brought) e.state.number (count_of e)
+      ≡ by_themselves.has (parties setup brought) side (at side brought) e.state.number e.state.keeper
   pub front : (side : Side) (e f : LineEnd Talk) → EndsJoined setup brought side e f →
       IsFrontOf e.log.taken f.log.sent
   pub to_floor : (side : Side) (e f : LineEnd Talk) → EndsJoined setup brought side e f →

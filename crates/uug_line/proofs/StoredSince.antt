@@ -1,6 +1,6 @@
 -- What the ends of a run have, session by session: jobs struck since the set-up have entries of their own in what was
 -- stored since then.
-use Rattle.std.proofs.Common.{◌≡◌, inl, inr, ℕ, ◌≤◌, Bool, true, false, List, [], ◌++◌, length, drop, All, refl, sym, ap, subst, ◌∙◌, append_assoc, append-nil, arith}
+use Rattle.std.proofs.Common.{◌≡◌, inl, inr, ℕ, ◌≤◌, Bool, true, false, List, [], ◌++◌, length, drop, All, refl, sym, ap, subst, ◌∙◌, append_assoc, append-nil, arith, Option}
 use Rattle.std.proofs.lemmas.List.{length-append}
 use Rattle.std.proofs.Math.Seq.{drop-append_seam}
 use Rattle.uug_session.specs.declared.job.Job.{Job}
@@ -50,31 +50,31 @@ took_nothing setup brought side e f joined shut = by joined.joined.near_talk
         ap length (sym joined.joined.near_taken ∙ ap (λ t. t.taken) first.1)
     by (inr opened) = absurd (let k : true ≡ false = sym (ap (λ (t : Talk). t.opened) opened) ∙ shut in cc)
 
-has_struck : SessionLaws → (parties : AtBoth Party) (side : Side) (b : Belongings) (opened : Bool) (taken : ℕ) →
-    (opened ≡ false → taken ≡ 0) → (has_by opened parties side b taken).lists.struck ≡ b.lists.struck ++ struck_in parties side taken
-has_struck laws parties side b true taken first = refl
-has_struck laws parties side b false taken first =
+has_struck : SessionLaws → (number : Option ℕ) → (parties : AtBoth Party) (side : Side) (b : Belongings) (opened : Bool) (taken : ℕ) →
+    (opened ≡ false → taken ≡ 0) → (has_by opened parties side b number taken).lists.struck ≡ b.lists.struck ++ struck_in parties side taken
+has_struck laws number parties side b true taken first = refl
+has_struck laws number parties side b false taken first =
     sym (ap (λ z. b.lists.struck ++ z)
     (ap (struck_in parties side) (first refl) ∙ laws.none_struck (session_side side) parties.at_caller parties.at_called)
     ∙ append-nil b.lists.struck)
 
-has_stored : SessionLaws → (parties : AtBoth Party) (side : Side) (b : Belongings) (opened : Bool) (taken : ℕ) →
-    (opened ≡ false → taken ≡ 0) → (has_by opened parties side b taken).kept ≡ b.kept ++ stored_in parties side taken
-has_stored laws parties side b true taken first = refl
-has_stored laws parties side b false taken first =
+has_stored : SessionLaws → (number : Option ℕ) → (parties : AtBoth Party) (side : Side) (b : Belongings) (opened : Bool) (taken : ℕ) →
+    (opened ≡ false → taken ≡ 0) → (has_by opened parties side b number taken).kept ≡ b.kept ++ stored_in parties side taken
+has_stored laws number parties side b true taken first = refl
+has_stored laws number parties side b false taken first =
     sym (ap (λ z. b.kept ++ z)
     (ap (stored_in parties side) (first refl) ∙ laws.none_stored (session_side side) parties.at_caller parties.at_called)
     ∙ append-nil b.kept)
 
-has_names : SessionLaws → (parties : AtBoth Party) (side : Side) (b : Belongings) (opened : Bool) (taken : ℕ) →
+has_names : SessionLaws → (number : Option ℕ) → (parties : AtBoth Party) (side : Side) (b : Belongings) (opened : Bool) (taken : ℕ) →
     pending b.lists ≡ (at side parties).jobs → All HasNames (at side parties).jobs →
-    All HasNames (pending (has_by opened parties side b taken).lists)
-has_names laws parties side b false taken same names = subst (All HasNames) (sym same) names
-has_names laws parties Caller b true taken same names =
+    All HasNames (pending (has_by opened parties side b number taken).lists)
+has_names laws number parties side b false taken same names = subst (All HasNames) (sym same) names
+has_names laws number parties Caller b true taken same names =
     let l = lists_after (session_side Caller) parties.at_caller parties.at_called taken in
     (laws.names parties.at_caller.jobs (pending l) l.struck l.failed
     (laws.shared (session_side Caller) parties.at_caller parties.at_called taken) names).0
-has_names laws parties Called b true taken same names =
+has_names laws number parties Called b true taken same names =
     let l = lists_after (session_side Called) parties.at_caller parties.at_called taken in
     (laws.names parties.at_called.jobs (pending l) l.struck l.failed
     (laws.shared (session_side Called) parties.at_caller parties.at_called taken) names).0
@@ -154,20 +154,20 @@ own_more laws setup brought now giver own others before g r k here =
 
 module _ (laws : SessionLaws) (setup : SetupValue) (brought : AtBoth Belongings) (steps : Steps setup brought) where
   abbrev has : Side → LineEnd Talk → Belongings
-  has side e = by_themselves.has (parties setup brought) side (at side brought) e.state.keeper
+  has side e = by_themselves.has (parties setup brought) side (at side brought) e.state.number e.state.keeper
 
   struck_now : (side : Side) (e f : LineEnd Talk) → EndsJoined setup brought side e f →
       (has side e).lists.struck ≡ (at side brought).lists.struck ++ struck_in (parties setup brought) side (length e.log.taken)
   struck_now side e f joined =
       ap (λ (b : Belongings). b.lists.struck) (sym (steps.has_counted side e f joined))
-      ∙ has_struck laws (parties setup brought) side (at side brought) e.state.keeper.opened (length e.log.taken)
+      ∙ has_struck laws e.state.number (parties setup brought) side (at side brought) e.state.keeper.opened (length e.log.taken)
       (took_nothing setup brought side e f joined)
 
   stored_now : (side : Side) (e f : LineEnd Talk) → EndsJoined setup brought side e f →
       (has side e).kept ≡ (at side brought).kept ++ stored_in (parties setup brought) side (length e.log.taken)
   stored_now side e f joined =
       ap (λ (b : Belongings). b.kept) (sym (steps.has_counted side e f joined))
-      ∙ has_stored laws (parties setup brought) side (at side brought) e.state.keeper.opened (length e.log.taken)
+      ∙ has_stored laws e.state.number (parties setup brought) side (at side brought) e.state.keeper.opened (length e.log.taken)
       (took_nothing setup brought side e f joined)
 
   pub names_now : (side : Side) (e f : LineEnd Talk) → EndsJoined setup brought side e f →
@@ -175,7 +175,7 @@ module _ (laws : SessionLaws) (setup : SetupValue) (brought : AtBoth Belongings)
       All HasNames (at side (parties setup brought)).jobs → All HasNames (pending (has side e).lists)
   names_now side e f joined same names =
       subst (λ (b : Belongings). All HasNames (pending b.lists)) (steps.has_counted side e f joined)
-      (has_names laws (parties setup brought) side (at side brought) e.state.keeper.opened (length e.log.taken) same names)
+      (has_names laws e.state.number (parties setup brought) side (at side brought) e.state.keeper.opened (length e.log.taken) same names)
 
   -- no end has taken more than the other may have said
   to_floor : (side : Side) (e f : LineEnd Talk) → EndsJoined setup brought side e f →

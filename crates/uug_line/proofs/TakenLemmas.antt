@@ -4,10 +4,11 @@ use Rattle.std.proofs.lemmas.Bool.{cases_lt}
 use Rattle.std.proofs.lemmas.Option.{slice_get-map}
 use Rattle.std.specs.Option.{option_map}
 use Rattle.uug_link.specs.Arrivals.{IsPlace, place_of}
+use Rattle.uug_packet.specs.Message.{message_if_data, message_in}
 use Rattle.uug_packet.specs.Packet.{PacketValue, control, carry}
 use Rattle.uug_packet.specs.Spelling.{canonical}
 use Rattle.uug_packet.specs.WellFormed.{IsWellFormed}
-use Rattle.uug_line.specs.Jottings.{Jottings, log_of, message_if_data, message_in, message_read, or_empty, packet_in, packet_jotted}
+use Rattle.uug_line.specs.Jottings.{Jottings, log_of, or_empty, packet_in, packet_jotted}
 use Rattle.uug_line.specs.LineEnd.{Log, found_at, took}
 use Rattle.uug_line.specs.Live.{AreWritten}
 use Rattle.uug_line.specs.Sightings.{StandsAt, StandsNowhere}
@@ -67,7 +68,7 @@ message_is (control c) = refl
 message_is (carry seq ack k message) = refl
 
 message_back : ReadsWritten → (p : PacketValue) → IsWellFormed p → or_empty (message_in (canonical p)) ≡ message_of p
-message_back reads p well = ap (λ r. or_empty (message_read r)) (reads p well) ∙ message_is p
+message_back reads p well = ap or_empty (reads.message p well) ∙ message_is p
 
 pub packet_logged : ReadsWritten → (p : PacketValue) (bytes : List ℕ) (place : ℕ) (j : Jottings) (was_taken : Bool) → IsWellFormed p → bytes ≡ canonical p
     → log_of (packet_jotted bytes place j was_taken) ≡ took was_taken (message_of p) (found_at place (log_of j))

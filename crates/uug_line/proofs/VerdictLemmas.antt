@@ -1,5 +1,5 @@
 -- What the verdict of a run says of what its ends have found.
-use Rattle.std.proofs.Common.{◌≡◌, ℕ, suc, ◌+◌, Bool, true, false, nat_lt, if◌then◌else◌, List, [], ◌∷◌, ◌++◌, take, drop, slice_get, Some, All, refl, sym, ap, subst, ◌∙◌, arith}
+use Rattle.std.proofs.Common.{◌≡◌, ℕ, suc, ◌+◌, Bool, true, false, nat_lt, if◌then◌else◌, List, [], ◌∷◌, ◌++◌, take, drop, slice_get, Some, All, refl, sym, ap, subst, ◌∙◌, arith, Option}
 use Rattle.std.proofs.lemmas.List.Elements.{All-nil, All-push}
 use Rattle.std.specs.Bool.{⊤}
 use Rattle.uug_link.specs.Arrivals.{place_of}
@@ -43,21 +43,21 @@ StaysOrEnds (hailing g) (hailing h) = g.awaited ≡ h.awaited
 StaysOrEnds linked linked = ⊤
 StaysOrEnds _ _ = ⊥
 
-late_stays : {C : Type 0} (id : Identity) (parted : Bool) (o : OutcomeValue) (e : Effect) (c : C) →
-    StaysOrEnds linked (late_link id parted o e c).state.stage
-late_stays id parted nothing e c = tt
-late_stays id parted up e c = tt
-late_stays id parted taken e c = tt
-late_stays id parted closed e c = tt
-late_stays id parted gave_up e c = tt
-late_stays id parted halted e c = tt
+late_stays : {C : Type 0} (number : Option ℕ) (id : Identity) (parted : Bool) (o : OutcomeValue) (e : Effect) (c : C) →
+    StaysOrEnds linked (late_link number id parted o e c).state.stage
+late_stays number id parted nothing e c = tt
+late_stays number id parted up e c = tt
+late_stays number id parted taken e c = tt
+late_stays number id parted closed e c = tt
+late_stays number id parted gave_up e c = tt
+late_stays number id parted halted e c = tt
 
-greeting_stays : {C : Type 0} (id : Identity) (g : Greeting) (goes_on : Bool) (link : State) (c : C) →
-    StaysOrEnds (hailing g) (behind_greeting id (if goes_on
-    then record { says = []; greeted = GoesOn (record { awaited = g.awaited; timeouts = g.timeouts + 1 }) }
+greeting_stays : {C : Type 0} (number : Option ℕ) (id : Identity) (g : Greeting) (goes_on : Bool) (link : State) (c : C) →
+    StaysOrEnds (hailing g) (behind_greeting number id (if goes_on
+    then record { says = []; greeted = GoesOn (record { awaited = g.awaited; timeouts = g.timeouts + 1 }); rises = false }
     else fails [] ends.GaveUp) link c).state.stage
-greeting_stays id g true link c = refl
-greeting_stays id g false link c = tt
+greeting_stays number id g true link c = refl
+greeting_stays number id g false link c = tt
 
 abbrev pub UsesNoBytes : EndEvent → Type 0
 UsesNoBytes time_ran_out = ⊤
@@ -66,14 +66,14 @@ UsesNoBytes _ = ⊥
 
 pub call_stays : {C : Type 0} (k : Keeper C) (id : Identity) (s : Stage) (event : EndEvent) (e : EndState C) → e.stage ≡ s →
     UsesNoBytes event → StaysOrEnds s (stage_step k id s event e).state.stage
-call_stays k id (hailing g) time_ran_out e is uses = greeting_stays id g (nat_lt (g.timeouts + 1) TIMEOUTS_MAX) e.link e.keeper
+call_stays k id (hailing g) time_ran_out e is uses = greeting_stays e.number id g (nat_lt (g.timeouts + 1) TIMEOUTS_MAX) e.link e.keeper
 call_stays k id (hailing g) line_lost e is uses = tt
 call_stays k id (hailing g) (text_found text) e is uses = absurd uses
 call_stays k id (hailing g) long_text_found e is uses = absurd uses
 call_stays k id (hailing g) (packet_found_whole failed p) e is uses = absurd uses
 call_stays k id (hailing g) broken_found e is uses = absurd uses
 call_stays k id linked time_ran_out e is uses =
-    late_stays id (k.has_parted e.keeper) (step e.link timed_out).outcome (step e.link timed_out) e.keeper
+    late_stays e.number id (k.has_parted e.keeper) (step e.link timed_out).outcome (step e.link timed_out) e.keeper
 call_stays k id linked line_lost e is uses = tt
 call_stays k id linked (text_found text) e is uses = absurd uses
 call_stays k id linked long_text_found e is uses = absurd uses

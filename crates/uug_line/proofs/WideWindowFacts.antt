@@ -1,6 +1,7 @@
 -- An end sends while there is room: with the widest window, worked out by hand, and computed with the two ends themselves and
 -- with two numbers an end.
 use Rattle.std.proofs.Common.{ℕ, List, [], ◌∷◌, replicate, codes, refl}
+use Rattle.uug_link.specs.Terms.{smallest_code}
 use Rattle.uug_packet.specs.Checksum.{check}
 use Rattle.uug_packet.specs.Decoded.{header_at, decoded}
 use Rattle.uug_session.specs.declared.phase.Phase.TheVariants.{Ended, Talking}
@@ -37,13 +38,13 @@ at_work caller_talk called_talk = record {
 -- the command has come, and its answer is on the line
 pub command_has_come : ComeTo sends_long (flow_then 5 (Pass Called all ∷ []))
     (at_work (talks 1 0 1 Talking) (talks 1 1 1 Talking))
-unfolding check header_at decoded
+unfolding check header_at decoded smallest_code
 command_has_come = record { themselves = refl; numbers = refl; same = refl }
 
 -- with the answer seven messages go out at once, and the eighth waits for room
 pub seven_go_out : ComeTo sends_long (flow_then 5 (Pass Called all ∷ Pass Caller all ∷ []))
     (at_work (talks 8 1 7 Talking) (talks 1 1 1 Talking))
-unfolding check header_at decoded
+unfolding check header_at decoded smallest_code
 seven_go_out = record { themselves = refl; numbers = refl; same = refl }
 
 -- and the job is done with all of them
@@ -52,5 +53,5 @@ pub all_go_out : ComeTo sends_long (flow 20) (record {
   ends = at_ends (owns 0 1 0 []) (owns 0 0 0 (file y long ∷ []));
   verdict = Clean;
 })
-unfolding check header_at decoded
+unfolding check header_at decoded smallest_code
 all_go_out = record { themselves = refl; numbers = refl; same = refl }

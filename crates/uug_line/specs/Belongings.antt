@@ -1,5 +1,5 @@
 -- What the ends of a line are given, and what they have after some sessions (this project's profile).
-use Rattle.std.specs.Prelude.{ℕ, List}
+use Rattle.std.specs.Prelude.{ℕ, List, Option}
 use Rattle.uug_link.specs.Announced.{Announced}
 use Rattle.uug_link.specs.Terms.{size_of_code}
 use Rattle.uug_session.specs.EndStep.{Identity}
@@ -9,14 +9,15 @@ use Rattle.uug_session.specs.Party.{Party}
 use Rattle.uug_line.specs.declared.side.Side.{Side}
 use Rattle.uug_line.specs.Sides.{other, session_side, AtBoth, at}
 
--- an end's jobs, and all that its spool has kept
+-- an end's jobs, all that its spool has kept, and the number of its conversations, where it keeps one
 pub record Belongings : Type 0 where
   pub lists : Lists
   pub kept : List Kept
+  pub number : Option ℕ
 
 -- at a session's start all pending jobs are to be offered
 abbrev pub renewed : Belongings → Belongings
-renewed b = record { lists = at_start (pending b.lists) b.lists.struck b.lists.failed; kept = b.kept }
+renewed b = record { lists = at_start (pending b.lists) b.lists.struck b.lists.failed; kept = b.kept; number = b.number }
 
 -- an end as it is set up: its name, what the other end shall use, what its spool gives and accepts, and what it has
 pub record EndSetupValue : Type 0 where

@@ -1,5 +1,5 @@
 -- The bytes that came to the ends of a line in a session, and what each has found in them (this project's profile).
-use Rattle.std.specs.Prelude.{◌≡◌, ℕ, suc, false, List, [], ◌∷◌, ◌++◌, length, take, ◌⊎◌}
+use Rattle.std.specs.Prelude.{◌≡◌, ℕ, suc, false, List, [], ◌∷◌, ◌++◌, length, take, Option, ◌⊎◌}
 use Rattle.uug_packet.specs.Packet.{PacketValue}
 use Rattle.uug_reader.specs.Cut.{Item, found, bad}
 use Rattle.uug_reader.specs.Scan.{Finds, IsScan}
@@ -62,30 +62,34 @@ packets_among [] = []
 packets_among (found packet ∷ items) = packet ∷ packets_among items
 packets_among (bad ∷ items) = packets_among items
 
--- what these texts make of the greeting of an end that is so called, from its start
-abbrev pub greeted_by : Identity → (texts : List (List ℕ)) → GreetingRun
-greeted_by id texts = texts_came id.me id.peer texts (Rest []) (greeting_at_first id.side)
+-- what these texts make of the greeting of an end that is so called and brings this number or none, from its start
+abbrev pub greeted_by : Identity → (number : Option ℕ) → (texts : List (List ℕ)) → GreetingRun
+greeted_by id number texts = texts_came id.me id.peer texts (Rest []) number (greeting_at_first id.side)
 
--- with all of these texts the greeting goes on, and awaits this
-pub record GreetsOn (id : Identity) (texts : List (List ℕ)) (awaited : AwaitedText) : Type 0 where
+-- with all of these texts the greeting goes on, awaits this, and leaves the end this number or none
+pub record GreetsOn (id : Identity) (number : Option ℕ) (texts : List (List ℕ)) (awaited : AwaitedText) (kept : Option ℕ) : Type 0 where
   pub greeting : Greeting
-  pub goes_on : (greeted_by id texts).greeted ≡ GoesOn greeting
+  pub goes_on : (greeted_by id number texts).greeted ≡ GoesOn greeting
   pub awaits : greeting.awaited ≡ awaited
+  pub keeps : (greeted_by id number texts).number ≡ kept
 
 -- with the last of these texts, and not before, the greeting was over and the link began
-pub record LinkBeganWith (id : Identity) (texts : List (List ℕ)) : Type 0 where
-  pub begins : (greeted_by id texts).greeted ≡ LinkBegins
-  pub used : (greeted_by id texts).used ≡ length texts
+pub record LinkBeganWith (id : Identity) (number : Option ℕ) (texts : List (List ℕ)) (kept : Option ℕ) : Type 0 where
+  pub begins : (greeted_by id number texts).greeted ≡ LinkBegins
+  pub used : (greeted_by id number texts).used ≡ length texts
+  pub keeps : (greeted_by id number texts).number ≡ kept
 
 -- with the last of these texts, and not before, the greeting failed, and the session ended so
-pub record GreetingFailed (id : Identity) (texts : List (List ℕ)) (how : End) : Type 0 where
-  pub fails : (greeted_by id texts).greeted ≡ Ended how
-  pub used : (greeted_by id texts).used ≡ length texts
+pub record GreetingFailed (id : Identity) (number : Option ℕ) (texts : List (List ℕ)) (how : End) (kept : Option ℕ) : Type 0 where
+  pub fails : (greeted_by id number texts).greeted ≡ Ended how
+  pub used : (greeted_by id number texts).used ≡ length texts
+  pub keeps : (greeted_by id number texts).number ≡ kept
 
 -- An end whose session ended in its greeting has used all of these texts for it. With the last of them it failed; or it would
 -- have gone on with them all, and the end came by a text that is too long, by a timeout or by a hang-up.
-abbrev pub EndedInGreeting : Identity → (texts : List (List ℕ)) → End → Type 0
-EndedInGreeting id texts how = ((awaited : AwaitedText) × GreetsOn id texts awaited) ⊎ GreetingFailed id texts how
+abbrev pub EndedInGreeting : Identity → (number : Option ℕ) → (texts : List (List ℕ)) → End → (kept : Option ℕ) → Type 0
+EndedInGreeting id number texts how kept =
+    ((awaited : AwaitedText) × GreetsOn id number texts awaited kept) ⊎ GreetingFailed id number texts how kept
 
 -- what an item is to the end that takes it up
 abbrev pub event_of : Item → EndEvent
@@ -112,18 +116,21 @@ EndedOnLink p items now = EndedWithLast p items now ⊎ EndedWith p time_ran_out
 
 -- By how far the end has come: in the greeting there are no items, and the texts of what is held go on as those of all
 -- bytes do; on the link, which began with the last text, just the bytes behind the last item are held; and an end whose
--- session is over has ended in its greeting, without items, or on its link.
-abbrev pub IsLeft : {C : Type 0} → Player C → Stage → EndState C → (texts : List (List ℕ)) → List Item →
+-- session is over has ended in its greeting, without items, or on its link. It keeps the number that the greeting left it,
+-- from the one that it brought.
+abbrev pub IsLeft : {C : Type 0} → Player C → (brought : Option ℕ) → Stage → EndState C → (texts : List (List ℕ)) → List Item →
     (others came held : List ℕ) → Type 0
-IsLeft p (hailing greeting) now texts items others came held =
-    (items ≡ []) × Taken texts came held × GreetsOn p.identity texts greeting.awaited
-IsLeft p linked now texts items others came held = (others ≡ held) × LinkBeganWith p.identity texts
-IsLeft p (ended how) now texts items others came held =
-    ((items ≡ []) × EndedInGreeting p.identity texts how) ⊎ (LinkBeganWith p.identity texts × EndedOnLink p items now)
+IsLeft p brought (hailing greeting) now texts items others came held =
+    (items ≡ []) × Taken texts came held × GreetsOn p.identity brought texts greeting.awaited now.number
+IsLeft p brought linked now texts items others came held =
+    (others ≡ held) × LinkBeganWith p.identity brought texts now.number
+IsLeft p brought (ended how) now texts items others came held =
+    ((items ≡ []) × EndedInGreeting p.identity brought texts how now.number)
+    ⊎ (LinkBeganWith p.identity brought texts now.number × EndedOnLink p items now)
 
 -- An end has found texts in all bytes that came to it, and then, from where they end, items of the link. The packets of
 -- these, and no others, are written down, each at its place among those that the other end emitted.
-pub record HasHeard {C : Type 0} (p : Player C) (came : List ℕ) (now : EndState C) (held arrivals : List ℕ)
+pub record HasHeard {C : Type 0} (p : Player C) (brought : Option ℕ) (came : List ℕ) (now : EndState C) (held arrivals : List ℕ)
     (emitted : List PacketValue) : Type 0 where
   pub texts : List (List ℕ)
   pub begins : List ℕ
@@ -132,13 +139,13 @@ pub record HasHeard {C : Type 0} (p : Player C) (came : List ℕ) (now : EndStat
   pub others : List ℕ
   pub link : Finds begins items others
   pub places : HavePlaces (packets_among items) arrivals emitted 0
-  pub left : IsLeft p now.stage now texts items others came held
+  pub left : IsLeft p brought now.stage now texts items others came held
 
 -- the end on the side, of these bytes
 abbrev pub HasHeardAt : {C : Type 0} → RunKeeper C → SetupValue → (came : List ℕ) → Run C → Side → Type 0
 HasHeardAt k setup came run side =
     let h = end_at side run in
-    HasHeard (player k setup run side) came h.end.state h.held h.end.log.arrivals
+    HasHeard (player k setup run side) (at side run.brought).number came h.end.state h.held h.end.log.arrivals
     (end_at (other side) run).end.log.packets
 
 -- On a link nothing more than its items stands in all bytes since it began, and what waits is held.

@@ -3,7 +3,8 @@ use Rattle.std.specs.Prelude.{ℕ, max, Bool, true, false, List, [], ◌∷◌, 
 use Rattle.uug_link.specs.Entries.{EntryValue, text, packet}
 use Rattle.uug_packet.specs.declared.decoding.NoPacket.{NoPacket}
 use Rattle.uug_packet.specs.Decoded.{decoded}
-use Rattle.uug_packet.specs.Packet.{PacketValue, close, control, carry}
+use Rattle.uug_packet.specs.Message.{message_in}
+use Rattle.uug_packet.specs.Packet.{PacketValue, close, control}
 use Rattle.uug_line.specs.declared.journal.Journal.{Journal}
 use Rattle.uug_line.specs.LineEnd.{Log, Notes, found_at}
 use Rattle.uug_line.specs.Shown.{lists_in}
@@ -42,18 +43,6 @@ packet_read (Err e) = control close
 -- of bytes that spell one
 abbrev pub packet_in : List ℕ → PacketValue
 packet_in bytes = packet_read (decoded bytes)
-
--- only a data packet has a message
-abbrev pub message_if_data : PacketValue → Option (List ℕ)
-message_if_data (control c) = None
-message_if_data (carry seq ack k message) = Some message
-
-abbrev pub message_read : Result (PacketValue × ℕ) NoPacket → Option (List ℕ)
-message_read (Ok front) = message_if_data front.0
-message_read (Err e) = None
-
-abbrev pub message_in : List ℕ → Option (List ℕ)
-message_in bytes = message_read (decoded bytes)
 
 abbrev pub as_list : Option (List ℕ) → List (List ℕ)
 as_list None = []

@@ -1,11 +1,12 @@
 -- What is needed of the laws that stand below a run, for its proofs.
-use Rattle.std.specs.Prelude.{◌≡◌, ◌≢◌, ℕ, ◌≤◌, List, ◌++◌, length, slice_get, All, MatchOption, Ok, Some}
+use Rattle.std.specs.Prelude.{◌≡◌, ◌≢◌, ℕ, ◌≤◌, List, ◌++◌, Option, length, slice_get, All, MatchOption, Ok, Some}
 use Rattle.uug_link.specs.Announced.{Announced, announced}
 use Rattle.uug_link.specs.Arrivals.{IsPlace, place_of}
 use Rattle.uug_link.specs.declared.announce.Announce.{Announce}
 use Rattle.uug_link.specs.Entries.{EntryValue}
 use Rattle.uug_link.specs.InRange.{IsAnnouncement}
 use Rattle.uug_packet.specs.Decoded.{decoded}
+use Rattle.uug_packet.specs.Message.{message_if_data, message_in}
 use Rattle.uug_packet.specs.Packet.{PacketValue}
 use Rattle.uug_packet.specs.Spelling.{IsSpelling, canonical}
 use Rattle.uug_packet.specs.WellFormed.{IsWellFormed}
@@ -23,15 +24,18 @@ use Rattle.uug_session.specs.Talking.{talking_has_parted}
 use Rattle.uug_session.specs.Turns.{Side}
 use Rattle.uug_line.specs.LineEnd.{LineEnd}
 
--- what is written of a well-formed packet is read
+-- what is written of a well-formed packet is read, and so is its message alone
 abbrev pub ReadsWritten : Type 0
-ReadsWritten = (p : PacketValue) → IsWellFormed p → decoded (canonical p) ≡ Ok (p, length (canonical p))
+ReadsWritten = record {
+  packet : (p : PacketValue) → IsWellFormed p → decoded (canonical p) ≡ Ok (p, length (canonical p));
+  message : (p : PacketValue) → IsWellFormed p → message_in (canonical p) ≡ message_if_data p;
+}
 
 -- what an end emits can be written, and so it stays
 abbrev pub StaysInRange : Type 0
 StaysInRange = record {
-  first : (id : Identity) (own : Announced) (talk : Talk) → IsAnnouncement own
-      → IsEndInRange id.side (begins_session id own talk).state × All CanBeWritten (begins_session id own talk).emitted;
+  first : (id : Identity) (own : Announced) (number : Option ℕ) (talk : Talk) → IsAnnouncement own
+      → IsEndInRange id.side (begins_session id own number talk).state × All CanBeWritten (begins_session id own number talk).emitted;
   stays : (side : Side) (h : Holdings) (id : Identity) (event : EndEvent) (e : EndState Talk) → IsEndInRange id.side e → MayFind event
       → IsEndInRange id.side (end_step (end_keeper side h) id event e).state;
   emitted : (side : Side) (h : Holdings) (id : Identity) (event : EndEvent) (e : EndState Talk) → IsEndInRange id.side e → MayFind event
@@ -42,12 +46,13 @@ StaysInRange = record {
 abbrev pub CallsAreSteps : Type 0
 CallsAreSteps = record {
   late : (h : Holdings) (kept : List Kept) (before after : EngineState)
-      → Does (stage_late before.identity (talking_has_parted before.talking) before.stage before.link before.talking) (bare after) before after
+      → Does (stage_late before.number before.identity (talking_has_parted before.talking) before.stage before.link before.talking) (bare after) before after
       → Does (effect_of h kept time_ran_out before) (end_of h kept after) before after;
   lost : (h : Holdings) (kept : List Kept) (e : EngineState)
       → effect_of h kept line_lost e ≡ unmoved (end_of h kept (with_stage (hung_up (talking_has_parted e.talking) e.stage) e));
-  begins : (h : Holdings) (kept : List Kept) (id : Identity) (own : Announced) (l : Lists) (entries : List EntryValue)
-      (after : EngineState) → BeginsSession id own l entries after → end_of h kept after ≡ (begins_session id own (unopened l kept)).state;
+  begins : (h : Holdings) (kept : List Kept) (id : Identity) (own : Announced) (number : Option ℕ) (l : Lists) (entries : List EntryValue)
+      (after : EngineState) → BeginsSession id own number l entries after
+      → end_of h kept after ≡ (begins_session id own number (unopened l kept)).state;
 }
 
 -- what a search shows is what is found next, and it is one item

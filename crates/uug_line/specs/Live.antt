@@ -1,5 +1,5 @@
 -- What an end of the program on a line is, in the terms of the definitions.
-use Rattle.std.specs.Prelude.{◌≡◌, ℕ, ◌<◌, ◌≤◌, Bool, true, false, List, [], ◌++◌, length, map, take}
+use Rattle.std.specs.Prelude.{◌≡◌, ℕ, ◌<◌, ◌≤◌, Bool, true, false, List, [], ◌++◌, Option, length, map, take}
 use Rattle.std.specs.List.{AllByRecursion}
 use Rattle.uug_link.specs.Announced.{Announced}
 use Rattle.uug_link.specs.Entries.{joined}
@@ -109,9 +109,10 @@ pub record IsCalled (event : EndEvent) (old new : Parts) : Type 0 where
   pub room : HasRoom new
   pub standing : standing_of new ≡ standing_of old
 
--- a session of the end that is so called, announces this, and brings these jobs and this spool has begun
-pub record HasBegun (id : Identity) (own : Announced) (l : Lists) (spool : MemoryHoldings) (new : Parts) : Type 0 where
-  pub hearer : hearer_of new ≡ begins (begins_session id own (unopened l spool.stored))
+-- a session of the end that is so called, announces this, keeps this number or none, and brings these jobs and this spool
+-- has begun
+pub record HasBegun (id : Identity) (own : Announced) (number : Option ℕ) (l : Lists) (spool : MemoryHoldings) (new : Parts) : Type 0 where
+  pub hearer : hearer_of new ≡ begins (begins_session id own number (unopened l spool.stored))
   pub ordered : IsOrdered new
   pub room : HasRoom new
   pub standing : standing_of new ≡ record { identity = id; own = own; holdings = holdings_of spool }
@@ -205,4 +206,5 @@ told_of e = told_by e.jottings (phase_at e.node.engine.stage e.node.engine.link.
 -- the next session of an end whose session is over has begun
 abbrev pub BeginsAgain : (old new : Parts) → Type 0
 BeginsAgain old new =
-    HasBegun old.node.engine.identity old.node.engine.own (all_ahead old.node.engine.talking.machine.lists) old.spool new
+    HasBegun old.node.engine.identity old.node.engine.own old.node.engine.number (all_ahead old.node.engine.talking.machine.lists)
+    old.spool new

@@ -41,14 +41,15 @@ player k setup run side =
 -- what an end has by now
 abbrev pub has_now : {C : Type 0} → RunKeeper C → SetupValue → Run C → Side → Belongings
 has_now k setup run side =
-    k.has (parties setup run.brought) side (at side run.brought) (end_at side run).end.state.keeper
+    k.has (parties setup run.brought) side (at side run.brought) (end_at side run).end.state.number
+    (end_at side run).end.state.keeper
 
 -- ---- a session begins
 
 -- the called end says its name
 abbrev pub first_end : {C : Type 0} → RunKeeper C → SetupValue → (brought : AtBoth Belongings) → Side → Hearer (LineEnd C)
 first_end k setup brought side =
-    begins (begins_session (identity setup side) (at side setup).own (k.first (at side brought)))
+    begins (begins_session (identity setup side) (at side setup).own (at side brought).number (k.first (at side brought)))
 
 -- behind these sessions, to which the ends bring this
 abbrev pub session_begins : {C : Type 0} → RunKeeper C → SetupValue → (past : List (AtBoth EndReportValue)) →

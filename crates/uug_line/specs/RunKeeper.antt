@@ -1,7 +1,7 @@
 -- What keeps the conversations of a run, session by session. A run is told once over any such keeper: over the two
 -- ends themselves, and over how many messages of the whole conversation each has sent and taken (this project's
 -- profile).
-use Rattle.std.specs.Prelude.{ℕ, Bool, true, false, List, ◌++◌}
+use Rattle.std.specs.Prelude.{ℕ, Bool, true, false, List, ◌++◌, Option}
 use Rattle.uug_session.specs.Count.{Count, nothing_yet, count_keeper}
 use Rattle.uug_session.specs.EarlierJobs.{behind}
 use Rattle.uug_session.specs.Keeper.{Keeper}
@@ -17,8 +17,8 @@ pub record RunKeeper (C : Type 0) : Type 0 where
   pub keeper : AtBoth Party → Side → Keeper C
   -- how an end begins a session to which it brings this
   pub first : Belongings → C
-  -- what it has when it has come so far
-  pub has : AtBoth Party → Side → (brought : Belongings) → C → Belongings
+  -- what it has when it has come so far, and keeps this number
+  pub has : AtBoth Party → Side → (brought : Belongings) → (number : Option ℕ) → C → Belongings
 
 -- ---- the ends themselves, neither of which knows the other's jobs
 
@@ -26,7 +26,7 @@ abbrev pub by_themselves : RunKeeper Talk
 by_themselves = record {
   keeper = λ parties side. end_keeper (session_side side) (at side parties).holdings;
   first = λ brought. unopened brought.lists brought.kept;
-  has = λ parties side brought talk. record { lists = talk.machine.lists; kept = talk.kept };
+  has = λ parties side brought number talk. record { lists = talk.machine.lists; kept = talk.kept; number = number };
 }
 
 -- ---- two numbers an end, in the conversation of the two parties
@@ -36,22 +36,23 @@ view_at parties side = conversation_view (session_side side) parties.at_caller p
 
 -- what an end has, whose link has come up, after so many messages of the other's: its jobs and files of earlier
 -- sessions stay in front
-abbrev pub has_after : AtBoth Party → Side → (brought : Belongings) → (taken : ℕ) → Belongings
-has_after parties side brought taken = record {
+abbrev pub has_after : AtBoth Party → Side → (brought : Belongings) → (number : Option ℕ) → (taken : ℕ) → Belongings
+has_after parties side brought number taken = record {
   lists = behind brought.lists.struck brought.lists.failed
       (lists_after (session_side side) parties.at_caller parties.at_called taken);
   kept = brought.kept ++ kept_after taken (view_at parties side);
+  number = number;
 }
 
--- before the link is up nothing has changed
-abbrev pub has_by : (opened : Bool) → AtBoth Party → Side → (brought : Belongings) → (taken : ℕ) →
+-- before the link is up nothing has changed but the number
+abbrev pub has_by : (opened : Bool) → AtBoth Party → Side → (brought : Belongings) → (number : Option ℕ) → (taken : ℕ) →
     Belongings
-has_by false parties side brought taken = brought
-has_by true parties side brought taken = has_after parties side brought taken
+has_by false parties side brought number taken = record brought { number = number }
+has_by true parties side brought number taken = has_after parties side brought number taken
 
 abbrev pub by_numbers : RunKeeper Count
 by_numbers = record {
   keeper = λ parties side. count_keeper (view_at parties side);
   first = λ brought. nothing_yet;
-  has = λ parties side brought count. has_by count.opened parties side brought count.taken;
+  has = λ parties side brought number count. has_by count.opened parties side brought number count.taken;
 }

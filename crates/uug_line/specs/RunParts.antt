@@ -123,7 +123,8 @@ pub record EndsAs (setup : SetupValue) (run : Run Talk) (verdict : LineVerdict) 
 -- ---- what is told of it
 
 abbrev pub owned_parts : Parts → Belongings
-owned_parts e = record { lists = e.node.engine.talking.machine.lists; kept = e.spool.stored }
+owned_parts e =
+    record { lists = e.node.engine.talking.machine.lists; kept = e.spool.stored; number = e.node.engine.number }
 
 abbrev pub parts_now : Parts → EndNow
 parts_now e = record { stage = e.node.engine.stage; link = e.node.engine.link }

@@ -105,12 +105,14 @@ AllBringOn k setup number (passing n m ∷ rounds) run =
 abbrev pub all_to : {C : Type 0} → SetupValue → Run C → Side → List (List ℕ)
 all_to setup run side = others_messages (view_at (parties setup run.brought) side)
 
--- The session is done, each of the other's messages is taken, and jobs and store are those behind the whole conversation.
+-- The session is done, each of the other's messages is taken, and jobs and store are those behind the whole conversation;
+-- the number of its conversations is the one that it has kept.
 pub record EndIsSettled {C : Type 0} (k : RunKeeper C) (setup : SetupValue) (run : Run C) (side : Side) : Type 0 where
   pub done : (end_at side run).end.state.stage ≡ ended Done
   pub taken : (end_at side run).end.log.taken ≡ all_to setup run side
   pub has : has_now k setup run side
-      ≡ has_after (parties setup run.brought) side (at side run.brought) (length (all_to setup run side))
+      ≡ has_after (parties setup run.brought) side (at side run.brought) (end_at side run).end.state.number
+      (length (all_to setup run side))
 
 pub record IsSettled {C : Type 0} (k : RunKeeper C) (setup : SetupValue) (run : Run C) : Type 0 where
   pub clean : run.verdict ≡ Clean

@@ -10,7 +10,7 @@ end_setup_of e = record {
   name = e.name;
   own = announced e.announce;
   holdings = holdings_of (held_by e.spool);
-  belongings = record { lists = e.queue; kept = (held_by e.spool).stored };
+  belongings = record { lists = e.queue; kept = (held_by e.spool).stored; number = e.number };
 }
 
 abbrev pub setup_of : {A : Type 0} → Setup A → SetupValue

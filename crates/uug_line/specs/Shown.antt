@@ -31,6 +31,7 @@ abbrev pub owned_by : {A : Type 0} → Node (MemorySpool A) A → Belongings
 owned_by node = record {
   lists = (node_of node).engine.talking.machine.lists;
   kept = (held_by node.spool).stored;
+  number = (node_of node).engine.number;
 }
 
 -- how it stands

@@ -43,7 +43,7 @@ count_of e = record { opened = e.state.keeper.opened; sent = length e.log.sent; 
 
 abbrev pub counted_end : LineEnd Talk → LineEnd Count
 counted_end e = record {
-  state = record { stage = e.state.stage; link = e.state.link; keeper = count_of e };
+  state = record { stage = e.state.stage; link = e.state.link; keeper = count_of e; number = e.state.number };
   log = e.log;
   line = e.line;
 }

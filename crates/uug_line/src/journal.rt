@@ -1,5 +1,5 @@
 ghost use Rattle.std.specs.Prelude.{◌≡◌, ◌<◌, [], ◌∷◌, ◌++◌, length, MatchOption, OnOk, None, Some};
-ghost use Rattle.uug_line.specs.Jottings.{jotted, jottings_by, message_in, packet_jotted, saying, taking_from, sending_from, with_most};
+ghost use Rattle.uug_line.specs.Jottings.{jotted, jottings_by, packet_jotted, saying, taking_from, sending_from, with_most};
 ghost use Rattle.uug_line.specs.Shown.{end_shown, lists_in};
 ghost use Rattle.uug_line.specs.LineEnd.{found_at, nothing_done};
 ghost use Rattle.uug_line.specs.Report.{told_by};
@@ -8,7 +8,7 @@ ghost use Rattle.uug_link.specs.Entries.{shown_entry};
 use crate::report::EndReport;
 use std::alloc::{AllocError, Allocator};
 use uug_link::{Entry, Outbox};
-use uug_packet::{Packet, decode};
+use uug_packet::message_in;
 use uug_session::Phase;
 
 /// What is written down of an end's session.
@@ -145,16 +145,6 @@ impl<A: Allocator + Copy> Journal<A> {
             Some(message) => push_bytes(&mut self.sent, alloc, message),
             None => Ok(()),
         }
-    }
-}
-
-/// The message of the data packet that is spelled so.
-fn message_in(packet: &[u8]) -> Option<&[u8]>
-    ensures { MatchOption result (message_in packet.now ≡ None) (λ message. message_in packet.now ≡ Some message.now) }
-{
-    match decode(packet) {
-        Ok((Packet::Carry { message, .. }, _)) => Some(message),
-        _ => None,
     }
 }
 

@@ -96,13 +96,17 @@ impl<A: Allocator> Line<A> {
     }
 }
 
-/// Forgets so many bytes at the front, once they are more than the others: each byte is moved so at most once. The answer
-/// is how many are not forgotten.
+/// Forgets so many bytes at the front, once they are more than the others: each byte is moved so at most once, and none
+/// where all are gone. The answer is how many are not forgotten.
 fn let_go<A: Allocator>(bytes: &mut Vec<u8, A>, gone: usize) -> usize
     requires { gone ≤ vec_len bytes.old }
     ensures within { result ≤ vec_len bytes.new }
     ensures same { drop result bytes.new.items ≡ drop gone bytes.old.items }
 {
+    if gone == bytes.len() {
+        bytes.clear();
+        return 0;
+    }
     if gone <= bytes.len() / 2 {
         return gone;
     }

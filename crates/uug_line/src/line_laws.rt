@@ -4,7 +4,7 @@ use crate::live_end::LiveEnd;
 use std::alloc::{Allocator, Global};
 use std::marker::Model;
 use uug_link::laws::{arrivals, what_a_link_emits_can_be_written};
-use uug_packet::laws::packets_are_well_formed;
+use uug_packet::laws::{messages_are_read, packets_are_well_formed};
 use uug_session::arriving_laws::{
     a_search_shows_what_is_found, bytes_come_in_any_pieces, what_is_found_stays,
 };
@@ -36,6 +36,7 @@ pub(crate) fn line_laws()
     arrivals();
     bytes_come_in_any_pieces::<EndOnLine<Global>>();
     calls_are_steps();
+    messages_are_read();
     packets_are_well_formed();
     what_a_link_emits_can_be_written();
     what_an_end_emits_can_be_written();

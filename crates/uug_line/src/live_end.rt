@@ -1,4 +1,4 @@
-ghost use Rattle.std.specs.Prelude.{◌≡◌, ◌<◌, [], IfOk, OnOk};
+ghost use Rattle.std.specs.Prelude.{◌≡◌, ◌<◌, ℕ, [], IfOk, OnOk, Option};
 ghost use Rattle.uug_link.specs.Announced.{Announced};
 ghost use Rattle.uug_link.specs.InRange.{IsAnnouncement};
 ghost use Rattle.uug_line.specs.Jottings.{jotted, packet_jotted};
@@ -43,9 +43,10 @@ pub(crate) enum Taking {
 impl<A: Allocator + Copy> LiveEnd<A> {
     /// The end's first session has begun.
     pub(crate) fn start(alloc: A, node: Node<MemorySpool<A>, A>) -> Result<Self, AllocError>
-        ensures { IfOk result (λ end. (id : Identity) (own : Announced) (l : Lists) → IsAnnouncement own
-            → BeginsSession id own l [] (node_of node).engine → HoldsNothing (node_of node)
-            → HasBegun id own l (held_by node.spool) (parts_of end)) }
+        ensures { IfOk result (λ end. (id : Identity) (own : Announced) (number : Option ℕ)
+            (l : Lists) → IsAnnouncement own
+            → BeginsSession id own number l [] (node_of node).engine → HoldsNothing (node_of node)
+            → HasBegun id own number l (held_by node.spool) (parts_of end)) }
     {
         line_laws();
         let mut end = LiveEnd {

@@ -290,11 +290,13 @@ fn place_of<A: Allocator>(one: &EndSetup<A>, other: &EndSetup<A>) -> Place
     ensures me { result.me ≡ one.now.name }
     ensures peer { result.peer ≡ other.now.name }
     ensures announce { result.announce ≡ one.now.announce }
+    ensures number { result.number ≡ one.now.number }
 {
     Place {
         me: one.name,
         peer: other.name,
         announce: one.announce,
+        number: one.number,
     }
 }
 
@@ -304,7 +306,7 @@ fn start_caller<A: Allocator + Copy>(
     setup: EndSetup<A>,
 ) -> Result<LiveEnd<A>, AllocError>
     ensures { IfOk result (λ end. HasBegun (record { side = caller; me = place.me; peer = place.peer }) (announced place.announce)
-        (all_ahead setup.queue) (held_by setup.spool) (parts_of end)) }
+        place.number (all_ahead setup.queue) (held_by setup.spool) (parts_of end)) }
 {
     line_laws();
     let Ok(node) = Node::caller(alloc, place, setup.queue, setup.spool) else {
@@ -320,7 +322,7 @@ fn start_called<A: Allocator + Copy>(
     setup: EndSetup<A>,
 ) -> Result<LiveEnd<A>, AllocError>
     ensures { IfOk result (λ end. HasBegun (record { side = called; me = place.me; peer = place.peer }) (announced place.announce)
-        (all_ahead setup.queue) (held_by setup.spool) (parts_of end)) }
+        place.number (all_ahead setup.queue) (held_by setup.spool) (parts_of end)) }
 {
     line_laws();
     let Ok(node) = Node::called(alloc, place, setup.queue, setup.spool) else {

@@ -14,6 +14,8 @@ pub struct EndSetup<A: Allocator> {
     pub queue: Queue<A>,
     /// Its files.
     pub spool: MemorySpool<A>,
+    /// The number of its next conversation with the other end, where it keeps one.
+    pub number: Option<u32>,
 }
 
 /// The two ends of a line, each of which expects the other by its name.

@@ -1,13 +1,15 @@
 ghost use Rattle.std.specs.Prelude.{◌≡◌, ◌<◌, ◌↔◌, length, slice_get, IsTrue, MatchOption, Some};
+ghost use Rattle.uug_packet.specs.Packet.{shown};
+ghost use Rattle.uug_packet.specs.Spelling.{IsWritable, canonical};
+ghost use Rattle.uug_line.specs.Live.{AreWritten};
 ghost use Rattle.uug_line.specs.Shown.{lists_in};
 ghost use Rattle.uug_line.specs.Sightings.{ItemIsWritable, Sights, SightsNext, StandsAt, StandsNowhere};
 ghost use Rattle.uug_reader.specs.declared.reader.TheConstants.{READER_SIZE};
 ghost use Rattle.uug_session.specs.Node.{held_bytes, item_size, node_of, searched, shown_item};
 
-use arrayvec::ArrayVec;
 use std::alloc::Allocator;
-use uug_packet::encode;
 use uug_packet::laws::packets_are_well_formed;
+use uug_packet::{Packet, is_written};
 use uug_session::{Item, MemorySpool, Node};
 
 /// What an end has found next in the bytes that came to it.
@@ -30,6 +32,7 @@ pub(crate) fn sight<A: Allocator + Copy>(
     others: &[Vec<u8, A>],
     passed: usize,
 ) -> Sighting
+    requires { AreWritten (lists_in others.now) }
     ensures found { node_of node.new ≡ searched (node_of node.old) }
     ensures spool { node.new.spool ≡ node.old.spool }
     ensures room { item_size (node_of node.new) ≡ 0 → length (held_bytes (node_of node.new)) < READER_SIZE }
@@ -43,36 +46,43 @@ pub(crate) fn sight<A: Allocator + Copy>(
 }
 
 fn sighting_of<A: Allocator>(item: &Item<'_>, others: &[Vec<u8, A>], passed: usize) -> Sighting
-    requires { ItemIsWritable (shown_item item.now) }
+    requires writable { ItemIsWritable (shown_item item.now) }
+    requires written { AreWritten (lists_in others.now) }
     ensures { Sights (shown_item item.now) (lists_in others.now) passed result }
 {
     let Item::Packet(packet) = item else {
         return Sighting::Other;
     };
-    let mut bytes = ArrayVec::new();
-    encode(packet, &mut bytes);
-    match place_of(bytes.as_slice(), others, passed) {
+    match place_of(packet, others, passed) {
         Some(place) => Sighting::At(place),
         None => Sighting::Unsent,
     }
 }
 
-/// The first place, behind those that are passed, at which these bytes stand.
-fn place_of<A: Allocator>(bytes: &[u8], others: &[Vec<u8, A>], passed: usize) -> Option<usize>
-    ensures { MatchOption result (StandsNowhere bytes.now (lists_in others.now) passed)
-        (λ place. StandsAt bytes.now (lists_in others.now) passed place) }
+/// The first place, behind those that are passed, at which this packet stands as it is written.
+fn place_of<A: Allocator>(
+    packet: &Packet<'_>,
+    others: &[Vec<u8, A>],
+    passed: usize,
+) -> Option<usize>
+    requires writable { IsWritable (shown packet.now) }
+    requires written { AreWritten (lists_in others.now) }
+    ensures { MatchOption result (StandsNowhere (canonical (shown packet.now)) (lists_in others.now) passed)
+        (λ place. StandsAt (canonical (shown packet.now)) (lists_in others.now) passed place) }
 {
     for i in passed..others.len() {
-        if stands_at(bytes, others, i) {
+        if stands_at(packet, others, i) {
             return Some(i);
         }
     }
     None
 }
 
-fn stands_at<A: Allocator>(bytes: &[u8], others: &[Vec<u8, A>], i: usize) -> bool
-    requires { i < length others.now }
-    ensures { IsTrue result ↔ (slice_get (lists_in others.now) i ≡ Some bytes.now) }
+fn stands_at<A: Allocator>(packet: &Packet<'_>, others: &[Vec<u8, A>], i: usize) -> bool
+    requires within { i < length others.now }
+    requires writable { IsWritable (shown packet.now) }
+    requires written { AreWritten (lists_in others.now) }
+    ensures { IsTrue result ↔ (slice_get (lists_in others.now) i ≡ Some (canonical (shown packet.now))) }
 {
-    others[i].as_slice() == bytes
+    is_written(packet, others[i].as_slice())
 }

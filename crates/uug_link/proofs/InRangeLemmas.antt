@@ -1,11 +1,11 @@
 -- Each step of a link that is in range leaves it so, and emits packets that can be written.
-use Rattle.std.proofs.Common.{◌≡◌, ℕ, ◌+◌, ◌%◌, ◌<◌, ◌==◌, nat_lt, if◌then◌else◌, Bool, true, false, List, [], ◌∷◌, length, All, option_to_list, slice_get, get_or, inl, inr, refl, sym, subst, arith}
+use Rattle.std.proofs.Common.{◌≡◌, ℕ, ◌+◌, ◌%◌, ◌<◌, ◌≤◌, ◌==◌, nat_lt, if◌then◌else◌, Bool, true, false, List, [], ◌∷◌, length, All, option_to_list, slice_get, get_or, inl, inr, refl, sym, subst, arith}
 use Rattle.std.proofs.lemmas.List.{drop_all}
 use Rattle.std.proofs.lemmas.List.Elements.{All-nil, All-cons, All-head, All-tail, All-same, All-drop, All-append}
 use Rattle.std.proofs.lemmas.Option.{slice_get-get_or, slice_get_past}
 use Rattle.std.proofs.lemmas.Bool.{cases_lt}
 use Rattle.uug_link.specs.declared.announce.Announce.{Announce}
-use Rattle.uug_link.specs.declared.limits.TheConstants.{SIZE_CODES, TIMEOUTS_MAX}
+use Rattle.uug_link.specs.declared.limits.TheConstants.{MESSAGE_MAX, SIZE_CODES, TIMEOUTS_MAX}
 use Rattle.uug_link.specs.declared.phase.Phase.{Phase}
 use Rattle.uug_link.specs.declared.phase.Phase.TheVariants.{Fresh, AwaitsInitA, AwaitsInitB, AwaitsInitC, Up, Closing, Halted}
 use Rattle.uug_link.specs.declared.phase.Role.{Role}
@@ -13,8 +13,8 @@ use Rattle.uug_link.specs.declared.phase.Role.TheVariants.{Caller, Called}
 use Rattle.uug_link.specs.Announced.{Announced, announced}
 use Rattle.uug_link.specs.InRange.{IsAnnouncement, IsInRange, MayMeet, AreWellFormed}
 use Rattle.uug_link.specs.State.{State, Fits, IsFresh, IsStarting, IsUp, caller_state, called_state, first_state, is_halted}
-use Rattle.uug_link.specs.Step.{Effect, Emission, Event, to_begin, packet_found, bad_found, timed_out, to_send, to_close, step, ignored, answers, only, nothing, on_init_a, on_init_b, on_init_c, on_close, on_rr, on_rj, on_srj, on_data, on_number, is_expected, on_bad, acknowledged, struck, distance, data_packet, last_received, field_code, sent_again, outstanding, selected, next_number, repeated, on_timeout, on_send, on_packet, on_event}
-use Rattle.uug_packet.specs.Field.{IsFieldCode}
+use Rattle.uug_link.specs.Step.{Effect, Emission, Event, to_begin, packet_found, bad_found, timed_out, to_send, to_close, step, ignored, answers, only, nothing, on_init_a, on_init_b, on_init_c, on_close, on_rr, on_rj, on_srj, on_data, on_number, is_expected, on_bad, acknowledged, struck, distance, data_packet, last_received, sent_again, outstanding, selected, next_number, repeated, on_timeout, on_send, on_packet, on_event}
+use Rattle.uug_link.proofs.SmallestLemmas.{smallest_holds, smallest_is_code, within_most}
 use Rattle.uug_packet.specs.Packet.{ControlValue, close, rj, srj, rr, init_c, init_b, init_a, PacketValue, control, carry}
 use Rattle.uug_packet.specs.WellFormed.{HasNumber, IsWellFormed}
 
@@ -40,9 +40,9 @@ only_out c h = one_out (control c) false h
 data_well_formed : (s : State) (number : ℕ) (message : List ℕ) → IsInRange s → number < 8 → Fits s.size_code message
     → IsWellFormed (data_packet s number message)
 data_well_formed s number message h low fits =
-    let code : IsFieldCode (field_code s) = (omega arith, omega (arith, h.size_code)) in
+    let few : length message ≤ MESSAGE_MAX = within_most s.size_code (length message) h.size_code fits in
     let ack : last_received s < 8 = omega arith in
-    (low, ack, (code, fits))
+    (low, ack, (smallest_is_code (length message), smallest_holds (length message) few))
 
 again_out : (s : State) (number : ℕ) (messages : List (List ℕ)) → IsInRange s → number < 8
     → All (Fits s.size_code) messages → AreWellFormed (sent_again (data_packet s) number messages)

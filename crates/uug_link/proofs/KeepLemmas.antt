@@ -15,23 +15,22 @@ pub record IsSteady (s : State) : Type 0 where
   pub sound : IsSound s
   pub oldest : s.oldest < 8
 
--- the same packets, under the same number and for the same size
-keeps-same : (s t : State) → IsSteady s → t.unacked ≡ s.unacked → t.oldest ≡ s.oldest → t.size_code ≡ s.size_code → Keeps s t
-keeps-same s t h same oldest size =
+-- the same packets, under the same number
+keeps-same : (s t : State) → IsSteady s → t.unacked ≡ s.unacked → t.oldest ≡ s.oldest → Keeps s t
+keeps-same s t h same oldest =
     let at : s.oldest ≡ (s.oldest + 0) % 8 = omega (arith, h.oldest) in
-    inr (record { struck = 0; unacked = same; oldest = oldest ∙ at; size_code = size })
+    inr (record { struck = 0; unacked = same; oldest = oldest ∙ at })
 
 keeps-self : (s : State) → IsSteady s → Keeps s s
-keeps-self s h = keeps-same s s h refl refl refl
+keeps-self s h = keeps-same s s h refl refl
 
 -- and so a change of anything else later
-keeps-later : (s t u : State) → Keeps s t → u.unacked ≡ t.unacked → u.oldest ≡ t.oldest → u.size_code ≡ t.size_code → Keeps s u
-keeps-later s t u (inl none) same oldest size = inl (same ∙ none)
-keeps-later s t u (inr kept) same oldest size = inr (record {
+keeps-later : (s t u : State) → Keeps s t → u.unacked ≡ t.unacked → u.oldest ≡ t.oldest → Keeps s u
+keeps-later s t u (inl none) same oldest = inl (same ∙ none)
+keeps-later s t u (inr kept) same oldest = inr (record {
   struck = kept.struck;
   unacked = same ∙ kept.unacked;
   oldest = oldest ∙ kept.oldest;
-  size_code = size ∙ kept.size_code;
 })
 
 -- before the link is up nothing is outstanding
@@ -87,16 +86,16 @@ keeps-init_c Called Closing y s is h = keeps-self s h
 keeps-init_c Called Halted y s is h = keeps-self s h
 
 keeps-close : (phase : Phase) (s : State) → IsSteady s → Keeps s (on_close phase s).state
-keeps-close Fresh s h = keeps-same s _ h refl refl refl
-keeps-close AwaitsInitA s h = keeps-same s _ h refl refl refl
-keeps-close AwaitsInitB s h = keeps-same s _ h refl refl refl
-keeps-close AwaitsInitC s h = keeps-same s _ h refl refl refl
-keeps-close Up s h = keeps-same s _ h refl refl refl
-keeps-close Closing s h = keeps-same s _ h refl refl refl
-keeps-close Halted s h = keeps-same s _ h refl refl refl
+keeps-close Fresh s h = keeps-same s _ h refl refl
+keeps-close AwaitsInitA s h = keeps-same s _ h refl refl
+keeps-close AwaitsInitB s h = keeps-same s _ h refl refl
+keeps-close AwaitsInitC s h = keeps-same s _ h refl refl
+keeps-close Up s h = keeps-same s _ h refl refl
+keeps-close Closing s h = keeps-same s _ h refl refl
+keeps-close Halted s h = keeps-same s _ h refl refl
 
 keeps-struck : (count : ℕ) (s : State) → Keeps s (struck count s)
-keeps-struck count s = inr (record { struck = count; unacked = refl; oldest = refl; size_code = refl })
+keeps-struck count s = inr (record { struck = count; unacked = refl; oldest = refl })
 
 keeps-if : (s : State) (b : Bool) (t u : State) → Keeps s t → Keeps s u → Keeps s (if b then t else u)
 keeps-if s true t u h k = h
@@ -142,8 +141,8 @@ keeps-either s false e f h k = k
 
 keeps-number : (x : ℕ) (s t : State) → Keeps s t → Keeps s (on_number x t).state
 keeps-number x s t h =
-    keeps-either s (is_expected x t) _ _ (keeps-later s t _ h refl refl refl)
-    (keeps-either s t.told _ _ h (keeps-later s t _ h refl refl refl))
+    keeps-either s (is_expected x t) _ _ (keeps-later s t _ h refl refl)
+    (keeps-either s t.told _ _ h (keeps-later s t _ h refl refl))
 
 keeps-data : (phase : Phase) (x y : ℕ) (s : State) → IsSteady s → Keeps s (on_data phase x y s).state
 keeps-data Fresh x y s h = keeps-self s h
@@ -159,7 +158,7 @@ keeps-bad Fresh s h = keeps-self s h
 keeps-bad AwaitsInitA s h = keeps-self s h
 keeps-bad AwaitsInitB s h = keeps-self s h
 keeps-bad AwaitsInitC s h = keeps-self s h
-keeps-bad Up s h = keeps-either s s.told _ _ (keeps-self s h) (keeps-same s _ h refl refl refl)
+keeps-bad Up s h = keeps-either s s.told _ _ (keeps-self s h) (keeps-same s _ h refl refl)
 keeps-bad Closing s h = keeps-self s h
 keeps-bad Halted s h = keeps-self s h
 
@@ -178,12 +177,12 @@ keeps-packet (carry seq ack k message) s h = keeps-data s.phase seq ack s h
 
 keeps-timeout : (s : State) → IsSteady s → Keeps s (on_timeout s).state
 keeps-timeout s h =
-    keeps-either s (nat_lt (s.timeouts + 1) TIMEOUTS_MAX) _ _ (keeps-same s _ h refl refl refl) (keeps-same s _ h refl refl refl)
+    keeps-either s (nat_lt (s.timeouts + 1) TIMEOUTS_MAX) _ _ (keeps-same s _ h refl refl) (keeps-same s _ h refl refl)
 
 -- ---- the steps
 
 pub keeps-begun : (s : State) → IsSteady s → Keeps s (step s to_begin).state
-keeps-begun s h = keeps-either s (is_halted s.phase) _ _ (keeps-self s h) (keeps-same s _ h refl refl refl)
+keeps-begun s h = keeps-either s (is_halted s.phase) _ _ (keeps-self s h) (keeps-same s _ h refl refl)
 
 pub keeps-packet_found : (p : PacketValue) (s : State) → IsSteady s → Keeps s (step s (packet_found p)).state
 keeps-packet_found p s h = keeps-either s (is_halted s.phase) _ _ (keeps-self s h) (keeps-packet p s h)
@@ -195,4 +194,4 @@ pub keeps-timed_out : (s : State) → IsSteady s → Keeps s (step s timed_out).
 keeps-timed_out s h = keeps-either s (is_halted s.phase) _ _ (keeps-self s h) (keeps-timeout s h)
 
 pub keeps-closed : (s : State) → IsSteady s → Keeps s (step s to_close).state
-keeps-closed s h = keeps-either s (is_halted s.phase) _ _ (keeps-self s h) (keeps-same s _ h refl refl refl)
+keeps-closed s h = keeps-either s (is_halted s.phase) _ _ (keeps-self s h) (keeps-same s _ h refl refl)

@@ -1,5 +1,7 @@
 pub mod StandardFacts
 pub mod SizeLemmas
+pub mod SmallestLemmas
+pub mod FieldLemmas
 pub mod EntriesLemmas
 pub mod SlotsLemmas
 pub mod RepeatLemmas

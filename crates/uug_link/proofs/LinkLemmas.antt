@@ -2,6 +2,7 @@
 use Rattle.std.proofs.Common.{◌≡◌, ℕ, zero, suc, ◌+◌, ◌%◌, ◌<◌, ◌≤◌, List, [], ◌∷◌, ◌++◌, length, length-drop, drop, inl, inr, Bool, true, if◌then◌else◌, Some, rules, refl, ap, sym, subst, ◌∙◌, arith}
 use Rattle.std.proofs.lemmas.Bool.{cases_lt}
 use Rattle.std.proofs.lemmas.List.{drop-map, drop_all, length-map, map-append}
+use Rattle.uug_link.specs.declared.limits.TheConstants.{MESSAGE_MAX}
 use Rattle.uug_link.specs.declared.reaction.Reaction.{Reaction}
 use Rattle.uug_link.specs.declared.status.Status.{Status}
 use Rattle.uug_link.specs.Entries.{Held}
@@ -12,8 +13,8 @@ use Rattle.uug_link.specs.State.{State, Fits, HasRoom, IsSound, IsUp, is_halted}
 use Rattle.uug_link.specs.Step.{Effect, answers_halted, data_packet, next_number, nothing, on_send, step, to_send}
 use Rattle.uug_link.proofs.KeepLemmas.{IsSteady}
 use Rattle.uug_link.proofs.RepeatLemmas.{AreRead, IsSlot-written, message_in-written}
+use Rattle.uug_link.proofs.SmallestLemmas.{smallest_holds, smallest_is_code, within_most}
 use Rattle.uug_link.proofs.SoundLemmas.{sound-sent}
-use Rattle.uug_packet.specs.Field.{IsFieldCode}
 use Rattle.uug_packet.specs.Number.{number_of}
 use Rattle.uug_packet.specs.Spelling.{canonical}
 use Rattle.uug_packet.specs.WellFormed.{IsWellFormed}
@@ -35,44 +36,42 @@ same_count s ws now is = ap (λ (t : State). length t.unacked) (sym is) ∙ leng
 
 -- ---- the oldest are struck
 
-AreSlots-drop : (code first k : ℕ) (ws : List (List ℕ)) → first < 8 → AreSlots code first ws
-    → AreSlots code ((first + k) % 8) (drop k ws)
-AreSlots-drop code first zero ws below are =
+AreSlots-drop : (first k : ℕ) (ws : List (List ℕ)) → first < 8 → AreSlots first ws
+    → AreSlots ((first + k) % 8) (drop k ws)
+AreSlots-drop first zero ws below are =
     let at : first ≡ (first + 0) % 8 = omega (arith, below) in
-    subst (λ (n : ℕ). AreSlots code n ws) at are
-AreSlots-drop code first (suc k) [] below are = tt
-AreSlots-drop code first (suc k) (w ∷ ws) below are =
+    subst (λ (n : ℕ). AreSlots n ws) at are
+AreSlots-drop first (suc k) [] below are = tt
+AreSlots-drop first (suc k) (w ∷ ws) below are =
     let at : ((first + 1) % 8 + k) % 8 ≡ (first + suc k) % 8 = omega arith in
-    subst (λ (n : ℕ). AreSlots code n (drop k ws)) at (AreSlots-drop code ((first + 1) % 8) k ws (omega arith) are.1)
+    subst (λ (n : ℕ). AreSlots n (drop k ws)) at (AreSlots-drop ((first + 1) % 8) k ws (omega arith) are.1)
 
-AreSlots-none : (code first k : ℕ) (ws : List (List ℕ)) → length ws ≤ k → AreSlots code first (drop k ws)
-AreSlots-none code first k ws all = subst (AreSlots code first) (sym (drop_all k ws all)) tt
+AreSlots-none : (first k : ℕ) (ws : List (List ℕ)) → length ws ≤ k → AreSlots first (drop k ws)
+AreSlots-none first k ws all = subst (AreSlots first) (sym (drop_all k ws all)) tt
 
 AreSlots-struck : (before after : Status) (ws : List (List ℕ)) (k n : ℕ) → k < length ws
-    → AreSlots (number_of before.size_code) (number_of before.oldest) ws
+    → AreSlots (number_of before.oldest) ws
     → drop k (messages_in ws) ≡ drop n (messages_in ws)
     → number_of after.oldest ≡ (number_of before.oldest + n) % 8
-    → number_of after.size_code ≡ number_of before.size_code
-    → AreSlots (number_of after.size_code) (number_of after.oldest) (drop k ws)
-AreSlots-struck before after ws k n low are same oldest size =
+    → AreSlots (number_of after.oldest) (drop k ws)
+AreSlots-struck before after ws k n low are same oldest =
     let as_many : n ≡ k =
     omega (arith, low, length-map ws message_in, length-drop k (messages_in ws), length-drop n (messages_in ws), ap length same) in
     let at : number_of after.oldest ≡ (number_of before.oldest + k) % 8 = oldest ∙ ap (λ (x : ℕ). (number_of before.oldest + x) % 8) as_many in
-    subst (λ (code : ℕ). AreSlots code (number_of after.oldest) (drop k ws)) (sym size)
-    (subst (λ (x : ℕ). AreSlots (number_of before.size_code) x (drop k ws)) (sym at)
-    (AreSlots-drop (number_of before.size_code) (number_of before.oldest) k ws before.oldest.below are))
+    subst (λ (x : ℕ). AreSlots x (drop k ws)) (sym at)
+    (AreSlots-drop (number_of before.oldest) k ws before.oldest.below are)
 
 no_more : (k : ℕ) (ws : List (List ℕ)) → drop k (messages_in ws) ≡ [] → length ws ≤ k
 no_more k ws none = omega (arith, length-map ws message_in, length-drop k (messages_in ws), ap length none)
 
 AreSlots-kept : (before after : Status) (ws : List (List ℕ)) (k : ℕ)
-    → AreSlots (number_of before.size_code) (number_of before.oldest) ws
+    → AreSlots (number_of before.oldest) ws
     → Keeps (state_of before (messages_in ws)) (state_of after (drop k (messages_in ws)))
-    → AreSlots (number_of after.size_code) (number_of after.oldest) (drop k ws)
-AreSlots-kept before after ws k are (inl none) = AreSlots-none _ _ k ws (no_more k ws none)
+    → AreSlots (number_of after.oldest) (drop k ws)
+AreSlots-kept before after ws k are (inl none) = AreSlots-none _ k ws (no_more k ws none)
 AreSlots-kept before after ws k are (inr kept) = elim (cases_lt k (length ws)) [
-  | inl low ↦ AreSlots-struck before after ws k kept.struck low are kept.unacked kept.oldest kept.size_code
-  | inr high ↦ AreSlots-none _ _ k ws high
+  | inl low ↦ AreSlots-struck before after ws k kept.struck low are kept.unacked kept.oldest
+  | inr high ↦ AreSlots-none _ k ws high
 ]
 
 -- what a reaction leaves
@@ -90,10 +89,10 @@ left-messages r s ws after now h =
     ∙ ap (λ (t : State). drop r.strikes t.unacked) h.view_is
 
 pub left-slots : (r : Reaction) (s : Status) (ws after : List (List ℕ)) (now : State) → IsLeft r s ws after now
-    → AreSlots (number_of r.status.size_code) (number_of r.status.oldest) after
+    → AreSlots (number_of r.status.oldest) after
 left-slots r s ws after now h =
     let keeps = subst (λ (t : State). Keeps t (effect_of r t.unacked).state) (sym h.view_is) h.keeps in
-    subst (AreSlots (number_of r.status.size_code) (number_of r.status.oldest)) (sym h.after_is)
+    subst (AreSlots (number_of r.status.oldest)) (sym h.after_is)
     (AreSlots-kept s r.status ws r.strikes h.linked.slots keeps)
 
 -- and what it emits changes no more than acknowledgements
@@ -103,7 +102,7 @@ left-state r s ws after later now h same =
     ap (state_of r.status) (same ∙ left-messages r s ws after now h)
 
 pub left-linked : (r : Reaction) (s : Status) (ws after later : List (List ℕ)) (now : State) → IsLeft r s ws after now
-    → messages_in later ≡ messages_in after → AreSlots (number_of r.status.size_code) (number_of r.status.oldest) later
+    → messages_in later ≡ messages_in after → AreSlots (number_of r.status.oldest) later
     → IsLinked r.status later
 left-linked r s ws after later now h same are = record {
   sound = subst IsSound (sym (left-state r s ws after later now h same)) h.sound;
@@ -112,14 +111,14 @@ left-linked r s ws after later now h same are = record {
 
 -- ---- one more is sent
 
-AreSlots-append : (code first : ℕ) (ws : List (List ℕ)) (w : List ℕ) → first < 8 → AreSlots code first ws
-    → IsSlot code ((first + length ws) % 8) w → AreSlots code first (ws ++ w ∷ [])
-AreSlots-append code first [] w below are is =
+AreSlots-append : (first : ℕ) (ws : List (List ℕ)) (w : List ℕ) → first < 8 → AreSlots first ws
+    → IsSlot ((first + length ws) % 8) w → AreSlots first (ws ++ w ∷ [])
+AreSlots-append first [] w below are is =
     let at : (first + 0) % 8 ≡ first = omega (arith, below) in
-    (subst (λ (n : ℕ). IsSlot code n w) at is, tt)
-AreSlots-append code first (v ∷ ws) w below are is =
+    (subst (λ (n : ℕ). IsSlot n w) at is, tt)
+AreSlots-append first (v ∷ ws) w below are is =
     let at : (first + suc (length ws)) % 8 ≡ ((first + 1) % 8 + length ws) % 8 = omega arith in
-    (are.0, AreSlots-append code ((first + 1) % 8) ws w (omega arith) are.1 (subst (λ (n : ℕ). IsSlot code n w) at is))
+    (are.0, AreSlots-append ((first + 1) % 8) ws w (omega arith) are.1 (subst (λ (n : ℕ). IsSlot n w) at is))
 
 -- a message is sent, as the packet of that number
 pub record IsSent (s : Status) (number : ℕ) (message : List ℕ) (ws after : List (List ℕ)) : Type 0 where
@@ -132,8 +131,8 @@ pub record IsSent (s : Status) (number : ℕ) (message : List ℕ) (ws after : L
 well_sent : (s : Status) (number : ℕ) (message : List ℕ) (ws after : List (List ℕ)) → IsSent s number message ws after
     → IsWellFormed (data_packet (state_of s []) number message)
 well_sent s number message ws after h =
-    let code : IsFieldCode (number_of s.size_code + 1) = (omega arith, omega (arith, s.size_code.below)) in
-    (omega (arith, h.number_is), omega arith, (code, h.fits))
+    let few : length message ≤ MESSAGE_MAX = within_most (number_of s.size_code) (length message) s.size_code.below h.fits in
+    (omega (arith, h.number_is), omega arith, (smallest_is_code (length message), smallest_holds (length message) few))
 
 pub sent-messages : AreRead → (s : Status) (number : ℕ) (message : List ℕ) (ws after : List (List ℕ))
     → IsSent s number message ws after → messages_in after ≡ messages_in ws ++ message ∷ []
@@ -146,16 +145,15 @@ pub sent-linked : AreRead → (s : Status) (number : ℕ) (message : List ℕ) (
     → IsSent s number message ws after → IsLinked s after
 sent-linked read s number message ws after h =
     let w = canonical (data_packet (state_of s []) number message) in
-    let code = number_of s.size_code in
-    let slot : IsSlot code number w = IsSlot-written read code number _ message (well_sent s number message ws after h) in
+    let slot : IsSlot number w = IsSlot-written read number _ message (well_sent s number message ws after h) in
     let sound = sound-sent message (state_of s (messages_in ws)) h.room h.fits h.linked.sound in
     record {
       sound =
           subst (λ (ms : List (List ℕ)). IsSound (state_of s ms)) (sym (sent-messages read s number message ws after h)) sound;
       slots =
-          subst (AreSlots code (number_of s.oldest)) (sym h.after_is)
-          (AreSlots-append code (number_of s.oldest) ws w s.oldest.below h.linked.slots
-          (subst (λ (n : ℕ). IsSlot code n w) h.number_is slot));
+          subst (AreSlots (number_of s.oldest)) (sym h.after_is)
+          (AreSlots-append (number_of s.oldest) ws w s.oldest.below h.linked.slots
+          (subst (λ (n : ℕ). IsSlot n w) h.number_is slot));
     }
 
 -- the packet that goes out

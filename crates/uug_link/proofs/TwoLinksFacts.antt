@@ -3,6 +3,7 @@ use Rattle.std.proofs.Common.{◌≡◌, List, [], ◌∷◌, Some, refl, arith}
 use Rattle.uug_link.specs.Arrivals.{place_of}
 use Rattle.uug_link.specs.State.{caller_state, called_state, IsUp}
 use Rattle.uug_link.specs.Step.{to_begin, to_send, to_close}
+use Rattle.uug_link.specs.Terms.{smallest_code}
 use Rattle.uug_link.specs.TwoLinks.{Ends, Occurrence, at_near, at_far, moves, misses, hears, first_ends, AllMayOccur, after_occurrences}
 use Rattle.uug_link.specs.declared.phase.Phase.TheVariants.{Halted}
 use Rattle.uug_packet.specs.Packet.{PacketValue, close, rj, rr, init_a, init_b, init_c, control, carry}
@@ -55,6 +56,7 @@ pub record IsRejected : Type 0 where
   pub place : place_of (carry 2 0 1 (2 ∷ [])) rejected.near.emitted both_up.far.passed ≡ Some 4
 
 pub rejects_it : IsRejected
+unfolding smallest_code
 rejects_it = record {
   allowed = (((refl, omega arith), omega arith), (((refl, omega arith), omega arith), (omega arith, (refl, tt))));
   nothing_taken = refl;
@@ -66,7 +68,7 @@ rejects_it = record {
 abbrev repaired : List Occurrence
 repaired = at_far (moves (to_send (9 ∷ []))) ∷ caller_hears (control (rj 0))
     ∷ called_hears (carry 1 0 1 (1 ∷ [])) ∷ called_hears (carry 2 0 1 (2 ∷ []))
-    ∷ caller_hears (carry 1 0 2 (9 ∷ [])) ∷ at_near misses ∷ caller_hears (control (rr 2))
+    ∷ caller_hears (carry 1 0 1 (9 ∷ [])) ∷ at_near misses ∷ caller_hears (control (rr 2))
     ∷ called_hears (control (rr 1)) ∷ []
 
 abbrev pub talked : Ends
@@ -82,6 +84,7 @@ pub record IsRepaired : Type 0 where
   pub called_clear : talked.far.link.unacked ≡ []
 
 pub repair : IsRepaired
+unfolding smallest_code
 repair = record {
   allowed = (((refl, omega arith), omega arith), (refl, (refl, (refl, (refl, (omega arith, (refl, (refl, tt))))))));
   called_took = refl;
@@ -107,10 +110,11 @@ pub record AreShut : Type 0 where
       control (init_a 3) ∷ control (init_b 1) ∷ control (init_c 3) ∷ carry 1 0 1 (1 ∷ []) ∷ carry 2 0 1 (2 ∷ [])
       ∷ carry 1 0 1 (1 ∷ []) ∷ carry 2 0 1 (2 ∷ []) ∷ control (rr 1) ∷ control close ∷ []
   pub called_emitted : shut.far.emitted ≡
-      control (init_a 2) ∷ control (init_b 0) ∷ control (init_c 2) ∷ control (rj 0) ∷ carry 1 0 2 (9 ∷ [])
+      control (init_a 2) ∷ control (init_b 0) ∷ control (init_c 2) ∷ control (rj 0) ∷ carry 1 0 1 (9 ∷ [])
       ∷ control (rr 1) ∷ control (rr 2) ∷ control close ∷ []
 
 pub close_down : AreShut
+unfolding smallest_code
 close_down = record {
   allowed = (refl, (refl, (refl, tt)));
   caller_ended = refl;

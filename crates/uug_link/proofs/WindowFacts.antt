@@ -1,7 +1,9 @@
 -- Sending and receiving that was worked out by hand, computed by the definitions: a wrong rule in them does not check.
-use Rattle.std.proofs.Common.{◌≡◌, ℕ, Bool, true, false, List, [], ◌∷◌, replicate, refl, arith}
+use Rattle.std.proofs.Common.{◌≡◌, ℕ, ◌-◌, Bool, true, false, List, [], ◌∷◌, drop, length, replicate, take, refl, arith}
 use Rattle.uug_link.specs.State.{State, caller_state, HasRoom}
 use Rattle.uug_link.specs.Step.{Event, to_begin, packet_found, bad_found, timed_out, to_send, to_close, Emission, nothing, taken, gave_up, ignored, only, step, next_number}
+use Rattle.uug_link.specs.Terms.{smallest_code}
+use Rattle.uug_packet.specs.Field.{canonical_front}
 use Rattle.uug_packet.specs.Packet.{rj, srj, rr, init_a, init_b, init_c, close, carry}
 use Rattle.uug_packet.specs.Checksum.{check}
 use Rattle.uug_link.proofs.StandardFacts.{after, emitted, outcomes, found, bytes, times}
@@ -44,6 +46,7 @@ pub record GoesRound : Type 0 where
   pub next : next_number (after three_more (found (rr 7) ∷ [])) ≡ 2
 
 pub round : GoesRound
+unfolding smallest_code
 round = record {
   numbers = refl;
   full = λ h. omega (arith, h.1);
@@ -85,7 +88,7 @@ pub record IsFresher : Type 0 where
       (0x10 ∷ 0x01 ∷ 0x0e ∷ 0x3a ∷ 0x89 ∷ 0xbc ∷ zeros) ∷ []
 
 pub fresher : IsFresher
-unfolding check
+unfolding check smallest_code
 fresher = record { sent = refl; again = refl }
 
 -- ---- all seven were taken, and all answers lost
@@ -108,6 +111,7 @@ pub record AreTakenOnce : Type 0 where
   pub quiet : emitted (after seven_sent (timed_out ∷ [])) (found (rj 7) ∷ times 6 (found (rr 7))) ≡ times 7 []
 
 pub once : AreTakenOnce
+unfolding smallest_code
 once = record { first = refl; repeats = refl; answers = refl; not_again = refl; struck = refl; quiet = refl }
 
 -- ---- a data packet acknowledges, whether it is taken or not
@@ -157,15 +161,46 @@ counts = record {
   eighth = refl;
 }
 
--- ---- a packet has the size that the other end announced, whatever its message's length
+-- ---- a message goes out in the smallest field that holds it, whatever size the other end announced
 
-abbrev at_64 : State
-at_64 = after (caller_state (record { window = 7; size_code = 0 }))
-    (to_begin ∷ found (init_a 7) ∷ found (init_b 1) ∷ found (init_c 7) ∷ [])
+abbrev at_4096 : State
+at_4096 = after (caller_state (record { window = 7; size_code = 0 }))
+    (to_begin ∷ found (init_a 7) ∷ found (init_b 7) ∷ found (init_c 7) ∷ [])
 
-pub short_at_64 : (step at_64 (to_send (1 ∷ []))).emitted ≡
-    record { packet = carry 1 0 2 (1 ∷ []); first = true } ∷ []
-short_at_64 = refl
+-- the packet of so many zeros
+abbrev zeros_out : ℕ → List Emission
+zeros_out count = (step at_4096 (to_send (replicate count 0))).emitted
+
+-- its first bytes behind the header
+abbrev front : ℕ → List (List ℕ) → List ℕ
+front count [] = []
+front count (w ∷ ws) = take count (drop 6 w)
+
+-- how many bytes it has behind the header
+abbrev field_bytes : List (List ℕ) → ℕ
+field_bytes [] = 0
+field_bytes (w ∷ ws) = length w - 6
+
+pub record AreSmall : Type 0 where
+  pub none : bytes (zeros_out 0) ≡ (0x10 ∷ 0x01 ∷ 0xa1 ∷ 0x0e ∷ 0xc8 ∷ 0x66 ∷ 0x20 ∷ replicate 31 0) ∷ []
+  pub filled : bytes (zeros_out 32) ≡ (0x10 ∷ 0x01 ∷ 0x0d ∷ 0x3a ∷ 0x88 ∷ 0xbe ∷ zeros) ∷ []
+  pub one_more : (field_bytes (bytes (zeros_out 33)) ≡ 64) × (front 1 (bytes (zeros_out 33)) ≡ 0x1f ∷ [])
+  pub half : zeros_out 2048 ≡ record { packet = carry 1 0 7 (replicate 2048 0); first = true } ∷ []
+  pub behind_half : zeros_out 2049 ≡ record { packet = carry 1 0 8 (replicate 2049 0); first = true } ∷ []
+  pub codes : (smallest_code 256 ≡ 4) × (smallest_code 257 ≡ 5) × (smallest_code 4096 ≡ 8)
+  pub fronts : (canonical_front 255 ≡ 0xff ∷ 0x01 ∷ []) × (canonical_front 2047 ≡ 0xff ∷ 0x0f ∷ [])
+
+pub small : AreSmall
+unfolding check smallest_code
+small = record {
+  none = refl;
+  filled = refl;
+  one_more = (refl, refl);
+  half = refl;
+  behind_half = refl;
+  codes = (refl, refl, refl);
+  fronts = (refl, refl);
+}
 
 -- ---- rejects, with a window of four and four packets out
 
@@ -185,6 +220,7 @@ pub record AreRejected : Type 0 where
   pub both : (after two_out (found (rr 4) ∷ [])).unacked ≡ []
 
 pub rejected : AreRejected
+unfolding smallest_code
 rejected = record {
   one = refl;
   none_struck = refl;

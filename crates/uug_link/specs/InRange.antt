@@ -12,8 +12,8 @@ pub record IsAnnouncement (a : Announced) : Type 0 where
   pub window : IsWindow a.window
   pub size_code : a.size_code < SIZE_CODES
 
--- The numbers that go out are numbers of packets, and what is outstanding fits the field that the other end wants. Before
--- the link is up that field may still change, and nothing is outstanding.
+-- The numbers that go out are numbers of packets, and what is outstanding fits the size that the other end wants. Before
+-- the link is up that size may still change, and nothing is outstanding.
 pub record IsInRange (s : State) : Type 0 where
   pub own : IsAnnouncement s.own
   pub size_code : s.size_code < SIZE_CODES

@@ -5,6 +5,7 @@ use Rattle.uug_link.specs.declared.limits.TheConstants.{UNACKED_MAX}
 use Rattle.uug_link.specs.declared.status.Status.{Status}
 use Rattle.uug_link.specs.Reactions.{state_of}
 use Rattle.uug_link.specs.State.{State, IsSound}
+use Rattle.uug_link.specs.Step.{carrying}
 use Rattle.uug_packet.specs.declared.decoding.NoPacket.{NoPacket}
 use Rattle.uug_packet.specs.Decoded.{decoded}
 use Rattle.uug_packet.specs.Number.{number_of}
@@ -43,22 +44,21 @@ message_in w = carried_in (decoded w)
 abbrev pub messages_in : List (List ℕ) → List (List ℕ)
 messages_in = map message_in
 
--- The data packet of that number is written so, for a peer that wants the size of that code. What it acknowledges is
--- what was received when it went out last.
-pub record IsSlot (code number : ℕ) (w : List ℕ) : Type 0 where
+-- The data packet of that number is written so. What it acknowledges is what was received when it went out last.
+pub record IsSlot (number : ℕ) (w : List ℕ) : Type 0 where
   pub ack : ℕ
-  pub well_formed : IsWellFormed (carry number ack (code + 1) (message_in w))
-  pub is : w ≡ canonical (carry number ack (code + 1) (message_in w))
+  pub well_formed : IsWellFormed (carrying number ack (message_in w))
+  pub is : w ≡ canonical (carrying number ack (message_in w))
 
 -- such packets, one number after the other
-abbrev pub AreSlots : (code number : ℕ) → List (List ℕ) → Type 0
-AreSlots code number [] = ⊤
-AreSlots code number (w ∷ ws) = IsSlot code number w × AreSlots code ((number + 1) % 8) ws
+abbrev pub AreSlots : (number : ℕ) → List (List ℕ) → Type 0
+AreSlots number [] = ⊤
+AreSlots number (w ∷ ws) = IsSlot number w × AreSlots ((number + 1) % 8) ws
 
 -- a link of that status, which keeps these packets
 pub record IsLinked (status : Status) (ws : List (List ℕ)) : Type 0 where
   pub sound : IsSound (state_of status (messages_in ws))
-  pub slots : AreSlots (number_of status.size_code) (number_of status.oldest) ws
+  pub slots : AreSlots (number_of status.oldest) ws
 
 -- ---- what a step leaves of them
 
@@ -67,7 +67,6 @@ pub record Kept (before after : State) : Type 0 where
   pub struck : ℕ
   pub unacked : after.unacked ≡ drop struck before.unacked
   pub oldest : after.oldest ≡ (before.oldest + struck) % 8
-  pub size_code : after.size_code ≡ before.size_code
 
 abbrev pub Keeps : State → State → Type 0
 Keeps before after = (after.unacked ≡ []) ⊎ Kept before after

@@ -7,6 +7,7 @@ use Rattle.uug_link.specs.declared.phase.Phase.TheVariants.{AwaitsInitA, AwaitsI
 use Rattle.uug_link.specs.declared.phase.Role.{Role}
 use Rattle.uug_link.specs.declared.phase.Role.TheVariants.{Caller, Called}
 use Rattle.uug_link.specs.State.{State, is_halted}
+use Rattle.uug_link.specs.Terms.{smallest_code}
 use Rattle.uug_packet.specs.Packet.{ControlValue, close, rj, srj, rr, init_c, init_b, init_a, PacketValue, control, carry}
 
 -- what may happen to a link: its caller begins it, sends a message or closes it; a packet was found in what came from
@@ -103,12 +104,13 @@ on_close _ s = answers (halt s) close closed
 abbrev pub last_received : State → ℕ
 last_received s = (s.expected + 7) % 8
 
--- the code of a data packet's field: it has the size that the other end wants, whatever the message's length
-abbrev pub field_code : State → ℕ
-field_code s = s.size_code + 1
+-- The data packet that carries a message, in the smallest field that holds it, whatever size the other end has announced
+-- (this project's profile).
+abbrev pub carrying : (number ack : ℕ) → (message : List ℕ) → PacketValue
+carrying number ack message = carry number ack (smallest_code (length message)) message
 
 abbrev pub data_packet : State → (number : ℕ) → (message : List ℕ) → PacketValue
-data_packet s number message = carry number (last_received s) (field_code s) message
+data_packet s number message = carrying number (last_received s) message
 
 -- messages that go out again, in order, in such packets, the first of them with that number
 abbrev pub sent_again : (ℕ → List ℕ → PacketValue) → (number : ℕ) → List (List ℕ) → List Emission

@@ -3,6 +3,7 @@ ghost use Rattle.std.specs.Prelude.{◌≡◌, ◌≢◌, ◌↔◌, ◌∷◌, 
 ghost use Rattle.uug_link.specs.Announced.{Announced, announced};
 ghost use Rattle.uug_link.specs.Arrivals.{IsPlace, arrived, as_happenings, place_of, same_packet};
 ghost use Rattle.uug_link.specs.Counts.{AlwaysEmits, AreCounted, CanBeWritten};
+ghost use Rattle.uug_link.specs.Fields.{HaveSmallestFields};
 ghost use Rattle.uug_link.specs.InRange.{AreWellFormed, IsAnnouncement, IsInRange, MayMeet};
 ghost use Rattle.uug_link.specs.Moves.{AllMoveWith, MovesWith, ReadsBoth};
 ghost use Rattle.uug_link.specs.OnTheLine.{Reads};
@@ -11,13 +12,14 @@ ghost use Rattle.uug_link.specs.Outcomes.{FirstBySend, IsComing, MayAnswer, Move
 ghost use Rattle.uug_link.specs.State.{IsFresh, IsUp, KnowsSize, KnowsWindow, State, called_state, caller_state};
 ghost use Rattle.uug_link.specs.Step.{Event, answers_halted, next_number, packet_found, step, timed_out, to_begin, to_close, to_send, up};
 ghost use Rattle.uug_link.specs.Strays.{HasNumbers, IsSmallerOf, StandsBehind, acknowledgement};
-ghost use Rattle.uug_link.specs.Terms.{IsWindow};
+ghost use Rattle.uug_link.specs.Terms.{IsWindow, smallest_code};
 ghost use Rattle.uug_link.specs.TwoLinks.{AllMayHappen, AllMayOccur, AlwaysOfTwo, End, Ends, Happening, IsFirst, IsFrontOf, IsRun, MayOccur, Occurrence, after_happenings, after_occurrence, first_ends, seen_from_far};
 ghost use Rattle.uug_link.specs.WindowBounds.{AcksRise, CountsInOrder, NumbersNear};
 ghost use Rattle.uug_link.specs.WindowMachine.{Always, EachAck, EachNumber, IsReached, Machine, Move, start};
 ghost use Rattle.uug_link.specs.declared.announce.Announce.{Announce};
 ghost use Rattle.uug_link.specs.declared.limits.TheConstants.{ENTRIES_MAX, MESSAGE_MAX, SIZE_CODES, SIZE_MIN, TIMEOUTS_MAX, UNACKED_MAX, WINDOW_MAX};
 ghost use Rattle.uug_link.specs.declared.phase.Phase.TheVariants.{AwaitsInitA, Closing, Halted, Up};
+ghost use Rattle.uug_packet.specs.Field.{field_size};
 ghost use Rattle.uug_packet.specs.Packet.{PacketValue, control, init_c};
 
 /// The limits of a link: each number stands here, and no other clause repeats it.
@@ -70,6 +72,13 @@ pub fn no_peer_leads_a_link_astray()
     // A link comes up by INITC, with the smaller of that window and of the INITA's before it.
     ensures window { (s : State) (p : PacketValue) → (step s (packet_found p)).outcome ≡ up
         → (y : ℕ) × (p ≡ control (init_c y)) × IsSmallerOf y s.window (step s (packet_found p)).state.window }
+{}
+
+/// A message goes out in the smallest field that holds it, whatever size the other end has announced: for the first time
+/// and each time that it goes out again.
+pub fn messages_go_out_in_the_smallest_field()
+    ensures smallest { (s : State) (e : Event) → HaveSmallestFields (step s e).emitted }
+    ensures holds { (len : ℕ) → len ≤ MESSAGE_MAX → len ≤ field_size (smallest_code len) }
 {}
 
 /// Each packet that a link emits can be written, and so is read again as what it is, where the link has made a right

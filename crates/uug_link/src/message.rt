@@ -2,31 +2,34 @@ ghost use Rattle.std.specs.Prelude.{◌≡◌, ℕ, ◌+◌, ◌%◌, ◌<◌, �
 ghost use Rattle.uug_link.specs.Follows.{written};
 ghost use Rattle.uug_link.specs.Reactions.{emitted_of, state_of};
 ghost use Rattle.uug_link.specs.Slots.{AreSlots, messages_in};
-ghost use Rattle.uug_link.specs.State.{Fits};
 ghost use Rattle.uug_link.specs.Step.{data_packet, distance, outstanding, selected};
+ghost use Rattle.uug_link.specs.Terms.{smallest_code};
+ghost use Rattle.uug_packet.specs.Field.{IsFieldCode, field_size};
 ghost use Rattle.uug_packet.specs.Number.{number_of};
 ghost use Rattle.uug_packet.specs.Packet.{shown};
-ghost use Rattle.uug_packet.specs.Spelling.{canonical};
+ghost use Rattle.uug_packet.specs.Spelling.{canonical, IsWritable};
 
 use crate::entry::EntryKind;
-use crate::limits::{UNACKED_MAX, WINDOW_MAX};
+use crate::limits::{MESSAGE_MAX, UNACKED_MAX, WINDOW_MAX};
 use crate::outbox::Outbox;
 use crate::reaction::Emits;
 use crate::slots::Slots;
 use crate::status::Status;
 use std::alloc::Allocator;
 use uug_packet::laws::packets_are_well_formed;
-use uug_packet::{Packet, Seq};
+use uug_packet::{Packet, Seq, field_code};
 
 impl Status {
-    /// The data packet that carries a message.
-    pub(crate) fn data_packet<'a>(self, number: Seq, message: &'a [u8]) -> Packet<'a>
-        ensures { shown result ≡ data_packet (state_of self []) (number_of number) message.now }
+    /// The data packet that carries a message, in the smallest field that holds it.
+    fn data_packet<'a>(self, number: Seq, message: &'a [u8]) -> Packet<'a>
+        requires { length message.now ≤ MESSAGE_MAX }
+        ensures packet { shown result ≡ data_packet (state_of self []) (number_of number) message.now }
+        ensures writable { IsWritable (shown result) }
     {
         Packet::Carry {
             seq: number,
             ack: self.received,
-            k: self.size_code.value() + 1,
+            k: smallest_code(message.len()),
             message,
         }
     }
@@ -40,7 +43,7 @@ impl Status {
         out: &mut Outbox<A>,
     )
         requires place { length slots.old < UNACKED_MAX }
-        requires fits { Fits (number_of self.size_code) message.now }
+        requires fits { length message.now ≤ MESSAGE_MAX }
         requires room { 0 < out.old.spare }
         ensures slots { slots.new ≡ slots.old
             ++ canonical (data_packet (state_of self []) (number_of number) message.now) ∷ [] }
@@ -80,9 +83,9 @@ impl Status {
 
     /// Emits what goes out. There is room for it.
     pub(crate) fn emit<A: Allocator>(self, emits: Emits, slots: &mut Slots, out: &mut Outbox<A>)
-        requires slots { AreSlots (number_of self.size_code) (number_of self.oldest) slots.old }
+        requires slots { AreSlots (number_of self.oldest) slots.old }
         requires room { length (emitted_of emits (state_of self (messages_in slots.old))) ≤ out.old.spare }
-        ensures slots { AreSlots (number_of self.size_code) (number_of self.oldest) slots.new }
+        ensures slots { AreSlots (number_of self.oldest) slots.new }
         ensures messages { messages_in slots.new ≡ messages_in slots.old }
         ensures emitted { out.new.entries ≡ out.old.entries
             ++ map written (emitted_of emits (state_of self (messages_in slots.old))) }
@@ -99,9 +102,9 @@ impl Status {
 
     /// Emits all packets that are outstanding again, in order.
     fn send_again<A: Allocator>(self, slots: &mut Slots, out: &mut Outbox<A>)
-        requires slots { AreSlots (number_of self.size_code) (number_of self.oldest) slots.old }
+        requires slots { AreSlots (number_of self.oldest) slots.old }
         requires room { length slots.old ≤ out.old.spare }
-        ensures slots { AreSlots (number_of self.size_code) (number_of self.oldest) slots.new }
+        ensures slots { AreSlots (number_of self.oldest) slots.new }
         ensures messages { messages_in slots.new ≡ messages_in slots.old }
         ensures emitted { out.new.entries ≡ out.old.entries
             ++ map written (outstanding (state_of self (messages_in slots.old))) }
@@ -114,10 +117,10 @@ impl Status {
 
     /// Emits the packet of that number again, if it is outstanding.
     fn send_selected<A: Allocator>(self, number: Seq, slots: &mut Slots, out: &mut Outbox<A>)
-        requires slots { AreSlots (number_of self.size_code) (number_of self.oldest) slots.old }
+        requires slots { AreSlots (number_of self.oldest) slots.old }
         requires room { let s = state_of self (messages_in slots.old) in
             length (selected (number_of number) s) ≤ out.old.spare }
-        ensures slots { AreSlots (number_of self.size_code) (number_of self.oldest) slots.new }
+        ensures slots { AreSlots (number_of self.oldest) slots.new }
         ensures messages { messages_in slots.new ≡ messages_in slots.old }
         ensures emitted { let s = state_of self (messages_in slots.old) in
             out.new.entries ≡ out.old.entries ++ map written (selected (number_of number) s) }
@@ -133,9 +136,9 @@ impl Status {
     /// Emits a packet again, with the number of the last one that was taken.
     fn repeat<A: Allocator>(self, i: usize, slots: &mut Slots, out: &mut Outbox<A>)
         requires within { i < length slots.old }
-        requires slots { AreSlots (number_of self.size_code) (number_of self.oldest) slots.old }
+        requires slots { AreSlots (number_of self.oldest) slots.old }
         requires room { 0 < out.old.spare }
-        ensures slots { AreSlots (number_of self.size_code) (number_of self.oldest) slots.new }
+        ensures slots { AreSlots (number_of self.oldest) slots.new }
         ensures messages { messages_in slots.new ≡ messages_in slots.old }
         ensures emitted { out.new.entries ≡ out.old.entries ++ written (record {
           packet = data_packet (state_of self []) ((number_of self.oldest + i) % 8) (get_or (messages_in slots.old) i []);
@@ -147,4 +150,14 @@ impl Status {
         slots.re_ack(i, self.received);
         out.add_within(EntryKind::Packet { first: false }, slots.packet(i));
     }
+}
+
+/// The code of the smallest field that holds so many bytes.
+fn smallest_code(len: usize) -> u8
+    requires { len ≤ MESSAGE_MAX }
+    ensures value { result ≡ smallest_code len }
+    ensures code { IsFieldCode result }
+    ensures holds { len ≤ field_size result }
+{
+    field_code(len)
 }

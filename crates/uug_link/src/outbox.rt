@@ -5,10 +5,9 @@ ghost use Rattle.uug_packet.specs.Spelling.{canonical};
 
 use crate::entry::{Entry, EntryKind, Mark};
 use crate::limits::ENTRIES_MAX;
-use arrayvec::ArrayVec;
 use std::alloc::{AllocError, Allocator};
 use std::marker::Model;
-use uug_packet::{Control, PACKET_MAX, Packet, encode};
+use uug_packet::{Control, PACKET_MAX, control_packet};
 
 /// What an end emitted and its caller has not yet cleared: entries, in the order in which they were emitted.
 #[derive(Drop)]
@@ -113,9 +112,7 @@ impl<A: Allocator> Outbox<A> {
             ++ packet (canonical (control (shown_control item))) false ∷ [] }
         ensures spare { self.old.spare ≤ self.new.spare + 1 }
     {
-        let mut bytes = ArrayVec::new();
-        encode(&Packet::Control(item), &mut bytes);
-        self.add_within(EntryKind::Packet { first: false }, bytes.as_slice());
+        self.add_within(EntryKind::Packet { first: false }, &control_packet(item));
     }
 
     /// Appends an entry for which there is room.

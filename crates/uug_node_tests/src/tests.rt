@@ -8,8 +8,10 @@ mod faulty;
 mod greetings;
 mod hostile;
 mod line;
+mod numbers;
 mod script;
 mod sessions;
+mod wide_peers;
 
 use std::alloc::Allocator;
 use std::process::Abort;
@@ -95,7 +97,12 @@ fn place(side: Side, size: usize) -> Result<Place, Fail> {
         Side::Called => (b, a),
     };
     let announce = Announce::new(2, size)?;
-    Ok(Place { me, peer, announce })
+    Ok(Place {
+        me,
+        peer,
+        announce,
+        number: None,
+    })
 }
 
 fn give<A: Allocator + Copy>(

@@ -8,3 +8,4 @@ pub mod PrefixLemmas
 pub mod EncodeLemmas
 pub mod WellFormedLemmas
 pub mod AcknowledgeLemmas
+pub mod WrittenLemmas

@@ -18,6 +18,12 @@ abbrev pub IsWellFormed : PacketValue → Type 0
 IsWellFormed (control c) = HasNumber c
 IsWellFormed (carry seq ack k message) = (seq < 8) × (ack < 8) × IsWritable (carry seq ack k message)
 
+-- the bytes are a packet as it is written
+pub record IsWritten (w : List ℕ) : Type 0 where
+  pub packet : PacketValue
+  pub well_formed : IsWellFormed packet
+  pub is : w ≡ canonical packet
+
 -- the bytes are a data packet as it is written
 pub record IsWrittenCarry (w : List ℕ) : Type 0 where
   pub seq : ℕ

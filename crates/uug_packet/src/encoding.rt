@@ -44,8 +44,9 @@ pub fn re_ack(written: &mut ArrayVec<u8, PACKET_MAX>, ack: Seq)
     set_header(header.acknowledging(ack), written);
 }
 
-fn encode_control(packet: Control, out: &mut ArrayVec<u8, PACKET_MAX>)
-    ensures { out.new.items ≡ canonical (control (shown_control packet)) }
+/// The control packet as it is written: `encode` with no vector.
+pub fn control_packet(packet: Control) -> [u8; HEADER_SIZE]
+    ensures { result ≡ canonical (control (shown_control packet)) }
 {
     let control = control_byte(packet);
     let header = Header {
@@ -53,8 +54,16 @@ fn encode_control(packet: Control, out: &mut ArrayVec<u8, PACKET_MAX>)
         checksum: checksum_of(u16::from(control)),
         control,
     };
-    clear_for_header(out);
-    set_header(header, out);
+    let mut bytes = [0; HEADER_SIZE];
+    header.write(&mut bytes);
+    bytes
+}
+
+fn encode_control(packet: Control, out: &mut ArrayVec<u8, PACKET_MAX>)
+    ensures { out.new.items ≡ canonical (control (shown_control packet)) }
+{
+    out.clear();
+    append(&control_packet(packet), out);
 }
 
 fn encode_data(seq: Seq, ack: Seq, k: u8, message: &[u8], out: &mut ArrayVec<u8, PACKET_MAX>)

@@ -4,6 +4,7 @@ ghost use Rattle.std.specs.Prelude.{◌≡◌, ℕ, ◌<◌, ◌≤◌, List, �
 ghost use Rattle.uug_packet.specs.declared.packet.TheConstants.{PACKET_MAX};
 ghost use Rattle.uug_packet.specs.Bytes.{AreBytes};
 ghost use Rattle.uug_packet.specs.Decoded.{decoded};
+ghost use Rattle.uug_packet.specs.Message.{message_if_data, message_in};
 ghost use Rattle.uug_packet.specs.Packet.{PacketValue};
 ghost use Rattle.uug_packet.specs.Spelling.{IsSpelling, canonical};
 ghost use Rattle.uug_packet.specs.Waits.{IsBroken, IsDamage, Waits};
@@ -28,6 +29,12 @@ pub fn written_is_read()
     ensures spelled { (p : PacketValue) (w : List ℕ) → IsSpelling p w → IsSpelling p (canonical p) }
     ensures read { (p : PacketValue) (w rest : List ℕ) → IsSpelling p w →
         decoded (canonical p ++ rest) ≡ Ok (p, length (canonical p)) }
+{}
+
+/// What is read of a packet's bytes with no check is its message.
+pub fn messages_are_read()
+    ensures spelled { (p : PacketValue) (w : List ℕ) → IsSpelling p w → message_in w ≡ message_if_data p }
+    ensures written { (p : PacketValue) → IsWellFormed p → message_in (canonical p) ≡ message_if_data p }
 {}
 
 /// What is spelled or read is a well-formed packet, and each well-formed one is written and read again.

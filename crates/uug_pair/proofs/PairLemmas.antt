@@ -15,6 +15,7 @@ run_fault (Err faults.Usage) h = absurd h
 run_fault (Err faults.Read) h = absurd h
 run_fault (Err (faults.Script line)) h = absurd h
 run_fault (Err (faults.Jobs line)) h = absurd h
+run_fault (Err faults.Number) h = absurd h
 
 at_most_one : (done : Bool) → (if done then 0 else 1) ≤ 1
 at_most_one true = lit≤ tt
@@ -39,6 +40,7 @@ reading_is_run faults.Usage h = absurd h
 reading_is_run faults.Read h = absurd h
 reading_is_run faults.Write h = absurd h
 reading_is_run (faults.Script line) h = absurd h
+reading_is_run faults.Number h = absurd h
 
 pub reading_fault : {T : Type 0} (r : Result T ToolFault) (before : ToolFault) → IsErrAnd r (λ fault. fault ≡ before)
     → IsReadingFault before → IfErr r IsRunFault

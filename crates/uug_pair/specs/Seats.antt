@@ -56,7 +56,7 @@ pub record Hears (h : Holdings) (kept kept_after : List Kept) (failure : Type 0)
 
 -- a timeout does to its session, its link and its conversation what the step of one says
 abbrev pub LateStep : (before after : EngineState) → Type 0
-LateStep before after = Does (stage_late before.identity (talking_has_parted before.talking) before.stage before.link before.talking)
+LateStep before after = Does (stage_late before.number before.identity (talking_has_parted before.talking) before.stage before.link before.talking)
     (bare after) before after
 
 -- Nothing has come for some time; what it then had emitted is to be written.
@@ -67,5 +67,5 @@ pub record Waits (noise noise_after : Noise) (bytes bytes_after : List ℕ) (bef
 
 -- it has taken a timeout
 abbrev pub IsLate : (before after : NodeState) → Type 0
-IsLate before after = bare after.engine ≡ (stage_late before.engine.identity (talking_has_parted before.engine.talking)
+IsLate before after = bare after.engine ≡ (stage_late before.engine.number before.engine.identity (talking_has_parted before.engine.talking)
     before.engine.stage before.engine.link before.engine.talking).state

@@ -9,11 +9,11 @@ ghost use Rattle.uug_pair.specs.Pair.{IfWritten, IsPairFault, IsWhole, UnlessDev
 ghost use Rattle.uug_pair.specs.Seats.{seated, spool_in, KeepsJobs};
 ghost use Rattle.uug_pair.specs.Turns.{HasRoom};
 
-use crate::jobs_file::JobsFile;
 use crate::line::Line;
 use crate::noise::Noise;
 use crate::pair_end::PairEnd;
 use crate::pair_texts::PairTexts;
+use crate::text_file::TextFile;
 use crate::turn_fault::TurnFault;
 use crate::turns::run_turns;
 use std::alloc::Allocator;
@@ -37,8 +37,8 @@ where
     S: Spool + Drop,
     T: Spool + Drop,
     L: Line,
-    J: JobsFile,
-    K: JobsFile,
+    J: TextFile,
+    K: TextFile,
     O: Output,
     A: Allocator + Copy,
     requires { HasRoom (L.unread line.old) }

@@ -8,9 +8,9 @@ ghost use Rattle.uug_pair.specs.Folders.{holding};
 ghost use Rattle.uug_pair.specs.JobsText.{jobs_text};
 ghost use Rattle.uug_pair.specs.Pair.{IsPairFault, IsWhole, UnlessDevice, jobs_of_end, report_text};
 
-use crate::jobs_file::JobsFile;
 use crate::jobs_text::write_jobs;
 use crate::report::{add_failed, add_state};
+use crate::text_file::TextFile;
 use std::alloc::{AllocError, Allocator};
 use uug_line::Side;
 use uug_session::{Node, Spool};
@@ -47,7 +47,7 @@ impl<A: Allocator + Copy> PairTexts<A> {
 
     /// Writes both files of jobs, the caller's first, and then the report, each of them whatever became of the others.
     /// The first fault is answered.
-    pub(crate) fn write<J: JobsFile, K: JobsFile, O: Output>(
+    pub(crate) fn write<J: TextFile, K: TextFile, O: Output>(
         &self,
         caller: &mut J,
         called: &mut K,

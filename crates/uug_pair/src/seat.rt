@@ -1,12 +1,14 @@
 ghost use Rattle.std.specs.Prelude.{◌≡◌, ◌≤◌, ◌↔◌, [], drop, length, IfOk, IsTrue, OnOk};
 ghost use Rattle.uug_session.specs.Engine.{HasFailed, IsEnded};
 ghost use Rattle.uug_session.specs.Node.{node_of};
+ghost use Rattle.uug_session.specs.NumberStanding.{KeepsNumber};
 ghost use Rattle.uug_pair.specs.Seats.{seated, spool_in, to_write, Hears, IsLate, KeepsJobs, SendsOut, Waits};
 
 use crate::keeping::calls_keep;
 use crate::noise::Noise;
 use crate::outgoing::add_outgoing;
 use std::alloc::{AllocError, Allocator};
+use uug_session::node_laws::a_number_stands_as_the_session_does;
 use uug_session::{Node, Phase, Spool};
 
 /// One end at something that is written and read: a node, and the bytes that are still to be written for it. It is given
@@ -55,11 +57,13 @@ impl<S: Spool + Drop, A: Allocator + Copy> Seat<S, A> {
     pub fn arrive(&mut self, piece: &[u8], noise: &mut Noise) -> Result<(), AllocError>
         ensures jobs { KeepsJobs (S.kept (spool_in self.old)) (S.kept (spool_in self.new))
             (seated self.old) (seated self.new) }
+        ensures number { OnOk result (KeepsNumber (seated self.old).engine (seated self.new).engine) }
         ensures hears { OnOk result (Hears (S.holdings (spool_in self.old)) (S.kept (spool_in self.old)) (S.kept (spool_in self.new))
             (HasFailed u64.MAX (S.faults (spool_in self.old)) (S.faults (spool_in self.new))) piece.now
             noise.old noise.new (to_write self.old) (to_write self.new) (seated self.old) (seated self.new)) }
     {
         calls_keep();
+        a_number_stands_as_the_session_does();
         let Ok(()) = self.node.arrive(piece) else {
             return Err(AllocError);
         };
@@ -73,9 +77,11 @@ impl<S: Spool + Drop, A: Allocator + Copy> Seat<S, A> {
         ensures waits { OnOk result (Waits noise.old noise.new (to_write self.old) (to_write self.new)
             (seated self.old) (seated self.new)) }
         ensures late { OnOk result (IsLate (seated self.old) (seated self.new)) }
+        ensures number { OnOk result (KeepsNumber (seated self.old).engine (seated self.new).engine) }
         ensures spool { spool_in self.new ≡ spool_in self.old }
     {
         calls_keep();
+        a_number_stands_as_the_session_does();
         self.node.on_timeout()?;
         self.note_emitted(noise)
     }
@@ -85,10 +91,12 @@ impl<S: Spool + Drop, A: Allocator + Copy> Seat<S, A> {
         ensures jobs { KeepsJobs (S.kept (spool_in self.old)) (S.kept (spool_in self.new))
             (seated self.old) (seated self.new) }
         ensures over { IsEnded (seated self.new).engine.stage }
+        ensures number { KeepsNumber (seated self.old).engine (seated self.new).engine }
         ensures outgoing { to_write self.new ≡ to_write self.old }
         ensures spool { spool_in self.new ≡ spool_in self.old }
     {
         calls_keep();
+        a_number_stands_as_the_session_does();
         self.node.hang_up();
     }
 

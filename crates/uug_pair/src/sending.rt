@@ -17,8 +17,8 @@ pub const FILES_MAX: usize = 256;
 /// The mode of each file that is given.
 pub const GIVEN_MODE: u16 = 0o644;
 
-/// The most bytes of a text of jobs.
-pub const JOBS_TEXT_MAX: usize = 16_777_216;
+/// The most bytes of a text in a folder, such as that of its jobs.
+pub const TEXT_MAX: usize = 16_777_216;
 
 /// Memory that was refused is no fault of the system's, which has an error of its own for it.
 fn fault_of(error: io::Error) -> ToolFault
@@ -100,22 +100,23 @@ fn add_given<A: Allocator, R: Files>(
     Ok(())
 }
 
-/// The text of `jobs` in the folder `dir`. A missing file is an empty one.
-pub fn read_jobs_text<A: Allocator + Copy, R: Files>(
+/// The text of the file of this name in the folder `dir`, if there is one.
+pub fn read_text<A: Allocator + Copy, R: Files>(
     alloc: A,
     rt: &R,
     dir: &str,
-) -> Result<Vec<u8, A>, ToolFault>
-    ensures within { IfOk result (λ text. length text.items ≤ JOBS_TEXT_MAX) }
+    name: &str,
+) -> Result<Option<Vec<u8, A>>, ToolFault>
+    ensures within { IfOk result (λ found. IfSome found (λ text. length text.items ≤ TEXT_MAX)) }
     ensures no_other { IfErr result IsFolderFault }
 {
-    let path = format!(in alloc; "{dir}/jobs")?;
+    let path = format!(in alloc; "{dir}/{name}")?;
     match fs::metadata(rt, path.as_str()) {
         Ok(metadata) if metadata.is_file() => {
-            let text = read_file(alloc, rt, path.as_str(), JOBS_TEXT_MAX).map_err(fault_of)?;
-            text.ok_or(ToolFault::Device)
+            let text = read_file(alloc, rt, path.as_str(), TEXT_MAX).map_err(fault_of)?;
+            Ok(Some(text.ok_or(ToolFault::Device)?))
         }
-        Err(error) if error.kind() == ErrorKind::NotFound => Ok(Vec::new(alloc)),
+        Err(error) if error.kind() == ErrorKind::NotFound => Ok(None),
         _ => Err(ToolFault::Device),
     }
 }

@@ -13,9 +13,9 @@ use crate::line::Line;
 use crate::noise::Noise;
 use crate::pair_end::PairEnd;
 use crate::seat::Seat;
-use crate::sending::{read_jobs_text, read_send};
+use crate::sending::{read_send, read_text};
 use crate::system_folder::SystemFolder;
-use crate::system_jobs::SystemJobs;
+use crate::system_text::SystemText;
 use crate::wire_line::WireLine;
 use std::alloc::{AllocError, Allocator};
 use std::net::Net;
@@ -38,7 +38,7 @@ const WINDOW: u8 = 7;
 const SIZE: usize = 64;
 
 /// An end over a folder of the system.
-type SystemEnd<'a, R, A> = PairEnd<FolderSpool<SystemFolder<'a, R, A>, A>, SystemJobs<'a, R, A>, A>;
+type SystemEnd<'a, R, A> = PairEnd<FolderSpool<SystemFolder<'a, R, A>, A>, SystemText<'a, R, A>, A>;
 
 /// Runs the caller `a` over the folder `dir_a` and the called end `b` over `dir_b`, over a Unix socket that is made at the
 /// path `socket`. Every Nth packet is lost, and every Nth changed, for an N of its own each, if one is given. What stands
@@ -117,7 +117,9 @@ pub fn read_queue<A: Allocator + Copy, R: Files>(
 ) -> Result<Queue<A>, ToolFault>
     ensures no_other { IfErr result IsReadingFault }
 {
-    let text = read_jobs_text(alloc, rt, dir)?;
+    let Some(text) = read_text(alloc, rt, dir, "jobs")? else {
+        return Ok(Queue::new(alloc));
+    };
     match read_jobs(alloc, text.as_slice()) {
         Ok(queue) => Ok(queue),
         Err(JobsFault::Bad(line)) => Err(ToolFault::Jobs(line)),
@@ -145,11 +147,11 @@ fn make_end<'a, A: Allocator + Copy, R: Files>(
     };
     Ok(PairEnd {
         seat: Seat::new(alloc, node, noise)?,
-        jobs: SystemJobs::new(alloc, rt, dir)?,
+        jobs: SystemText::new(alloc, rt, dir, "jobs")?,
     })
 }
 
-/// Where an end of this name stands, whose other end has that name.
+/// Where an end of this name stands, whose other end has that name. It keeps no number of its conversations.
 fn place(me: &[u8], peer: &[u8]) -> Place
     requires me { IsName me.now }
     requires peer { IsName peer.now }
@@ -161,7 +163,12 @@ fn place(me: &[u8], peer: &[u8]) -> Place
     ) else {
         unreachable!();
     };
-    Place { me, peer, announce }
+    Place {
+        me,
+        peer,
+        announce,
+        number: None,
+    }
 }
 
 /// The line over a socket that is made at this path. When both ends have it the path is not needed any more, and is

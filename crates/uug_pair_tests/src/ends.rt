@@ -99,6 +99,7 @@ fn place(given: &Given<'_>) -> Option<Place> {
         me: Name::new(given.me).ok()?,
         peer: Name::new(given.peer).ok()?,
         announce: Announce::new(7, 64).ok()?,
+        number: None,
     })
 }
 

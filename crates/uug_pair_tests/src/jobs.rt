@@ -40,10 +40,10 @@ const TEXTS: [(&str, Result<&str, usize>); 15] = [
 /// What a text begins with, what is repeated in it and how many times, and what it ends with; and how many jobs are read,
 /// or the bad line.
 const LONG_TEXTS: [(&str, &str, usize, &str, Result<usize, usize>); 8] = [
-    ("", "send x y u\n", 64, "# c\n\n", Ok(64)),
-    ("", "send x y u\n", 65, "", Err(65)),
-    ("", "send x y u\n", 64, "nonsense", Err(65)),
-    ("# c\n", "send x y u\n", 64, "\nrequest q y u", Err(67)),
+    ("", "send x y u\n", 1024, "# c\n\n", Ok(1024)),
+    ("", "send x y u\n", 1025, "", Err(1025)),
+    ("", "send x y u\n", 1024, "nonsense", Err(1025)),
+    ("# c\n", "send x y u\n", 1024, "\nrequest q y u", Err(1027)),
     ("#", "x", 65_535, "\nsend x y u", Ok(1)),
     ("#", "x", 65_536, "\n", Err(1)),
     ("send ", "x", 200, " y u", Ok(1)),

@@ -3,7 +3,7 @@ ghost use Rattle.std.specs.Prelude.{None};
 
 use crate::failing::fails;
 use arrayvec::ArrayVec;
-use uug_pair::{FolderFailed, JobsFile};
+use uug_pair::{FolderFailed, TextFile};
 
 /// The most bytes of a text.
 const TEXT_MAX: usize = 128;
@@ -33,7 +33,7 @@ impl MemoryJobs {
     }
 }
 
-impl JobsFile for MemoryJobs {
+impl TextFile for MemoryJobs {
     ghost text = { λ _. None };
 
     ghost fault_count = { λ jobs. jobs.faults };

@@ -10,7 +10,7 @@ use crate::tasks::{CALLED, CALLER, REPORT, TASKS, Task};
 use std::process::Abort;
 use std::test::Fail;
 use uug_line::Side;
-use uug_pair::{Folder, JobsFile, Line, Noise, pair_over};
+use uug_pair::{Folder, Line, Noise, TextFile, pair_over};
 use uug_refusal::Refusing;
 use uug_tool::{Output, ToolFault};
 

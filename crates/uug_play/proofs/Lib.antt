@@ -1,4 +1,5 @@
 pub mod PlayLemmas
 pub mod PlayedLemmas
+pub mod SettledLemmas
 pub mod StandardFacts
 pub mod WholeLemmas

@@ -18,6 +18,7 @@ once_read faults.Write P p = p
 once_read faults.Memory P p = tt
 once_read (faults.Script line) P p = p
 once_read (faults.Jobs line) P p = tt
+once_read faults.Number P p = tt
 once_read faults.Device P p = tt
 once_read faults.Usage P p = tt
 
@@ -27,6 +28,7 @@ before_report faults.Write P p = tt
 before_report faults.Memory P p = tt
 before_report (faults.Script line) P p = p
 before_report (faults.Jobs line) P p = tt
+before_report faults.Number P p = tt
 before_report faults.Device P p = p
 before_report faults.Usage P p = tt
 
@@ -38,6 +40,7 @@ while_reading faults.Write P h = absurd h
 while_reading faults.Memory P h = tt
 while_reading (faults.Script line) P h = absurd h
 while_reading (faults.Jobs line) P h = tt
+while_reading faults.Number P h = tt
 while_reading faults.Device P h = tt
 while_reading faults.Usage P h = tt
 
@@ -47,6 +50,7 @@ while_writing before after faults.Write P h = tt
 while_writing before after faults.Memory P h = tt
 while_writing before after (faults.Script line) P h = absurd h
 while_writing before after (faults.Jobs line) P h = tt
+while_writing before after faults.Number P h = tt
 while_writing before after faults.Device P h = absurd h
 while_writing before after faults.Usage P h = tt
 

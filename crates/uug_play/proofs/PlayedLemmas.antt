@@ -1,18 +1,19 @@
 -- What is shown of a report, and of a script that was played.
-use Rattle.std.proofs.Common.{◌≡◌, ℕ, List, [], ◌++◌, map, ap, ◌∙◌}
+use Rattle.std.proofs.Common.{◌≡◌, ℕ, List, [], ◌++◌, map, ap, ◌∙◌, subst}
 use Rattle.uug_line.specs.declared.event.Event.{Event}
 use Rattle.uug_line.specs.declared.verdict.LineVerdict.{LineVerdict}
 use Rattle.uug_line.specs.Belongings.{Belongings}
 use Rattle.uug_line.specs.Sides.{AtBoth}
-use Rattle.uug_line.specs.Spelled.{spelled}
-use Rattle.uug_line.specs.World.{report_of_world}
+use Rattle.uug_line.specs.OfSomeRun.{IsRunOf}
 use Rattle.uug_line.specs.Told.{SpelledEnd, SpelledReport}
+use Rattle.uug_line.specs.WholeReport.{WholeReport}
 use Rattle.uug_script.specs.declared.report.SessionNumbers.{SessionNumbers}
 use Rattle.uug_script.specs.IsScript.{IsScript}
 use Rattle.uug_script.specs.ReportText.{EndResult, RunResult, report_text}
 use Rattle.uug_script.specs.Script.{ScriptSays}
 use Rattle.uug_play.specs.Numbers.{session_numbers, end_result, result_of, status_of_result}
 use Rattle.uug_play.specs.Played.{setup_said, IsPlayed}
+use Rattle.uug_play.specs.Settled.{IsRunOfScript}
 
 abbrev pub result_by : List SessionNumbers → EndResult → EndResult → LineVerdict → RunResult
 result_by sessions caller called verdict =
@@ -38,16 +39,22 @@ pub text_is : (before after : List ℕ) (result other : RunResult) → before �
     result ≡ other → after ≡ report_text other
 text_is before after result other none added same = added ∙ ap (λ t. t ++ report_text result) none ∙ ap report_text same
 
--- the run is of the set-up and the events that the script says
-pub plays : (script text : List ℕ) (status : ℕ) (says : ScriptSays) (events : List Event) (report : SpelledReport) →
-    IsScript script says → events ≡ says.events → report ≡ spelled (report_of_world (setup_said says) events) →
-    text ≡ report_text (result_of report) → status ≡ status_of_result (result_of report) →
+-- the report is of what the script says
+pub plays : (script text : List ℕ) (status : ℕ) (report : WholeReport) → IsRunOfScript script report →
+    text ≡ report_text (result_of report.told) → status ≡ status_of_result (result_of report.told) →
     IsPlayed script text status
-plays script text status says events report script_is events_are report_is t s =
-    let same = report_is ∙ ap (λ e. spelled (report_of_world (setup_said says) e)) events_are in
-    record {
-      says = says;
-      script_is = script_is;
-      text_is = t ∙ ap (λ r. report_text (result_of r)) same;
-      status_is = s ∙ ap (λ r. status_of_result (result_of r)) same;
-    }
+plays script text status report run t s = record {
+  says = run.says;
+  script_is = run.script_is;
+  text_is = t ∙ ap (λ r. report_text (result_of r)) run.is.told;
+  status_is = s ∙ ap (λ r. status_of_result (result_of r)) run.is.told;
+}
+
+-- the run is of the set-up and the events that the script says
+pub runs : (script : List ℕ) (says : ScriptSays) (events : List Event) (report : WholeReport) →
+    IsScript script says → events ≡ says.events → IsRunOf (setup_said says) events report → IsRunOfScript script report
+runs script says events report script_is events_are is = record {
+  says = says;
+  script_is = script_is;
+  is = subst (λ (es : List Event). IsRunOf (setup_said says) es report) events_are is;
+}

@@ -1,5 +1,5 @@
 -- What reports show, and the statuses that they give, computed from the definitions: a wrong rule in them does not check.
-use Rattle.std.proofs.Common.{◌≡◌, ℕ, List, [], ◌∷◌, codes, None, refl}
+use Rattle.std.proofs.Common.{◌≡◌, ℕ, List, [], ◌∷◌, codes, Some, None, refl}
 use Rattle.uug_session.specs.declared.end.End.TheVariants.{Done, HungUp}
 use Rattle.uug_session.specs.declared.job.Job.{Job}
 use Rattle.uug_session.specs.declared.job.Job.TheVariants.{Send}
@@ -42,10 +42,11 @@ abbrev some_jobs : Belongings
 some_jobs = record {
   lists = record { passed = job ∷ []; ahead = job ∷ job ∷ []; struck = job ∷ []; failed = job ∷ job ∷ [] };
   kept = [];
+  number = Some 7;
 }
 
 abbrev no_jobs : Belongings
-no_jobs = record { lists = record { passed = []; ahead = []; struck = []; failed = [] }; kept = stored }
+no_jobs = record { lists = record { passed = []; ahead = []; struck = []; failed = [] }; kept = stored; number = None }
 
 -- however the ends stand, which is not shown
 abbrev report : AtBoth EndNow → SpelledReport
@@ -62,8 +63,8 @@ shown = record {
     caller = record { sent = 3; taken = 1; most = 5; phase = Closing };
     called = record { sent = 0; taken = 0; most = 0; phase = Ended HungUp };
   } ∷ [];
-  caller = record { pending = 3; struck = 1; failed = 2; stored = [] };
-  called = record { pending = 0; struck = 0; failed = 0; stored = stored };
+  caller = record { pending = 3; struck = 1; failed = 2; stored = []; number = Some 7 };
+  called = record { pending = 0; struck = 0; failed = 0; stored = stored; number = None };
   verdict = Fooled 14 Called;
 }
 

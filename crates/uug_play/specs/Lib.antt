@@ -1,3 +1,5 @@
 pub mod Numbers
 pub mod Played
+pub mod Settled
+pub mod Unsettled
 pub mod Whole

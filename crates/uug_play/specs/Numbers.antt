@@ -20,13 +20,14 @@ end_numbers e = record { sent = length e.sent; taken = length e.taken; most = e.
 abbrev pub session_numbers : AtBoth SpelledEnd → SessionNumbers
 session_numbers s = record { caller = end_numbers s.at_caller; called = end_numbers s.at_called }
 
--- how many of an end's jobs are pending, done and given up, and the files that it has stored
+-- how many of an end's jobs are pending, done and given up, the files that it has stored, and the number that it keeps
 abbrev pub end_result : Belongings → EndResult
 end_result b = record {
   pending = length (pending b.lists);
   struck = length b.lists.struck;
   failed = length b.lists.failed;
   stored = b.kept;
+  number = b.number;
 }
 
 abbrev pub result_of : SpelledReport → RunResult

@@ -19,7 +19,7 @@ end_setup_said e = record {
   name = e.name;
   own = e.announced;
   holdings = holdings_of e.held;
-  belongings = record { lists = e.queue; kept = e.held.stored };
+  belongings = record { lists = e.queue; kept = e.held.stored; number = e.number };
 }
 
 abbrev pub setup_said : ScriptSays → SetupValue

@@ -3,8 +3,12 @@
 
 mod play;
 mod played;
+mod settled;
+mod unsettled;
 mod whole;
 
 pub use play::{play_stream, play_within};
 pub use played::{Played, play_script};
+pub use settled::{play_settled, settle_script};
+pub use unsettled::{Unsettled, why_unsettled};
 pub use whole::read_whole;

@@ -6,6 +6,7 @@ ghost use Rattle.uug_script.specs.ReportShown.{end_shown};
 ghost use Rattle.uug_script.specs.ReportText.{report_text};
 ghost use Rattle.uug_play.specs.Numbers.{end_numbers, session_numbers, end_result, result_of, status_of_result, status_by, last_session, is_done};
 ghost use Rattle.uug_play.specs.Played.{IsPlayed, IsScriptFault};
+ghost use Rattle.uug_play.specs.Settled.{IsRunOfScript};
 
 use std::alloc::{AllocError, Allocator};
 use uug_line::{EndReport, LineVerdict, Report, SessionReport, run};
@@ -54,7 +55,7 @@ fn session_numbers<A: Allocator>(
     Ok(numbers)
 }
 
-/// What became of the jobs of an end, and what it stored.
+/// What became of the jobs of an end, what it stored, and the number that it keeps.
 fn shown_end<A: Allocator + Copy>(node: &Node<MemorySpool<A>, A>) -> ShownEnd<'_, A>
     ensures { end_shown result ≡ end_result (owned_by node.now) }
 {
@@ -64,6 +65,7 @@ fn shown_end<A: Allocator + Copy>(node: &Node<MemorySpool<A>, A>) -> ShownEnd<'_
         struck: queue.struck().len(),
         failed: queue.failed().len(),
         stored: node.spool().stored(),
+        number: node.number(),
     }
 }
 
@@ -90,7 +92,10 @@ fn status(sessions: &[SessionNumbers], verdict: LineVerdict) -> u8
 }
 
 /// The text of a report, and the status.
-fn shown<A: Allocator + Copy>(alloc: A, report: &Report<A>) -> Result<Played<A>, AllocError>
+pub(crate) fn shown<A: Allocator + Copy>(
+    alloc: A,
+    report: &Report<A>,
+) -> Result<Played<A>, AllocError>
     ensures text { IfOk result (λ played.
         string_bytes played.text ≡ report_text (result_of report.now.told)) }
     ensures status { IfOk result (λ played.
@@ -109,10 +114,9 @@ fn shown<A: Allocator + Copy>(alloc: A, report: &Report<A>) -> Result<Played<A>,
     Ok(Played { text, status })
 }
 
-/// Plays a script.
-pub fn play_script<A: Allocator + Copy>(alloc: A, text: &[u8]) -> Result<Played<A>, ToolFault>
-    ensures played { IfOk result (λ played.
-        IsPlayed text.now (string_bytes played.text) played.status) }
+/// Runs what a script says.
+pub(crate) fn run_script<A: Allocator + Copy>(alloc: A, text: &[u8]) -> Result<Report<A>, ToolFault>
+    ensures of { IfOk result (λ report. IsRunOfScript text.now report) }
     ensures fault { IfErr result (IsScriptFault text.now) }
 {
     let script = match read_script(alloc, text) {
@@ -120,9 +124,19 @@ pub fn play_script<A: Allocator + Copy>(alloc: A, text: &[u8]) -> Result<Played<
         Err(ScriptFault::Bad(line)) => return Err(ToolFault::Script(line)),
         Err(ScriptFault::Memory) => return Err(ToolFault::Memory),
     };
-    let Ok(report) = run(alloc, script.setup, script.events.as_slice()) else {
-        return Err(ToolFault::Memory);
-    };
+    match run(alloc, script.setup, script.events.as_slice()) {
+        Ok(report) => Ok(report),
+        Err(_) => Err(ToolFault::Memory),
+    }
+}
+
+/// Plays a script.
+pub fn play_script<A: Allocator + Copy>(alloc: A, text: &[u8]) -> Result<Played<A>, ToolFault>
+    ensures played { IfOk result (λ played.
+        IsPlayed text.now (string_bytes played.text) played.status) }
+    ensures fault { IfErr result (IsScriptFault text.now) }
+{
+    let report = run_script(alloc, text)?;
     match shown(alloc, &report) {
         Ok(played) => Ok(played),
         Err(_) => Err(ToolFault::Memory),

@@ -1,7 +1,9 @@
-//! Tests of the calls of `uug_tool`, `uug_script`, `uug_play` and `uug_remark`, and of runs over noisy lines, all in one
-//! crate: a crate with tests of its own is proved once more for them.
+//! Tests of the calls of `uug_tool`, `uug_detail`, `uug_script`, `uug_play` and `uug_remark`, and of runs over noisy lines,
+//! all in one crate: a crate with tests of its own is proved once more for them.
 #![tactic(auto)]
 
+#[cfg(test)]
+mod details;
 #[cfg(test)]
 mod plays;
 #[cfg(test)]

@@ -46,6 +46,7 @@ fn shown<A: Allocator>(struck: usize, stored: &[Stored<A>]) -> ShownEnd<'_, A> {
         struck,
         failed: 0,
         stored,
+        number: None,
     }
 }
 

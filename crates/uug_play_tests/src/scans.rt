@@ -110,6 +110,52 @@ fn lists_streams(rt: HostRuntime) -> Result<(), Fail> {
     Ok(())
 }
 
+/// Short packets of all eight sizes, as far as their messages go, and their lengths: zeros stand behind. Up to 127 missing
+/// bytes are written in one byte and in two.
+const SHORT_PACKETS: [(&[u8], usize); 11] = [
+    (&[0x10, 0x01, 0xa1, 0x0e, 0xc8, 0x66, 0x20], 38),
+    (&[0x10, 0x01, 0x38, 0xd0, 0xd0, 0x39, 0xa0, 0x00], 38),
+    (b"\x10\x02\x98\x0a\xd8\x48\x3eab", 70),
+    (b"\x10\x02\x67\x6d\xe0\xe8\xbe\x00ab", 70),
+    (b"\x10\x03\xa9\x28\xe9\x6b\x7dabc", 134),
+    (b"\x10\x03\xba\x89\xf1\xc1\xfd\x00abc", 134),
+    (&[0x10, 0x04, 0x17, 0x13, 0xfa, 0xfa, 0x80, 0x02], 262),
+    (b"\x10\x05\xb8\x8a\xc2\xf5\xff\x03x", 518),
+    (b"\x10\x06\x79\x7d\xcb\xc9\xff\x07x", 1030),
+    (b"\x10\x07\x86\x9f\xd3\xcd\xff\x0fx", 2054),
+    (b"\x10\x08\x40\xed\xdc\x79\xff\x1fx", 4102),
+];
+
+const LISTING_OF_SHORT_PACKETS: &str = "\
+DATA 1 ACK 0 SIZE 32 VALID 0
+DATA 2 ACK 0 SIZE 32 VALID 0
+DATA 3 ACK 0 SIZE 64 VALID 2
+DATA 4 ACK 0 SIZE 64 VALID 2
+DATA 5 ACK 1 SIZE 128 VALID 3
+DATA 6 ACK 1 SIZE 128 VALID 3
+DATA 7 ACK 2 SIZE 256 VALID 0
+DATA 0 ACK 2 SIZE 512 VALID 1
+DATA 1 ACK 3 SIZE 1024 VALID 1
+DATA 2 ACK 3 SIZE 2048 VALID 1
+DATA 3 ACK 4 SIZE 4096 VALID 1
+REST 0
+";
+
+#[test]
+fn lists_short_packets_of_all_sizes(rt: HostRuntime) -> Result<(), Fail> {
+    let mut bytes = Vec::new(rt.alloc());
+    let mut length = 0_usize;
+    for (front, size) in SHORT_PACKETS {
+        bytes.extend_from_slice(front)?;
+        length = length.saturating_add(size);
+        bytes.resize(length, 0)?;
+    }
+    let mut output = MemoryOutput::new(rt.alloc());
+    scan_stream(rt.alloc(), &mut MemoryInput::new(&bytes), &mut output)?;
+    assert_eq!(rt; output.bytes(), LISTING_OF_SHORT_PACKETS.as_bytes());
+    Ok(())
+}
+
 /// An input of the link, a packet a read, that fails after so many reads.
 fn link_in_reads(reads: u32) -> SlowInput<'static> {
     SlowInput {
@@ -261,6 +307,7 @@ fn says_why_a_tool_gave_up(rt: HostRuntime) -> Result<(), Fail> {
         (ToolFault::Memory, 4, "out of memory"),
         (ToolFault::Script(7), 2, "bad script at line 7"),
         (ToolFault::Jobs(1), 2, "bad jobs at line 1"),
+        (ToolFault::Number, 2, "bad number file"),
         (ToolFault::Device, 3, "device fault"),
         (ToolFault::Usage, 2, "bad usage"),
     ] {

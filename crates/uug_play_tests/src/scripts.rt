@@ -18,7 +18,7 @@ const SENT: &[u8] =
 const ENDS: &[u8] = b"caller a 2 32\ncalled b 2 32\n";
 
 /// Lines that are bad as the third one.
-const BAD_LINES: [&[u8]; 42] = [
+const BAD_LINES: [&[u8]; 49] = [
     b"caller a 2 32",
     b"called b 2 32",
     b"caller a 2",
@@ -61,10 +61,17 @@ const BAD_LINES: [&[u8]; 42] = [
     b"send caller x y u q r",
     b"request caller x y u q",
     b"deny caller \x7f",
+    b"number caller",
+    b"number 7",
+    b"number both 7",
+    b"number caller 7 8",
+    b"number caller -1",
+    b"number caller 4294967296",
+    b"number caller 0x7",
 ];
 
 /// Lines that are good, and how many events they add.
-const GOOD_LINES: [(&[u8], usize); 16] = [
+const GOOD_LINES: [(&[u8], usize); 18] = [
     (b"", 0),
     (b"   ", 0),
     (b"# any thing", 0),
@@ -81,6 +88,8 @@ const GOOD_LINES: [(&[u8], usize); 16] = [
     (b"flow 100000", 200_000),
     (b"send called x y u temp", 0),
     (b"file called x 7 00fFAb", 0),
+    (b"number caller 0004294967295", 0),
+    (b"number called 0\nnumber caller 0", 0),
 ];
 
 #[test]
@@ -122,19 +131,22 @@ fn reads_a_script(rt: HostRuntime) -> Result<(), Fail> {
 }
 
 #[test]
-fn reads_verdicts_anywhere(rt: HostRuntime) -> Result<(), Fail> {
-    let text = b"deny called y\nlater caller z\ncalled b 7 4096\nimmovable called w\ncaller a 1 64";
+fn reads_verdicts_and_numbers_anywhere(rt: HostRuntime) -> Result<(), Fail> {
+    let text =
+        b"deny called y\nlater caller z\ncalled b 7 4096\nimmovable called w\ncaller a 1 64\nnumber called 7";
     let script = read_script(rt.alloc(), text)?;
     let (y, z) = (Name::new(b"y")?, Name::new(b"z")?);
     assert_eq!(rt; script.setup.called.spool.may_keep(&y), Verdict::Never);
     assert_eq!(rt; script.setup.caller.spool.may_keep(&z), Verdict::Later);
     assert_eq!(rt; script.setup.caller.spool.may_keep(&y), Verdict::Yes);
+    assert_eq!(rt; script.setup.called.number, Some(7));
+    assert_eq!(rt; script.setup.caller.number, None);
     Ok(())
 }
 
 #[test]
 fn answers_the_line_behind_the_last(rt: HostRuntime) {
-    let texts: [(&[u8], usize); 8] = [
+    let texts: [(&[u8], usize); 9] = [
         (b"", 1),
         (b"\n", 2),
         (b"# no end", 2),
@@ -143,6 +155,8 @@ fn answers_the_line_behind_the_last(rt: HostRuntime) {
         (b"caller a 2 32\n\n", 3),
         (b"called b 2 32\ncall\n", 3),
         (b"caller a 2 32\ncalled b 8 32", 2),
+        // numbered twice
+        (b"number caller 7\nnumber called 7\nnumber caller 7\n", 3),
     ];
     for (text, line) in texts {
         let fault = read_script(rt.alloc(), text).err();
@@ -190,14 +204,14 @@ fn takes_lines_up_to_the_limit(rt: HostRuntime) -> Result<(), Fail> {
 #[test]
 fn takes_jobs_up_to_the_limit(rt: HostRuntime) -> Result<(), Fail> {
     let mut text = ENDS.to_vec(rt.alloc())?;
-    for _ in 0..64 {
+    for _ in 0..1024 {
         text.extend_from_slice(b"send caller x y u\n")?;
     }
     text.extend_from_slice(b"send called x y u\n")?;
     assert!(rt; read_script(rt.alloc(), text.as_slice()).is_ok());
     text.extend_from_slice(b"request caller x y u\n")?;
     let fault = read_script(rt.alloc(), text.as_slice()).err();
-    assert_eq!(rt; fault, Some(ScriptFault::Bad(68)));
+    assert_eq!(rt; fault, Some(ScriptFault::Bad(1028)));
     Ok(())
 }
 

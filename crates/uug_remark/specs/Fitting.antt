@@ -4,12 +4,13 @@ use Rattle.std.specs.Char.{is_ascii_hexdigit}
 use Rattle.std.specs.List.{list_all}
 use Rattle.std.specs.Str.{bytes_eq}
 use Rattle.uug_link.specs.declared.limits.TheConstants.{MESSAGE_MAX, WINDOW_MAX}
+use Rattle.uug_talk.specs.declared.call.TheConstants.{NUMBER_MAX}
 use Rattle.uug_talk.specs.Number.{number_of}
 use Rattle.uug_script.specs.declared.line.TheConstants.{BYTES_MAX, TURNS_MAX}
 use Rattle.uug_talk.specs.Mode.{mode_read}
 use Rattle.uug_talk.specs.Name.{name_read}
 use Rattle.uug_remark.specs.declared.field.Field.{Field}
-use Rattle.uug_remark.specs.declared.field.Field.TheVariants.{Side, Name, Copy, Window, Size, Mode, Bytes, Count, Turns, Byte}
+use Rattle.uug_remark.specs.declared.field.Field.TheVariants.{Side, Name, Copy, Window, Size, Mode, Bytes, Count, Turns, Number, Byte}
 use Rattle.uug_remark.specs.declared.field.TheConstants.{MODE_DIGITS}
 
 abbrev pub is_more_than_0 : Option ℕ → Bool
@@ -33,4 +34,5 @@ fits Mode word = nat_le (length word) MODE_DIGITS && is_ok (mode_read word)
 fits Bytes word = bytes_eq word (codes "-") || ((length word % 2 == 0) && are_hex_digits word)
 fits Count word = is_some (number_of BYTES_MAX word)
 fits Turns word = is_some (number_of TURNS_MAX word)
+fits Number word = is_some (number_of NUMBER_MAX word)
 fits Byte word = (length word == 2) && are_hex_digits word

@@ -4,7 +4,7 @@ use Rattle.std.specs.Char.{is_ascii_graphic}
 use Rattle.std.specs.List.{list_all}
 use Rattle.uug_script.specs.Lines.{lines}
 use Rattle.uug_remark.specs.declared.field.Field.{Field}
-use Rattle.uug_remark.specs.declared.field.Field.TheVariants.{Side, Name, Copy, Window, Size, Mode, Bytes, Count, Turns, Byte}
+use Rattle.uug_remark.specs.declared.field.Field.TheVariants.{Side, Name, Copy, Window, Size, Mode, Bytes, Count, Turns, Number, Byte}
 use Rattle.uug_remark.specs.declared.remark.TheConstants.{SHOWN_MAX}
 use Rattle.uug_remark.specs.Complaints.{Wrong, too_long, unknown, wrong, missing, too_many, absent, nothing, complaint_of}
 
@@ -19,6 +19,7 @@ noun Mode = codes "mode"
 noun Bytes = codes "hex"
 noun Count = codes "number"
 noun Turns = codes "number"
+noun Number = codes "number"
 noun Byte = codes "byte"
 
 -- what it has to be
@@ -32,6 +33,7 @@ wanted Mode = codes "1 to 4 octal digits"
 wanted Bytes = codes "pairs of hexadecimal digits, or -"
 wanted Count = codes "0 to 1000000000"
 wanted Turns = codes "0 to 100000"
+wanted Number = codes "0 to 4294967295"
 wanted Byte = codes "2 hexadecimal digits"
 
 -- a word is told where it is short and all its characters can be seen
@@ -48,7 +50,7 @@ remark_text (wrong field word) = noun field ++ told word ++ codes " is not " ++ 
 remark_text (missing field) = noun field ++ codes " is missing"
 remark_text (too_many word) = codes "unexpected word" ++ told word
 remark_text absent = codes "caller or called is missing"
-remark_text nothing = codes "the end is set up already, or has 64 jobs"
+remark_text nothing = codes "the end is set up or numbered already, or has 1024 jobs"
 
 abbrev pub wrong_with : Option (List ℕ) → Wrong
 wrong_with None = absent

@@ -4,7 +4,7 @@ ghost use Rattle.uug_remark.specs.Fitting.{fits, are_hex_digits};
 
 use uug_link::{MESSAGE_MAX, WINDOW_MAX};
 use uug_script::{BYTES_MAX, TURNS_MAX};
-use uug_talk::{Name, read_mode, read_number};
+use uug_talk::{NUMBER_MAX, Name, read_mode, read_number};
 
 /// The most octal digits of a mode in a script.
 const MODE_DIGITS: usize = 4;
@@ -30,6 +30,8 @@ pub enum Field {
     Count,
     /// A number of turns.
     Turns,
+    /// The number of a conversation.
+    Number,
     /// One byte in hexadecimal digits.
     Byte,
 }
@@ -96,6 +98,7 @@ impl Field {
             Field::Bytes => is_hex(word),
             Field::Count => read_number(word, BYTES_MAX).is_some(),
             Field::Turns => read_number(word, TURNS_MAX).is_some(),
+            Field::Number => read_number(word, NUMBER_MAX).is_some(),
             Field::Byte => is_byte(word),
         }
     }

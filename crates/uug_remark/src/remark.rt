@@ -23,7 +23,7 @@ fn noun(field: Field) -> &'static str
         Field::Size => "packet size",
         Field::Mode => "mode",
         Field::Bytes => "hex",
-        Field::Count | Field::Turns => "number",
+        Field::Count | Field::Turns | Field::Number => "number",
         Field::Byte => "byte",
     }
 }
@@ -40,6 +40,7 @@ fn wanted(field: Field) -> &'static str
         Field::Bytes => "pairs of hexadecimal digits, or -",
         Field::Count => "0 to 1000000000",
         Field::Turns => "0 to 100000",
+        Field::Number => "0 to 4294967295",
         Field::Byte => "2 hexadecimal digits",
     }
 }
@@ -126,7 +127,9 @@ pub fn add_remark<A: Allocator>(
         Complaint::Missing(field) => add_missing(text, *field),
         Complaint::TooMany(word) => add_unexpected(text, word),
         Complaint::Absent => text.push_str("caller or called is missing"),
-        Complaint::Nothing => text.push_str("the end is set up already, or has 64 jobs"),
+        Complaint::Nothing => text.push_str(
+            "the end is set up or numbered already, or has 1024 jobs",
+        ),
     }
 }
 

@@ -18,6 +18,8 @@ pub enum Statement {
     Request,
     /// `deny SIDE NAME`, and so on.
     Refuse,
+    /// `number SIDE N`.
+    Number,
     /// `pass SIDE N`, `drop SIDE N`.
     Move,
     /// `flip SIDE HH`, `insert SIDE HH`.
@@ -57,6 +59,8 @@ pub fn statement_of(first: &[u8]) -> Option<Statement>
         Some(Statement::Request)
     } else if is_refusal(first) {
         Some(Statement::Refuse)
+    } else if spells(first, b"number") {
+        Some(Statement::Number)
     } else {
         event_of(first)
     }
@@ -113,6 +117,7 @@ pub fn field_at(statement: Statement, place: usize) -> Option<Field>
         ),
         Statement::Request => pick(&[Field::Side, Field::Name, Field::Name, Field::Name], place),
         Statement::Refuse => pick(&[Field::Side, Field::Name], place),
+        Statement::Number => pick(&[Field::Side, Field::Number], place),
         Statement::Move => pick(&[Field::Side, Field::Count], place),
         Statement::Damage => pick(&[Field::Side, Field::Byte], place),
         Statement::Tell => pick(&[Field::Side], place),

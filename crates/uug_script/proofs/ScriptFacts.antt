@@ -13,7 +13,7 @@ use Rattle.uug_script.specs.declared.report.EndNumbers.{EndNumbers}
 use Rattle.uug_line.specs.declared.side.Side.TheVariants.{Caller, Called}
 use Rattle.uug_line.specs.declared.verdict.LineVerdict.TheVariants.{Clean, Fooled}
 use Rattle.uug_script.specs.Lines.{lines}
-use Rattle.uug_script.specs.Meaning.{event}
+use Rattle.uug_script.specs.Meaning.{event, number, of_end}
 use Rattle.uug_script.specs.ReadLine.{line_of}
 use Rattle.uug_script.specs.ReportText.{RunResult, ended, report_text, stored_line, verdict_line}
 use Rattle.uug_script.specs.Script.{ScriptSays, flow_events}
@@ -33,8 +33,9 @@ sent_file_says = record {
     announced = record { window = 2; size_code = 0 };
     queue = at_start (Send (codes "x") (codes "y") (codes "u") None ∷ []) [] [];
     held = record no_holdings { files = kept_file (codes "x") 420 [] ∷ [] };
+    number = None;
   };
-  called = record { name = codes "b"; announced = record { window = 2; size_code = 0 }; queue = at_start [] [] []; held = no_holdings };
+  called = record { name = codes "b"; announced = record { window = 2; size_code = 0 }; queue = at_start [] [] []; held = no_holdings; number = None };
   events = flow_events 2;
 }
 
@@ -63,6 +64,16 @@ two_digits = refl
 five_digits : line_of (codes "file caller x 06444 -") ≡ None
 five_digits = refl
 
+a_number : line_of (codes "number called 4294967295") ≡ Some (of_end Called (number 4294967295))
+a_number = refl
+
+too_great_a_number : line_of (codes "number called 4294967296") ≡ None
+too_great_a_number = refl
+
+-- a number is said once of each end
+two_numbers : script_of (both_ends ++ ended (codes "number caller 7") ++ ended (codes "number called 9") ++ codes "number caller 7") ≡ Err 5
+two_numbers = refl
+
 a_tab : line_of (9 ∷ codes "call") ≡ None
 a_tab = refl
 
@@ -78,8 +89,8 @@ numbers sent taken = record { sent = sent; taken = taken; most = 1; phase = Ende
 abbrev done : RunResult
 done = record {
   sessions = record { caller = numbers 4 3; called = numbers 3 4 } ∷ [];
-  caller = record { pending = 0; struck = 1; failed = 0; stored = [] };
-  called = record { pending = 0; struck = 0; failed = 0; stored = kept_file (codes "y") 420 [] ∷ [] };
+  caller = record { pending = 0; struck = 1; failed = 0; stored = []; number = None };
+  called = record { pending = 0; struck = 0; failed = 0; stored = kept_file (codes "y") 420 [] ∷ []; number = None };
   verdict = Clean;
 }
 
@@ -92,6 +103,19 @@ done_text =
 a_report : report_text done ≡ done_text
 unfolding digits
 a_report = refl
+
+abbrev done_by_number : RunResult
+done_by_number = record done {
+  caller = record { pending = 0; struck = 1; failed = 0; stored = []; number = Some 8 };
+}
+
+numbered_report : report_text done_by_number
+    ≡ ended (codes "session 1") ++ ended (codes "caller sent 4 taken 3 most 1 done")
+    ++ ended (codes "called sent 3 taken 4 most 1 done") ++ ended (codes "caller pending 0 struck 1 failed 0")
+    ++ ended (codes "called pending 0 struck 0 failed 0") ++ ended (codes "called stored y 0644 -")
+    ++ ended (codes "caller number 8") ++ ended (codes "verdict clean")
+unfolding digits
+numbered_report = refl
 
 fooled : verdict_line (Fooled 14 Called) ≡ ended (codes "verdict fooled 14 called")
 unfolding digits

@@ -10,12 +10,13 @@ use Rattle.uug_line.specs.declared.event.Event.TheVariants.{Pass, Drop, Flip, In
 use Rattle.uug_script.specs.declared.line.TheConstants.{BYTES_MAX, LINE_MAX, TURNS_MAX}
 use Rattle.uug_line.specs.declared.side.Side.{Side}
 use Rattle.uug_line.specs.declared.side.Side.TheVariants.{Caller, Called}
+use Rattle.uug_talk.specs.declared.call.TheConstants.{NUMBER_MAX}
 use Rattle.uug_talk.specs.Number.{number_of}
 use Rattle.uug_script.specs.Fields.{◌>>=◌, side_word, side_of, name_of, mode_of_word, hex_bytes, byte_of, announcement_of, is_comment}
 use Rattle.hex.specs.Hex.{decode_of}
-use Rattle.uug_script.specs.LineSays.{WritesNumber, NamesCopy, LineSays, TextSays, blank, comment, end_line, file_line, send_line, request_line, deny_line, later_line, immovable_line, pass_line, drop_line, flip_line, insert_line, timeout_line, hangup_line, call_line, flow_line}
-use Rattle.uug_script.specs.Meaning.{LineMeaning, nothing, of_end, event, flow, place, file, job, deny, later, immovable, file_meaning, of_side}
-use Rattle.uug_script.specs.ReadLine.{place_of, file_of, last_name_of, send_of, request_of, side_and_name, side_and_count, side_and_byte, one_side, call_of, flow_of, deny_of, later_of, immovable_of, pass_of, drop_of, flip_of, insert_of, timeout_of, hang_up_of, event_by, line_by, line_of_words, line_of}
+use Rattle.uug_script.specs.LineSays.{WritesNumber, NamesCopy, LineSays, TextSays, blank, comment, end_line, file_line, send_line, request_line, deny_line, later_line, immovable_line, number_line, pass_line, drop_line, flip_line, insert_line, timeout_line, hangup_line, call_line, flow_line}
+use Rattle.uug_script.specs.Meaning.{LineMeaning, nothing, of_end, event, flow, place, file, job, deny, later, immovable, number, file_meaning, of_side}
+use Rattle.uug_script.specs.ReadLine.{place_of, file_of, last_name_of, send_of, request_of, side_and_name, side_and_number, side_and_byte, one_side, call_of, flow_of, deny_of, later_of, immovable_of, number_line_of, pass_of, drop_of, flip_of, insert_of, timeout_of, hang_up_of, event_by, line_by, line_of_words, line_of}
 use Rattle.uug_script.proofs.WordTableLemmas.{bind_some, same_bytes, name_of_name, name_is, number_written, writes_number, announcement_written, announces, mode_written, writes_mode, bytes_written, writes_bytes, byte_written, writes_byte}
 
 -- ---- what the table says is read
@@ -42,6 +43,7 @@ says_read ws m (request_line {side = side} {source = source} {target = target} {
 says_read ws m (deny_line {side = side} {name = name} n) = rw (side_read side, name_of_name name n) refl
 says_read ws m (later_line {side = side} {name = name} n) = rw (side_read side, name_of_name name n) refl
 says_read ws m (immovable_line {side = side} {name = name} n) = rw (side_read side, name_of_name name n) refl
+says_read ws m (number_line {side = side} {word = word} {n = n} h) = rw (side_read side, number_written NUMBER_MAX word n h) refl
 says_read ws m (pass_line {side = side} {word = word} {n = n} h) = rw (side_read side, number_written BYTES_MAX word n h) refl
 says_read ws m (drop_line {side = side} {word = word} {n = n} h) = rw (side_read side, number_written BYTES_MAX word n h) refl
 says_read ws m (flip_line {side = side} {hex = hex} {byte = byte} h) = rw (side_read side, byte_written hex byte h) refl
@@ -187,22 +189,22 @@ side_and_name_is (side ∷ name ∷ []) p e =
     (record { spelled = ap (λ w. w ∷ n.0 ∷ []) (side_is side s.0 s.1) ∙ ap (λ w. side ∷ w ∷ []) (sym named.1); named = named.0 })
 side_and_name_is (a ∷ b ∷ c ∷ more) p e = absurd cc
 
-record SideAndNumber (ws : List (List ℕ)) (side : Side) (n : ℕ) : Type 0 where
+record SideAndNumber (most : ℕ) (ws : List (List ℕ)) (side : Side) (n : ℕ) : Type 0 where
   word : List ℕ
   spelled : side_word side ∷ word ∷ [] ≡ ws
-  written : WritesNumber BYTES_MAX word n
+  written : WritesNumber most word n
 
-side_and_number_is : (ws : List (List ℕ)) (p : Side × ℕ) → side_and_count ws ≡ Some p → SideAndNumber ws p.0 p.1
-side_and_number_is [] p e = absurd cc
-side_and_number_is (a ∷ []) p e = absurd cc
-side_and_number_is (side ∷ number ∷ []) p e =
-    let s = bind_some (side_of side) (λ s. number_of BYTES_MAX number >>= (λ n. Some (s, n))) p e in
-    let n = bind_some (number_of BYTES_MAX number) (λ n. Some (s.0, n)) p s.2 in
+side_and_number_is : (most : ℕ) (ws : List (List ℕ)) (p : Side × ℕ) → side_and_number most ws ≡ Some p → SideAndNumber most ws p.0 p.1
+side_and_number_is most [] p e = absurd cc
+side_and_number_is most (a ∷ []) p e = absurd cc
+side_and_number_is most (side ∷ word ∷ []) p e =
+    let s = bind_some (side_of side) (λ s. number_of most word >>= (λ n. Some (s, n))) p e in
+    let n = bind_some (number_of most word) (λ n. Some (s.0, n)) p s.2 in
     let found = n.2 in
     let same : (s.0, n.0) ≡ p = cc in
-    subst (λ (q : Side × ℕ). SideAndNumber (side ∷ number ∷ []) q.0 q.1) same
-    (record { word = number; spelled = ap (λ w. w ∷ number ∷ []) (side_is side s.0 s.1); written = writes_number BYTES_MAX number n.0 n.1 })
-side_and_number_is (a ∷ b ∷ c ∷ more) p e = absurd cc
+    subst (λ (q : Side × ℕ). SideAndNumber most (side ∷ word ∷ []) q.0 q.1) same
+    (record { word = word; spelled = ap (λ w. w ∷ word ∷ []) (side_is side s.0 s.1); written = writes_number most word n.0 n.1 })
+side_and_number_is most (a ∷ b ∷ c ∷ more) p e = absurd cc
 
 record SideAndByte (ws : List (List ℕ)) (side : Side) (byte : ℕ) : Type 0 where
   word : List ℕ
@@ -254,16 +256,22 @@ immovable_says ws m e =
     let w = side_and_name_is ws p.0 p.1 in
     spelled_says (codes "immovable") (side_word p.0.0 ∷ p.0.1 ∷ []) ws (of_end p.0.0 (immovable p.0.1)) m w.spelled (immovable_line w.named) p.2
 
+number_says : (ws : List (List ℕ)) (m : LineMeaning) → number_line_of ws ≡ Some m → LineSays (codes "number" ∷ ws) m
+number_says ws m e =
+    let p = bind_some (side_and_number NUMBER_MAX ws) (λ p. Some (of_end p.0 (number p.1))) m e in
+    let w = side_and_number_is NUMBER_MAX ws p.0 p.1 in
+    spelled_says (codes "number") (side_word p.0.0 ∷ w.word ∷ []) ws (of_end p.0.0 (number p.0.1)) m w.spelled (number_line w.written) p.2
+
 pass_says : (ws : List (List ℕ)) (m : LineMeaning) → pass_of ws ≡ Some m → LineSays (codes "pass" ∷ ws) m
 pass_says ws m e =
-    let p = bind_some (side_and_count ws) (λ p. Some (event (Pass p.0 p.1))) m e in
-    let w = side_and_number_is ws p.0 p.1 in
+    let p = bind_some (side_and_number BYTES_MAX ws) (λ p. Some (event (Pass p.0 p.1))) m e in
+    let w = side_and_number_is BYTES_MAX ws p.0 p.1 in
     spelled_says (codes "pass") (side_word p.0.0 ∷ w.word ∷ []) ws (event (Pass p.0.0 p.0.1)) m w.spelled (pass_line w.written) p.2
 
 drop_says : (ws : List (List ℕ)) (m : LineMeaning) → drop_of ws ≡ Some m → LineSays (codes "drop" ∷ ws) m
 drop_says ws m e =
-    let p = bind_some (side_and_count ws) (λ p. Some (event (Drop p.0 p.1))) m e in
-    let w = side_and_number_is ws p.0 p.1 in
+    let p = bind_some (side_and_number BYTES_MAX ws) (λ p. Some (event (Drop p.0 p.1))) m e in
+    let w = side_and_number_is BYTES_MAX ws p.0 p.1 in
     spelled_says (codes "drop") (side_word p.0.0 ∷ w.word ∷ []) ws (event (Drop p.0.0 p.0.1)) m w.spelled (drop_line w.written) p.2
 
 flip_says : (ws : List (List ℕ)) (m : LineMeaning) → flip_of ws ≡ Some m → LineSays (codes "flip" ∷ ws) m
@@ -294,9 +302,9 @@ call_says (a ∷ more) m e = absurd cc
 
 flow_says : (ws : List (List ℕ)) (m : LineMeaning) → flow_of ws ≡ Some m → LineSays (codes "flow" ∷ ws) m
 flow_says [] m e = absurd cc
-flow_says (number ∷ []) m e =
-    let n = bind_some (number_of TURNS_MAX number) (λ n. Some (flow n)) m e in
-    as_meaning (codes "flow" ∷ number ∷ []) (flow n.0) m (flow_line (writes_number TURNS_MAX number n.0 n.1)) (some_is n.2)
+flow_says (word ∷ []) m e =
+    let n = bind_some (number_of TURNS_MAX word) (λ n. Some (flow n)) m e in
+    as_meaning (codes "flow" ∷ word ∷ []) (flow n.0) m (flow_line (writes_number TURNS_MAX word n.0 n.1)) (some_is n.2)
 flow_says (a ∷ b ∷ more) m e = absurd cc
 
 -- by the first word
@@ -330,7 +338,8 @@ line_says first ws m e =
     by_word first (codes "request") _ _ m e (λ k f. with_first _ first ws m k (request_says ws m f)) (λ e.
     by_word first (codes "deny") _ _ m e (λ k f. with_first _ first ws m k (deny_says ws m f)) (λ e.
     by_word first (codes "later") _ _ m e (λ k f. with_first _ first ws m k (later_says ws m f)) (λ e.
-    by_word first (codes "immovable") _ _ m e (λ k f. with_first _ first ws m k (immovable_says ws m f)) (λ e. event_says first ws m e))))))))
+    by_word first (codes "immovable") _ _ m e (λ k f. with_first _ first ws m k (immovable_says ws m f)) (λ e.
+    by_word first (codes "number") _ _ m e (λ k f. with_first _ first ws m k (number_says ws m f)) (λ e. event_says first ws m e)))))))))
 
 comment_is : (first : List ℕ) → is_comment first ≡ true → (letters : List ℕ) × (35 ∷ letters ≡ first)
 comment_is [] e = absurd cc

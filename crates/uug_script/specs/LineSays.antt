@@ -7,6 +7,7 @@ use Rattle.uug_link.specs.Terms.{IsWindow, size_of_code}
 use Rattle.uug_link.specs.declared.limits.TheConstants.{SIZE_CODES}
 use Rattle.uug_session.specs.Holdings.{kept_file}
 use Rattle.uug_session.specs.declared.job.Job.TheVariants.{Send, Request}
+use Rattle.uug_talk.specs.declared.call.TheConstants.{NUMBER_MAX}
 use Rattle.uug_talk.specs.Mode.{IsModeWord, octal_value}
 use Rattle.uug_talk.specs.Name.{IsName}
 use Rattle.uug_talk.specs.Order.{AreNames}
@@ -16,7 +17,7 @@ use Rattle.uug_script.specs.declared.fields.TheConstants.{MODE_DIGITS}
 use Rattle.uug_script.specs.declared.line.TheConstants.{LINE_MAX, BYTES_MAX, TURNS_MAX}
 use Rattle.uug_line.specs.declared.side.Side.{Side}
 use Rattle.uug_script.specs.Fields.{side_word}
-use Rattle.uug_script.specs.Meaning.{LineMeaning, nothing, of_end, event, flow, place, file, job, deny, later, immovable}
+use Rattle.uug_script.specs.Meaning.{LineMeaning, nothing, of_end, event, flow, place, file, job, deny, later, immovable, number}
 
 -- the word writes the number in decimal digits, with no sign, and the number is at most this one
 abbrev pub WritesNumber : ℕ → List ℕ → ℕ → Type 0
@@ -68,6 +69,9 @@ pub data LineSays : List (List ℕ) → LineMeaning → Type 0 where
       → LineSays (codes "later" ∷ side_word side ∷ name ∷ []) (of_end side (later name))
   immovable_line : {side : Side} {name : List ℕ} → IsName name
       → LineSays (codes "immovable" ∷ side_word side ∷ name ∷ []) (of_end side (immovable name))
+  -- number SIDE N
+  number_line : {side : Side} {word : List ℕ} {n : ℕ} → WritesNumber NUMBER_MAX word n
+      → LineSays (codes "number" ∷ side_word side ∷ word ∷ []) (of_end side (number n))
   -- pass SIDE N, drop SIDE N
   pass_line : {side : Side} {word : List ℕ} {n : ℕ} → WritesNumber BYTES_MAX word n
       → LineSays (codes "pass" ∷ side_word side ∷ word ∷ []) (event (Pass side n))

@@ -25,6 +25,8 @@ pub data EndMeaning : Type 0 where
   deny : List ℕ → EndMeaning
   later : List ℕ → EndMeaning
   immovable : List ℕ → EndMeaning
+  -- the number of its conversations
+  number : ℕ → EndMeaning
 
 pub data LineMeaning : Type 0 where
   nothing : LineMeaning
@@ -58,6 +60,7 @@ end_meaning (end_line.Job j) = Some (job j)
 end_meaning (end_line.Deny name) = Some (deny name)
 end_meaning (end_line.Later name) = Some (later name)
 end_meaning (end_line.Immovable name) = Some (immovable name)
+end_meaning (end_line.Number n) = Some (number n)
 
 abbrev pub line_meaning : Line → Option LineMeaning
 line_meaning line.Nothing = Some nothing

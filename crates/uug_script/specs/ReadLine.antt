@@ -2,6 +2,7 @@
 use Rattle.std.specs.Prelude.{ℕ, List, [], ◌∷◌, length, codes, nat_le, Option, Some, None, if◌then◌else◌}
 use Rattle.std.specs.Str.{bytes_eq}
 use Rattle.uug_session.specs.declared.job.Job.TheVariants as job_of
+use Rattle.uug_talk.specs.declared.call.TheConstants.{NUMBER_MAX}
 use Rattle.uug_talk.specs.Number.{number_of}
 use Rattle.uug_talk.specs.Words.{words}
 use Rattle.uug_line.specs.declared.event.Event.TheVariants.{Pass, Drop, Flip, Insert, Timeout, HangUp, Call}
@@ -9,7 +10,7 @@ use Rattle.uug_script.specs.declared.line.TheConstants.{LINE_MAX, BYTES_MAX, TUR
 use Rattle.uug_line.specs.declared.side.Side.{Side}
 use Rattle.uug_line.specs.declared.side.Side.TheVariants.{Caller, Called}
 use Rattle.uug_script.specs.Fields.{◌>>=◌, side_of, name_of, mode_of_word, hex_bytes, byte_of, announcement_of, is_comment}
-use Rattle.uug_script.specs.Meaning.{LineMeaning, nothing, of_end, event, flow, place, job, deny, later, immovable, file_meaning, of_side}
+use Rattle.uug_script.specs.Meaning.{LineMeaning, nothing, of_end, event, flow, place, job, deny, later, immovable, number, file_meaning, of_side}
 
 -- a line that begins with the word of an end
 abbrev pub place_of : Side → List (List ℕ) → Option LineMeaning
@@ -44,9 +45,9 @@ abbrev pub side_and_name : List (List ℕ) → Option (Side × List ℕ)
 side_and_name (side ∷ name ∷ []) = side_of side >>= (λ s. name_of name >>= (λ n. Some (s, n)))
 side_and_name _ = None
 
-abbrev pub side_and_count : List (List ℕ) → Option (Side × ℕ)
-side_and_count (side ∷ number ∷ []) = side_of side >>= (λ s. number_of BYTES_MAX number >>= (λ n. Some (s, n)))
-side_and_count _ = None
+abbrev pub side_and_number : (most : ℕ) → List (List ℕ) → Option (Side × ℕ)
+side_and_number most (side ∷ word ∷ []) = side_of side >>= (λ s. number_of most word >>= (λ n. Some (s, n)))
+side_and_number most _ = None
 
 abbrev pub side_and_byte : List (List ℕ) → Option (Side × ℕ)
 side_and_byte (side ∷ hex ∷ []) = side_of side >>= (λ s. byte_of hex >>= (λ b. Some (s, b)))
@@ -61,7 +62,7 @@ call_of [] = Some (event Call)
 call_of _ = None
 
 abbrev pub flow_of : List (List ℕ) → Option LineMeaning
-flow_of (number ∷ []) = number_of TURNS_MAX number >>= (λ n. Some (flow n))
+flow_of (word ∷ []) = number_of TURNS_MAX word >>= (λ n. Some (flow n))
 flow_of _ = None
 
 abbrev pub deny_of : List (List ℕ) → Option LineMeaning
@@ -73,11 +74,14 @@ later_of ws = side_and_name ws >>= (λ p. Some (of_end p.0 (later p.1)))
 abbrev pub immovable_of : List (List ℕ) → Option LineMeaning
 immovable_of ws = side_and_name ws >>= (λ p. Some (of_end p.0 (immovable p.1)))
 
+abbrev pub number_line_of : List (List ℕ) → Option LineMeaning
+number_line_of ws = side_and_number NUMBER_MAX ws >>= (λ p. Some (of_end p.0 (number p.1)))
+
 abbrev pub pass_of : List (List ℕ) → Option LineMeaning
-pass_of ws = side_and_count ws >>= (λ p. Some (event (Pass p.0 p.1)))
+pass_of ws = side_and_number BYTES_MAX ws >>= (λ p. Some (event (Pass p.0 p.1)))
 
 abbrev pub drop_of : List (List ℕ) → Option LineMeaning
-drop_of ws = side_and_count ws >>= (λ p. Some (event (Drop p.0 p.1)))
+drop_of ws = side_and_number BYTES_MAX ws >>= (λ p. Some (event (Drop p.0 p.1)))
 
 abbrev pub flip_of : List (List ℕ) → Option LineMeaning
 flip_of ws = side_and_byte ws >>= (λ p. Some (event (Flip p.0 p.1)))
@@ -112,7 +116,8 @@ line_by first ws =
     (if bytes_eq first (codes "request") then request_of ws else
     (if bytes_eq first (codes "deny") then deny_of ws else
     (if bytes_eq first (codes "later") then later_of ws else
-    (if bytes_eq first (codes "immovable") then immovable_of ws else event_by first ws)))))))
+    (if bytes_eq first (codes "immovable") then immovable_of ws else
+    (if bytes_eq first (codes "number") then number_line_of ws else event_by first ws))))))))
 
 -- a line with no word, and a comment, say nothing
 abbrev pub line_of_words : List (List ℕ) → Option LineMeaning

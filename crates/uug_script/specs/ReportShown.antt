@@ -6,7 +6,13 @@ use Rattle.uug_script.specs.declared.report.ShownReport.{ShownReport}
 use Rattle.uug_script.specs.ReportText.{EndResult, RunResult}
 
 abbrev pub end_shown : {A : Type 0} → ShownEnd A → EndResult
-end_shown e = record { pending = e.pending; struck = e.struck; failed = e.failed; stored = map kept_of e.stored.now }
+end_shown e = record {
+  pending = e.pending;
+  struck = e.struck;
+  failed = e.failed;
+  stored = map kept_of e.stored.now;
+  number = e.number;
+}
 
 abbrev pub report_shown : {A : Type 0} → ShownReport A → RunResult
 report_shown r = record {

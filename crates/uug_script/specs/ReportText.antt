@@ -1,10 +1,10 @@
 -- The text of a report (this project's profile).
-use Rattle.std.specs.Prelude.{ℕ, suc, List, [], ◌∷◌, ◌++◌, codes}
+use Rattle.std.specs.Prelude.{ℕ, suc, List, [], ◌∷◌, ◌++◌, codes, Option, Some, None}
 use Rattle.std.specs.Fmt.{decimal}
 use Rattle.hex.specs.Hex.{encode_lower}
 use Rattle.uug_session.specs.Holdings.{Kept}
 use Rattle.uug_session.specs.declared.end.End.{End}
-use Rattle.uug_session.specs.declared.end.End.TheVariants.{Done, Refused, WrongName, NoProtocol, PeerClosed, GaveUp, BadTalk, SpoolFault, HungUp}
+use Rattle.uug_session.specs.declared.end.End.TheVariants.{Done, Refused, WrongName, NoProtocol, PeerClosed, GaveUp, BadTalk, SpoolFault, HungUp, BadSequence}
 use Rattle.uug_talk.specs.Mode.{mode_digits}
 use Rattle.uug_session.specs.declared.phase.Phase.{Phase}
 use Rattle.uug_session.specs.declared.phase.Phase.TheVariants.{Hail, Starting, Talking, Closing, Ended}
@@ -16,12 +16,14 @@ use Rattle.uug_line.specs.declared.verdict.LineVerdict.{LineVerdict}
 use Rattle.uug_line.specs.declared.verdict.LineVerdict.TheVariants.{Clean, Fooled}
 use Rattle.uug_script.specs.Fields.{side_word}
 
--- what became of an end's jobs, how many of each, and the files that it has stored, in order
+-- what became of an end's jobs, how many of each, the files that it has stored, in order, and the number of its next
+-- conversation, where it keeps one
 pub record EndResult : Type 0 where
   pub pending : ℕ
   pub struck : ℕ
   pub failed : ℕ
   pub stored : List Kept
+  pub number : Option ℕ
 
 pub record RunResult : Type 0 where
   pub sessions : List SessionNumbers
@@ -43,6 +45,7 @@ end_word GaveUp = codes "gaveup"
 end_word BadTalk = codes "badtalk"
 end_word SpoolFault = codes "spoolfault"
 end_word HungUp = codes "hungup"
+end_word BadSequence = codes "badsequence"
 
 abbrev pub phase_word : Phase → List ℕ
 phase_word Hail = codes "hail"
@@ -85,6 +88,11 @@ abbrev pub stored_text : Side → List Kept → List ℕ
 stored_text side [] = []
 stored_text side (f ∷ more) = stored_line side f ++ stored_text side more
 
+-- SIDE number N, where a number is kept
+abbrev pub number_line : Side → Option ℕ → List ℕ
+number_line side None = []
+number_line side (Some n) = ended (side_word side ++ codes " number " ++ decimal n)
+
 abbrev pub verdict_line : LineVerdict → List ℕ
 verdict_line Clean = ended (codes "verdict clean")
 verdict_line (Fooled event side) = ended (codes "verdict fooled " ++ decimal event ++ codes " " ++ side_word side)
@@ -93,4 +101,5 @@ verdict_line (Fooled event side) = ended (codes "verdict fooled " ++ decimal eve
 abbrev pub report_text : RunResult → List ℕ
 report_text r =
     sessions_text 1 r.sessions ++ jobs_line Caller r.caller ++ jobs_line Called r.called
-    ++ stored_text Caller r.caller.stored ++ stored_text Called r.called.stored ++ verdict_line r.verdict
+    ++ stored_text Caller r.caller.stored ++ stored_text Called r.called.stored
+    ++ number_line Caller r.caller.number ++ number_line Called r.called.number ++ verdict_line r.verdict

@@ -9,7 +9,7 @@ use Rattle.uug_line.specs.declared.event.Event.TheVariants.{Pass}
 use Rattle.uug_script.specs.declared.line.TheConstants.{BYTES_MAX}
 use Rattle.uug_line.specs.declared.side.Side.TheVariants.{Caller, Called}
 use Rattle.uug_script.specs.Fields.{◌>>=◌}
-use Rattle.uug_script.specs.Meaning.{EndMeaning, place, file, job, deny, later, immovable, LineMeaning, nothing, of_end, event, flow}
+use Rattle.uug_script.specs.Meaning.{EndMeaning, place, file, job, deny, later, immovable, number, LineMeaning, nothing, of_end, event, flow}
 
 -- an end's name, and what it announces
 pub record Place : Type 0 where
@@ -23,6 +23,8 @@ pub record EndSaid : Type 0 where
   pub queue : Lists
   -- what its spool has
   pub held : MemoryHoldings
+  -- the number of its conversations
+  pub number : Option ℕ
 
 pub record Said : Type 0 where
   pub caller : EndSaid
@@ -30,7 +32,7 @@ pub record Said : Type 0 where
   pub events : List Event
 
 abbrev pub nothing_of_end : EndSaid
-nothing_of_end = record { place = None; queue = at_start [] [] []; held = no_holdings }
+nothing_of_end = record { place = None; queue = at_start [] [] []; held = no_holdings; number = None }
 
 abbrev pub nothing_said : Said
 nothing_said = record { caller = nothing_of_end; called = nothing_of_end; events = [] }
@@ -39,6 +41,11 @@ nothing_said = record { caller = nothing_of_end; called = nothing_of_end; events
 abbrev pub placed : Place → Option Place → EndSaid → Option EndSaid
 placed p None end = Some (record end { place = Some p })
 placed p (Some earlier) end = None
+
+-- its number is said once
+abbrev pub numbered : ℕ → Option ℕ → EndSaid → Option EndSaid
+numbered n None end = Some (record end { number = Some n })
+numbered n (Some earlier) end = None
 
 abbrev pub place_at : List ℕ → Announced → Place
 place_at name a = record { name = name; announced = a }
@@ -52,6 +59,7 @@ end_added (job j) end =
 end_added (deny name) end = Some (record end { held = record end.held { denied = end.held.denied ++ name ∷ [] } })
 end_added (later name) end = Some (record end { held = record end.held { postponed = end.held.postponed ++ name ∷ [] } })
 end_added (immovable name) end = Some (record end { held = record end.held { immovable = end.held.immovable ++ name ∷ [] } })
+end_added (number n) end = numbered n end.number end
 
 -- all bytes for the called end come to it, and then all for the caller, so many times
 abbrev pub flow_events : ℕ → List Event
@@ -78,6 +86,7 @@ pub record EndSays : Type 0 where
   pub announced : Announced
   pub queue : Lists
   pub held : MemoryHoldings
+  pub number : Option ℕ
 
 -- what a script says: the two ends, and what happens
 pub record ScriptSays : Type 0 where
@@ -88,7 +97,8 @@ pub record ScriptSays : Type 0 where
 -- the end has to be placed
 abbrev pub end_completed : Option Place → EndSaid → Option EndSays
 end_completed None end = None
-end_completed (Some p) end = Some (record { name = p.name; announced = p.announced; queue = end.queue; held = end.held })
+end_completed (Some p) end =
+    Some (record { name = p.name; announced = p.announced; queue = end.queue; held = end.held; number = end.number })
 
 abbrev pub completed : Said → Option ScriptSays
 completed s =

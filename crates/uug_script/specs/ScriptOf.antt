@@ -42,13 +42,19 @@ place_by None = None
 place_by (Some p) = Some (record { name = p.name; announced = announced p.announce })
 
 abbrev pub said_of_end : {A : Type 0} → EndDraft A → EndSaid
-said_of_end d = record { place = place_by d.place; queue = d.queue; held = held_by d.spool }
+said_of_end d = record { place = place_by d.place; queue = d.queue; held = held_by d.spool; number = d.number }
 
 abbrev pub said_by : {A : Type 0} → Draft A → Said
 said_by d = record { caller = said_of_end d.caller; called = said_of_end d.called; events = d.events.items }
 
 abbrev pub end_said : {A : Type 0} → EndSetup A → EndSays
-end_said s = record { name = s.name; announced = announced s.announce; queue = s.queue; held = held_by s.spool }
+end_said s = record {
+  name = s.name;
+  announced = announced s.announce;
+  queue = s.queue;
+  held = held_by s.spool;
+  number = s.number;
+}
 
 -- what a script in the program says
 abbrev pub script_said : {A : Type 0} → Script A → ScriptSays

@@ -1,7 +1,7 @@
 //! What the lines of a script said so far.
 ghost use Rattle.std.specs.Prelude.{◌≡◌, [], ◌∷◌, ◌++◌, OnOk, IfOk, IfErr, Some};
 ghost use Rattle.uug_script.specs.Fields.{hex_bytes};
-ghost use Rattle.uug_script.specs.Meaning.{place as placed_line, job as job_line};
+ghost use Rattle.uug_script.specs.Meaning.{place as placed_line, job as job_line, number as number_line};
 ghost use Rattle.uug_link.specs.Announced.{announced};
 ghost use Rattle.uug_script.specs.Refusals.{Refuses};
 ghost use Rattle.uug_script.specs.Script.{end_added, flow_events, completed, end_completed, nothing_of_end, nothing_said};
@@ -32,6 +32,8 @@ pub(crate) struct EndDraft<A: Allocator> {
     place: Option<EndPlace>,
     queue: Queue<A>,
     spool: MemorySpool<A>,
+    /// The number of its conversations.
+    number: Option<u32>,
 }
 
 /// What was said.
@@ -65,6 +67,7 @@ impl<A: Allocator + Copy> EndDraft<A> {
             place: None,
             queue: Queue::new(alloc),
             spool: MemorySpool::new(alloc),
+            number: None,
         }
     }
 
@@ -79,6 +82,19 @@ impl<A: Allocator + Copy> EndDraft<A> {
             return Err(LineFault::Bad);
         }
         self.place = Some(EndPlace { name, announce });
+        Ok(())
+    }
+
+    fn set_number(&mut self, number: u32) -> Result<(), LineFault>
+        ensures ok { OnOk result
+            (end_added (number_line number) (said_of_end self.old) ≡ Some (said_of_end self.new)) }
+        ensures fault { IfErr result (λ fault.
+            Refuses fault (end_added (number_line number) (said_of_end self.old))) }
+    {
+        if self.number.is_some() {
+            return Err(LineFault::Bad);
+        }
+        self.number = Some(number);
         Ok(())
     }
 
@@ -121,6 +137,7 @@ impl<A: Allocator + Copy> EndDraft<A> {
             EndLine::Deny(name) => Ok(self.spool.deny(*name)?),
             EndLine::Later(name) => Ok(self.spool.later(*name)?),
             EndLine::Immovable(name) => Ok(self.spool.immovable(*name)?),
+            EndLine::Number(number) => self.set_number(*number),
         }
     }
 
@@ -132,6 +149,7 @@ impl<A: Allocator + Copy> EndDraft<A> {
             place,
             queue,
             spool,
+            number,
         } = self;
         let EndPlace { name, announce } = place?;
         Some(EndSetup {
@@ -139,6 +157,7 @@ impl<A: Allocator + Copy> EndDraft<A> {
             announce,
             queue,
             spool,
+            number,
         })
     }
 }

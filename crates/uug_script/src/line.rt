@@ -2,14 +2,14 @@
 ghost use Rattle.std.specs.Prelude.{◌≡◌, ◌≤◌, ⊤, MatchOption, [], ◌∷◌, List, IsTrue, ◌↔◌, length};
 ghost use Rattle.uug_talk.specs.Words.{words};
 ghost use Rattle.uug_script.specs.Meaning.{meaning_of};
-ghost use Rattle.uug_script.specs.ReadLine.{line_of, place_of, file_of, send_of, request_of, last_name_of, side_and_name, side_and_count, side_and_byte, one_side, call_of, flow_of, deny_of, later_of, immovable_of, pass_of, drop_of, flip_of, insert_of, timeout_of, hang_up_of, event_by, line_by};
+ghost use Rattle.uug_script.specs.ReadLine.{line_of, place_of, file_of, send_of, request_of, last_name_of, side_and_name, side_and_number, side_and_byte, one_side, call_of, flow_of, deny_of, later_of, immovable_of, number_line_of, pass_of, drop_of, flip_of, insert_of, timeout_of, hang_up_of, event_by, line_by};
 
 use crate::fields::{read_announce, read_byte, read_name, read_short_mode, read_side, spells};
 use crate::mode::Mode;
 use uug_line::{Event, Side};
 use uug_link::Announce;
 use uug_session::Job;
-use uug_talk::{Name, read_number, split_word};
+use uug_talk::{NUMBER_MAX, Name, read_number, split_word};
 
 /// The longest line, in bytes, its spaces included and its line feed not.
 pub const LINE_MAX: usize = 65_536;
@@ -48,6 +48,8 @@ pub(crate) enum EndLine<'a> {
     Later(Name),
     /// A file of this name can't be put in its place.
     Immovable(Name),
+    /// The number of its conversations.
+    Number(u32),
 }
 
 /// `caller NAME WINDOW SIZE`, or the same of the called end.
@@ -140,16 +142,16 @@ fn read_side_and_name(text: &[u8]) -> Option<(Side, Name)>
     Some((read_side(side)?, read_name(name)?))
 }
 
-/// A side and a number of bytes, and no more.
-fn read_side_and_count(text: &[u8]) -> Option<(Side, u32)>
-    ensures { result ≡ side_and_count (words text.now) }
+/// A side and a number that is at most this one, and no more.
+fn read_side_and_number(text: &[u8], most: u32) -> Option<(Side, u32)>
+    ensures { result ≡ side_and_number most (words text.now) }
 {
     let (side, rest) = split_word(text)?;
     let (number, rest) = split_word(rest)?;
     if split_word(rest).is_some() {
         return None;
     }
-    Some((read_side(side)?, read_number(number, BYTES_MAX)?))
+    Some((read_side(side)?, read_number(number, most)?))
 }
 
 /// A side and a byte, and no more.
@@ -220,11 +222,19 @@ fn read_immovable(text: &[u8]) -> Option<Line<'_>>
     Some(Line::End(side, EndLine::Immovable(name)))
 }
 
+/// `number SIDE N`.
+fn read_number_line(text: &[u8]) -> Option<Line<'_>>
+    ensures { meaning_of result ≡ number_line_of (words text.now) }
+{
+    let (side, number) = read_side_and_number(text, NUMBER_MAX)?;
+    Some(Line::End(side, EndLine::Number(number)))
+}
+
 /// `pass SIDE N`.
 fn read_pass(text: &[u8]) -> Option<Line<'_>>
     ensures { meaning_of result ≡ pass_of (words text.now) }
 {
-    let (side, n) = read_side_and_count(text)?;
+    let (side, n) = read_side_and_number(text, BYTES_MAX)?;
     Some(Line::Event(Event::Pass { side, n }))
 }
 
@@ -232,7 +242,7 @@ fn read_pass(text: &[u8]) -> Option<Line<'_>>
 fn read_drop(text: &[u8]) -> Option<Line<'_>>
     ensures { meaning_of result ≡ drop_of (words text.now) }
 {
-    let (side, n) = read_side_and_count(text)?;
+    let (side, n) = read_side_and_number(text, BYTES_MAX)?;
     Some(Line::Event(Event::Drop { side, n }))
 }
 
@@ -288,6 +298,8 @@ fn read_by<'a>(first: &[u8], rest: &'a [u8]) -> Option<Line<'a>>
         read_later(rest)
     } else if spells(first, b"immovable") {
         read_immovable(rest)
+    } else if spells(first, b"number") {
+        read_number_line(rest)
     } else {
         read_event(first, rest)
     }

@@ -3,7 +3,7 @@ ghost use Rattle.std.specs.Prelude.{◌≡◌, ◌≤◌, ◌++◌, OnErr, OnOk,
 ghost use Rattle.uug_session.specs.MemoryHoldings.{kept_of};
 ghost use Rattle.uug_talk.specs.Mode.{mode_digits};
 ghost use Rattle.uug_script.specs.Fields.{side_word};
-ghost use Rattle.uug_script.specs.ReportText.{end_word, phase_word, end_line, session_text, sessions_text, jobs_line, hex_text, stored_line, stored_text, verdict_line, report_text};
+ghost use Rattle.uug_script.specs.ReportText.{end_word, phase_word, end_line, session_text, sessions_text, jobs_line, hex_text, stored_line, stored_text, number_line, verdict_line, report_text};
 ghost use Rattle.uug_script.specs.ReportShown.{end_shown, report_shown};
 
 use std::alloc::{AllocError, Allocator};
@@ -33,7 +33,7 @@ pub struct SessionNumbers {
     pub called: EndNumbers,
 }
 
-/// What became of the jobs of an end, and the files that it has stored, in order.
+/// What became of the jobs of an end, the files that it has stored, in order, and the number that it keeps.
 #[derive(Drop)]
 pub struct ShownEnd<'a, A: Allocator> {
     /// How many jobs are pending.
@@ -44,6 +44,8 @@ pub struct ShownEnd<'a, A: Allocator> {
     pub failed: usize,
     /// The stored files.
     pub stored: &'a [Stored<A>],
+    /// The number of its next conversation, where it keeps one.
+    pub number: Option<u32>,
 }
 
 /// A report.
@@ -82,6 +84,7 @@ fn end_word(end: End) -> &'static str
         End::BadTalk => "badtalk",
         End::SpoolFault => "spoolfault",
         End::HungUp => "hungup",
+        End::BadSequence => "badsequence",
     }
 }
 
@@ -215,6 +218,22 @@ fn add_stored<A: Allocator + Copy, B: Allocator>(
     Ok(())
 }
 
+/// Appends the line of an end's number, where it keeps one.
+fn add_number_line<A: Allocator>(
+    text: &mut String<A>,
+    side: Side,
+    number: Option<u32>,
+) -> Result<(), AllocError>
+    ensures { OnOk result
+        (string_bytes text.new ≡ string_bytes text.old ++ number_line side number) }
+{
+    let Some(number) = number else {
+        return Ok(());
+    };
+    let side = side_word(side);
+    write!(text, "{side} number {number}\n")
+}
+
 /// Appends the line of the verdict.
 fn add_verdict_line<A: Allocator>(
     text: &mut String<A>,
@@ -232,7 +251,7 @@ fn add_verdict_line<A: Allocator>(
 }
 
 /// The text of a report: the sessions, then what became of the jobs of the caller and of the called end, then the files
-/// that they stored, and last the verdict.
+/// that they stored, then the numbers that they keep, and last the verdict.
 fn report_text<A: Allocator + Copy, B: Allocator>(
     alloc: A,
     report: &ShownReport<'_, B>,
@@ -245,6 +264,8 @@ fn report_text<A: Allocator + Copy, B: Allocator>(
     add_jobs_line(&mut text, Side::Called, &report.called)?;
     add_stored(alloc, &mut text, Side::Caller, report.caller.stored)?;
     add_stored(alloc, &mut text, Side::Called, report.called.stored)?;
+    add_number_line(&mut text, Side::Caller, report.caller.number)?;
+    add_number_line(&mut text, Side::Called, report.called.number)?;
     add_verdict_line(&mut text, report.verdict)?;
     Ok(text)
 }

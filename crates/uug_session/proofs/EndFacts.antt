@@ -1,6 +1,6 @@
 -- A whole session of two ends over a clean line, worked out by hand and computed by an end's steps: with the two ends
 -- themselves, and with two numbers and the whole conversation. Both come to the same.
-use Rattle.std.proofs.Common.{◌≡◌, ℕ, zero, suc, Bool, true, false, List, [], ◌∷◌, ◌++◌, codes, refl}
+use Rattle.std.proofs.Common.{◌≡◌, ℕ, zero, suc, Bool, true, false, List, [], ◌∷◌, ◌++◌, codes, None, refl}
 use Rattle.uug_link.specs.Announced.{Announced}
 use Rattle.uug_session.specs.declared.end.End.TheVariants as ends
 use Rattle.uug_session.specs.Count.{Count, nothing_yet, count_keeper}
@@ -75,7 +75,7 @@ abbrev pub played : {C : Type 0} → EndEffect C → Played C
 played e = record { state = e.state; emitted = e.emitted; took = 0 }
 
 abbrev pub begun : {C : Type 0} → C → C → Both C
-begun a b = two_ends (played (begins_session caller_id announced a)) (played (begins_session called_id announced b))
+begun a b = two_ends (played (begins_session caller_id announced None a)) (played (begins_session called_id announced None b))
 
 abbrev pub talk_of : Party → Talk
 talk_of p = unopened (at_start p.jobs [] []) []

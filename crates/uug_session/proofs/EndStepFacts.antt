@@ -2,6 +2,7 @@
 use Rattle.std.proofs.Common.{◌≡◌, ℕ, true, false, List, [], ◌∷◌, codes, None, refl}
 use Rattle.uug_link.specs.Announced.{Announced}
 use Rattle.uug_link.specs.State.{State, called_state, caller_state}
+use Rattle.uug_link.specs.Terms.{smallest_code}
 use Rattle.uug_link.specs.declared.phase.Phase.TheVariants as phases
 use Rattle.uug_packet.specs.Packet.{ControlValue, control, carry, close, rr, rj}
 use Rattle.uug_session.specs.declared.awaits.Awaits.{Awaits}
@@ -37,7 +38,7 @@ talking next gathered waiting = record {
 
 abbrev pub after : Exception → Side → State → Talk → EndEvent → EndEffect Talk
 after exception side link talk event =
-    end_step (end_keeper side (holdings q None exception)) (id_of side) event (record { stage = linked; link = link; keeper = talk })
+    end_step (end_keeper side (holdings q None exception)) (id_of side) event (record { stage = linked; link = link; keeper = talk; number = None })
 
 abbrev pub closing : Side → State
 closing side = record (link_of side) { phase = phases.Closing }
@@ -76,6 +77,7 @@ pub record Leads (e : EndEffect Talk) (emitted : List Emitted) (stage : Stage) :
 
 pub last_words_and_close : Leads (after no_exception caller (link_of caller) (talking awaits.HangUpAnswer [] []) (comes (text (codes "HY"))))
     (puts (rr 1) ∷ says (text (codes "HY")) ∷ puts close ∷ []) linked
+unfolding smallest_code
 last_words_and_close = record { out = refl; stands = refl }
 
 pub closed_at_the_caller : Leads (after no_exception caller (closing caller) (talking awaits.NothingMore [] []) close_comes)
@@ -130,10 +132,12 @@ device_fails = record { out = refl; stands = refl }
 -- the spool is not asked where the file can't be put in its place, or where no file ends
 pub device_is_not_asked : Leads (after (fixed y) called (link_of called) (talking (awaits.SentFile y 420) [] []) (device_fails_at []))
     (puts (rr 1) ∷ says (text (codes "CN5")) ∷ []) linked
+unfolding smallest_code
 device_is_not_asked = record { out = refl; stands = refl }
 
 pub device_has_no_part : Leads (after no_exception called (link_of called) (talking awaits.Order [] []) (device_fails_at (text (codes "H"))))
     (puts (rr 1) ∷ says (text (codes "HY")) ∷ []) linked
+unfolding smallest_code
 device_has_no_part = record { out = refl; stands = refl }
 
 -- ---- what waits goes out when there is room
@@ -141,6 +145,7 @@ device_has_no_part = record { out = refl; stands = refl }
 pub sends_what_waits : Leads (after no_exception called (record (link_of called) { oldest = 1; unacked = (1 ∷ []) ∷ (2 ∷ []) ∷ [] })
     (talking awaits.GivenFileDone [] ((3 ∷ []) ∷ (4 ∷ []) ∷ [])) (packet_found_whole false (control (rr 1))))
     (sends_packet (record { packet = carry 3 0 1 (3 ∷ []); first = true }) ∷ []) linked
+unfolding smallest_code
 sends_what_waits = record { out = refl; stands = refl }
 
 pub asks_again : Leads (after no_exception called (link_of called) (talking awaits.Order [] []) broken_found) (puts (rj 0) ∷ []) linked

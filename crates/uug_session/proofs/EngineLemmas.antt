@@ -1,5 +1,5 @@
 -- What the parts of a call come to is what the step says.
-use Rattle.std.proofs.Common.{◌≡◌, ℕ, Bool, true, false, List, [], ◌∷◌, ◌++◌, map, ap, sym, subst, ◌∙◌, refl, IfSome, Ok}
+use Rattle.std.proofs.Common.{◌≡◌, ◌≢◌, ℕ, Bool, true, false, List, [], ◌∷◌, ◌++◌, map, ap, sym, subst, ◌∙◌, refl, IfSome, Ok, Option}
 use Rattle.std.proofs.lemmas.List.{append-nil, append_assoc, map-append}
 use Rattle.uug_link.specs.declared.phase.Phase.{Phase}
 use Rattle.uug_link.specs.declared.phase.Phase.TheVariants as phases
@@ -9,19 +9,22 @@ use Rattle.uug_link.specs.declared.outcome.Outcome.TheVariants.{Nothing, Up, Tak
 use Rattle.uug_link.specs.Follows.{answered, written}
 use Rattle.uug_link.specs.Outcomes.{MovesPhase}
 use Rattle.uug_link.specs.State.{State}
-use Rattle.uug_link.specs.Step.{Effect, Emission, OutcomeValue, taken, step, to_begin, to_close}
+use Rattle.uug_link.specs.Step.{Effect, Emission, OutcomeValue, nothing, up, taken, closed, gave_up, halted, packet_found, step, to_begin, to_close}
 use Rattle.uug_packet.specs.Packet.{PacketValue}
 use Rattle.uug_session.specs.declared.end.End.{End}
 use Rattle.uug_session.specs.declared.end.End.TheVariants as ends
 use Rattle.uug_session.specs.declared.greeting.Greeted.{Greeted}
 use Rattle.uug_session.specs.declared.greeting.Greeted.TheVariants.{GoesOn, LinkBegins, Ended}
-use Rattle.uug_session.specs.EndStep.{Stage, linked, ended, EndEffect, EndState, Emitted, says_text, Identity, begins_link, behind_link, ends_so, goes_on, goes_on_with, greeted_so, how_it_ends, is_up, late_link, leave, packets, sending_nothing, speaks_by, takes_by, talks_by, then_closes}
+use Rattle.uug_session.specs.EndStep.{Stage, linked, ended, EndEffect, EndState, Emitted, says_text, Identity, begins_link, behind_link, ends_so, goes_on, goes_on_with, greeted_so, how_it_ends, is_up, late_link, leave, message_of, packet_came, packets, sending_nothing, speaks_by, takes_by, talks_by, then_closes}
 use Rattle.uug_session.specs.Engine.{Does, EngineState, Spoken, StandsStill, TakesUp, after_speaking, end_of, entry_of, packet_effect, spoken_of, spoken_with}
 use Rattle.uug_session.specs.Holdings.{Kept, Holdings}
 use Rattle.uug_session.specs.Keeper.{Keeper}
+use Rattle.uug_session.specs.declared.reaction.Saying.{Saying}
+use Rattle.uug_session.specs.Machine.{State as MachineState}
+use Rattle.uug_session.specs.Outgoing.{messages_of}
 use Rattle.uug_session.specs.Says.{entry_of_text}
 use Rattle.uug_session.specs.Talk.{Talk, end_keeper}
-use Rattle.uug_session.specs.Talking.{talk_of}
+use Rattle.uug_session.specs.Talking.{Talking, talk_of}
 use Rattle.uug_session.specs.Turns.{Side, caller, called}
 
 -- packets stand in an outbox as they are written
@@ -56,17 +59,18 @@ speaks_from h kept id e entries middle link emitted identity =
 
 pub goes_on_does : (h : Holdings) (kept : List Kept) (took : Bool) (e : Effect) (before middle after : EngineState)
     → middle.link ≡ e.state → middle.outbox.entries ≡ before.outbox.entries ++ map written e.emitted
-    → middle.stage ≡ linked → middle.identity ≡ before.identity → middle.own ≡ before.own
+    → middle.stage ≡ linked → middle.identity ≡ before.identity → middle.own ≡ before.own → middle.number ≡ before.number
     → spoken_of h kept after ≡ after_speaking h kept middle → StandsStill middle after
-    → Does (goes_on (end_keeper before.identity.side h) took e (talk_of h kept middle.talking)) (end_of h kept after) before after
-goes_on_does h kept took e before middle after link emitted stage identity own spoken still =
+    → Does (goes_on before.number (end_keeper before.identity.side h) took e (talk_of h kept middle.talking)) (end_of h kept after) before after
+goes_on_does h kept took e before middle after link emitted stage identity own number spoken still =
     let x = speaks_by (is_up e.state.phase) (end_keeper before.identity.side h) e.state (talk_of h kept middle.talking) in
     let all : spoken_of h kept after ≡ spoken_with (before.outbox.entries ++ map written e.emitted) x =
     spoken ∙ speaks_from h kept before.identity e before.outbox.entries middle link emitted identity in
-    let linked_end : Spoken → EndState Talk = λ s. record { stage = linked; link = s.link; keeper = s.talk } in
-    let at_stage : Stage → EndState Talk = λ s. record { stage = s; link = after.link; keeper = talk_of h kept after.talking } in
+    let linked_end : Spoken → EndState Talk = λ s. record { stage = linked; link = s.link; keeper = s.talk; number = before.number } in
+    let at_stage : Stage → EndState Talk = λ s. record { stage = s; link = after.link; keeper = talk_of h kept after.talking; number = after.number } in
+    let with_number : Option ℕ → EndState Talk = λ n. record { stage = linked; link = after.link; keeper = talk_of h kept after.talking; number = n } in
     record {
-      end = ap at_stage (still.stage ∙ stage) ∙ ap linked_end all;
+      end = ap at_stage (still.stage ∙ stage) ∙ ap with_number (still.number ∙ number) ∙ ap linked_end all;
       emitted = ap (λ (s : Spoken). s.entries) all ∙ entries_behind before.outbox.entries e.emitted x.emissions;
       identity = still.identity ∙ identity;
       own = still.own ∙ own;
@@ -77,14 +81,15 @@ goes_on_does h kept took e before middle after link emitted stage identity own s
 pub ends_does : {C : Type 0} (id : Identity) (has_parted : Bool) (how : End) (e : Effect) (c c_after : C) (took : Bool) (before after : EngineState)
     → after.stage ≡ ended (how_it_ends has_parted how) → after.link ≡ e.state → c_after ≡ c
     → after.outbox.entries ≡ (before.outbox.entries ++ map written e.emitted) ++ map entry_of (leave has_parted id.side)
-    → after.identity ≡ before.identity → after.own ≡ before.own
-    → Does (ends_so id has_parted how e c took) (record { stage = after.stage; link = after.link; keeper = c_after }) before after
-ends_does {C} id has_parted how e c c_after took before after stage link keeper emitted identity own =
-    let by_stage : Stage → EndState C = λ x. record { stage = x; link = after.link; keeper = c_after } in
-    let by_link : State → EndState C = λ x. record { stage = ended (how_it_ends has_parted how); link = x; keeper = c_after } in
-    let by_keeper : C → EndState C = λ x. record { stage = ended (how_it_ends has_parted how); link = e.state; keeper = x } in
+    → after.identity ≡ before.identity → after.own ≡ before.own → after.number ≡ before.number
+    → Does (ends_so before.number id has_parted how e c took) (record { stage = after.stage; link = after.link; keeper = c_after; number = after.number }) before after
+ends_does {C} id has_parted how e c c_after took before after stage link keeper emitted identity own number =
+    let by_stage : Stage → EndState C = λ x. record { stage = x; link = after.link; keeper = c_after; number = after.number } in
+    let by_link : State → EndState C = λ x. record { stage = ended (how_it_ends has_parted how); link = x; keeper = c_after; number = after.number } in
+    let by_keeper : C → EndState C = λ x. record { stage = ended (how_it_ends has_parted how); link = e.state; keeper = x; number = after.number } in
+    let by_number : Option ℕ → EndState C = λ x. record { stage = ended (how_it_ends has_parted how); link = e.state; keeper = c; number = x } in
     record {
-      end = ap by_stage stage ∙ ap by_link link ∙ ap by_keeper keeper;
+      end = ap by_stage stage ∙ ap by_link link ∙ ap by_keeper keeper ∙ ap by_number number;
       emitted = emitted ∙ append_assoc before.outbox.entries (map written e.emitted) (map entry_of (leave has_parted id.side))
           ∙ ap (λ (x : List EntryValue). before.outbox.entries ++ x)
           (ap (λ (x : List EntryValue). x ++ map entry_of (leave has_parted id.side)) (sym (packets_written e.emitted))
@@ -96,10 +101,10 @@ ends_does {C} id has_parted how e c c_after took before after stage link keeper 
 -- by an outcome that is known
 pub by_outcome : (k : Keeper Talk) (id : Identity) (device_failed : Bool) (o : OutcomeValue) (e : Effect) (message : List ℕ) (talk : Talk)
     (end_after : EndState Talk) (before after : EngineState) → o ≡ e.outcome
-    → Does (behind_link k id device_failed o e message talk) end_after before after
-    → Does (behind_link k id device_failed e.outcome e message talk) end_after before after
+    → Does (behind_link before.number k id device_failed o e message talk) end_after before after
+    → Does (behind_link before.number k id device_failed e.outcome e message talk) end_after before after
 by_outcome k id device_failed o e message talk end_after before after is does =
-    subst (λ (x : OutcomeValue). Does (behind_link k id device_failed x e message talk) end_after before after) is does
+    subst (λ (x : OutcomeValue). Does (behind_link before.number k id device_failed x e message talk) end_after before after) is does
 
 -- CLOSE stands behind what the link emitted
 pub closed_behind : (e : Effect) (link : State) (entries entries_then entries_after : List EntryValue)
@@ -114,28 +119,28 @@ closed_behind e link entries entries_then entries_after same before after =
 
 -- ---- a message was taken
 
-pub taken_bad : (k : Keeper Talk) (id : Identity) (e : Effect) (message : List ℕ) (talk : Talk)
+pub taken_bad : (number : Option ℕ) (k : Keeper Talk) (id : Identity) (e : Effect) (message : List ℕ) (talk : Talk)
     → e.outcome ≡ taken → k.is_bad (k.taking message talk) ≡ true
-    → behind_link k id false e.outcome e message talk
-    ≡ ends_so id (k.has_parted talk) ends.BadTalk (then_closes e) (k.taking message talk) true
-taken_bad k id e message talk outcome bad =
-    ap (λ (o : OutcomeValue). behind_link k id false o e message talk) outcome
-    ∙ ap (λ (b : Bool). talks_by b k id e talk (k.taking message talk)) bad
+    → behind_link number k id false e.outcome e message talk
+    ≡ ends_so number id (k.has_parted talk) ends.BadTalk (then_closes e) (k.taking message talk) true
+taken_bad number k id e message talk outcome bad =
+    ap (λ (o : OutcomeValue). behind_link number k id false o e message talk) outcome
+    ∙ ap (λ (b : Bool). talks_by number b k id e talk (k.taking message talk)) bad
 
-pub taken_well : (k : Keeper Talk) (id : Identity) (e : Effect) (message : List ℕ) (talk : Talk)
+pub taken_well : (number : Option ℕ) (k : Keeper Talk) (id : Identity) (e : Effect) (message : List ℕ) (talk : Talk)
     → e.outcome ≡ taken → k.is_bad (k.taking message talk) ≡ false
-    → behind_link k id false e.outcome e message talk ≡ goes_on k true e (k.taking message talk)
-taken_well k id e message talk outcome well =
-    ap (λ (o : OutcomeValue). behind_link k id false o e message talk) outcome
-    ∙ ap (λ (b : Bool). talks_by b k id e talk (k.taking message talk)) well
+    → behind_link number k id false e.outcome e message talk ≡ goes_on number k true e (k.taking message talk)
+taken_well number k id e message talk outcome well =
+    ap (λ (o : OutcomeValue). behind_link number k id false o e message talk) outcome
+    ∙ ap (λ (b : Bool). talks_by number b k id e talk (k.taking message talk)) well
 
-pub taken_failed : (k : Keeper Talk) (id : Identity) (e : Effect) (message : List ℕ) (talk : Talk)
+pub taken_failed : (number : Option ℕ) (k : Keeper Talk) (id : Identity) (e : Effect) (message : List ℕ) (talk : Talk)
     → e.outcome ≡ taken → k.asks_spool message talk ≡ true
-    → behind_link k id true e.outcome e message talk
-    ≡ ends_so id (k.has_parted talk) ends.SpoolFault (then_closes e) talk true
-taken_failed k id e message talk outcome asked =
-    ap (λ (o : OutcomeValue). behind_link k id true o e message talk) outcome
-    ∙ ap (λ (b : Bool). takes_by b k id e message talk) asked
+    → behind_link number k id true e.outcome e message talk
+    ≡ ends_so number id (k.has_parted talk) ends.SpoolFault (then_closes e) talk true
+taken_failed number k id e message talk outcome asked =
+    ap (λ (o : OutcomeValue). behind_link number k id true o e message talk) outcome
+    ∙ ap (λ (b : Bool). takes_by number b k id e message talk) asked
 
 -- an effect that is known
 pub takes_up : (h : Holdings) (kept kept_after : List Kept) (counts : Bool → Type 0) (device_failed : Bool) (p : PacketValue) (before after : EngineState)
@@ -155,44 +160,44 @@ texts_written : (texts : List (List ℕ)) → map entry_of (map says_text texts)
 texts_written [] = refl
 texts_written (text ∷ texts) = ap (λ (rest : List EntryValue). entry_of_text text ∷ rest) (texts_written texts)
 
-begun_behind : {C : Type 0} (side : Side) (said : List Emitted) (s : State) (c : C)
-    → map entry_of (begins_link side s c said).emitted ≡ map entry_of said ++ map entry_of (begins_link side s c []).emitted
-begun_behind caller said s c = map-append entry_of said (packets (step s to_begin).emitted)
-begun_behind called said s c = sym (append-nil (map entry_of said))
+begun_behind : {C : Type 0} (number : Option ℕ) (side : Side) (said : List Emitted) (s : State) (c : C)
+    → map entry_of (begins_link number side s c said).emitted ≡ map entry_of said ++ map entry_of (begins_link number side s c []).emitted
+begun_behind number caller said s c = map-append entry_of said (packets (step s to_begin).emitted)
+begun_behind number called said s c = sym (append-nil (map entry_of said))
 
-begun_state : {C : Type 0} (side : Side) (said : List Emitted) (s : State) (c : C)
-    → (begins_link side s c said).state ≡ (begins_link side s c []).state
-begun_state caller said s c = refl
-begun_state called said s c = refl
+begun_state : {C : Type 0} (number : Option ℕ) (side : Side) (said : List Emitted) (s : State) (c : C)
+    → (begins_link number side s c said).state ≡ (begins_link number side s c []).state
+begun_state number caller said s c = refl
+begun_state number called said s c = refl
 
-led_behind : {C : Type 0} (id : Identity) (greeted : Greeted) (said : List Emitted) (s : State) (c : C)
-    → map entry_of (greeted_so id greeted said s c).emitted
-    ≡ map entry_of said ++ map entry_of (greeted_so id greeted [] s c).emitted
-led_behind id (GoesOn g) said s c = sym (append-nil (map entry_of said))
-led_behind id LinkBegins said s c = begun_behind id.side said s c
-led_behind id (Ended how) said s c = sym (append-nil (map entry_of said))
+led_behind : {C : Type 0} (number : Option ℕ) (id : Identity) (greeted : Greeted) (said : List Emitted) (s : State) (c : C)
+    → map entry_of (greeted_so number id greeted said s c).emitted
+    ≡ map entry_of said ++ map entry_of (greeted_so number id greeted [] s c).emitted
+led_behind number id (GoesOn g) said s c = sym (append-nil (map entry_of said))
+led_behind number id LinkBegins said s c = begun_behind number id.side said s c
+led_behind number id (Ended how) said s c = sym (append-nil (map entry_of said))
 
-led_state : {C : Type 0} (id : Identity) (greeted : Greeted) (said : List Emitted) (s : State) (c : C)
-    → (greeted_so id greeted said s c).state ≡ (greeted_so id greeted [] s c).state
-led_state id (GoesOn g) said s c = refl
-led_state id LinkBegins said s c = begun_state id.side said s c
-led_state id (Ended how) said s c = refl
+led_state : {C : Type 0} (number : Option ℕ) (id : Identity) (greeted : Greeted) (said : List Emitted) (s : State) (c : C)
+    → (greeted_so number id greeted said s c).state ≡ (greeted_so number id greeted [] s c).state
+led_state number id (GoesOn g) said s c = refl
+led_state number id LinkBegins said s c = begun_state number id.side said s c
+led_state number id (Ended how) said s c = refl
 
 -- what was said for it stands in front of what the greeting has led to
 pub greeted_does : {C : Type 0} (id : Identity) (greeted : Greeted) (texts : List (List ℕ)) (s : State) (c : C)
     (end_after : EndState C) (before middle after : EngineState)
     → middle.outbox.entries ≡ before.outbox.entries ++ map entry_of_text texts
     → middle.identity ≡ before.identity → middle.own ≡ before.own
-    → Does (greeted_so id greeted [] s c) end_after middle after
-    → Does (greeted_so id greeted (map says_text texts) s c) end_after before after
+    → Does (greeted_so middle.number id greeted [] s c) end_after middle after
+    → Does (greeted_so middle.number id greeted (map says_text texts) s c) end_after before after
 greeted_does id greeted texts s c end_after before middle after said identity own does = record {
-  end = does.end ∙ sym (led_state id greeted (map says_text texts) s c);
+  end = does.end ∙ sym (led_state middle.number id greeted (map says_text texts) s c);
   emitted = does.emitted
-      ∙ ap (λ (x : List EntryValue). x ++ map entry_of (greeted_so id greeted [] s c).emitted) said
-      ∙ append_assoc before.outbox.entries (map entry_of_text texts) (map entry_of (greeted_so id greeted [] s c).emitted)
+      ∙ ap (λ (x : List EntryValue). x ++ map entry_of (greeted_so middle.number id greeted [] s c).emitted) said
+      ∙ append_assoc before.outbox.entries (map entry_of_text texts) (map entry_of (greeted_so middle.number id greeted [] s c).emitted)
       ∙ ap (λ (x : List EntryValue). before.outbox.entries ++ x)
-      (ap (λ (x : List EntryValue). x ++ map entry_of (greeted_so id greeted [] s c).emitted) (sym (texts_written texts))
-      ∙ sym (led_behind id greeted (map says_text texts) s c));
+      (ap (λ (x : List EntryValue). x ++ map entry_of (greeted_so middle.number id greeted [] s c).emitted) (sym (texts_written texts))
+      ∙ sym (led_behind middle.number id greeted (map says_text texts) s c));
   identity = does.identity ∙ identity;
   own = does.own ∙ own;
 }
@@ -200,20 +205,21 @@ greeted_does id greeted texts s c end_after before middle after said identity ow
 -- ---- nothing has come for some time
 
 pub late_by : {C : Type 0} (id : Identity) (has_parted : Bool) (o : OutcomeValue) (e : Effect) (c : C) (end_after : EndState C) (before after : EngineState)
-    → o ≡ e.outcome → Does (late_link id has_parted o e c) end_after before after
-    → Does (late_link id has_parted e.outcome e c) end_after before after
+    → o ≡ e.outcome → Does (late_link before.number id has_parted o e c) end_after before after
+    → Does (late_link before.number id has_parted e.outcome e c) end_after before after
 late_by id has_parted o e c end_after before after is does =
-    subst (λ (x : OutcomeValue). Does (late_link id has_parted x e c) end_after before after) is does
+    subst (λ (x : OutcomeValue). Does (late_link before.number id has_parted x e c) end_after before after) is does
 
 pub quiet_does : {C : Type 0} (e : Effect) (c : C) (before after : EngineState)
     → after.stage ≡ linked → after.link ≡ e.state → after.outbox.entries ≡ before.outbox.entries ++ map written e.emitted
-    → after.identity ≡ before.identity → after.own ≡ before.own
-    → Does (goes_on_with false e.emitted (sending_nothing e.state c)) (record { stage = after.stage; link = after.link; keeper = c }) before after
-quiet_does {C} e c before after stage link emitted identity own =
-    let by_stage : Stage → EndState C = λ x. record { stage = x; link = after.link; keeper = c } in
-    let by_link : State → EndState C = λ x. record { stage = linked; link = x; keeper = c } in
+    → after.identity ≡ before.identity → after.own ≡ before.own → after.number ≡ before.number
+    → Does (goes_on_with before.number false e.emitted (sending_nothing e.state c)) (record { stage = after.stage; link = after.link; keeper = c; number = after.number }) before after
+quiet_does {C} e c before after stage link emitted identity own number =
+    let by_stage : Stage → EndState C = λ x. record { stage = x; link = after.link; keeper = c; number = after.number } in
+    let by_link : State → EndState C = λ x. record { stage = linked; link = x; keeper = c; number = after.number } in
+    let by_number : Option ℕ → EndState C = λ x. record { stage = linked; link = e.state; keeper = c; number = x } in
     record {
-      end = ap by_stage stage ∙ ap by_link link;
+      end = ap by_stage stage ∙ ap by_link link ∙ ap by_number number;
       emitted = emitted ∙ ap (λ (x : List EntryValue). before.outbox.entries ++ x)
           (sym (packets_written e.emitted) ∙ ap (λ (x : List Emission). map entry_of (packets x)) (sym (append-nil e.emitted)));
       identity = identity;
@@ -227,3 +233,57 @@ link_after P Nothing told = told
 link_after P Up told = told
 link_after P Taken told = told
 link_after P Closed told = told
+
+-- ---- with room made for what is to be said
+
+-- such room is no part of the conversation
+pub talk_reserved : (h : Holdings) (kept : List Kept) (t u : Talking) → u.opened ≡ t.opened → u.machine ≡ t.machine → u.size ≡ t.size
+    → u.outgoing.sayings ≡ t.outgoing.sayings → u.outgoing.offset ≡ t.outgoing.offset → talk_of h kept u ≡ talk_of h kept t
+talk_reserved h kept t u opened machine size sayings offset =
+    let by_opened : Bool → Talk =
+    λ x. record { opened = x; machine = u.machine; size = u.size; waiting = messages_of h u.size u.outgoing.offset u.outgoing.sayings; kept = kept } in
+    let by_machine : MachineState → Talk =
+    λ x. record { opened = t.opened; machine = x; size = u.size; waiting = messages_of h u.size u.outgoing.offset u.outgoing.sayings; kept = kept } in
+    let by_size : ℕ → Talk =
+    λ x. record { opened = t.opened; machine = t.machine; size = x; waiting = messages_of h x u.outgoing.offset u.outgoing.sayings; kept = kept } in
+    let by_sayings : List Saying → Talk =
+    λ x. record { opened = t.opened; machine = t.machine; size = t.size; waiting = messages_of h t.size u.outgoing.offset x; kept = kept } in
+    let by_offset : ℕ → Talk =
+    λ x. record { opened = t.opened; machine = t.machine; size = t.size; waiting = messages_of h t.size x t.outgoing.sayings; kept = kept } in
+    ap by_opened opened ∙ ap by_machine machine ∙ ap by_size size ∙ ap by_sayings sayings ∙ ap by_offset offset
+
+not_taken : (number : Option ℕ) (k : Keeper Talk) (id : Identity) (o : OutcomeValue) (e : Effect) (message : List ℕ) (talk : Talk)
+    → o ≢ taken → false ≡ (behind_link number k id false o e message talk).took
+not_taken number k id nothing e message talk none = refl
+not_taken number k id up e message talk none = refl
+not_taken number k id taken e message talk none = absurd (none refl)
+not_taken number k id closed e message talk none = refl
+not_taken number k id gave_up e message talk none = refl
+not_taken number k id halted e message talk none = refl
+
+-- a packet whose message is not taken, at an end that had made room
+pub hears_reserved : (h : Holdings) (kept : List Kept) (counts : Bool → Type 0) (p : PacketValue) (before middle after : EngineState)
+    → middle.identity ≡ before.identity → middle.own ≡ before.own → middle.number ≡ before.number → middle.link ≡ before.link
+    → talk_of h kept middle.talking ≡ talk_of h kept before.talking → middle.outbox.entries ≡ before.outbox.entries
+    → (step before.link (packet_found p)).outcome ≢ taken → counts false
+    → Does (packet_effect h kept false p middle) (end_of h kept after) middle after
+    → TakesUp h kept kept counts p before after false
+hears_reserved h kept counts p before middle after identity own number link talk entries none counted does =
+    let same : packet_effect h kept false p middle ≡ packet_effect h kept false p before =
+    ap (λ (id : Identity). packet_came middle.number (end_keeper id.side h) id false p middle.link (talk_of h kept middle.talking)) identity
+    ∙ ap (λ (n : Option ℕ). packet_came n (end_keeper before.identity.side h) before.identity false p middle.link (talk_of h kept middle.talking)) number
+    ∙ ap (λ (s : State). packet_came before.number (end_keeper before.identity.side h) before.identity false p s (talk_of h kept middle.talking)) link
+    ∙ ap (packet_came before.number (end_keeper before.identity.side h) before.identity false p before.link) talk in
+    record {
+      device_failed = false;
+      does = record {
+        end = does.end ∙ ap (λ (e : EndEffect Talk). e.state) same;
+        emitted = does.emitted ∙ ap (λ (x : List EntryValue). x ++ map entry_of (packet_effect h kept false p middle).emitted) entries
+            ∙ ap (λ (e : EndEffect Talk). before.outbox.entries ++ map entry_of e.emitted) same;
+        identity = does.identity ∙ identity;
+        own = does.own ∙ own;
+      };
+      answer = not_taken before.number (end_keeper before.identity.side h) before.identity (step before.link (packet_found p)).outcome
+          (step before.link (packet_found p)) (message_of p) (talk_of h kept before.talking) none;
+      device = counted;
+    }

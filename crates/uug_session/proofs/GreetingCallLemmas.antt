@@ -14,7 +14,7 @@ use Rattle.uug_session.specs.declared.greeting.Greeted.TheVariants.{GoesOn, Link
 use Rattle.uug_session.specs.declared.greeting.Greeting.{Greeting}
 use Rattle.uug_session.specs.EndStep.{Stage, hailing, Emitted, EndEffect, EndState, Identity, begins_link, behind_greeting, greeted_so, says_text, stage_step, text_found}
 use Rattle.uug_session.specs.Engine.{BeginsSession, CountsFaults, Does, EngineState, bare, end_of, entry_of, stage_late}
-use Rattle.uug_session.specs.Greeting.{GreetingStep, fails, greeting_at_first, text_came, timed_out}
+use Rattle.uug_session.specs.Greeting.{GreetingStep, fails, greeting_at_first, number_by, text_came, timed_out}
 use Rattle.uug_session.specs.GreetingCalls.{Hearing, hears_text, hears_long_text, hears_nothing, greets_to, text_in, Brings, GreetsAt, DoesStep, GreetsOn, GreetsThrough}
 use Rattle.uug_session.specs.HearingLaws.{HearingLaws}
 use Rattle.uug_session.specs.Holdings.{Holdings}
@@ -32,22 +32,23 @@ use Rattle.uug_session.proofs.TextCallLemmas.{stands_dropped, taken_more, taken_
 -- ---- a step as it is told
 
 abbrev as_told : {C : Type 0} → EndEffect C → EndEffect (Unit {0})
-as_told e = record { state = record { stage = e.state.stage; link = e.state.link; keeper = tt }; emitted = e.emitted; took = e.took }
+as_told e = record { state = record { stage = e.state.stage; link = e.state.link; keeper = tt; number = e.state.number }; emitted = e.emitted; took = e.took }
 
-link_told : {C : Type 0} (side : Side) (said : List Emitted) (s : State) (c : C) → as_told (begins_link side s c said) ≡ begins_link side s tt said
-link_told caller said s c = refl
-link_told called said s c = refl
+link_told : {C : Type 0} (number : Option ℕ) (side : Side) (said : List Emitted) (s : State) (c : C)
+    → as_told (begins_link number side s c said) ≡ begins_link number side s tt said
+link_told number caller said s c = refl
+link_told number called said s c = refl
 
-greeted_told : {C : Type 0} (id : Identity) (greeted : Greeted) (said : List Emitted) (s : State) (c : C)
-    → as_told (greeted_so id greeted said s c) ≡ greeted_so id greeted said s tt
-greeted_told id (GoesOn g) said s c = refl
-greeted_told id LinkBegins said s c = link_told id.side said s c
-greeted_told id (Ended how) said s c = refl
+greeted_told : {C : Type 0} (number : Option ℕ) (id : Identity) (greeted : Greeted) (said : List Emitted) (s : State) (c : C)
+    → as_told (greeted_so number id greeted said s c) ≡ greeted_so number id greeted said s tt
+greeted_told number id (GoesOn g) said s c = refl
+greeted_told number id LinkBegins said s c = link_told number id.side said s c
+greeted_told number id (Ended how) said s c = refl
 
 -- how far the session is when the greeting came to this
-abbrev stage_by : Identity → Greeted → (says : List (List ℕ)) → State → Stage
-stage_by id greeted says s =
-    let e : EndEffect (Unit {0}) = greeted_so id greeted (map says_text says) s tt in
+abbrev stage_by : (number : Option ℕ) → Identity → Greeted → (says : List (List ℕ)) → State → Stage
+stage_by number id greeted says s =
+    let e : EndEffect (Unit {0}) = greeted_so number id greeted (map says_text says) s tt in
     e.state.stage
 
 -- what is left where it goes on so
@@ -60,9 +61,9 @@ IsLeftBy texts came (Ended how) n = ⊤
 record CallStep (id : Identity) (call : NodeCall) (g : Greeting) (texts : List (List ℕ)) (came : List ℕ) (added : List EntryValue) (old new : NodeState) : Type 0 where
   x : Option Hearing
   brings : Brings call texts came x
-  does : DoesStep id (greets_to id.me id.peer x g) added old new
+  does : DoesStep id (greets_to id.me id.peer old.engine.number x g) added old new
   identity : new.engine.identity ≡ id
-  left : IsLeftBy (texts ++ text_in x) (came ++ taken_in call) (greets_to id.me id.peer x g).greeted new
+  left : IsLeftBy (texts ++ text_in x) (came ++ taken_in call) (greets_to id.me id.peer old.engine.number x g).greeted new
 
 abbrev entries_of : NodeState → List EntryValue
 entries_of n = n.engine.outbox.entries
@@ -73,12 +74,12 @@ none_added added old new same adds =
 
 -- a call that brings nothing to be heard
 quiet_step : (id : Identity) (call : NodeCall) (g : Greeting) (texts : List (List ℕ)) (came : List ℕ) (added : List EntryValue) (old new : NodeState)
-    → Brings call texts came None → new.engine.stage ≡ hailing g → new.engine.link ≡ old.engine.link → new.engine.identity ≡ id → added ≡ []
+    → Brings call texts came None → new.engine.stage ≡ hailing g → new.engine.link ≡ old.engine.link → new.engine.number ≡ old.engine.number → new.engine.identity ≡ id → added ≡ []
     → Taken texts (came ++ taken_in call) new.texts.bytes → CallStep id call g texts came added old new
-quiet_step id call g texts came added old new brings stage link identity none taken = record {
+quiet_step id call g texts came added old new brings stage link number identity none taken = record {
   x = None;
   brings = brings;
-  does = record { stage = stage; link = link; says = none };
+  does = record { stage = stage; link = link; number = number; says = none };
   identity = identity;
   left = subst (λ (all : List (List ℕ)). Taken all (came ++ taken_in call) new.texts.bytes) (sym (append-nil texts)) taken;
 }
@@ -90,15 +91,16 @@ still_taken texts came old new is taken =
 
 -- the end's step is the greeting's
 step_done : {C : Type 0} (id : Identity) (step : GreetingStep) (added : List EntryValue) (old new : NodeState) (c : C) (end_after : EndState C)
-    → end_after.stage ≡ new.engine.stage → end_after.link ≡ new.engine.link
-    → Does (behind_greeting id step old.engine.link c) end_after old.engine new.engine
+    → end_after.stage ≡ new.engine.stage → end_after.link ≡ new.engine.link → end_after.number ≡ new.engine.number
+    → Does (behind_greeting old.engine.number id step old.engine.link c) end_after old.engine new.engine
     → entries_of new ≡ entries_of old ++ added → DoesStep id step added old new
-step_done {C = C} id step added old new c end_after stage link does adds =
-    let same = greeted_told id step.greeted (map says_text step.says) old.engine.link c in
+step_done {C = C} id step added old new c end_after stage link number does adds =
+    let same = greeted_told (number_by step.rises old.engine.number) id step.greeted (map says_text step.says) old.engine.link c in
     record {
       stage = sym stage ∙ ap (λ (e : EndState C). e.stage) does.end ∙ ap (λ (e : EndEffect (Unit {0})). e.state.stage) same;
       link = sym link ∙ ap (λ (e : EndState C). e.link) does.end ∙ ap (λ (e : EndEffect (Unit {0})). e.state.link) same;
-      says = append_cancel_left (entries_of old) added (map entry_of (behind_greeting id step old.engine.link c).emitted) (sym adds ∙ does.emitted)
+      number = sym number ∙ ap (λ (e : EndState C). e.number) does.end ∙ ap (λ (e : EndEffect (Unit {0})). e.state.number) same;
+      says = append_cancel_left (entries_of old) added (map entry_of (behind_greeting old.engine.number id step old.engine.link c).emitted) (sym adds ∙ does.emitted)
           ∙ ap (λ (e : EndEffect (Unit {0})). map entry_of e.emitted) same;
     }
 
@@ -108,13 +110,13 @@ module _ (laws : HearingLaws) (h : Holdings) (most : ℕ) where
       → new ≡ texts_searched r old → entries_of new ≡ entries_of old ++ added → CallStep old.engine.identity looks g texts came added old new
   looked g texts came added old new stage taken (text_waits rest) e is adds =
       quiet_step old.engine.identity looks g texts came added old new tt (ap (λ (n : NodeState). n.engine.stage) is ∙ stage)
-      (ap (λ (n : NodeState). n.engine.link) is) (ap (λ (n : NodeState). n.engine.identity) is)
+      (ap (λ (n : NodeState). n.engine.link) is) (ap (λ (n : NodeState). n.engine.number) is) (ap (λ (n : NodeState). n.engine.identity) is)
       (none_added added old new (ap entries_of is) adds)
       (still_taken texts came rest new.texts.bytes (ap (λ (n : NodeState). n.texts.bytes) is)
       (taken_searched laws texts came old.texts.bytes (text_waits rest) (λ no. cc) e taken))
   looked g texts came added old new stage taken (text_stands text others) e is adds =
       quiet_step old.engine.identity looks g texts came added old new tt (ap (λ (n : NodeState). n.engine.stage) is ∙ stage)
-      (ap (λ (n : NodeState). n.engine.link) is) (ap (λ (n : NodeState). n.engine.identity) is)
+      (ap (λ (n : NodeState). n.engine.link) is) (ap (λ (n : NodeState). n.engine.number) is) (ap (λ (n : NodeState). n.engine.identity) is)
       (none_added added old new (ap entries_of is) adds)
       (still_taken texts came others new.texts.bytes (ap (λ (n : NodeState). n.texts.bytes) is)
       (taken_searched laws texts came old.texts.bytes (text_stands text others) (λ no. cc) e taken))
@@ -124,6 +126,7 @@ module _ (laws : HearingLaws) (h : Holdings) (most : ℕ) where
     does = record {
       stage = ap (λ (n : NodeState). n.engine.stage) is;
       link = ap (λ (n : NodeState). n.engine.link) is;
+      number = ap (λ (n : NodeState). n.engine.number) is;
       says = none_added added old new (ap entries_of is) adds;
     };
     identity = ap (λ (n : NodeState). n.engine.identity) is;
@@ -144,10 +147,11 @@ module _ (laws : HearingLaws) (h : Holdings) (most : ℕ) where
       → entries_of new.node ≡ entries_of old.node ++ added → CallStep old.node.engine.identity (takes answer) g texts came added old.node new.node
   took answer g texts came added old new stage taken (text_item text) shows t adds =
       let id = old.node.engine.identity in
-      let step = text_came id.me id.peer g text in
+      let number = old.node.engine.number in
+      let step = text_came id.me id.peer number g text in
       let before = end_of h old.kept old.node.engine in
       let after = end_of h new.kept new.node.engine in
-      let does : Does (behind_greeting id step old.node.engine.link before.keeper) after old.node.engine new.node.engine =
+      let does : Does (behind_greeting number id step old.node.engine.link before.keeper) after old.node.engine new.node.engine =
       subst (λ (s : Stage). Does (stage_step (end_keeper id.side h) id s (text_found text) before) after old.node.engine new.node.engine) stage t.does in
       let held = ap (λ (r : TextsHeld). r.bytes) t.left.0 in
       let stand : StandBefore (texts ++ text ∷ []) new.node.texts.bytes (came ++ []) =
@@ -156,7 +160,7 @@ module _ (laws : HearingLaws) (h : Holdings) (most : ℕ) where
       record {
         x = Some (hears_text text);
         brings = tt;
-        does = step_done id step added old.node new.node before.keeper after refl refl does adds;
+        does = step_done id step added old.node new.node before.keeper after refl refl refl does adds;
         identity = t.does.identity;
         left = left_behind step.greeted (texts ++ text ∷ []) (came ++ []) new.node stand
             (ap (λ (r : Reading). r.bytes) t.left.1 ∙ sym held);
@@ -168,7 +172,7 @@ module _ (laws : HearingLaws) (h : Holdings) (most : ℕ) where
   abbrev late_step : (in_time : Bool) → Greeting → GreetingStep
   late_step in_time g =
       if in_time
-      then record { says = []; greeted = GoesOn (record { awaited = g.awaited; timeouts = g.timeouts + 1 }) }
+      then record { says = []; greeted = GoesOn (record { awaited = g.awaited; timeouts = g.timeouts + 1 }); rises = false }
       else fails [] ends.GaveUp
 
   late_left : (in_time : Bool) (g : Greeting) (texts : List (List ℕ)) (came : List ℕ) (n : NodeState) → Taken texts came n.texts.bytes
@@ -183,7 +187,7 @@ module _ (laws : HearingLaws) (h : Holdings) (most : ℕ) where
       let there : new.node ≡ offered_at (hailing g) bytes old.node = is ∙ ap (λ (s : Stage). offered_at s bytes old.node) stage in
       let engine = ap (λ (n : NodeState). n.engine) there in
       quiet_step old.node.engine.identity (offers bytes) g texts came added old.node new.node refl
-      (ap (λ (e : EngineState). e.stage) engine ∙ stage) (ap (λ (e : EngineState). e.link) engine) (ap (λ (e : EngineState). e.identity) engine)
+      (ap (λ (e : EngineState). e.stage) engine ∙ stage) (ap (λ (e : EngineState). e.link) engine) (ap (λ (e : EngineState). e.number) engine) (ap (λ (e : EngineState). e.identity) engine)
       (none_added added old.node new.node (ap (λ (e : EngineState). e.outbox.entries) engine) adds)
       (subst (Taken texts (came ++ bytes)) (sym (ap (λ (n : NodeState). n.texts.bytes) there)) (taken_more laws texts came old.node.texts.bytes bytes taken))
   one_call looks g texts came added old new stage taken (is, same) adds =
@@ -194,18 +198,18 @@ module _ (laws : HearingLaws) (h : Holdings) (most : ℕ) where
       (subst (λ (s : Stage). ShowsItem s old.node.texts old.node.packets item) stage shows) t adds
   one_call refuses g texts came added old new stage taken (faults, same) adds =
       quiet_step old.node.engine.identity refuses g texts came added old.node new.node refl
-      (ap (λ (e : EndState Talk). e.stage) same.does.end ∙ stage) (ap (λ (e : EndState Talk). e.link) same.does.end) same.does.identity
+      (ap (λ (e : EndState Talk). e.stage) same.does.end ∙ stage) (ap (λ (e : EndState Talk). e.link) same.does.end) (ap (λ (e : EndState Talk). e.number) same.does.end) same.does.identity
       (append_cancel_left (entries_of old.node) added [] (sym adds ∙ same.does.emitted))
       (still_taken texts came old.node.texts.bytes new.node.texts.bytes (ap (λ (r : TextsHeld). r.bytes) same.texts) taken)
   one_call times_out g texts came added old new stage taken (late, same) adds =
       let e = old.node.engine in
-      let does : Does (behind_greeting e.identity (timed_out g) e.link e.talking) (bare new.node.engine) e new.node.engine =
-      subst (λ (s : Stage). Does (stage_late e.identity (talking_has_parted e.talking) s e.link e.talking) (bare new.node.engine) e new.node.engine) stage late in
+      let does : Does (behind_greeting e.number e.identity (timed_out g) e.link e.talking) (bare new.node.engine) e new.node.engine =
+      subst (λ (s : Stage). Does (stage_late e.number e.identity (talking_has_parted e.talking) s e.link e.talking) (bare new.node.engine) e new.node.engine) stage late in
       let step = timed_out g in
       record {
         x = Some hears_nothing;
         brings = refl;
-        does = step_done e.identity step added old.node new.node e.talking (bare new.node.engine) refl refl does adds;
+        does = step_done e.identity step added old.node new.node e.talking (bare new.node.engine) refl refl refl does adds;
         identity = late.identity;
         left = late_left (nat_lt (g.timeouts + 1) TIMEOUTS_MAX) g (texts ++ []) (came ++ []) new.node
             (subst (λ (all : List (List ℕ)). Taken all (came ++ []) new.node.texts.bytes) (sym (append-nil texts))
@@ -213,12 +217,12 @@ module _ (laws : HearingLaws) (h : Holdings) (most : ℕ) where
       }
   one_call refuses_timeout g texts came added old new stage taken (does, same) adds =
       quiet_step old.node.engine.identity refuses_timeout g texts came added old.node new.node refl
-      (ap (λ (e : EndState Talking). e.stage) does.end ∙ stage) (ap (λ (e : EndState Talking). e.link) does.end) does.identity
+      (ap (λ (e : EndState Talking). e.stage) does.end ∙ stage) (ap (λ (e : EndState Talking). e.link) does.end) (ap (λ (e : EndState Talking). e.number) does.end) does.identity
       (append_cancel_left (entries_of old.node) added [] (sym adds ∙ does.emitted))
       (still_taken texts came old.node.texts.bytes new.node.texts.bytes (ap (λ (r : TextsHeld). r.bytes) same.texts) taken)
   one_call clears g texts came added old new stage taken (is, same) adds =
       quiet_step old.node.engine.identity clears g texts came added old.node new.node refl
-      (ap (λ (e : EngineState). e.stage) is ∙ stage) (ap (λ (e : EngineState). e.link) is) (ap (λ (e : EngineState). e.identity) is)
+      (ap (λ (e : EngineState). e.stage) is ∙ stage) (ap (λ (e : EngineState). e.link) is) (ap (λ (e : EngineState). e.number) is) (ap (λ (e : EngineState). e.identity) is)
       adds.0
       (still_taken texts came old.node.texts.bytes new.node.texts.bytes (ap (λ (r : TextsHeld). r.bytes) same.texts) taken)
 
@@ -236,16 +240,19 @@ module _ (laws : HearingLaws) (h : Holdings) (most : ℕ) where
       step.brings,
       step.does,
       by_greeted (λ next here. greets_through calls (texts ++ text_in step.x) (came ++ taken_in call) more middle new next here rest)
-          (greets_to id.me id.peer step.x g).greeted step.left step.does.stage,
+          (greets_to id.me id.peer old.node.engine.number step.x g).greeted step.left step.does.stage,
     ) where
       step : CallStep id call g texts came first old.node middle.node
       step = subst (λ (i : Identity). CallStep i call g texts came first old.node middle.node) at.identity
           (one_call call g texts came first old middle at.stage at.taken makes adds)
 
+      done : GreetingStep
+      done = greets_to id.me id.peer old.node.engine.number step.x g
+
       by_greeted : ((next : Greeting) → GreetsAt id next (texts ++ text_in step.x) (came ++ taken_in call) middle.node
           → GreetsThrough h most id calls (texts ++ text_in step.x) (came ++ taken_in call) more middle new next)
           → (greeted : Greeted) → IsLeftBy (texts ++ text_in step.x) (came ++ taken_in call) greeted middle.node
-          → middle.node.engine.stage ≡ stage_by id greeted (greets_to id.me id.peer step.x g).says old.node.engine.link
+          → middle.node.engine.stage ≡ stage_by (number_by done.rises old.node.engine.number) id greeted done.says old.node.engine.link
           → GreetsOn (GreetsThrough h most id calls (texts ++ text_in step.x) (came ++ taken_in call) more middle new)
           (Make h most calls more middle new) (texts ++ text_in step.x) (came ++ taken_in call) greeted middle.node
       by_greeted goes_on (GoesOn next) left stage = goes_on next (record { identity = step.identity; stage = stage; taken = left })
@@ -254,9 +261,9 @@ module _ (laws : HearingLaws) (h : Holdings) (most : ℕ) where
 
 -- ---- a session begins
 
-pub greets_first : (id : Identity) (own : Announced) (l : Lists) (entries : List EntryValue) (n : NodeState) → BeginsSession id own l entries n.engine → HoldsNothing n
+pub greets_first : (id : Identity) (own : Announced) (number : Option ℕ) (l : Lists) (entries : List EntryValue) (n : NodeState) → BeginsSession id own number l entries n.engine → HoldsNothing n
     → GreetsAt id (greeting_at_first id.side) [] [] n
-greets_first id own l entries n begins holds = record {
+greets_first id own number l entries n begins holds = record {
   identity = begins.identity;
   stage = ap (λ (e : EndState Talking). e.stage) begins.end;
   taken = taken_right_behind [] [] n.texts.bytes (sym (ap (λ (r : TextsHeld). r.bytes) holds.texts));

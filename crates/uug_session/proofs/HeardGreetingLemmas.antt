@@ -1,5 +1,5 @@
 -- How a node greets to which bytes came from the start of a session on.
-use Rattle.std.proofs.Common.{◌≡◌, ℕ, suc, Bool, List, [], ◌∷◌, ◌++◌, length, map, refl, sym, ap, subst, ◌∙◌, append_assoc}
+use Rattle.std.proofs.Common.{◌≡◌, ℕ, suc, Bool, List, [], ◌∷◌, ◌++◌, Option, length, map, refl, sym, ap, subst, ◌∙◌, append_assoc}
 use Rattle.std.proofs.lemmas.List.{append-nil, map-append}
 use Rattle.uug_link.specs.Announced.{Announced}
 use Rattle.uug_link.specs.Entries.{EntryValue}
@@ -24,10 +24,11 @@ use Rattle.uug_session.specs.TextsHeld.{TextsHeld}
 use Rattle.uug_session.specs.Turns.{Side, caller, called}
 use Rattle.uug_session.specs.WholeGreeting.{GreetingRun, Greets}
 use Rattle.uug_session.proofs.ArrivingLemmas.{found_nothing}
-use Rattle.uug_session.proofs.BehindGreetingLemmas.{CameGreeted, CameWithout, came_without, front_stays, HasGreeted, hails_not, stays_greeted, with_front}
+use Rattle.uug_session.proofs.BehindGreetingLemmas.{CameGreeted, CameWith, CameWithout, came_without, front_stays, HasGreeted, hails_not, stays_greeted, stays_with, with_front}
 use Rattle.uug_session.proofs.CallLemmas.{begun_with}
 use Rattle.uug_session.proofs.CourseLemmas.{hearer_with}
 use Rattle.uug_session.proofs.NodeGreetingLemmas.{ComesTo, Waits, from_start, node_by}
+use Rattle.uug_session.proofs.NumberLemmas.{begun_number}
 use Rattle.uug_session.proofs.WholeGreetingLemmas.{OneFirstText}
 
 entries_said : (texts : List (List ℕ)) → map entry_of (map says_text texts) ≡ map entry_of_text texts
@@ -46,27 +47,27 @@ entries_behind entries texts begun later =
     ∙ ap (λ (e : List EntryValue). e ++ map entry_of later) (sym (append_assoc entries (map entry_of_text texts) (map entry_of begun)))
 
 -- the link's begin stands behind the texts
-link_in_front : (side : Side) (s : State) (c : Talk) (failures : List Bool) (said : List Emitted) → let e : EndEffect Talk = begins_link side s c said in let alone : EndEffect Talk = begins_link side s c [] in
+link_in_front : (number : Option ℕ) (side : Side) (s : State) (c : Talk) (failures : List Bool) (said : List Emitted) → let e : EndEffect Talk = begins_link number side s c said in let alone : EndEffect Talk = begins_link number side s c [] in
     let x : NodeEnd = record { state = alone.state; emitted = []; failures = failures } in
     let y : NodeEnd = record { state = e.state; emitted = e.emitted; failures = failures } in
     with_front (said ++ alone.emitted) x ≡ y
-link_in_front caller s c failures said =
-    ap (λ (e : List Emitted). record { state = record { stage = linked; link = (step s to_begin).state; keeper = c }; emitted = e; failures = failures })
+link_in_front number caller s c failures said =
+    ap (λ (e : List Emitted). record { state = record { stage = linked; link = (step s to_begin).state; keeper = c; number = number }; emitted = e; failures = failures })
     (append-nil (said ++ packets (step s to_begin).emitted))
-link_in_front called s c failures said =
-    ap (λ (e : List Emitted). record { state = record { stage = linked; link = s; keeper = c }; emitted = e; failures = failures })
+link_in_front number called s c failures said =
+    ap (λ (e : List Emitted). record { state = record { stage = linked; link = s; keeper = c; number = number }; emitted = e; failures = failures })
     (append-nil (said ++ []) ∙ append-nil said)
 
-link_stage : (side : Side) (s : State) (c : Talk) → (begins_link side s c []).state.stage ≡ linked
-link_stage caller s c = refl
-link_stage called s c = refl
+link_stage : (number : Option ℕ) (side : Side) (s : State) (c : Talk) → (begins_link number side s c []).state.stage ≡ linked
+link_stage number caller s c = refl
+link_stage number called s c = refl
 
 module _ (laws : HearingLaws) (steps : FindingLaws) (first_text : OneFirstText) (h : Holdings) (id : Identity) (own : Announced) where
-  pub whole : (talk : Talk) (failures : List Bool) (came behind : List ℕ) (run : GreetingRun) → Greets id.side id.me id.peer came run behind
-      → ComesTo laws steps h id (first_link id.side own) talk failures came run behind
-  whole talk failures came behind run m = from_start laws steps h id (first_link id.side own) talk failures first_text came behind run m
+  pub whole : (number : Option ℕ) (talk : Talk) (failures : List Bool) (came behind : List ℕ) (run : GreetingRun) → Greets id.side id.me id.peer number came run behind
+      → ComesTo laws steps h id (first_link id.side own) talk failures number came run behind
+  whole number talk failures came behind run m = from_start laws steps h id (first_link id.side own) talk failures first_text number came behind run m
 
-  module _ (entries : List EntryValue) (came : List ℕ) (now : NodeState) (m : HasHeard h id own entries came now) where
+  module _ (number : Option ℕ) (entries : List EntryValue) (came : List ℕ) (now : NodeState) (m : HasHeard h id own number entries came now) where
     abbrev c : Talk
     c = talk_at_first m
 
@@ -83,15 +84,15 @@ module _ (laws : HearingLaws) (steps : FindingLaws) (first_text : OneFirstText) 
     abbrev t_goes : List ℕ → NodeEnd → Came NodeEnd
     t_goes bytes x = takes_all (node_taker h id) (holds (node_taker h id) bytes x)
 
-    start_is : end_of h m.kept m.start.engine ≡ (begins_session id own c).state
-    start_is = begun_with h m.kept id own m.lists entries m.start.engine m.begins
+    start_is : end_of h m.kept m.start.engine ≡ (begins_session id own number c).state
+    start_is = begun_with h m.kept id own number m.lists entries m.start.engine m.begins
 
     holds_none : held_bytes m.start ≡ []
     holds_none =
         ap (λ (stage : Stage). bytes_at stage m.start) (ap (λ (e : EndState Talk). e.stage) start_is)
         ∙ ap (λ (texts : TextsHeld). texts.bytes) m.held.texts
 
-    heard : t_goes came (come_to (begins_session id own c) failures) ≡ all_taken (hearer_of h m.kept_now emitted [] now)
+    heard : t_goes came (come_to (begins_session id own number c) failures) ≡ all_taken (hearer_of h m.kept_now emitted [] now)
     heard =
         ap (λ (e : EndState Talk). t_goes came (record { state = e; emitted = first_words id.side id.me; failures = failures })) (sym start_is)
         ∙ ap (λ (f : List Bool). t_goes came (record { state = end_of h m.kept m.start.engine; emitted = first_words id.side id.me; failures = f })) (sym (append-nil failures))
@@ -110,58 +111,63 @@ module _ (laws : HearingLaws) (steps : FindingLaws) (first_text : OneFirstText) 
     texts_entries texts is =
         all_entries ∙ ap (λ (e : List Emitted). entries ++ map entry_of e) (sym is) ∙ ap (λ (e : List EntryValue). entries ++ e) (entries_said texts)
 
-    module _ (behind : List ℕ) (run : GreetingRun) (greets : Greets id.side id.me id.peer came run behind) where
-      comes : ComesTo laws steps h id s c failures came run behind
-      comes = whole c failures came behind run greets
+    module _ (behind : List ℕ) (run : GreetingRun) (greets : Greets id.side id.me id.peer number came run behind) where
+      comes : ComesTo laws steps h id s c failures number came run behind
+      comes = whole number c failures came behind run greets
 
-      leads : (greeted : Greeted) → run.greeted ≡ greeted → t_goes behind (node_by id s c failures [] greeted run.says) ≡ all_taken (hearer_of h m.kept_now emitted [] now)
+      leads : (greeted : Greeted) → run.greeted ≡ greeted → t_goes behind (node_by run.number id s c failures [] greeted run.says) ≡ all_taken (hearer_of h m.kept_now emitted [] now)
       leads greeted is =
-          ap (λ (x : Greeted). t_goes behind (node_by id s c failures [] x run.says)) (sym is) ∙ sym comes.same ∙ heard
+          ap (λ (x : Greeted). t_goes behind (node_by run.number id s c failures [] x run.says)) (sym is) ∙ sym comes.same ∙ heard
 
-      pub greets_still : (g : Greeting) → run.greeted ≡ GoesOn g → GreetsStill id own entries run.says g behind now
+      pub greets_still : (g : Greeting) → run.greeted ≡ GoesOn g → GreetsStill id own entries run.says run.number g behind now
       greets_still g is =
           let rest : Waits (GoesOn g) behind = subst (λ (x : Greeted). Waits x behind) is comes.waits in
           let found : finding (hailing g) behind ≡ finds_nothing rest.0 = ap (text_finding behind) rest.1 in
-          let same : all_taken (hearer_with rest.0 (node_by id s c failures [] (GoesOn g) run.says)) ≡ all_taken (hearer_of h m.kept_now emitted [] now) =
-          sym (found_nothing steps NodeEnd (node_taker h id) behind rest.0 (node_by id s c failures [] (GoesOn g) run.says) found) ∙ leads (GoesOn g) is in
-          let hearer : hearer_with rest.0 (node_by id s c failures [] (GoesOn g) run.says) ≡ hearer_of h m.kept_now emitted [] now = cc in
+          let same : all_taken (hearer_with rest.0 (node_by run.number id s c failures [] (GoesOn g) run.says)) ≡ all_taken (hearer_of h m.kept_now emitted [] now) =
+          sym (found_nothing steps NodeEnd (node_taker h id) behind rest.0 (node_by run.number id s c failures [] (GoesOn g) run.says) found) ∙ leads (GoesOn g) is in
+          let hearer : hearer_with rest.0 (node_by run.number id s c failures [] (GoesOn g) run.says) ≡ hearer_of h m.kept_now emitted [] now = cc in
           record {
             stage = sym (ap (λ (z : Hearer NodeEnd). z.end.state.stage) hearer);
+            keeps = sym (ap (λ (z : Hearer NodeEnd). z.end.state.number) hearer);
             says = texts_entries run.says (ap (λ (z : Hearer NodeEnd). z.end.emitted) hearer);
             link = sym (ap (λ (z : Hearer NodeEnd). z.end.state.link) hearer);
             waits = found ∙ ap (λ (z : Hearer NodeEnd). finds_nothing z.held) hearer;
           }
 
-      pub has_ended : (how : End) → run.greeted ≡ Ended how → HasEnded entries run.says how now
+      pub has_ended : (how : End) → run.greeted ≡ Ended how → HasEnded entries run.says run.number how now
       has_ended how is =
-          let same : all_taken (hearer_with [] (node_by id s c failures [] (Ended how) run.says)) ≡ all_taken (hearer_of h m.kept_now emitted [] now) = leads (Ended how) is in
-          let hearer : hearer_with [] (node_by id s c failures [] (Ended how) run.says) ≡ hearer_of h m.kept_now emitted [] now = cc in
+          let same : all_taken (hearer_with [] (node_by run.number id s c failures [] (Ended how) run.says)) ≡ all_taken (hearer_of h m.kept_now emitted [] now) = leads (Ended how) is in
+          let hearer : hearer_with [] (node_by run.number id s c failures [] (Ended how) run.says) ≡ hearer_of h m.kept_now emitted [] now = cc in
           record {
             stage = sym (ap (λ (z : Hearer NodeEnd). z.end.state.stage) hearer);
+            keeps = sym (ap (λ (z : Hearer NodeEnd). z.end.state.number) hearer);
             says = texts_entries run.says (ap (λ (z : Hearer NodeEnd). z.end.emitted) hearer);
           }
 
       abbrev begun : EndEffect Talk
-      begun = at_link id own c
+      begun = at_link id own run.number c
 
-      without : run.greeted ≡ LinkBegins → CameWithout (map says_text run.says ++ begun.emitted) (t_goes behind (on_link id own c failures)) (hearer_of h m.kept_now emitted [] now)
+      without : run.greeted ≡ LinkBegins → CameWithout (map says_text run.says ++ begun.emitted) (t_goes behind (on_link id own run.number c failures)) (hearer_of h m.kept_now emitted [] now)
       without is =
-          let x = on_link id own c failures in
+          let x = on_link id own run.number c failures in
           let held = held_in x.state.stage behind in
           came_without (map says_text run.says ++ begun.emitted) (t_goes behind x) (hearer_of h m.kept_now emitted [] now)
           (sym (front_stays h id (suc (length held)) (map says_text run.says ++ begun.emitted) held x)
-          ∙ ap (t_goes behind) (link_in_front id.side s c failures (map says_text run.says))
+          ∙ ap (t_goes behind) (link_in_front run.number id.side s c failures (map says_text run.says))
           ∙ leads LinkBegins is)
 
-      pub has_begun_link : run.greeted ≡ LinkBegins → HasBegunLink m run.says behind
+      pub has_begun_link : run.greeted ≡ LinkBegins → HasBegunLink m run.says run.number behind
       has_begun_link is =
           let w = without is in
-          let x = on_link id own c failures in
+          let x = on_link id own run.number c failures in
           let held = held_in x.state.stage behind in
           record {
             stage = hails_not now.engine.stage
                 (subst CameGreeted w.came_is
-                (stays_greeted h id (suc (length held)) held x (subst HasGreeted (sym (link_stage id.side s c)) tt)));
+                (stays_greeted h id (suc (length held)) held x (subst HasGreeted (sym (link_stage run.number id.side s c)) tt)));
+            keeps = subst (CameWith run.number) w.came_is
+                (stays_with h id run.number (suc (length held)) held x (subst HasGreeted (sym (link_stage run.number id.side s c)) tt)
+                (begun_number run.number id.side s c []));
             later = w.later;
             says = all_entries
                 ∙ ap (λ (e : List Emitted). entries ++ map entry_of e) (sym w.emitted)

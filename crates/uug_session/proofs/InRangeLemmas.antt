@@ -19,7 +19,7 @@ use Rattle.uug_session.specs.declared.greeting.Greeted.{Greeted}
 use Rattle.uug_session.specs.declared.greeting.Greeted.TheVariants.{GoesOn, LinkBegins, Ended}
 use Rattle.uug_session.specs.declared.greeting.Greeting.{Greeting}
 use Rattle.uug_session.specs.EndStep.{Stage, hailing, linked, ended, EndState, Emitted, says_text, sends_packet, EndEffect, Identity, Sending, packets, leave, ends_so, is_up, has_room, sending_nothing, sends_next, sends_by, sends_up_to, sends, closes_by, speaks_by, goes_on, goes_on_with, then_closes, talks_by, takes_by, behind_link, message_of, packet_came, bad_came, late_link, begins_link, greeted_so, EndEvent, text_found, long_text_found, packet_found_whole, broken_found, time_ran_out, line_lost, unmoved, hailing_step, linked_step, stage_step, end_step, begins_session, first_link, how_it_ends}
-use Rattle.uug_session.specs.Greeting.{GreetingStep, first_texts, long_text_came, text_came, timed_out as greeting_timed_out}
+use Rattle.uug_session.specs.Greeting.{GreetingStep, first_texts, long_text_came, number_by, text_came, timed_out as greeting_timed_out}
 use Rattle.uug_session.specs.Holdings.{Holdings}
 use Rattle.uug_session.specs.InRange.{BeginsFresh, CanBeWritten, HasSize, IsEndInRange, MayFind}
 use Rattle.uug_session.specs.Keeper.{Keeper}
@@ -255,9 +255,9 @@ module _ (laws : LinkLaws) (f : MessagesFit) (on : Side) (h : Holdings) where
 
   -- ---- behind the link's answer
 
-  goes_on_with_fine : (side : Side) (took : Bool) (es : List Emission) (x : Sending Talk) → AreWellFormed es → FineSending x
-      → IsFine side (goes_on_with took es x)
-  goes_on_with_fine side took es x out fine = record {
+  goes_on_with_fine : (number : Option ℕ) (side : Side) (took : Bool) (es : List Emission) (x : Sending Talk) → AreWellFormed es → FineSending x
+      → IsFine side (goes_on_with number took es x)
+  goes_on_with_fine number side took es x out fine = record {
     state = record { link = fine.link; fresh = fresh_linked side x.link; talk = fine.talk };
     emitted = packets_can (es ++ x.emissions) (joined_emissions es x.emissions out fine.emissions);
   }
@@ -267,15 +267,15 @@ module _ (laws : LinkLaws) (f : MessagesFit) (on : Side) (h : Holdings) where
     state : IsInRange e.state
     emitted : AreWellFormed e.emitted
 
-  goes_on_fine : (side : Side) (took : Bool) (e : Effect) (talk : Talk) → FineEffect e → Suits e.state talk
-      → IsFine side (goes_on k took e talk)
-  goes_on_fine side took e talk fine suits =
-      goes_on_with_fine side took e.emitted (speaks_by (is_up e.state.phase) k e.state talk) fine.emitted
+  goes_on_fine : (number : Option ℕ) (side : Side) (took : Bool) (e : Effect) (talk : Talk) → FineEffect e → Suits e.state talk
+      → IsFine side (goes_on number k took e talk)
+  goes_on_fine number side took e talk fine suits =
+      goes_on_with_fine number side took e.emitted (speaks_by (is_up e.state.phase) k e.state talk) fine.emitted
       (speaks_fine (is_up e.state.phase) e.state talk fine.state suits)
 
-  ends_fine : (id : Identity) (has_parted : Bool) (how : End) (e : Effect) (talk : Talk) (took : Bool) → FineEffect e
-      → IsDown e.state.phase → IsFine id.side (ends_so id has_parted how e talk took)
-  ends_fine id has_parted how e talk took fine is_down = record {
+  ends_fine : (number : Option ℕ) (id : Identity) (has_parted : Bool) (how : End) (e : Effect) (talk : Talk) (took : Bool) → FineEffect e
+      → IsDown e.state.phase → IsFine id.side (ends_so number id has_parted how e talk took)
+  ends_fine number id has_parted how e talk took fine is_down = record {
     state = record {
       link = fine.state;
       fresh = fresh_ended id.side (how_it_ends has_parted how) e.state;
@@ -291,18 +291,18 @@ module _ (laws : LinkLaws) (f : MessagesFit) (on : Side) (h : Holdings) where
     emitted = joined_emissions e.emitted (step e.state to_close).emitted fine.emitted (laws.emitted e.state to_close fine.state tt);
   }
 
-  talks_fine : (bad : Bool) (id : Identity) (e : Effect) (before after : Talk) → FineEffect e → Suits e.state after
-      → IsFine id.side (talks_by bad k id e before after)
-  talks_fine true id e before after fine suits =
-      ends_fine id (k.has_parted before) ends.BadTalk (then_closes e) after true (closed_fine e fine) (closed_down e.state)
-  talks_fine false id e before after fine suits = goes_on_fine id.side true e after fine suits
+  talks_fine : (number : Option ℕ) (bad : Bool) (id : Identity) (e : Effect) (before after : Talk) → FineEffect e → Suits e.state after
+      → IsFine id.side (talks_by number bad k id e before after)
+  talks_fine number true id e before after fine suits =
+      ends_fine number id (k.has_parted before) ends.BadTalk (then_closes e) after true (closed_fine e fine) (closed_down e.state)
+  talks_fine number false id e before after fine suits = goes_on_fine number id.side true e after fine suits
 
-  takes_fine : (device_failed : Bool) (id : Identity) (e : Effect) (message : List ℕ) (talk : Talk) → FineEffect e
-      → Suits e.state talk → IsFine id.side (takes_by device_failed k id e message talk)
-  takes_fine true id e message talk fine suits =
-      ends_fine id (k.has_parted talk) ends.SpoolFault (then_closes e) talk true (closed_fine e fine) (closed_down e.state)
-  takes_fine false id e message talk fine suits =
-      talks_fine (k.is_bad (taking h message talk)) id e talk (taking h message talk) fine
+  takes_fine : (number : Option ℕ) (device_failed : Bool) (id : Identity) (e : Effect) (message : List ℕ) (talk : Talk) → FineEffect e
+      → Suits e.state talk → IsFine id.side (takes_by number device_failed k id e message talk)
+  takes_fine number true id e message talk fine suits =
+      ends_fine number id (k.has_parted talk) ends.SpoolFault (then_closes e) talk true (closed_fine e fine) (closed_down e.state)
+  takes_fine number false id e message talk fine suits =
+      talks_fine number (k.is_bad (taking h message talk)) id e talk (taking h message talk) fine
       (λ is_up. has_size_taking f h message (size_of_code e.state.size_code) talk (suits is_up))
 
   -- what a link did on an event
@@ -325,23 +325,23 @@ module _ (laws : LinkLaws) (f : MessagesFit) (on : Side) (h : Holdings) where
   was_up before after (inl same) is_up = sym same ∙ is_up
   was_up before after (inr starting) is_up = absurd (subst IsDown is_up (starting_down after starting.1))
 
-  behind_fine : (id : Identity) (device_failed : Bool) (o : OutcomeValue) (s : State) (e : Effect) (message : List ℕ) (talk : Talk)
-      → FineAnswer s o e → Suits s talk → IsFine id.side (behind_link k id device_failed o e message talk)
-  behind_fine id device_failed nothing s e message talk a suits =
-      goes_on_fine id.side false e talk a.effect
+  behind_fine : (number : Option ℕ) (id : Identity) (device_failed : Bool) (o : OutcomeValue) (s : State) (e : Effect) (message : List ℕ) (talk : Talk)
+      → FineAnswer s o e → Suits s talk → IsFine id.side (behind_link number k id device_failed o e message talk)
+  behind_fine number id device_failed nothing s e message talk a suits =
+      goes_on_fine number id.side false e talk a.effect
       (suits_moved s e talk suits (was_up s.phase e.state.phase a.phases.1) a.size_stays)
-  behind_fine id device_failed up s e message talk a suits =
-      goes_on_fine id.side false e (opened_with on h (size_of_code e.state.size_code) talk) a.effect
+  behind_fine number id device_failed up s e message talk a suits =
+      goes_on_fine number id.side false e (opened_with on h (size_of_code e.state.size_code) talk) a.effect
       (λ is_up. has_size_opened f on h (size_of_code e.state.size_code) talk)
-  behind_fine id device_failed taken s e message talk a suits =
-      takes_fine (device_failed && k.asks_spool message talk) id e message talk a.effect
+  behind_fine number id device_failed taken s e message talk a suits =
+      takes_fine number (device_failed && k.asks_spool message talk) id e message talk a.effect
       (suits_moved s e talk suits (λ is_up. a.phases.0) a.size_stays)
-  behind_fine id device_failed closed s e message talk a suits =
-      ends_fine id (k.has_parted talk) ends.PeerClosed e talk false a.effect (halted_down e.state.phase a.phases.1)
-  behind_fine id device_failed gave_up s e message talk a suits =
-      ends_fine id (k.has_parted talk) ends.GaveUp e talk false a.effect (halted_down e.state.phase a.phases.1)
-  behind_fine id device_failed halted s e message talk a suits =
-      goes_on_fine id.side false e talk a.effect (suits_down e.state talk (halted_down e.state.phase a.phases.1))
+  behind_fine number id device_failed closed s e message talk a suits =
+      ends_fine number id (k.has_parted talk) ends.PeerClosed e talk false a.effect (halted_down e.state.phase a.phases.1)
+  behind_fine number id device_failed gave_up s e message talk a suits =
+      ends_fine number id (k.has_parted talk) ends.GaveUp e talk false a.effect (halted_down e.state.phase a.phases.1)
+  behind_fine number id device_failed halted s e message talk a suits =
+      goes_on_fine number id.side false e talk a.effect (suits_down e.state talk (halted_down e.state.phase a.phases.1))
 
   -- ---- the events of the link
 
@@ -356,39 +356,39 @@ module _ (laws : LinkLaws) (f : MessagesFit) (on : Side) (h : Holdings) where
     size_stays = laws.size_stays s event;
   }
 
-  packet_fine : (id : Identity) (device_failed : Bool) (p : PacketValue) (s : State) (talk : Talk) → IsWellFormed p
-      → IsInRange s → Suits s talk → IsFine id.side (packet_came k id device_failed p s talk)
-  packet_fine id device_failed p s talk whole range suits =
-      behind_fine id device_failed (step s (packet_found p)).outcome s (step s (packet_found p)) (message_of p) talk
+  packet_fine : (number : Option ℕ) (id : Identity) (device_failed : Bool) (p : PacketValue) (s : State) (talk : Talk) → IsWellFormed p
+      → IsInRange s → Suits s talk → IsFine id.side (packet_came number k id device_failed p s talk)
+  packet_fine number id device_failed p s talk whole range suits =
+      behind_fine number id device_failed (step s (packet_found p)).outcome s (step s (packet_found p)) (message_of p) talk
       (answer_fine s (packet_found p) tt range whole) suits
 
-  bad_fine : (id : Identity) (s : State) (talk : Talk) → IsInRange s → Suits s talk → IsFine id.side (bad_came k id s talk)
-  bad_fine id s talk range suits =
-      behind_fine id false (step s bad_found).outcome s (step s bad_found) [] talk (answer_fine s bad_found tt range tt) suits
+  bad_fine : (number : Option ℕ) (id : Identity) (s : State) (talk : Talk) → IsInRange s → Suits s talk → IsFine id.side (bad_came number k id s talk)
+  bad_fine number id s talk range suits =
+      behind_fine number id false (step s bad_found).outcome s (step s bad_found) [] talk (answer_fine s bad_found tt range tt) suits
 
-  stays_fine : (side : Side) (e : Effect) (talk : Talk) → FineEffect e → Suits e.state talk
-      → IsFine side (goes_on_with false e.emitted (sending_nothing e.state talk))
-  stays_fine side e talk fine suits =
-      goes_on_with_fine side false e.emitted (sending_nothing e.state talk) fine.emitted (sends_none e.state talk fine.state suits)
+  stays_fine : (number : Option ℕ) (side : Side) (e : Effect) (talk : Talk) → FineEffect e → Suits e.state talk
+      → IsFine side (goes_on_with number false e.emitted (sending_nothing e.state talk))
+  stays_fine number side e talk fine suits =
+      goes_on_with_fine number side false e.emitted (sending_nothing e.state talk) fine.emitted (sends_none e.state talk fine.state suits)
 
-  late_fine : (id : Identity) (has_parted : Bool) (o : OutcomeValue) (s : State) (e : Effect) (talk : Talk) → MayAnswer o timed_out
-      → FineAnswer s o e → Suits s talk → IsFine id.side (late_link id has_parted o e talk)
-  late_fine id has_parted nothing s e talk may a suits =
-      stays_fine id.side e talk a.effect
+  late_fine : (number : Option ℕ) (id : Identity) (has_parted : Bool) (o : OutcomeValue) (s : State) (e : Effect) (talk : Talk) → MayAnswer o timed_out
+      → FineAnswer s o e → Suits s talk → IsFine id.side (late_link number id has_parted o e talk)
+  late_fine number id has_parted nothing s e talk may a suits =
+      stays_fine number id.side e talk a.effect
       (suits_moved s e talk suits (was_up s.phase e.state.phase a.phases.1) a.size_stays)
-  late_fine id has_parted up s e talk may a suits = absurd may
-  late_fine id has_parted taken s e talk may a suits = absurd may
-  late_fine id has_parted closed s e talk may a suits = absurd may
-  late_fine id has_parted gave_up s e talk may a suits =
-      ends_fine id has_parted ends.GaveUp e talk false a.effect (halted_down e.state.phase a.phases.1)
-  late_fine id has_parted halted s e talk may a suits =
-      stays_fine id.side e talk a.effect (suits_down e.state talk (halted_down e.state.phase a.phases.1))
+  late_fine number id has_parted up s e talk may a suits = absurd may
+  late_fine number id has_parted taken s e talk may a suits = absurd may
+  late_fine number id has_parted closed s e talk may a suits = absurd may
+  late_fine number id has_parted gave_up s e talk may a suits =
+      ends_fine number id has_parted ends.GaveUp e talk false a.effect (halted_down e.state.phase a.phases.1)
+  late_fine number id has_parted halted s e talk may a suits =
+      stays_fine number id.side e talk a.effect (suits_down e.state talk (halted_down e.state.phase a.phases.1))
 
   -- ---- the greeting
 
-  begun_fine : (side : Side) (g : Greeting) (s : State) (talk : Talk) (said : List Emitted) → AllCan said → IsInRange s
-      → BeginsFresh side (hailing g) s → Suits s talk → IsFine side (begins_link side s talk said)
-  begun_fine caller g s talk said out range fresh suits = record {
+  begun_fine : (number : Option ℕ) (side : Side) (g : Greeting) (s : State) (talk : Talk) (said : List Emitted) → AllCan said → IsInRange s
+      → BeginsFresh side (hailing g) s → Suits s talk → IsFine side (begins_link number side s talk said)
+  begun_fine number caller g s talk said out range fresh suits = record {
     state = record {
       link = laws.stays s to_begin range fresh;
       fresh = tt;
@@ -397,21 +397,21 @@ module _ (laws : LinkLaws) (f : MessagesFit) (on : Side) (h : Holdings) where
     emitted = All-append CanBeWritten said (packets (step s to_begin).emitted) out
         (packets_can (step s to_begin).emitted (laws.emitted s to_begin range fresh));
   }
-  begun_fine called g s talk said out range fresh suits =
+  begun_fine number called g s talk said out range fresh suits =
       record { state = record { link = range; fresh = tt; talk = suits }; emitted = out }
 
   still_fresh : (side : Side) (g next : Greeting) (s : State) → BeginsFresh side (hailing g) s → BeginsFresh side (hailing next) s
   still_fresh caller g next s fresh = fresh
   still_fresh called g next s fresh = tt
 
-  greeted_fine : (id : Identity) (g : Greeting) (greeted : Greeted) (said : List Emitted) (s : State) (talk : Talk) → AllCan said
-      → IsInRange s → BeginsFresh id.side (hailing g) s → Suits s talk → IsFine id.side (greeted_so id greeted said s talk)
-  greeted_fine id g (GoesOn next) said s talk out range fresh suits = record {
+  greeted_fine : (number : Option ℕ) (id : Identity) (g : Greeting) (greeted : Greeted) (said : List Emitted) (s : State) (talk : Talk) → AllCan said
+      → IsInRange s → BeginsFresh id.side (hailing g) s → Suits s talk → IsFine id.side (greeted_so number id greeted said s talk)
+  greeted_fine number id g (GoesOn next) said s talk out range fresh suits = record {
     state = record { link = range; fresh = still_fresh id.side g next s fresh; talk = suits };
     emitted = out;
   }
-  greeted_fine id g LinkBegins said s talk out range fresh suits = begun_fine id.side g s talk said out range fresh suits
-  greeted_fine id g (Ended how) said s talk out range fresh suits =
+  greeted_fine number id g LinkBegins said s talk out range fresh suits = begun_fine number id.side g s talk said out range fresh suits
+  greeted_fine number id g (Ended how) said s talk out range fresh suits =
       record { state = record { link = range; fresh = fresh_ended id.side how s; talk = suits }; emitted = out }
 
   unmoved_fine : (side : Side) (e : EndState Talk) → IsEndInRange side e → IsFine side (unmoved e)
@@ -422,28 +422,28 @@ module _ (laws : LinkLaws) (f : MessagesFit) (on : Side) (h : Holdings) where
   hailing_fine : (id : Identity) (g : Greeting) (event : EndEvent) (e : EndState Talk) → e.stage ≡ hailing g
       → IsEndInRange id.side e → IsFine id.side (hailing_step id g event e)
   hailing_fine id g (text_found text) e is r =
-      let came : GreetingStep = text_came id.me id.peer g text in
-      greeted_fine id g came.greeted (map says_text came.says) e.link e.keeper (texts_can came.says) r.link
+      let came : GreetingStep = text_came id.me id.peer e.number g text in
+      greeted_fine (number_by came.rises e.number) id g came.greeted (map says_text came.says) e.link e.keeper (texts_can came.says) r.link
       (subst (λ (stage : Stage). BeginsFresh id.side stage e.link) is r.fresh) r.talk
   hailing_fine id g long_text_found e is r =
-      greeted_fine id g long_text_came.greeted (map says_text long_text_came.says) e.link e.keeper (texts_can long_text_came.says) r.link
+      greeted_fine e.number id g long_text_came.greeted (map says_text long_text_came.says) e.link e.keeper (texts_can long_text_came.says) r.link
       (subst (λ (stage : Stage). BeginsFresh id.side stage e.link) is r.fresh) r.talk
   hailing_fine id g time_ran_out e is r =
       let came : GreetingStep = greeting_timed_out g in
-      greeted_fine id g came.greeted (map says_text came.says) e.link e.keeper (texts_can came.says) r.link
+      greeted_fine (number_by came.rises e.number) id g came.greeted (map says_text came.says) e.link e.keeper (texts_can came.says) r.link
       (subst (λ (stage : Stage). BeginsFresh id.side stage e.link) is r.fresh) r.talk
   hailing_fine id g line_lost e is r =
-      greeted_fine id g (Ended ends.HungUp) [] e.link e.keeper (All-nil CanBeWritten) r.link
+      greeted_fine e.number id g (Ended ends.HungUp) [] e.link e.keeper (All-nil CanBeWritten) r.link
       (subst (λ (stage : Stage). BeginsFresh id.side stage e.link) is r.fresh) r.talk
   hailing_fine id g (packet_found_whole device_failed p) e is r = unmoved_fine id.side e r
   hailing_fine id g broken_found e is r = unmoved_fine id.side e r
 
   linked_fine : (id : Identity) (event : EndEvent) (e : EndState Talk) → MayFind event → IsEndInRange id.side e
       → IsFine id.side (linked_step k id event e)
-  linked_fine id (packet_found_whole device_failed p) e may r = packet_fine id device_failed p e.link e.keeper may r.link r.talk
-  linked_fine id broken_found e may r = bad_fine id e.link e.keeper r.link r.talk
+  linked_fine id (packet_found_whole device_failed p) e may r = packet_fine e.number id device_failed p e.link e.keeper may r.link r.talk
+  linked_fine id broken_found e may r = bad_fine e.number id e.link e.keeper r.link r.talk
   linked_fine id time_ran_out e may r =
-      late_fine id (k.has_parted e.keeper) (step e.link timed_out).outcome e.link (step e.link timed_out) e.keeper
+      late_fine e.number id (k.has_parted e.keeper) (step e.link timed_out).outcome e.link (step e.link timed_out) e.keeper
       (laws.answers e.link timed_out) (answer_fine e.link timed_out tt r.link tt) r.talk
   linked_fine id line_lost e may r = record {
     state = record { link = r.link; fresh = fresh_ended id.side (how_it_ends (k.has_parted e.keeper) ends.HungUp) e.link; talk = r.talk };
@@ -480,13 +480,13 @@ first_down : (side : Side) (own : Announced) → IsDown (first_link side own).ph
 first_down caller own = tt
 first_down called own = tt
 
-pub end_begins : LinkLaws → (id : Identity) (own : Announced) (talk : Talk) → IsAnnouncement own
-    → IsEndInRange id.side (begins_session id own talk).state
-end_begins laws id own talk h = record {
+pub end_begins : LinkLaws → (id : Identity) (own : Announced) (number : Option ℕ) (talk : Talk) → IsAnnouncement own
+    → IsEndInRange id.side (begins_session id own number talk).state
+end_begins laws id own number talk h = record {
   link = first_in_range laws id.side own h;
   fresh = first_fresh id.side own _;
   talk = suits_down (first_link id.side own) talk (first_down id.side own);
 }
 
-pub first_words_can : (id : Identity) (own : Announced) (talk : Talk) → All CanBeWritten (begins_session id own talk).emitted
-first_words_can id own talk = texts_can (first_texts id.side id.me)
+pub first_words_can : (id : Identity) (own : Announced) (number : Option ℕ) (talk : Talk) → All CanBeWritten (begins_session id own number talk).emitted
+first_words_can id own number talk = texts_can (first_texts id.side id.me)

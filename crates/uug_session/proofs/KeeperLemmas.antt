@@ -10,7 +10,7 @@ use Rattle.uug_session.specs.declared.greeting.Greeting.{Greeting}
 use Rattle.uug_session.specs.Arriving.{Taker, Hearer, Came, all_taken, stopped, held_in, holds, takes_up, takes_up_to, takes_piece}
 use Rattle.uug_session.specs.EndStep.{Stage, hailing, linked, ended, EndState, Emitted, Identity, Sending, has_room, is_up, sends_next, sends_by, sends_up_to, sends, closes_by, speaks_by, goes_on, talks_by, takes_by, behind_link, message_of, late_link, begins_link, greeted_so, EndEvent, text_found, long_text_found, packet_found_whole, broken_found, time_ran_out, line_lost, hailing_step, linked_step, stage_step, end_step}
 use Rattle.uug_session.specs.Finding.{Finding, finds_nothing, finds, finds_packet, finding}
-use Rattle.uug_session.specs.Greeting.{text_came, timed_out as greeting_timed_out}
+use Rattle.uug_session.specs.Greeting.{number_by, text_came, timed_out as greeting_timed_out}
 use Rattle.uug_session.specs.Holdings.{Holdings}
 use Rattle.uug_session.specs.Keeper.{Keeper}
 use Rattle.uug_session.specs.NodeArriving.{NodeEnd, fails_first, fails_later, node_taker, with_effect}
@@ -46,58 +46,58 @@ module _ (C : Type 0) (k : Keeper C) (P : C → Type 0)
   speaks_keeps false s c p = p
   speaks_keeps true s c p = closes_keeps (k.is_over (sends k s c).keeper) (sends k s c) (sends_keep WINDOW_MAX s c p)
 
-  goes_on_keeps : (took : Bool) (e : Effect) (c : C) → P c → P (goes_on k took e c).state.keeper
-  goes_on_keeps took e c p = speaks_keeps (is_up e.state.phase) e.state c p
+  goes_on_keeps : (number : Option ℕ) (took : Bool) (e : Effect) (c : C) → P c → P (goes_on number k took e c).state.keeper
+  goes_on_keeps number took e c p = speaks_keeps (is_up e.state.phase) e.state c p
 
-  talks_keeps : (bad : Bool) (id : Identity) (e : Effect) (before after : C) → P after → P (talks_by bad k id e before after).state.keeper
-  talks_keeps true id e before after p = p
-  talks_keeps false id e before after p = goes_on_keeps true e after p
+  talks_keeps : (number : Option ℕ) (bad : Bool) (id : Identity) (e : Effect) (before after : C) → P after → P (talks_by number bad k id e before after).state.keeper
+  talks_keeps number true id e before after p = p
+  talks_keeps number false id e before after p = goes_on_keeps number true e after p
 
-  takes_keeps : (device_failed : Bool) (id : Identity) (e : Effect) (message : List ℕ) (c : C) → P c → P (takes_by device_failed k id e message c).state.keeper
-  takes_keeps true id e message c p = p
-  takes_keeps false id e message c p = talks_keeps (k.is_bad (k.taking message c)) id e c (k.taking message c) (takes message c p)
+  takes_keeps : (number : Option ℕ) (device_failed : Bool) (id : Identity) (e : Effect) (message : List ℕ) (c : C) → P c → P (takes_by number device_failed k id e message c).state.keeper
+  takes_keeps number true id e message c p = p
+  takes_keeps number false id e message c p = talks_keeps number (k.is_bad (k.taking message c)) id e c (k.taking message c) (takes message c p)
 
-  behind_keeps : (id : Identity) (device_failed : Bool) (o : OutcomeValue) (e : Effect) (message : List ℕ) (c : C) → P c
-      → P (behind_link k id device_failed o e message c).state.keeper
-  behind_keeps id device_failed nothing e message c p = goes_on_keeps false e c p
-  behind_keeps id device_failed up e message c p =
-      goes_on_keeps false e (k.opened (size_of_code e.state.size_code) c) (opened (size_of_code e.state.size_code) c p)
-  behind_keeps id device_failed taken e message c p = takes_keeps (device_failed && k.asks_spool message c) id e message c p
-  behind_keeps id device_failed closed e message c p = p
-  behind_keeps id device_failed gave_up e message c p = p
-  behind_keeps id device_failed halted e message c p = goes_on_keeps false e c p
+  behind_keeps : (number : Option ℕ) (id : Identity) (device_failed : Bool) (o : OutcomeValue) (e : Effect) (message : List ℕ) (c : C) → P c
+      → P (behind_link number k id device_failed o e message c).state.keeper
+  behind_keeps number id device_failed nothing e message c p = goes_on_keeps number false e c p
+  behind_keeps number id device_failed up e message c p =
+      goes_on_keeps number false e (k.opened (size_of_code e.state.size_code) c) (opened (size_of_code e.state.size_code) c p)
+  behind_keeps number id device_failed taken e message c p = takes_keeps number (device_failed && k.asks_spool message c) id e message c p
+  behind_keeps number id device_failed closed e message c p = p
+  behind_keeps number id device_failed gave_up e message c p = p
+  behind_keeps number id device_failed halted e message c p = goes_on_keeps number false e c p
 
-  late_keeps : (id : Identity) (has_parted : Bool) (o : OutcomeValue) (e : Effect) (c : C) → P c → P (late_link id has_parted o e c).state.keeper
-  late_keeps id has_parted nothing e c p = p
-  late_keeps id has_parted up e c p = p
-  late_keeps id has_parted taken e c p = p
-  late_keeps id has_parted closed e c p = p
-  late_keeps id has_parted gave_up e c p = p
-  late_keeps id has_parted halted e c p = p
+  late_keeps : (number : Option ℕ) (id : Identity) (has_parted : Bool) (o : OutcomeValue) (e : Effect) (c : C) → P c → P (late_link number id has_parted o e c).state.keeper
+  late_keeps number id has_parted nothing e c p = p
+  late_keeps number id has_parted up e c p = p
+  late_keeps number id has_parted taken e c p = p
+  late_keeps number id has_parted closed e c p = p
+  late_keeps number id has_parted gave_up e c p = p
+  late_keeps number id has_parted halted e c p = p
 
-  begins_keeps : (side : Side) (s : State) (c : C) (said : List Emitted) → P c → P (begins_link side s c said).state.keeper
-  begins_keeps caller s c said p = p
-  begins_keeps called s c said p = p
+  begins_keeps : (number : Option ℕ) (side : Side) (s : State) (c : C) (said : List Emitted) → P c → P (begins_link number side s c said).state.keeper
+  begins_keeps number caller s c said p = p
+  begins_keeps number called s c said p = p
 
-  greeted_keeps : (id : Identity) (greeted : Greeted) (said : List Emitted) (s : State) (c : C) → P c → P (greeted_so id greeted said s c).state.keeper
-  greeted_keeps id (greeting_goes_on g) said s c p = p
-  greeted_keeps id LinkBegins said s c p = begins_keeps id.side s c said p
-  greeted_keeps id (Ended how) said s c p = p
+  greeted_keeps : (number : Option ℕ) (id : Identity) (greeted : Greeted) (said : List Emitted) (s : State) (c : C) → P c → P (greeted_so number id greeted said s c).state.keeper
+  greeted_keeps number id (greeting_goes_on g) said s c p = p
+  greeted_keeps number id LinkBegins said s c p = begins_keeps number id.side s c said p
+  greeted_keeps number id (Ended how) said s c p = p
 
   hailing_keeps : (id : Identity) (g : Greeting) (event : EndEvent) (e : EndState C) → P e.keeper → P (hailing_step id g event e).state.keeper
-  hailing_keeps id g (text_found text) e p = greeted_keeps id (text_came id.me id.peer g text).greeted _ e.link e.keeper p
+  hailing_keeps id g (text_found text) e p = greeted_keeps (number_by (text_came id.me id.peer e.number g text).rises e.number) id (text_came id.me id.peer e.number g text).greeted _ e.link e.keeper p
   hailing_keeps id g long_text_found e p = p
-  hailing_keeps id g time_ran_out e p = greeted_keeps id (greeting_timed_out g).greeted _ e.link e.keeper p
+  hailing_keeps id g time_ran_out e p = greeted_keeps (number_by (greeting_timed_out g).rises e.number) id (greeting_timed_out g).greeted _ e.link e.keeper p
   hailing_keeps id g line_lost e p = p
   hailing_keeps id g (packet_found_whole device_failed packet) e p = p
   hailing_keeps id g broken_found e p = p
 
   linked_keeps : (id : Identity) (event : EndEvent) (e : EndState C) → P e.keeper → P (linked_step k id event e).state.keeper
   linked_keeps id (packet_found_whole device_failed packet) e p =
-      behind_keeps id device_failed (step e.link (packet_found packet)).outcome (step e.link (packet_found packet)) (message_of packet) e.keeper p
-  linked_keeps id broken_found e p = behind_keeps id false (step e.link bad_found).outcome (step e.link bad_found) [] e.keeper p
+      behind_keeps e.number id device_failed (step e.link (packet_found packet)).outcome (step e.link (packet_found packet)) (message_of packet) e.keeper p
+  linked_keeps id broken_found e p = behind_keeps e.number id false (step e.link bad_found).outcome (step e.link bad_found) [] e.keeper p
   linked_keeps id time_ran_out e p =
-      late_keeps id (k.has_parted e.keeper) (step e.link timed_out).outcome (step e.link timed_out) e.keeper p
+      late_keeps e.number id (k.has_parted e.keeper) (step e.link timed_out).outcome (step e.link timed_out) e.keeper p
   linked_keeps id line_lost e p = p
   linked_keeps id (text_found text) e p = p
   linked_keeps id long_text_found e p = p

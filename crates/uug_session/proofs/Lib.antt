@@ -57,6 +57,8 @@ pub mod NodeItemLemmas
 pub mod FoundLemmas
 pub mod NodeLemmas
 pub mod NodeSearchLemmas
+pub mod NumberLemmas
+pub mod NumberStandingLemmas
 mod NextItemLemmas
 pub mod PiecesLemmas
 pub mod QueueLemmas

@@ -14,7 +14,7 @@ use Rattle.uug_session.specs.declared.greeting.Greeting.{Greeting}
 use Rattle.uug_session.specs.declared.phase.Phase.TheVariants as session_phases
 use Rattle.uug_session.specs.EndStep.{Stage, hailing, linked, ended, EndState, Emitted, Identity, Sending, has_room, is_up, sends_next, sends_by, sends_up_to, sends, closes_by, speaks_by, goes_on, talks_by, takes_by, behind_link, message_of, late_link, begins_link, greeted_so, EndEvent, text_found, long_text_found, packet_found_whole, broken_found, time_ran_out, line_lost, hailing_step, linked_step, stage_step, end_step, begins_session, first_link}
 use Rattle.uug_session.specs.Engine.{IsEnded}
-use Rattle.uug_session.specs.Greeting.{text_came, timed_out as greeting_timed_out}
+use Rattle.uug_session.specs.Greeting.{number_by, text_came, timed_out as greeting_timed_out}
 use Rattle.uug_session.specs.Keeper.{Keeper}
 use Rattle.uug_session.specs.Phases.{EndsWithItsLink, phase_at}
 use Rattle.uug_session.specs.Turns.{Side, caller, called}
@@ -98,55 +98,55 @@ module _ (laws : LinkAnswers) (C : Type 0) (k : Keeper C) where
   speaks_lives false s c lives = lives
   speaks_lives true s c lives = closes_lives (k.is_over (sends k s c).keeper) (sends k s c) (sends_live WINDOW_MAX s c lives)
 
-  goes_on_lives : (took : Bool) (e : Effect) (c : C) → IsAlive e.state.phase → EndsWithItsLink (goes_on k took e c).state
-  goes_on_lives took e c lives = speaks_lives (is_up e.state.phase) e.state c lives
+  goes_on_lives : (number : Option ℕ) (took : Bool) (e : Effect) (c : C) → IsAlive e.state.phase → EndsWithItsLink (goes_on number k took e c).state
+  goes_on_lives number took e c lives = speaks_lives (is_up e.state.phase) e.state c lives
 
-  talks_lives : (bad : Bool) (id : Identity) (e : Effect) (before after : C) → IsAlive e.state.phase
-      → EndsWithItsLink (talks_by bad k id e before after).state
-  talks_lives true id e before after lives = λ is. tt
-  talks_lives false id e before after lives = goes_on_lives true e after lives
+  talks_lives : (number : Option ℕ) (bad : Bool) (id : Identity) (e : Effect) (before after : C) → IsAlive e.state.phase
+      → EndsWithItsLink (talks_by number bad k id e before after).state
+  talks_lives number true id e before after lives = λ is. tt
+  talks_lives number false id e before after lives = goes_on_lives number true e after lives
 
-  takes_lives : (device_failed : Bool) (id : Identity) (e : Effect) (message : List ℕ) (c : C) → IsAlive e.state.phase
-      → EndsWithItsLink (takes_by device_failed k id e message c).state
-  takes_lives true id e message c lives = λ is. tt
-  takes_lives false id e message c lives = talks_lives (k.is_bad (k.taking message c)) id e c (k.taking message c) lives
+  takes_lives : (number : Option ℕ) (device_failed : Bool) (id : Identity) (e : Effect) (message : List ℕ) (c : C) → IsAlive e.state.phase
+      → EndsWithItsLink (takes_by number device_failed k id e message c).state
+  takes_lives number true id e message c lives = λ is. tt
+  takes_lives number false id e message c lives = talks_lives number (k.is_bad (k.taking message c)) id e c (k.taking message c) lives
 
-  behind_lives : (id : Identity) (device_failed : Bool) (o : OutcomeValue) (before : Phase) (e : Effect) (message : List ℕ) (c : C)
-      → IsAlive before → MovesPhase o before e.state.phase → EndsWithItsLink (behind_link k id device_failed o e message c).state
-  behind_lives id device_failed nothing before e message c lives moves =
-      goes_on_lives false e c (moved_lives before e.state.phase lives moves.1)
-  behind_lives id device_failed up before e message c lives moves =
-      goes_on_lives false e (k.opened (size_of_code e.state.size_code) c) (came_up e.state.phase moves.1)
-  behind_lives id device_failed taken before e message c lives moves =
-      takes_lives (device_failed && k.asks_spool message c) id e message c (came_up e.state.phase moves.1)
-  behind_lives id device_failed closed before e message c lives moves = λ is. tt
-  behind_lives id device_failed gave_up before e message c lives moves = λ is. tt
-  behind_lives id device_failed halted before e message c lives moves = absurd (lives moves.0)
+  behind_lives : (number : Option ℕ) (id : Identity) (device_failed : Bool) (o : OutcomeValue) (before : Phase) (e : Effect) (message : List ℕ) (c : C)
+      → IsAlive before → MovesPhase o before e.state.phase → EndsWithItsLink (behind_link number k id device_failed o e message c).state
+  behind_lives number id device_failed nothing before e message c lives moves =
+      goes_on_lives number false e c (moved_lives before e.state.phase lives moves.1)
+  behind_lives number id device_failed up before e message c lives moves =
+      goes_on_lives number false e (k.opened (size_of_code e.state.size_code) c) (came_up e.state.phase moves.1)
+  behind_lives number id device_failed taken before e message c lives moves =
+      takes_lives number (device_failed && k.asks_spool message c) id e message c (came_up e.state.phase moves.1)
+  behind_lives number id device_failed closed before e message c lives moves = λ is. tt
+  behind_lives number id device_failed gave_up before e message c lives moves = λ is. tt
+  behind_lives number id device_failed halted before e message c lives moves = absurd (lives moves.0)
 
-  late_lives : (id : Identity) (has_parted : Bool) (o : OutcomeValue) (before : Phase) (e : Effect) (c : C) → IsAlive before
-      → MayAnswer o timed_out → MovesPhase o before e.state.phase → EndsWithItsLink (late_link id has_parted o e c).state
-  late_lives id has_parted nothing before e c lives may moves = moved_lives before e.state.phase lives moves.1
-  late_lives id has_parted up before e c lives may moves = absurd may
-  late_lives id has_parted taken before e c lives may moves = absurd may
-  late_lives id has_parted closed before e c lives may moves = absurd may
-  late_lives id has_parted gave_up before e c lives may moves = λ is. tt
-  late_lives id has_parted halted before e c lives may moves = absurd (lives moves.0)
+  late_lives : (number : Option ℕ) (id : Identity) (has_parted : Bool) (o : OutcomeValue) (before : Phase) (e : Effect) (c : C) → IsAlive before
+      → MayAnswer o timed_out → MovesPhase o before e.state.phase → EndsWithItsLink (late_link number id has_parted o e c).state
+  late_lives number id has_parted nothing before e c lives may moves = moved_lives before e.state.phase lives moves.1
+  late_lives number id has_parted up before e c lives may moves = absurd may
+  late_lives number id has_parted taken before e c lives may moves = absurd may
+  late_lives number id has_parted closed before e c lives may moves = absurd may
+  late_lives number id has_parted gave_up before e c lives may moves = λ is. tt
+  late_lives number id has_parted halted before e c lives may moves = absurd (lives moves.0)
 
-  begins_lives : (side : Side) (s : State) (c : C) (said : List Emitted) → IsAlive s.phase → EndsWithItsLink (begins_link side s c said).state
-  begins_lives caller s c said lives = begun_lives s lives
-  begins_lives called s c said lives = lives
+  begins_lives : (number : Option ℕ) (side : Side) (s : State) (c : C) (said : List Emitted) → IsAlive s.phase → EndsWithItsLink (begins_link number side s c said).state
+  begins_lives number caller s c said lives = begun_lives s lives
+  begins_lives number called s c said lives = lives
 
-  greeted_lives : (id : Identity) (greeted : Greeted) (said : List Emitted) (s : State) (c : C) → IsAlive s.phase
-      → EndsWithItsLink (greeted_so id greeted said s c).state
-  greeted_lives id (GoesOn g) said s c lives = lives
-  greeted_lives id LinkBegins said s c lives = begins_lives id.side s c said lives
-  greeted_lives id (Ended how) said s c lives = λ is. tt
+  greeted_lives : (number : Option ℕ) (id : Identity) (greeted : Greeted) (said : List Emitted) (s : State) (c : C) → IsAlive s.phase
+      → EndsWithItsLink (greeted_so number id greeted said s c).state
+  greeted_lives number id (GoesOn g) said s c lives = lives
+  greeted_lives number id LinkBegins said s c lives = begins_lives number id.side s c said lives
+  greeted_lives number id (Ended how) said s c lives = λ is. tt
 
   hailing_ends : (id : Identity) (g : Greeting) (event : EndEvent) (e : EndState C) → EndsWithItsLink e → IsAlive e.link.phase
       → EndsWithItsLink (hailing_step id g event e).state
-  hailing_ends id g (text_found text) e ends lives = greeted_lives id (text_came id.me id.peer g text).greeted _ e.link e.keeper lives
+  hailing_ends id g (text_found text) e ends lives = greeted_lives (number_by (text_came id.me id.peer e.number g text).rises e.number) id (text_came id.me id.peer e.number g text).greeted _ e.link e.keeper lives
   hailing_ends id g long_text_found e ends lives = λ is. tt
-  hailing_ends id g time_ran_out e ends lives = greeted_lives id (greeting_timed_out g).greeted _ e.link e.keeper lives
+  hailing_ends id g time_ran_out e ends lives = greeted_lives (number_by (greeting_timed_out g).rises e.number) id (greeting_timed_out g).greeted _ e.link e.keeper lives
   hailing_ends id g line_lost e ends lives = λ is. tt
   hailing_ends id g (packet_found_whole device_failed packet) e ends lives = ends
   hailing_ends id g broken_found e ends lives = ends
@@ -155,13 +155,13 @@ module _ (laws : LinkAnswers) (C : Type 0) (k : Keeper C) where
       → EndsWithItsLink (linked_step k id event e).state
   linked_ends id (packet_found_whole device_failed packet) e ends lives =
       let x = step e.link (packet_found packet) in
-      behind_lives id device_failed x.outcome e.link.phase x (message_of packet) e.keeper lives (laws.phases e.link (packet_found packet) tt)
+      behind_lives e.number id device_failed x.outcome e.link.phase x (message_of packet) e.keeper lives (laws.phases e.link (packet_found packet) tt)
   linked_ends id broken_found e ends lives =
       let x = step e.link bad_found in
-      behind_lives id false x.outcome e.link.phase x [] e.keeper lives (laws.phases e.link bad_found tt)
+      behind_lives e.number id false x.outcome e.link.phase x [] e.keeper lives (laws.phases e.link bad_found tt)
   linked_ends id time_ran_out e ends lives =
       let x = step e.link timed_out in
-      late_lives id (k.has_parted e.keeper) x.outcome e.link.phase x e.keeper lives (laws.answers e.link timed_out) (laws.phases e.link timed_out tt)
+      late_lives e.number id (k.has_parted e.keeper) x.outcome e.link.phase x e.keeper lives (laws.answers e.link timed_out) (laws.phases e.link timed_out tt)
   linked_ends id line_lost e ends lives = λ is. tt
   linked_ends id (text_found text) e ends lives = ends
   linked_ends id long_text_found e ends lives = ends
@@ -175,8 +175,8 @@ module _ (laws : LinkAnswers) (C : Type 0) (k : Keeper C) where
   pub step_ends : (id : Identity) (event : EndEvent) (e : EndState C) → EndsWithItsLink e → EndsWithItsLink (end_step k id event e).state
   step_ends id event e ends = stage_ends e.stage id event e ends ends
 
-pub begins_alive : (C : Type 0) (id : Identity) (own : Announced) (c : C) → EndsWithItsLink (begins_session id own c).state
-begins_alive C id own c = first_lives id.side own
+pub begins_alive : (C : Type 0) (id : Identity) (own : Announced) (number : Option ℕ) (c : C) → EndsWithItsLink (begins_session id own number c).state
+begins_alive C id own number c = first_lives id.side own
 
 -- ---- how far it is
 

@@ -1,5 +1,5 @@
 -- What the bytes that come to a node make of its greeting.
-use Rattle.std.proofs.Common.{◌≡◌, ℕ, zero, suc, ◌+◌, ◌<◌, ◌≤◌, Bool, List, [], ◌∷◌, ◌++◌, length, map, take, drop, refl, sym, ap, subst, ◌∙◌, append_assoc, arith}
+use Rattle.std.proofs.Common.{◌≡◌, ℕ, zero, suc, ◌+◌, ◌<◌, ◌≤◌, Bool, List, [], ◌∷◌, ◌++◌, Option, length, map, take, drop, refl, sym, ap, subst, ◌∙◌, append_assoc, arith}
 use Rattle.std.proofs.lemmas.List.{append-nil, map-append, take-append-drop}
 use Rattle.uug_link.specs.State.{State}
 use Rattle.uug_link.specs.Step.{step, to_begin}
@@ -10,7 +10,7 @@ use Rattle.uug_session.specs.declared.greeting.Greeting.{Greeting}
 use Rattle.uug_session.specs.Arriving.{Taker, Came, holds, takes_all}
 use Rattle.uug_session.specs.EndStep.{hailing, linked, ended, Emitted, EndEffect, Identity, begins_link, greeted_so, long_text_found, packets, says_text, text_found}
 use Rattle.uug_session.specs.Finding.{text_finding, behind_long_text, FindingLaws, LeavesFewer}
-use Rattle.uug_session.specs.Greeting.{first_texts, greeting_at_first, text_came}
+use Rattle.uug_session.specs.Greeting.{first_texts, greeting_at_first, number_by, text_came}
 use Rattle.uug_session.specs.HearingLaws.{HearingLaws}
 use Rattle.uug_session.specs.Holdings.{Holdings}
 use Rattle.uug_session.specs.NodeArriving.{NodeEnd, node_taker}
@@ -27,9 +27,9 @@ use Rattle.uug_session.proofs.WholeGreetingLemmas.{OneFirstText, StreamLaws, one
 -- ---- texts that are said one after another
 
 -- a node in whose session this became of the greeting, behind what it had emitted
-abbrev pub node_by : Identity → State → Talk → List Bool → (before : List Emitted) → Greeted → (says : List (List ℕ)) → NodeEnd
-node_by id s c failures before greeted says =
-    let e : EndEffect Talk = greeted_so id greeted (map says_text says) s c in
+abbrev pub node_by : (number : Option ℕ) → Identity → State → Talk → List Bool → (before : List Emitted) → Greeted → (says : List (List ℕ)) → NodeEnd
+node_by number id s c failures before greeted says =
+    let e : EndEffect Talk = greeted_so number id greeted (map says_text says) s c in
     record { state = e.state; emitted = before ++ e.emitted; failures = failures }
 
 said_both : (before : List Emitted) (first later : List (List ℕ))
@@ -45,26 +45,26 @@ said_all before first later behind =
     ∙ ap (λ (e : List Emitted). e ++ behind) (said_both before first later)
     ∙ append_assoc before (map says_text (first ++ later)) behind
 
-abbrev link_by : Side → State → Talk → List Bool → (before : List Emitted) → (says : List (List ℕ)) → NodeEnd
-link_by side s c failures before says =
-    let e : EndEffect Talk = begins_link side s c (map says_text says) in
+abbrev link_by : (number : Option ℕ) → Side → State → Talk → List Bool → (before : List Emitted) → (says : List (List ℕ)) → NodeEnd
+link_by number side s c failures before says =
+    let e : EndEffect Talk = begins_link number side s c (map says_text says) in
     record { state = e.state; emitted = before ++ e.emitted; failures = failures }
 
-same_link : (side : Side) (s : State) (c : Talk) (failures : List Bool) (before : List Emitted) (first later : List (List ℕ))
-    → link_by side s c failures (before ++ map says_text first) later ≡ link_by side s c failures before (first ++ later)
-same_link caller s c failures before first later =
-    ap (λ (e : List Emitted). record { state = record { stage = linked; link = (step s to_begin).state; keeper = c }; emitted = e; failures = failures })
+same_link : (number : Option ℕ) (side : Side) (s : State) (c : Talk) (failures : List Bool) (before : List Emitted) (first later : List (List ℕ))
+    → link_by number side s c failures (before ++ map says_text first) later ≡ link_by number side s c failures before (first ++ later)
+same_link number caller s c failures before first later =
+    ap (λ (e : List Emitted). record { state = record { stage = linked; link = (step s to_begin).state; keeper = c; number = number }; emitted = e; failures = failures })
     (said_all before first later (packets (step s to_begin).emitted))
-same_link called s c failures before first later =
-    ap (λ (e : List Emitted). record { state = record { stage = linked; link = s; keeper = c }; emitted = e; failures = failures }) (said_both before first later)
+same_link number called s c failures before first later =
+    ap (λ (e : List Emitted). record { state = record { stage = linked; link = s; keeper = c; number = number }; emitted = e; failures = failures }) (said_both before first later)
 
-same_node : (id : Identity) (s : State) (c : Talk) (failures : List Bool) (before : List Emitted) (first later : List (List ℕ)) (greeted : Greeted)
-    → node_by id s c failures (before ++ map says_text first) greeted later ≡ node_by id s c failures before greeted (first ++ later)
-same_node id s c failures before first later (GoesOn g) =
-    ap (λ (e : List Emitted). record { state = record { stage = hailing g; link = s; keeper = c }; emitted = e; failures = failures }) (said_both before first later)
-same_node id s c failures before first later LinkBegins = same_link id.side s c failures before first later
-same_node id s c failures before first later (Ended how) =
-    ap (λ (e : List Emitted). record { state = record { stage = ended how; link = s; keeper = c }; emitted = e; failures = failures }) (said_both before first later)
+same_node : (number : Option ℕ) (id : Identity) (s : State) (c : Talk) (failures : List Bool) (before : List Emitted) (first later : List (List ℕ)) (greeted : Greeted)
+    → node_by number id s c failures (before ++ map says_text first) greeted later ≡ node_by number id s c failures before greeted (first ++ later)
+same_node number id s c failures before first later (GoesOn g) =
+    ap (λ (e : List Emitted). record { state = record { stage = hailing g; link = s; keeper = c; number = number }; emitted = e; failures = failures }) (said_both before first later)
+same_node number id s c failures before first later LinkBegins = same_link number id.side s c failures before first later
+same_node number id s c failures before first later (Ended how) =
+    ap (λ (e : List Emitted). record { state = record { stage = ended how; link = s; keeper = c; number = number }; emitted = e; failures = failures }) (said_both before first later)
 
 -- ---- what is found in bytes that come in the greeting
 
@@ -93,97 +93,98 @@ module _ (laws : HearingLaws) (steps : FindingLaws) (h : Holdings) (id : Identit
   abbrev pub Goes : List ℕ → NodeEnd → Came NodeEnd
   Goes bytes x = takes_all t (holds t bytes x)
 
-  abbrev pub hails : (said : List Emitted) → Greeting → NodeEnd
-  hails said g = record { state = record { stage = hailing g; link = s; keeper = c }; emitted = said; failures = failures }
+  abbrev pub hails : (said : List Emitted) → (number : Option ℕ) → Greeting → NodeEnd
+  hails said number g = record { state = record { stage = hailing g; link = s; keeper = c; number = number }; emitted = said; failures = failures }
 
   -- It has come to what these texts make of the greeting, and is to take up what stands behind those that were used.
-  pub record GreetsSo (said : List Emitted) (g : Greeting) (bytes : List ℕ) (found : StreamTexts) : Type 0 where
+  pub record GreetsSo (said : List Emitted) (number : Option ℕ) (g : Greeting) (bytes : List ℕ) (found : StreamTexts) : Type 0 where
     pub behind : List ℕ
-    pub left : StandBefore (take (texts_came id.me id.peer found.texts found.end g).used found.texts) behind bytes
-    pub same : Goes bytes (hails said g)
-        ≡ Goes behind (node_by id s c failures said (texts_came id.me id.peer found.texts found.end g).greeted (texts_came id.me id.peer found.texts found.end g).says)
-    pub waits : Waits (texts_came id.me id.peer found.texts found.end g).greeted behind
+    pub left : StandBefore (take (texts_came id.me id.peer found.texts found.end number g).used found.texts) behind bytes
+    pub same : Goes bytes (hails said number g)
+        ≡ Goes behind (node_by (texts_came id.me id.peer found.texts found.end number g).number id s c failures said
+        (texts_came id.me id.peer found.texts found.end number g).greeted (texts_came id.me id.peer found.texts found.end number g).says)
+    pub waits : Waits (texts_came id.me id.peer found.texts found.end number g).greeted behind
 
   -- such is the law for bytes of at most this length
   abbrev pub GreetsWithin : ℕ → Type 0
-  GreetsWithin n = (said : List Emitted) (g : Greeting) (bytes : List ℕ) → length bytes < n → GreetsSo said g bytes (texts_of bytes)
+  GreetsWithin n = (said : List Emitted) (number : Option ℕ) (g : Greeting) (bytes : List ℕ) → length bytes < n → GreetsSo said number g bytes (texts_of bytes)
 
   -- a text was used, and those behind it, if the greeting goes on
-  by_greeted : (n : ℕ) → GreetsWithin n → (said : List Emitted) (bytes text behind : List ℕ) (greeted : Greeted) (says : List (List ℕ))
+  by_greeted : (n : ℕ) → GreetsWithin n → (said : List Emitted) (bytes text behind : List ℕ) (number : Option ℕ) (greeted : Greeted) (says : List (List ℕ))
       → length behind < n → StandBefore (text ∷ []) behind bytes
       → let later = texts_of behind in
-      let run = step_behind (λ next. texts_came id.me id.peer later.texts later.end next) says greeted in
+      let run = step_behind (λ k next. texts_came id.me id.peer later.texts later.end k next) says number greeted in
       (left : List ℕ) × StandBefore (take run.used (text ∷ later.texts)) left bytes
-      × (Goes behind (node_by id s c failures said greeted says) ≡ Goes left (node_by id s c failures said run.greeted run.says))
+      × (Goes behind (node_by number id s c failures said greeted says) ≡ Goes left (node_by run.number id s c failures said run.greeted run.says))
       × Waits run.greeted left
-  by_greeted n more said bytes text behind (GoesOn next) says fewer (front, rest, e, first, is) =
-      let later = more (said ++ map says_text says) next behind fewer in
-      let run = texts_came id.me id.peer (texts_of behind).texts (texts_of behind).end next in (
+  by_greeted n more said bytes text behind number (GoesOn next) says fewer (front, rest, e, first, is) =
+      let later = more (said ++ map says_text says) number next behind fewer in
+      let run = texts_came id.me id.peer (texts_of behind).texts (texts_of behind).end number next in (
         later.behind,
         subst (λ (texts : List (List ℕ)). StandBefore texts later.behind bytes) (sym (take_more run.used text (texts_of behind).texts))
             (front, rest, e, first, subst (StandBefore (take run.used (texts_of behind).texts) later.behind) (sym is) later.left),
-        later.same ∙ ap (Goes later.behind) (same_node id s c failures said says run.says run.greeted),
+        later.same ∙ ap (Goes later.behind) (same_node run.number id s c failures said says run.says run.greeted),
         later.waits,
       )
-  by_greeted n more said bytes text behind LinkBegins says fewer stand = (behind, stand, refl, tt)
-  by_greeted n more said bytes text behind (Ended how) says fewer stand = (behind, stand, refl, tt)
+  by_greeted n more said bytes text behind number LinkBegins says fewer stand = (behind, stand, refl, tt)
+  by_greeted n more said bytes text behind number (Ended how) says fewer stand = (behind, stand, refl, tt)
 
-  by_search : (n : ℕ) → GreetsWithin n → (said : List Emitted) (g : Greeting) (bytes : List ℕ) (search : TextSearch) → search_text bytes ≡ search
-      → length bytes ≤ n → LeavesFewer (text_finding bytes search) bytes → GreetsSo said g bytes (texts_of bytes)
-  by_search n more said g bytes (text_waits rest) is enough fewer =
-      subst (GreetsSo said g bytes) (sym (finds_none laws bytes rest is).none) (record {
+  by_search : (n : ℕ) → GreetsWithin n → (said : List Emitted) (number : Option ℕ) (g : Greeting) (bytes : List ℕ) (search : TextSearch) → search_text bytes ≡ search
+      → length bytes ≤ n → LeavesFewer (text_finding bytes search) bytes → GreetsSo said number g bytes (texts_of bytes)
+  by_search n more said number g bytes (text_waits rest) is enough fewer =
+      subst (GreetsSo said number g bytes) (sym (finds_none laws bytes rest is).none) (record {
         behind = bytes;
         left = refl;
-        same = ap (λ (e : List Emitted). Goes bytes (hails e g)) (sym (append-nil said));
+        same = ap (λ (e : List Emitted). Goes bytes (hails e number g)) (sym (append-nil said));
         waits = (rest, is);
       })
-  by_search n more said g bytes (text_stands text others) is enough fewer =
+  by_search n more said number g bytes (text_stands text others) is enough fewer =
       let found : FindsText bytes text others = finds_text laws bytes text others is in
       let behind = drop (size_of_text text) others in
-      let step = text_came id.me id.peer g text in
+      let step = text_came id.me id.peer number g text in
       let stand : StandBefore (text ∷ []) behind bytes = stands_first bytes text others found in
-      let rest = by_greeted n more said bytes text behind step.greeted step.says (omega (arith, enough, fewer)) stand in
-      subst (GreetsSo said g bytes) (sym found.texts) (record {
+      let rest = by_greeted n more said bytes text behind (number_by step.rises number) step.greeted step.says (omega (arith, enough, fewer)) stand in
+      subst (GreetsSo said number g bytes) (sym found.texts) (record {
         behind = rest.0;
         left = rest.1;
-        same = found_event steps NodeEnd t bytes behind (text_found text) (hails said g) (ap (text_finding bytes) is) ∙ rest.2;
+        same = found_event steps NodeEnd t bytes behind (text_found text) (hails said number g) (ap (text_finding bytes) is) ∙ rest.2;
         waits = rest.3;
       })
-  by_search n more said g bytes text_too_long is enough fewer =
-      subst (GreetsSo said g bytes) (sym (finds_too_long laws bytes is)) (record {
+  by_search n more said number g bytes text_too_long is enough fewer =
+      subst (GreetsSo said number g bytes) (sym (finds_too_long laws bytes is)) (record {
         behind = bytes;
         left = refl;
-        same = found_event steps NodeEnd t bytes (behind_long_text Passing bytes) long_text_found (hails said g) (ap (text_finding bytes) is);
+        same = found_event steps NodeEnd t bytes (behind_long_text Passing bytes) long_text_found (hails said number g) (ap (text_finding bytes) is);
         waits = tt;
       })
 
   pub greets_up_to : (n : ℕ) → GreetsWithin n
-  greets_up_to zero said g bytes enough = absurd (omega (arith, enough))
-  greets_up_to (suc n) said g bytes enough =
-      by_search n (greets_up_to n) said g bytes (search_text bytes) refl (omega (arith, enough)) (steps.fewer (hailing g) bytes)
+  greets_up_to zero said number g bytes enough = absurd (omega (arith, enough))
+  greets_up_to (suc n) said number g bytes enough =
+      by_search n (greets_up_to n) said number g bytes (search_text bytes) refl (omega (arith, enough)) (steps.fewer (hailing g) bytes)
 
   -- ---- from the start of a session
 
-  pub record ComesTo (came : List ℕ) (run : GreetingRun) (behind : List ℕ) : Type 0 where
-    pub same : Goes came (hails (map says_text (first_texts id.side id.me)) (greeting_at_first id.side))
-        ≡ Goes behind (node_by id s c failures [] run.greeted run.says)
+  pub record ComesTo (number : Option ℕ) (came : List ℕ) (run : GreetingRun) (behind : List ℕ) : Type 0 where
+    pub same : Goes came (hails (map says_text (first_texts id.side id.me)) number (greeting_at_first id.side))
+        ≡ Goes behind (node_by run.number id s c failures [] run.greeted run.says)
     pub waits : Waits run.greeted behind
 
-  pub from_start : OneFirstText → (came behind : List ℕ) (run : GreetingRun) → Greets id.side id.me id.peer came run behind → ComesTo came run behind
-  from_start first_text came behind run m =
+  pub from_start : OneFirstText → (number : Option ℕ) (came behind : List ℕ) (run : GreetingRun) → Greets id.side id.me id.peer number came run behind → ComesTo number came run behind
+  from_start first_text number came behind run m =
       let g = greeting_at_first id.side in
       let first = first_texts id.side id.me in
       let streams : StreamLaws = record { some = laws.some; only = laws.only } in
-      let so = greets_up_to (suc (length came)) (map says_text first) g came (omega arith) in
-      let whole = greeting_run id.me id.peer g came in
-      let same : m.heard ≡ whole = one_run streams id.me id.peer g came m.heard behind m.greets in
+      let so = greets_up_to (suc (length came)) (map says_text first) number g came (omega arith) in
+      let whole = greeting_run id.me id.peer number g came in
+      let same : m.heard ≡ whole = one_run streams id.me id.peer number g came m.heard behind m.greets in
       let all : run ≡ saying_first first whole = m.whole ∙ ap (saying_first first) same in
       let left : so.behind ≡ behind =
-      one_left streams first_text id.me id.peer g came whole so.behind behind
+      one_left streams first_text id.me id.peer number g came whole so.behind behind
       (record { found = texts_of came; texts = laws.some came; came = refl; left = so.left })
-      (subst (λ (r : GreetingRun). GreetsBy id.me id.peer g came r behind) same m.greets) in
-      subst (λ (r : GreetingRun). ComesTo came r behind) (sym all)
-      (subst (ComesTo came (saying_first first whole)) left (record {
-        same = so.same ∙ ap (Goes so.behind) (same_node id s c failures [] first whole.says whole.greeted);
+      (subst (λ (r : GreetingRun). GreetsBy id.me id.peer number g came r behind) same m.greets) in
+      subst (λ (r : GreetingRun). ComesTo number came r behind) (sym all)
+      (subst (ComesTo number came (saying_first first whole)) left (record {
+        same = so.same ∙ ap (Goes so.behind) (same_node whole.number id s c failures [] first whole.says whole.greeted);
         waits = so.waits;
       }))

@@ -43,28 +43,28 @@ abbrev IsPastGreeting : Stage → Type 0
 IsPastGreeting (hailing g) = ⊥
 IsPastGreeting _ = Unit {0}
 
-past_talk : (bad_talk : Bool) (k : Keeper Talk) (id : Identity) (e : Effect) (before after : Talk) → IsPastGreeting (talks_by bad_talk k id e before after).state.stage
-past_talk true k id e before after = tt
-past_talk false k id e before after = tt
+past_talk : (number : Option ℕ) (bad_talk : Bool) (k : Keeper Talk) (id : Identity) (e : Effect) (before after : Talk) → IsPastGreeting (talks_by number bad_talk k id e before after).state.stage
+past_talk number true k id e before after = tt
+past_talk number false k id e before after = tt
 
-past_taking : (failed : Bool) (k : Keeper Talk) (id : Identity) (e : Effect) (message : List ℕ) (talk : Talk) → IsPastGreeting (takes_by failed k id e message talk).state.stage
-past_taking true k id e message talk = tt
-past_taking false k id e message talk = past_talk (k.is_bad (k.taking message talk)) k id e talk (k.taking message talk)
+past_taking : (number : Option ℕ) (failed : Bool) (k : Keeper Talk) (id : Identity) (e : Effect) (message : List ℕ) (talk : Talk) → IsPastGreeting (takes_by number failed k id e message talk).state.stage
+past_taking number true k id e message talk = tt
+past_taking number false k id e message talk = past_talk number (k.is_bad (k.taking message talk)) k id e talk (k.taking message talk)
 
-past_link : (o : OutcomeValue) (k : Keeper Talk) (id : Identity) (failed : Bool) (e : Effect) (message : List ℕ) (talk : Talk)
-    → IsPastGreeting (behind_link k id failed o e message talk).state.stage
-past_link nothing k id failed e message talk = tt
-past_link up k id failed e message talk = tt
-past_link taken k id failed e message talk = past_taking _ k id e message talk
-past_link closed k id failed e message talk = tt
-past_link gave_up k id failed e message talk = tt
-past_link halted k id failed e message talk = tt
+past_link : (number : Option ℕ) (o : OutcomeValue) (k : Keeper Talk) (id : Identity) (failed : Bool) (e : Effect) (message : List ℕ) (talk : Talk)
+    → IsPastGreeting (behind_link number k id failed o e message talk).state.stage
+past_link number nothing k id failed e message talk = tt
+past_link number up k id failed e message talk = tt
+past_link number taken k id failed e message talk = past_taking number _ k id e message talk
+past_link number closed k id failed e message talk = tt
+past_link number gave_up k id failed e message talk = tt
+past_link number halted k id failed e message talk = tt
 
-past_packet : (k : Keeper Talk) (id : Identity) (failed : Bool) (p : PacketValue) (s : State) (talk : Talk) → IsPastGreeting (packet_came k id failed p s talk).state.stage
-past_packet k id failed p s talk = past_link (step s (packet_found p)).outcome k id failed (step s (packet_found p)) (message_of p) talk
+past_packet : (number : Option ℕ) (k : Keeper Talk) (id : Identity) (failed : Bool) (p : PacketValue) (s : State) (talk : Talk) → IsPastGreeting (packet_came number k id failed p s talk).state.stage
+past_packet number k id failed p s talk = past_link number (step s (packet_found p)).outcome k id failed (step s (packet_found p)) (message_of p) talk
 
-past_bad : (k : Keeper Talk) (id : Identity) (s : State) (talk : Talk) → IsPastGreeting (bad_came k id s talk).state.stage
-past_bad k id s talk = past_link (step s bad_found).outcome k id false (step s bad_found) [] talk
+past_bad : (number : Option ℕ) (k : Keeper Talk) (id : Identity) (s : State) (talk : Talk) → IsPastGreeting (bad_came number k id s talk).state.stage
+past_bad number k id s talk = past_link number (step s bad_found).outcome k id false (step s bad_found) [] talk
 
 left_text : (s : Stage) (n : NodeState) (behind : List ℕ) → n.texts.bytes ≡ behind → n.packets.bytes ≡ behind → bytes_at s n ≡ held_in s behind
 left_text (hailing g) n behind texts packets = texts
@@ -163,11 +163,11 @@ module _ (laws : ItemLaws) (h : Holdings) where
   left_behind linked e texts packets (text_item text) kept kept_after failed after shows left does = absurd shows
   left_behind linked e texts packets (packet_item p) kept kept_after failed after shows left does =
       left_packets after.engine.stage after (drop packets.shown_size packets.bytes)
-      (subst IsPastGreeting (sym (ap (λ (x : EndState Talk). x.stage) does.end)) (past_packet (end_keeper e.identity.side h) e.identity failed p e.link (talk_of h kept e.talking)))
+      (subst IsPastGreeting (sym (ap (λ (x : EndState Talk). x.stage) does.end)) (past_packet e.number (end_keeper e.identity.side h) e.identity failed p e.link (talk_of h kept e.talking)))
       (ap (λ (r : Reading). r.bytes) left)
   left_behind linked e texts packets bad_item kept kept_after failed after shows left does =
       left_packets after.engine.stage after (drop packets.shown_size packets.bytes)
-      (subst IsPastGreeting (sym (ap (λ (x : EndState Talk). x.stage) does.end)) (past_bad (end_keeper e.identity.side h) e.identity e.link (talk_of h kept e.talking)))
+      (subst IsPastGreeting (sym (ap (λ (x : EndState Talk). x.stage) does.end)) (past_bad e.number (end_keeper e.identity.side h) e.identity e.link (talk_of h kept e.talking)))
       (ap (λ (r : Reading). r.bytes) left)
   left_behind (ended how) e texts packets item kept kept_after failed after shows left does = absurd shows
 

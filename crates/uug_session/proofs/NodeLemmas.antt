@@ -1,5 +1,5 @@
 -- What a node shows and takes up.
-use Rattle.std.proofs.Common.{◌≡◌, ℕ, Bool, false, List, [], ◌++◌, ◌-◌, ◌≤◌, min, take, length, sym, subst, ap, ◌∙◌, refl, arith}
+use Rattle.std.proofs.Common.{◌≡◌, ℕ, Bool, false, List, [], ◌++◌, Option, ◌-◌, ◌≤◌, min, take, length, sym, subst, ap, ◌∙◌, refl, arith}
 use Rattle.std.proofs.lemmas.List.{take_all}
 use Rattle.uug_link.specs.State.{State}
 use Rattle.uug_packet.specs.declared.packet.Packet.{Packet}
@@ -14,7 +14,7 @@ use Rattle.uug_session.specs.declared.greeting.Greeted.TheVariants.{GoesOn, Link
 use Rattle.uug_session.specs.declared.greeting.Greeting.{Greeting}
 use Rattle.uug_session.specs.EndStep.{Stage, hailing, linked, EndEffect, EndState, Emitted, EndEvent, Identity, begins_link, behind_greeting, greeted_so, packet_found_whole, stage_step, text_found}
 use Rattle.uug_session.specs.Engine.{Does, EngineState, TakesUp, bare, end_of}
-use Rattle.uug_session.specs.Greeting.{text_came}
+use Rattle.uug_session.specs.Greeting.{number_by, text_came}
 use Rattle.uug_session.specs.Holdings.{Kept, Holdings}
 use Rattle.uug_session.specs.Node.{NodeState, ShowsItem, TakesItem, IsLeft, text_item, packet_item, bad_item, effect_of}
 use Rattle.uug_session.specs.Talk.{Talk, end_keeper}
@@ -30,36 +30,36 @@ shows_bad stage texts packets f at is shows =
 -- ---- steps beside a spool
 
 beside : Holdings → List Kept → EndState Talking → EndState Talk
-beside h kept e = record { stage = e.stage; link = e.link; keeper = talk_of h kept e.keeper }
+beside h kept e = record { stage = e.stage; link = e.link; keeper = talk_of h kept e.keeper; number = e.number }
 
-begun_beside : (h : Holdings) (kept : List Kept) (side : Side) (said : List Emitted) (s : State) (e after : EngineState)
-    → Does (begins_link side s e.talking said) (bare after) e after
-    → Does (begins_link side s (talk_of h kept e.talking) said) (end_of h kept after) e after
+begun_beside : (number : Option ℕ) (h : Holdings) (kept : List Kept) (side : Side) (said : List Emitted) (s : State) (e after : EngineState)
+    → Does (begins_link number side s e.talking said) (bare after) e after
+    → Does (begins_link number side s (talk_of h kept e.talking) said) (end_of h kept after) e after
 unfolding beside
-begun_beside h kept caller said s e after does =
+begun_beside number h kept caller said s e after does =
     record { end = ap (beside h kept) does.end; emitted = does.emitted; identity = does.identity; own = does.own }
-begun_beside h kept called said s e after does =
+begun_beside number h kept called said s e after does =
     record { end = ap (beside h kept) does.end; emitted = does.emitted; identity = does.identity; own = does.own }
 
-pub greeted_beside : (h : Holdings) (kept : List Kept) (id : Identity) (greeted : Greeted) (said : List Emitted) (s : State) (e after : EngineState)
-    → Does (greeted_so id greeted said s e.talking) (bare after) e after
-    → Does (greeted_so id greeted said s (talk_of h kept e.talking)) (end_of h kept after) e after
+pub greeted_beside : (number : Option ℕ) (h : Holdings) (kept : List Kept) (id : Identity) (greeted : Greeted) (said : List Emitted) (s : State) (e after : EngineState)
+    → Does (greeted_so number id greeted said s e.talking) (bare after) e after
+    → Does (greeted_so number id greeted said s (talk_of h kept e.talking)) (end_of h kept after) e after
 unfolding beside
-greeted_beside h kept id (GoesOn g) said s e after does =
+greeted_beside number h kept id (GoesOn g) said s e after does =
     record { end = ap (beside h kept) does.end; emitted = does.emitted; identity = does.identity; own = does.own }
-greeted_beside h kept id LinkBegins said s e after does = begun_beside h kept id.side said s e after does
-greeted_beside h kept id (Ended how) said s e after does =
+greeted_beside number h kept id LinkBegins said s e after does = begun_beside number h kept id.side said s e after does
+greeted_beside number h kept id (Ended how) said s e after does =
     record { end = ap (beside h kept) does.end; emitted = does.emitted; identity = does.identity; own = does.own }
 
-begun_takes_nothing : (side : Side) (said : List Emitted) (s : State) (talk : Talk) → false ≡ (begins_link side s talk said).took
-begun_takes_nothing caller said s talk = refl
-begun_takes_nothing called said s talk = refl
+begun_takes_nothing : (number : Option ℕ) (side : Side) (said : List Emitted) (s : State) (talk : Talk) → false ≡ (begins_link number side s talk said).took
+begun_takes_nothing number caller said s talk = refl
+begun_takes_nothing number called said s talk = refl
 
-greeted_takes_nothing : (id : Identity) (greeted : Greeted) (said : List Emitted) (s : State) (talk : Talk)
-    → false ≡ (greeted_so id greeted said s talk).took
-greeted_takes_nothing id (GoesOn g) said s talk = refl
-greeted_takes_nothing id LinkBegins said s talk = begun_takes_nothing id.side said s talk
-greeted_takes_nothing id (Ended how) said s talk = refl
+greeted_takes_nothing : (number : Option ℕ) (id : Identity) (greeted : Greeted) (said : List Emitted) (s : State) (talk : Talk)
+    → false ≡ (greeted_so number id greeted said s talk).took
+greeted_takes_nothing number id (GoesOn g) said s talk = refl
+greeted_takes_nothing number id LinkBegins said s talk = begun_takes_nothing number id.side said s talk
+greeted_takes_nothing number id (Ended how) said s talk = refl
 
 -- ---- items
 
@@ -76,22 +76,23 @@ takes_quietly h kept kept_after before after e event is does =
 
 pub takes_text : (h : Holdings) (kept : List Kept) (counts : Bool → Type 0) (greeting : Greeting) (text : List ℕ) (before after : NodeState)
     → before.engine.stage ≡ hailing greeting → ShowsText text before.texts
-    → Does (behind_greeting before.engine.identity (text_came before.engine.identity.me before.engine.identity.peer greeting text) before.engine.link before.engine.talking)
+    → Does (behind_greeting before.engine.number before.engine.identity (text_came before.engine.identity.me before.engine.identity.peer before.engine.number greeting text) before.engine.link before.engine.talking)
     (bare after.engine) before.engine after.engine
     → IsLeft (text_item text) before after → counts false
     → ShowsItem before.engine.stage before.texts before.packets (text_item text)
     × TakesItem h kept kept counts (text_item text) before after false
 takes_text h kept counts greeting text before after at shows does left stands =
     let id = before.engine.identity in
-    let step = text_came id.me id.peer greeting text in
+    let step = text_came id.me id.peer before.engine.number greeting text in
+    let number = number_by step.rises before.engine.number in
     let is = at_stage h kept (text_found text) before.engine (hailing greeting) at in
     let talk = talk_of h kept before.engine.talking in (
       subst (λ (x : Stage). ShowsItem x before.texts before.packets (text_item text)) (sym at) shows,
       record {
         device_failed = false;
         does = takes_quietly h kept kept before after _ (text_found text) is
-            (greeted_beside h kept id step.greeted _ before.engine.link before.engine after.engine does);
-        answer = greeted_takes_nothing id step.greeted _ before.engine.link talk ∙ sym (ap (λ (x : EndEffect Talk). x.took) is);
+            (greeted_beside number h kept id step.greeted _ before.engine.link before.engine after.engine does);
+        answer = greeted_takes_nothing number id step.greeted _ before.engine.link talk ∙ sym (ap (λ (x : EndEffect Talk). x.took) is);
         device = stands;
         left = left;
       },

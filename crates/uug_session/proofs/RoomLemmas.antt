@@ -12,7 +12,7 @@ use Rattle.uug_packet.specs.Packet.{close}
 use Rattle.uug_session.specs.declared.greeting.Greeted.{Greeted}
 use Rattle.uug_session.specs.declared.greeting.Greeted.TheVariants.{GoesOn, LinkBegins, Ended}
 use Rattle.uug_session.specs.EndStep.{says_text, EndEffect, EndEvent, EndState, Emitted, Identity, Sending, Stage, text_found, long_text_found, packet_found_whole, broken_found, time_ran_out, line_lost, hailing, linked, ended, begins_link, behind_link, closes_by, end_step, goes_on, greeted_so, has_room, is_up, late_link, message_of, sends, sends_by, sends_next, sends_up_to, speaks_by, stage_step, takes_by, talks_by, begins_session, first_link}
-use Rattle.uug_session.specs.Greeting.{text_came, long_text_came, timed_out as greeting_timed_out}
+use Rattle.uug_session.specs.Greeting.{number_by, text_came, long_text_came, timed_out as greeting_timed_out}
 use Rattle.uug_session.specs.Engine.{Does, EngineState, end_of}
 use Rattle.uug_session.specs.Holdings.{Holdings, Kept}
 use Rattle.uug_session.specs.Keeper.{Keeper}
@@ -153,28 +153,28 @@ speak_said true k s c is within =
 abbrev Says : {C : Type 0} → Keeper C → EndEffect C → Type 0
 Says k x = x.state.link.window ≤ WINDOW_MAX → HasSaidWhatItCan k x.state
 
-goes_on_said : {C : Type 0} (k : Keeper C) (took : Bool) (e : Effect) (c : C) → Says k (goes_on k took e c)
-goes_on_said k took e c within =
+goes_on_said : {C : Type 0} (number : Option ℕ) (k : Keeper C) (took : Bool) (e : Effect) (c : C) → Says k (goes_on number k took e c)
+goes_on_said number k took e c within =
     speak_said (is_up e.state.phase) k e.state c refl
     (subst (λ (w : ℕ). w ≤ WINDOW_MAX) (speak_window (is_up e.state.phase) k e.state c) within)
 
-talks_said : {C : Type 0} (bad : Bool) (k : Keeper C) (id : Identity) (e : Effect) (before after : C) → Says k (talks_by bad k id e before after)
-talks_said true k id e before after within = tt
-talks_said false k id e before after within = goes_on_said k true e after within
+talks_said : {C : Type 0} (number : Option ℕ) (bad : Bool) (k : Keeper C) (id : Identity) (e : Effect) (before after : C) → Says k (talks_by number bad k id e before after)
+talks_said number true k id e before after within = tt
+talks_said number false k id e before after within = goes_on_said number k true e after within
 
-takes_said : {C : Type 0} (failed : Bool) (k : Keeper C) (id : Identity) (e : Effect) (message : List ℕ) (c : C)
-    → Says k (takes_by failed k id e message c)
-takes_said true k id e message c within = tt
-takes_said false k id e message c within = talks_said (k.is_bad (k.taking message c)) k id e c (k.taking message c) within
+takes_said : {C : Type 0} (number : Option ℕ) (failed : Bool) (k : Keeper C) (id : Identity) (e : Effect) (message : List ℕ) (c : C)
+    → Says k (takes_by number failed k id e message c)
+takes_said number true k id e message c within = tt
+takes_said number false k id e message c within = talks_said number (k.is_bad (k.taking message c)) k id e c (k.taking message c) within
 
-link_said : {C : Type 0} (k : Keeper C) (id : Identity) (failed : Bool) (o : OutcomeValue) (e : Effect) (message : List ℕ) (c : C)
-    → Says k (behind_link k id failed o e message c)
-link_said k id failed nothing e message c within = goes_on_said k false e c within
-link_said k id failed up e message c within = goes_on_said k false e (k.opened (size_of_code e.state.size_code) c) within
-link_said k id failed taken e message c within = takes_said (failed && k.asks_spool message c) k id e message c within
-link_said k id failed closed e message c within = tt
-link_said k id failed gave_up e message c within = tt
-link_said k id failed halted e message c within = goes_on_said k false e c within
+link_said : {C : Type 0} (number : Option ℕ) (k : Keeper C) (id : Identity) (failed : Bool) (o : OutcomeValue) (e : Effect) (message : List ℕ) (c : C)
+    → Says k (behind_link number k id failed o e message c)
+link_said number k id failed nothing e message c within = goes_on_said number k false e c within
+link_said number k id failed up e message c within = goes_on_said number k false e (k.opened (size_of_code e.state.size_code) c) within
+link_said number k id failed taken e message c within = takes_said number (failed && k.asks_spool message c) k id e message c within
+link_said number k id failed closed e message c within = tt
+link_said number k id failed gave_up e message c within = tt
+link_said number k id failed halted e message c within = goes_on_said number k false e c within
 
 -- ---- nothing has come for some time
 
@@ -203,14 +203,14 @@ still_said : {C : Type 0} (k : Keeper C) (s : State) (c : C) → (has_room s ≡
 still_said k s c (inl none) = inl (late_room (is_halted s.phase) s none)
 still_said k s c (inr none) = inr none
 
-late_said : {C : Type 0} (k : Keeper C) (id : Identity) (parted : Bool) (o : OutcomeValue) (e : Effect) (c : C)
-    → (has_room e.state ≡ false) ⊎ (k.next c ≡ None) → HasSaidWhatItCan k (late_link id parted o e c).state
-late_said k id parted nothing e c said = said
-late_said k id parted up e c said = said
-late_said k id parted taken e c said = said
-late_said k id parted closed e c said = said
-late_said k id parted gave_up e c said = tt
-late_said k id parted halted e c said = said
+late_said : {C : Type 0} (number : Option ℕ) (k : Keeper C) (id : Identity) (parted : Bool) (o : OutcomeValue) (e : Effect) (c : C)
+    → (has_room e.state ≡ false) ⊎ (k.next c ≡ None) → HasSaidWhatItCan k (late_link number id parted o e c).state
+late_said number k id parted nothing e c said = said
+late_said number k id parted up e c said = said
+late_said number k id parted taken e c said = said
+late_said number k id parted closed e c said = said
+late_said number k id parted gave_up e c said = tt
+late_said number k id parted halted e c said = said
 
 -- ---- the greeting
 
@@ -219,17 +219,17 @@ pub begun_is_down : (halts : Bool) (s : State) → is_halted s.phase ≡ halts
 begun_is_down true s is = halted_is_down s.phase is
 begun_is_down false s is = refl
 
-begins_said : {C : Type 0} (k : Keeper C) (side : Side) (s : State) (c : C) (said : List Emitted) → is_up s.phase ≡ false
-    → HasSaidWhatItCan k (begins_link side s c said).state
-begins_said k caller s c said down =
+begins_said : {C : Type 0} (number : Option ℕ) (k : Keeper C) (side : Side) (s : State) (c : C) (said : List Emitted) → is_up s.phase ≡ false
+    → HasSaidWhatItCan k (begins_link number side s c said).state
+begins_said number k caller s c said down =
     inl (down_has_no_room (step s to_begin).state (begun_is_down (is_halted s.phase) s refl))
-begins_said k called s c said down = inl (down_has_no_room s down)
+begins_said number k called s c said down = inl (down_has_no_room s down)
 
-greeted_said : {C : Type 0} (k : Keeper C) (id : Identity) (g : Greeted) (says : List Emitted) (s : State) (c : C)
-    → is_up s.phase ≡ false → HasSaidWhatItCan k (greeted_so id g says s c).state
-greeted_said k id (GoesOn g) says s c down = down
-greeted_said k id LinkBegins says s c down = begins_said k id.side s c says down
-greeted_said k id (Ended how) says s c down = tt
+greeted_said : {C : Type 0} (number : Option ℕ) (k : Keeper C) (id : Identity) (g : Greeted) (says : List Emitted) (s : State) (c : C)
+    → is_up s.phase ≡ false → HasSaidWhatItCan k (greeted_so number id g says s c).state
+greeted_said number k id (GoesOn g) says s c down = down
+greeted_said number k id LinkBegins says s c down = begins_said number k id.side s c says down
+greeted_said number k id (Ended how) says s c down = tt
 
 -- ---- a step
 
@@ -240,22 +240,22 @@ unmoved_said k stage e is said = subst (λ (t : Stage). SaidAt k t e.link e.keep
 step_said : {C : Type 0} (k : Keeper C) (id : Identity) (stage : Stage) (event : EndEvent) (e : EndState C) → e.stage ≡ stage
     → SaidAt k stage e.link e.keeper → Says k (stage_step k id stage event e)
 step_said k id (hailing g) (text_found text) e is said within =
-    let step_then = text_came id.me id.peer g text in
-    greeted_said k id step_then.greeted (map says_text step_then.says) e.link e.keeper said
+    let step_then = text_came id.me id.peer e.number g text in
+    greeted_said (number_by step_then.rises e.number) k id step_then.greeted (map says_text step_then.says) e.link e.keeper said
 step_said k id (hailing g) long_text_found e is said within =
-    greeted_said k id long_text_came.greeted (map says_text long_text_came.says) e.link e.keeper said
+    greeted_said e.number k id long_text_came.greeted (map says_text long_text_came.says) e.link e.keeper said
 step_said k id (hailing g) time_ran_out e is said within =
     let step_then = greeting_timed_out g in
-    greeted_said k id step_then.greeted (map says_text step_then.says) e.link e.keeper said
+    greeted_said (number_by step_then.rises e.number) k id step_then.greeted (map says_text step_then.says) e.link e.keeper said
 step_said k id (hailing g) line_lost e is said within = tt
 step_said k id (hailing g) (packet_found_whole failed p) e is said within = unmoved_said k (hailing g) e is said
 step_said k id (hailing g) broken_found e is said within = unmoved_said k (hailing g) e is said
 step_said k id linked (packet_found_whole failed p) e is said within =
-    link_said k id failed (step e.link (packet_found p)).outcome (step e.link (packet_found p)) (message_of p) e.keeper within
+    link_said e.number k id failed (step e.link (packet_found p)).outcome (step e.link (packet_found p)) (message_of p) e.keeper within
 step_said k id linked broken_found e is said within =
-    link_said k id false (step e.link bad_found).outcome (step e.link bad_found) [] e.keeper within
+    link_said e.number k id false (step e.link bad_found).outcome (step e.link bad_found) [] e.keeper within
 step_said k id linked time_ran_out e is said within =
-    late_said k id (k.has_parted e.keeper) (step e.link timed_out).outcome (step e.link timed_out) e.keeper
+    late_said e.number k id (k.has_parted e.keeper) (step e.link timed_out).outcome (step e.link timed_out) e.keeper
     (still_said k e.link e.keeper said)
 step_said k id linked line_lost e is said within = tt
 step_said k id linked (text_found text) e is said within = unmoved_said k linked e is said
@@ -270,9 +270,9 @@ first_said : (side : Side) (own : Announced) → is_up (first_link side own).pha
 first_said caller own = refl
 first_said called own = refl
 
-pub begins_so : {C : Type 0} (k : Keeper C) (id : Identity) (own : Announced) (c : C)
-    → HasSaidWhatItCan k (begins_session id own c).state
-begins_so k id own c = first_said id.side own
+pub begins_so : {C : Type 0} (k : Keeper C) (id : Identity) (own : Announced) (number : Option ℕ) (c : C)
+    → HasSaidWhatItCan k (begins_session id own number c).state
+begins_so k id own number c = first_said id.side own
 
 -- ---- a node
 

@@ -1,11 +1,13 @@
 -- What an end says in the greeting is heard as those texts.
-use Rattle.std.proofs.Common.{◌≡◌, ◌≢◌, ℕ, ◌+◌, ◌<◌, ◌≤◌, Bool, true, false, List, [], ◌∷◌, ◌++◌, length, drop, All, Some, codes, refl, sym, ap, ◌∙◌, append_assoc, length-append, get_or, lit≤, rules, arith}
+use Rattle.std.proofs.Common.{◌≡◌, ◌≢◌, ℕ, ◌+◌, ◌%◌, ◌<◌, ◌≤◌, Bool, true, false, List, [], ◌∷◌, ◌++◌, length, drop, All, Option, None, Some, codes, refl, sym, ap, ◌∙◌, append_assoc, length-append, get_or, lit≤, rules, arith}
 use Rattle.std.specs.Prelude.{option_and_then, if◌then◌else◌}
 use Rattle.std.proofs.lemmas.Bool.Decides.{nat_tests}
+use Rattle.std.proofs.Math.Nat.{mod-lt}
 use Rattle.std.proofs.Math.Seq.{drop-append_seam}
 use Rattle.std.proofs.lemmas.List.{append-nil}
 use Rattle.std.proofs.lemmas.List.Elements.{All-append, All-head, All-tail, All-nil, All-cons}
 use Rattle.uug_talk.specs.declared.hail.TheConstants.{HAIL_MAX}
+use Rattle.uug_talk.specs.Call.{call_text, number_in_call}
 use Rattle.uug_talk.specs.Name.{IsName}
 use Rattle.uug_talk.specs.StreamTexts.{TextsEnd, Rest, TooLong, texts_of, with_text}
 use Rattle.uug_talk.specs.Texts.{IsPlain, IsHailText, Heard, Passing, Open, Whole, Holds, heard_byte, one_used, hear}
@@ -15,9 +17,10 @@ use Rattle.uug_session.specs.declared.greeting.AwaitedText.TheVariants.{CalledNa
 use Rattle.uug_session.specs.declared.greeting.Greeted.{Greeted}
 use Rattle.uug_session.specs.declared.greeting.Greeted.TheVariants.{GoesOn, LinkBegins, Ended}
 use Rattle.uug_session.specs.declared.greeting.Greeting.{Greeting}
-use Rattle.uug_session.specs.Greeting.{GreetingStep, called_text, caller_text, begins_with, name_in_caller_text, offers_g, came_for, text_came}
+use Rattle.uug_session.specs.Greeting.{GreetingStep, called_text, begins_with, is_expected, name_in_caller_text, number_by, number_came, offers_g, came_for, risen, text_came}
 use Rattle.uug_session.specs.Says.{written_text}
-use Rattle.uug_session.specs.WholeGreeting.{GreetingRun, written_texts, with_no_text, step_behind, texts_came}
+use Rattle.uug_talk.proofs.CallLemmas.{hail_with_number, hail_without_number}
+use Rattle.uug_session.specs.WholeGreeting.{GreetingRun, IsNumber, written_texts, with_no_text, step_behind, texts_came}
 
 hear_whole : (text bytes : List ℕ) → hear (Whole text) bytes ≡ Some (0, Whole text)
 hear_whole text [] = refl
@@ -85,11 +88,9 @@ said_called name h = record {
   plain = All-append IsPlain (codes "Shere=") name (search rules) (plain_name name h);
 }
 
-pub said_caller : (name : List ℕ) → IsName name → IsHailText (caller_text name)
-said_caller name h = record {
-  short = let s = h.short in omega (arith, length-append (codes "S") name);
-  plain = All-append IsPlain (codes "S") name (search rules) (plain_name name h);
-}
+pub said_caller : (name : List ℕ) (number : Option ℕ) → IsName name → IsNumber number → IsHailText (call_text name number)
+said_caller name None h k = hail_without_number (call_text name None) name h refl
+said_caller name (Some number) h k = hail_with_number (call_text name (Some number)) name number h (omega (arith, k)) refl
 
 said_known : IsHailText (codes "ROK")
 said_known = record { short = lit≤ tt; plain = search rules }
@@ -99,6 +100,9 @@ said_protocols = record { short = lit≤ tt; plain = search rules }
 
 said_unknown : IsHailText (codes "RYou are unknown to me")
 said_unknown = record { short = lit≤ tt; plain = search rules }
+
+said_bad_number : IsHailText (codes "RBADSEQ")
+said_bad_number = record { short = lit≤ tt; plain = search rules }
 
 said_choice : IsHailText (codes "Ug")
 said_choice = record { short = lit≤ tt; plain = search rules }
@@ -115,35 +119,56 @@ nothing = All-nil IsHailText
 one : (text : List ℕ) → IsHailText text → All IsHailText (text ∷ [])
 one text h = All-cons IsHailText text [] h nothing
 
-came_says : (awaited : AwaitedText) (me peer : List ℕ) (g : Greeting) (text : List ℕ) → IsName me → SaysTexts (came_for awaited me peer g text)
-came_says CalledName me peer g text h =
-    either SaysTexts (bytes_eq text (codes "Shere")) _ _ (one (caller_text me) (said_caller me h))
+number_says : (expected : Bool) → SaysTexts (number_came expected)
+number_says false = one (codes "RBADSEQ") said_bad_number
+number_says true = All-cons IsHailText (codes "ROK") (codes "Pg" ∷ []) said_known (one (codes "Pg") said_protocols)
+
+came_says : (awaited : AwaitedText) (me peer : List ℕ) (number : Option ℕ) (g : Greeting) (text : List ℕ) → IsName me → IsNumber number
+    → SaysTexts (came_for awaited me peer number g text)
+came_says CalledName me peer number g text h k =
+    let told = one (call_text me number) (said_caller me number h k) in
+    either SaysTexts (bytes_eq text (codes "Shere")) _ _ told
     (either SaysTexts (begins_with text (codes "Shere=")) _ _
-    (either SaysTexts (bytes_eq (drop 6 text) peer) _ _ (one (caller_text me) (said_caller me h)) nothing) nothing)
-came_says CallerName me peer g text h =
+    (either SaysTexts (bytes_eq (drop 6 text) peer) _ _ told nothing) nothing)
+came_says CallerName me peer number g text h k =
     either SaysTexts (begins_with text (codes "S")) _ _
     (either SaysTexts (bytes_eq (name_in_caller_text text) peer) _ _
-    (All-cons IsHailText (codes "ROK") (codes "Pg" ∷ []) said_known (one (codes "Pg") said_protocols))
+    (number_says (is_expected number (number_in_call text)))
     (one (codes "RYou are unknown to me") said_unknown)) nothing
-came_says Admission me peer g text h =
-    either SaysTexts (begins_with text (codes "ROK")) _ _ nothing (either SaysTexts (begins_with text (codes "R")) _ _ nothing nothing)
-came_says Protocols me peer g text h =
+came_says Admission me peer number g text h k =
+    either SaysTexts (begins_with text (codes "ROK")) _ _ nothing
+    (either SaysTexts (begins_with text (codes "RBADSEQ")) _ _ nothing
+    (either SaysTexts (begins_with text (codes "R")) _ _ nothing nothing))
+came_says Protocols me peer number g text h k =
     either SaysTexts (begins_with text (codes "P")) _ _
     (either SaysTexts (offers_g text) _ _ (one (codes "Ug") said_choice) (one (codes "UN") said_no_choice)) nothing
-came_says Choice me peer g text h =
+came_says Choice me peer number g text h k =
     either SaysTexts (bytes_eq text (codes "Ug")) _ _ nothing (either SaysTexts (begins_with text (codes "U")) _ _ nothing nothing)
 
-behind_says : (more : Greeting → GreetingRun) (says : List (List ℕ)) (greeted : Greeted) → All IsHailText says → ((g : Greeting) → All IsHailText (more g).says) → All IsHailText (step_behind more says greeted).says
-behind_says more says (GoesOn g) h k = All-append IsHailText says (more g).says h (k g)
-behind_says more says LinkBegins h k = h
-behind_says more says (Ended how) h k = h
+-- a number that has risen is one
+risen_is_number : (number : Option ℕ) → IsNumber number → IsNumber (risen number)
+risen_is_number None k = k
+risen_is_number (Some number) k = let less : (number + 1) % 4294967296 < 4294967296 = mod-lt (number + 1) (omega arith) in omega (arith, less)
 
-no_text_says : (end : TextsEnd) (g : Greeting) → All IsHailText (with_no_text end g).says
-no_text_says (Rest bytes) g = nothing
-no_text_says TooLong g = nothing
+number_after : (rises : Bool) (number : Option ℕ) → IsNumber number → IsNumber (number_by rises number)
+number_after false number k = k
+number_after true number k = risen_is_number number k
 
-pub run_says : (me peer : List ℕ) (texts : List (List ℕ)) (end : TextsEnd) (g : Greeting) → IsName me → All IsHailText (texts_came me peer texts end g).says
-run_says me peer [] end g h = no_text_says end g
-run_says me peer (text ∷ texts) end g h =
-    behind_says (texts_came me peer texts end) (text_came me peer g text).says (text_came me peer g text).greeted
-    (came_says g.awaited me peer g text h) (λ next. run_says me peer texts end next h)
+behind_says : (more : Option ℕ → Greeting → GreetingRun) (says : List (List ℕ)) (number : Option ℕ) (greeted : Greeted) → All IsHailText says
+    → ((g : Greeting) → All IsHailText (more number g).says) → All IsHailText (step_behind more says number greeted).says
+behind_says more says number (GoesOn g) h k = All-append IsHailText says (more number g).says h (k g)
+behind_says more says number LinkBegins h k = h
+behind_says more says number (Ended how) h k = h
+
+no_text_says : (end : TextsEnd) (number : Option ℕ) (g : Greeting) → All IsHailText (with_no_text end number g).says
+no_text_says (Rest bytes) number g = nothing
+no_text_says TooLong number g = nothing
+
+pub run_says : (me peer : List ℕ) (texts : List (List ℕ)) (end : TextsEnd) (number : Option ℕ) (g : Greeting) → IsName me → IsNumber number
+    → All IsHailText (texts_came me peer texts end number g).says
+run_says me peer [] end number g h k = no_text_says end number g
+run_says me peer (text ∷ texts) end number g h k =
+    let came = text_came me peer number g text in
+    behind_says (texts_came me peer texts end) came.says (number_by came.rises number) came.greeted
+    (came_says g.awaited me peer number g text h k)
+    (λ next. run_says me peer texts end (number_by came.rises number) next h (number_after came.rises number k))

@@ -1,5 +1,5 @@
 -- What the delivered bytes make of a greeting is one thing.
-use Rattle.std.proofs.Common.{◌≡◌, ℕ, zero, suc, List, [], ◌∷◌, ◌++◌, take, refl, sym, ap, subst, ◌∙◌}
+use Rattle.std.proofs.Common.{◌≡◌, ℕ, zero, suc, List, [], ◌∷◌, ◌++◌, Option, take, refl, sym, ap, subst, ◌∙◌}
 use Rattle.std.proofs.lemmas.List.{append_cancel_left}
 use Rattle.uug_talk.specs.StreamTexts.{StreamTexts, HasTexts, StandBefore, texts_of}
 use Rattle.uug_talk.specs.Texts.{IsFirstText}
@@ -33,36 +33,36 @@ one_rest law (text ∷ texts) rest other stream (front, behind, e, first, more) 
     let left = append_cancel_left front behind behind' (sym e ∙ e' ∙ ap (λ f. f ++ behind') (sym same.0)) in
     one_rest law texts rest other behind more (subst (λ b. StandBefore texts other b) (sym left) more')
 
-pub some_run : StreamLaws → (me peer : List ℕ) (g : Greeting) (delivered : List ℕ) → (behind : List ℕ) × GreetsBy me peer g delivered (greeting_run me peer g delivered) behind
-some_run laws me peer g delivered =
+pub some_run : StreamLaws → (me peer : List ℕ) (number : Option ℕ) (g : Greeting) (delivered : List ℕ) → (behind : List ℕ) × GreetsBy me peer number g delivered (greeting_run me peer number g delivered) behind
+some_run laws me peer number g delivered =
     let has = laws.some delivered in
     let found = texts_of delivered in
-    let stand = first_stand found.texts (greeting_run me peer g delivered).used has.rest delivered has.before in
+    let stand = first_stand found.texts (greeting_run me peer number g delivered).used has.rest delivered has.before in
     (stand.0, record { found = found; texts = has; came = refl; left = stand.1 })
 
-pub one_run : StreamLaws → (me peer : List ℕ) (g : Greeting) (delivered : List ℕ) (run : GreetingRun) (behind : List ℕ) → GreetsBy me peer g delivered run behind → run ≡ greeting_run me peer g delivered
-one_run laws me peer g delivered run behind h =
-    h.came ∙ ap (λ (f : StreamTexts). texts_came me peer f.texts f.end g) (laws.only delivered h.found h.texts)
+pub one_run : StreamLaws → (me peer : List ℕ) (number : Option ℕ) (g : Greeting) (delivered : List ℕ) (run : GreetingRun) (behind : List ℕ) → GreetsBy me peer number g delivered run behind → run ≡ greeting_run me peer number g delivered
+one_run laws me peer number g delivered run behind h =
+    h.came ∙ ap (λ (f : StreamTexts). texts_came me peer f.texts f.end number g) (laws.only delivered h.found h.texts)
 
-pub one_left : StreamLaws → OneFirstText → (me peer : List ℕ) (g : Greeting) (delivered : List ℕ) (run : GreetingRun) (behind other : List ℕ) → GreetsBy me peer g delivered run behind → GreetsBy me peer g delivered run other → behind ≡ other
-one_left laws law me peer g delivered run behind other h k =
+pub one_left : StreamLaws → OneFirstText → (me peer : List ℕ) (number : Option ℕ) (g : Greeting) (delivered : List ℕ) (run : GreetingRun) (behind other : List ℕ) → GreetsBy me peer number g delivered run behind → GreetsBy me peer number g delivered run other → behind ≡ other
+one_left laws law me peer number g delivered run behind other h k =
     let same : h.found ≡ k.found = laws.only delivered h.found h.texts ∙ sym (laws.only delivered k.found k.texts) in
     one_rest law (take run.used k.found.texts) behind other delivered
     (subst (λ (f : StreamTexts). StandBefore (take run.used f.texts) behind delivered) same h.left) k.left
 
 -- ---- from the start
 
-pub some_whole : StreamLaws → (side : Side) (me peer delivered : List ℕ) → (behind : List ℕ) × Greets side me peer delivered (whole_greeting side me peer delivered) behind
-some_whole laws side me peer delivered =
-    let heard = some_run laws me peer (greeting_at_first side) delivered in
-    (heard.0, record { heard = greeting_run me peer (greeting_at_first side) delivered; greets = heard.1; whole = refl })
+pub some_whole : StreamLaws → (side : Side) (me peer : List ℕ) (number : Option ℕ) (delivered : List ℕ) → (behind : List ℕ) × Greets side me peer number delivered (whole_greeting side me peer number delivered) behind
+some_whole laws side me peer number delivered =
+    let heard = some_run laws me peer number (greeting_at_first side) delivered in
+    (heard.0, record { heard = greeting_run me peer number (greeting_at_first side) delivered; greets = heard.1; whole = refl })
 
-pub one_whole : StreamLaws → (side : Side) (me peer delivered : List ℕ) (run : GreetingRun) (behind : List ℕ) → Greets side me peer delivered run behind → run ≡ whole_greeting side me peer delivered
-one_whole laws side me peer delivered run behind h =
-    h.whole ∙ ap (saying_first (first_texts side me)) (one_run laws me peer (greeting_at_first side) delivered h.heard behind h.greets)
+pub one_whole : StreamLaws → (side : Side) (me peer : List ℕ) (number : Option ℕ) (delivered : List ℕ) (run : GreetingRun) (behind : List ℕ) → Greets side me peer number delivered run behind → run ≡ whole_greeting side me peer number delivered
+one_whole laws side me peer number delivered run behind h =
+    h.whole ∙ ap (saying_first (first_texts side me)) (one_run laws me peer number (greeting_at_first side) delivered h.heard behind h.greets)
 
-pub one_left_of_whole : StreamLaws → OneFirstText → (side : Side) (me peer delivered : List ℕ) (run : GreetingRun) (behind other : List ℕ) → Greets side me peer delivered run behind → Greets side me peer delivered run other → behind ≡ other
-one_left_of_whole laws law side me peer delivered run behind other h k =
+pub one_left_of_whole : StreamLaws → OneFirstText → (side : Side) (me peer : List ℕ) (number : Option ℕ) (delivered : List ℕ) (run : GreetingRun) (behind other : List ℕ) → Greets side me peer number delivered run behind → Greets side me peer number delivered run other → behind ≡ other
+one_left_of_whole laws law side me peer number delivered run behind other h k =
     let g = greeting_at_first side in
-    let same : h.heard ≡ k.heard = one_run laws me peer g delivered h.heard behind h.greets ∙ sym (one_run laws me peer g delivered k.heard other k.greets) in
-    one_left laws law me peer g delivered k.heard behind other (subst (λ (r : GreetingRun). GreetsBy me peer g delivered r behind) same h.greets) k.greets
+    let same : h.heard ≡ k.heard = one_run laws me peer number g delivered h.heard behind h.greets ∙ sym (one_run laws me peer number g delivered k.heard other k.greets) in
+    one_left laws law me peer number g delivered k.heard behind other (subst (λ (r : GreetingRun). GreetsBy me peer number g delivered r behind) same h.greets) k.greets

@@ -14,7 +14,7 @@ use Rattle.uug_session.specs.declared.end.End.TheVariants as ends
 use Rattle.uug_session.specs.declared.greeting.Greeted.{Greeted}
 use Rattle.uug_session.specs.declared.greeting.Greeted.TheVariants.{GoesOn, LinkBegins, Ended}
 use Rattle.uug_session.specs.declared.greeting.Greeting.{Greeting}
-use Rattle.uug_session.specs.Greeting.{GreetingStep, greeting_at_first, first_texts, text_came, long_text_came, timed_out as greeting_timed_out}
+use Rattle.uug_session.specs.Greeting.{GreetingStep, greeting_at_first, first_texts, number_by, text_came, long_text_came, timed_out as greeting_timed_out}
 use Rattle.uug_session.specs.Keeper.{Keeper}
 use Rattle.uug_session.specs.Turns.{Side, caller, called}
 
@@ -24,11 +24,13 @@ pub data Stage : Type 0 where
   linked : Stage
   ended : End → Stage
 
--- an end of a session: the link is there from the start, and begins behind the greeting
+-- an end of a session: the link is there from the start, and begins behind the greeting; and the number of the end's
+-- conversations, where it keeps one
 pub record EndState (C : Type 0) : Type 0 where
   pub stage : Stage
   pub link : State
   pub keeper : C
+  pub number : Option ℕ
 
 -- what goes out: a text, or a packet of the link
 pub data Emitted : Type 0 where
@@ -66,10 +68,10 @@ abbrev pub leave : (has_parted : Bool) → Side → List Emitted
 leave true side = says_text (final_text side) ∷ []
 leave false side = []
 
--- the session is over, and the end had parted before it or had not
-abbrev pub ends_so : {C : Type 0} → Identity → (has_parted : Bool) → End → Effect → C → (took : Bool) → EndEffect C
-ends_so id has_parted how e c took = record {
-  state = record { stage = ended (how_it_ends has_parted how); link = e.state; keeper = c };
+-- the session is over, and the end had parted before it or had not; the number stays, here and in all that the link leads to
+abbrev pub ends_so : {C : Type 0} → (number : Option ℕ) → Identity → (has_parted : Bool) → End → Effect → C → (took : Bool) → EndEffect C
+ends_so number id has_parted how e c took = record {
+  state = record { stage = ended (how_it_ends has_parted how); link = e.state; keeper = c; number = number };
   emitted = packets e.emitted ++ leave has_parted id.side;
   took = took;
 }
@@ -135,15 +137,15 @@ speaks_by false k s c = sending_nothing s c
 speaks_by true k s c = speaks_and_closes k (sends k s c)
 
 -- the session goes on: behind what the link emitted the end says what it has to say
-abbrev pub goes_on_with : {C : Type 0} → (took : Bool) → List Emission → Sending C → EndEffect C
-goes_on_with took emissions x = record {
-  state = record { stage = linked; link = x.link; keeper = x.keeper };
+abbrev pub goes_on_with : {C : Type 0} → (number : Option ℕ) → (took : Bool) → List Emission → Sending C → EndEffect C
+goes_on_with number took emissions x = record {
+  state = record { stage = linked; link = x.link; keeper = x.keeper; number = number };
   emitted = packets (emissions ++ x.emissions);
   took = took;
 }
 
-abbrev pub goes_on : {C : Type 0} → Keeper C → (took : Bool) → Effect → C → EndEffect C
-goes_on k took e c = goes_on_with took e.emitted (speaks_by (is_up e.state.phase) k e.state c)
+abbrev pub goes_on : {C : Type 0} → (number : Option ℕ) → Keeper C → (took : Bool) → Effect → C → EndEffect C
+goes_on number k took e c = goes_on_with number took e.emitted (speaks_by (is_up e.state.phase) k e.state c)
 
 -- what ends the session from here emits CLOSE behind the link's answer
 abbrev pub then_closes : Effect → Effect
@@ -154,24 +156,24 @@ then_closes e = record {
 }
 
 -- a message was taken, by whether what it did fitted no turn
-abbrev pub talks_by : {C : Type 0} → (bad : Bool) → Keeper C → Identity → Effect → (before after : C) → EndEffect C
-talks_by true k id e before after = ends_so id (k.has_parted before) ends.BadTalk (then_closes e) after true
-talks_by false k id e before after = goes_on k true e after
+abbrev pub talks_by : {C : Type 0} → (number : Option ℕ) → (bad : Bool) → Keeper C → Identity → Effect → (before after : C) → EndEffect C
+talks_by number true k id e before after = ends_so number id (k.has_parted before) ends.BadTalk (then_closes e) after true
+talks_by number false k id e before after = goes_on number k true e after
 
 -- A message was taken, by whether the spool's device failed at the file that it ended. The spool is asked before
 -- anything else is done with the message.
-abbrev pub takes_by : {C : Type 0} → (device_failed : Bool) → Keeper C → Identity → Effect → (message : List ℕ) → C → EndEffect C
-takes_by true k id e message c = ends_so id (k.has_parted c) ends.SpoolFault (then_closes e) c true
-takes_by false k id e message c = talks_by (k.is_bad (k.taking message c)) k id e c (k.taking message c)
+abbrev pub takes_by : {C : Type 0} → (number : Option ℕ) → (device_failed : Bool) → Keeper C → Identity → Effect → (message : List ℕ) → C → EndEffect C
+takes_by number true k id e message c = ends_so number id (k.has_parted c) ends.SpoolFault (then_closes e) c true
+takes_by number false k id e message c = talks_by number (k.is_bad (k.taking message c)) k id e c (k.taking message c)
 
 -- by what the link answered
-abbrev pub behind_link : {C : Type 0} → Keeper C → Identity → (device_failed : Bool) → OutcomeValue → Effect → (message : List ℕ) → C → EndEffect C
-behind_link k id device_failed nothing e message c = goes_on k false e c
-behind_link k id device_failed up e message c = goes_on k false e (k.opened (size_of_code e.state.size_code) c)
-behind_link k id device_failed taken e message c = takes_by (device_failed && k.asks_spool message c) k id e message c
-behind_link k id device_failed closed e message c = ends_so id (k.has_parted c) ends.PeerClosed e c false
-behind_link k id device_failed gave_up e message c = ends_so id (k.has_parted c) ends.GaveUp e c false
-behind_link k id device_failed halted e message c = goes_on k false e c
+abbrev pub behind_link : {C : Type 0} → (number : Option ℕ) → Keeper C → Identity → (device_failed : Bool) → OutcomeValue → Effect → (message : List ℕ) → C → EndEffect C
+behind_link number k id device_failed nothing e message c = goes_on number k false e c
+behind_link number k id device_failed up e message c = goes_on number k false e (k.opened (size_of_code e.state.size_code) c)
+behind_link number k id device_failed taken e message c = takes_by number (device_failed && k.asks_spool message c) k id e message c
+behind_link number k id device_failed closed e message c = ends_so number id (k.has_parted c) ends.PeerClosed e c false
+behind_link number k id device_failed gave_up e message c = ends_so number id (k.has_parted c) ends.GaveUp e c false
+behind_link number k id device_failed halted e message c = goes_on number k false e c
 
 -- ---- the events
 
@@ -180,37 +182,50 @@ abbrev pub message_of : PacketValue → List ℕ
 message_of (control c) = []
 message_of (carry seq ack k message) = message
 
-abbrev pub packet_came : {C : Type 0} → Keeper C → Identity → (device_failed : Bool) → PacketValue → State → C → EndEffect C
-packet_came k id device_failed p s c =
-    behind_link k id device_failed (step s (packet_found p)).outcome (step s (packet_found p)) (message_of p) c
+abbrev pub packet_came : {C : Type 0} → (number : Option ℕ) → Keeper C → Identity → (device_failed : Bool) → PacketValue → State → C → EndEffect C
+packet_came number k id device_failed p s c =
+    behind_link number k id device_failed (step s (packet_found p)).outcome (step s (packet_found p)) (message_of p) c
 
-abbrev pub bad_came : {C : Type 0} → Keeper C → Identity → State → C → EndEffect C
-bad_came k id s c = behind_link k id false (step s bad_found).outcome (step s bad_found) [] c
+abbrev pub bad_came : {C : Type 0} → (number : Option ℕ) → Keeper C → Identity → State → C → EndEffect C
+bad_came number k id s c = behind_link number k id false (step s bad_found).outcome (step s bad_found) [] c
 
 -- nothing has come for some time: the conversation does not move
-abbrev pub late_link : {C : Type 0} → Identity → (has_parted : Bool) → OutcomeValue → Effect → C → EndEffect C
-late_link id has_parted gave_up e c = ends_so id has_parted ends.GaveUp e c false
-late_link id has_parted _ e c = goes_on_with false e.emitted (sending_nothing e.state c)
+abbrev pub late_link : {C : Type 0} → (number : Option ℕ) → Identity → (has_parted : Bool) → OutcomeValue → Effect → C → EndEffect C
+late_link number id has_parted gave_up e c = ends_so number id has_parted ends.GaveUp e c false
+late_link number id has_parted _ e c = goes_on_with number false e.emitted (sending_nothing e.state c)
 
-abbrev pub late : {C : Type 0} → Identity → (has_parted : Bool) → State → C → EndEffect C
-late id has_parted s c = late_link id has_parted (step s timed_out).outcome (step s timed_out) c
+abbrev pub late : {C : Type 0} → (number : Option ℕ) → Identity → (has_parted : Bool) → State → C → EndEffect C
+late number id has_parted s c = late_link number id has_parted (step s timed_out).outcome (step s timed_out) c
 
--- the greeting has led to this: the caller begins the link
-abbrev pub begins_link : {C : Type 0} → Side → State → C → List Emitted → EndEffect C
-begins_link caller s c said = record {
-  state = record { stage = linked; link = (step s to_begin).state; keeper = c };
+-- the greeting has led to this, and to this number: the caller begins the link
+abbrev pub begins_link : {C : Type 0} → (number : Option ℕ) → Side → State → C → List Emitted → EndEffect C
+begins_link number caller s c said = record {
+  state = record { stage = linked; link = (step s to_begin).state; keeper = c; number = number };
   emitted = said ++ packets (step s to_begin).emitted;
   took = false;
 }
-begins_link called s c said = record { state = record { stage = linked; link = s; keeper = c }; emitted = said; took = false }
+begins_link number called s c said = record {
+  state = record { stage = linked; link = s; keeper = c; number = number };
+  emitted = said;
+  took = false;
+}
 
-abbrev pub greeted_so : {C : Type 0} → Identity → Greeted → List Emitted → State → C → EndEffect C
-greeted_so id (GoesOn g) said s c = record { state = record { stage = hailing g; link = s; keeper = c }; emitted = said; took = false }
-greeted_so id LinkBegins said s c = begins_link id.side s c said
-greeted_so id (Ended how) said s c = record { state = record { stage = ended how; link = s; keeper = c }; emitted = said; took = false }
+abbrev pub greeted_so : {C : Type 0} → (number : Option ℕ) → Identity → Greeted → List Emitted → State → C → EndEffect C
+greeted_so number id (GoesOn g) said s c = record {
+  state = record { stage = hailing g; link = s; keeper = c; number = number };
+  emitted = said;
+  took = false;
+}
+greeted_so number id LinkBegins said s c = begins_link number id.side s c said
+greeted_so number id (Ended how) said s c = record {
+  state = record { stage = ended how; link = s; keeper = c; number = number };
+  emitted = said;
+  took = false;
+}
 
-abbrev pub behind_greeting : {C : Type 0} → Identity → GreetingStep → State → C → EndEffect C
-behind_greeting id g s c = greeted_so id g.greeted (map says_text g.says) s c
+-- of an end that kept this number, or none
+abbrev pub behind_greeting : {C : Type 0} → (number : Option ℕ) → Identity → GreetingStep → State → C → EndEffect C
+behind_greeting number id g s c = greeted_so (number_by g.rises number) id g.greeted (map says_text g.says) s c
 
 -- nothing happens
 abbrev pub unmoved : {C : Type 0} → EndState C → EndEffect C
@@ -231,18 +246,18 @@ pub data EndEvent : Type 0 where
 
 -- texts are found in the greeting, and packets behind it
 abbrev pub hailing_step : {C : Type 0} → Identity → Greeting → EndEvent → EndState C → EndEffect C
-hailing_step id g (text_found text) e = behind_greeting id (text_came id.me id.peer g text) e.link e.keeper
-hailing_step id g long_text_found e = behind_greeting id long_text_came e.link e.keeper
-hailing_step id g time_ran_out e = behind_greeting id (greeting_timed_out g) e.link e.keeper
-hailing_step id g line_lost e = greeted_so id (Ended ends.HungUp) [] e.link e.keeper
+hailing_step id g (text_found text) e = behind_greeting e.number id (text_came id.me id.peer e.number g text) e.link e.keeper
+hailing_step id g long_text_found e = behind_greeting e.number id long_text_came e.link e.keeper
+hailing_step id g time_ran_out e = behind_greeting e.number id (greeting_timed_out g) e.link e.keeper
+hailing_step id g line_lost e = greeted_so e.number id (Ended ends.HungUp) [] e.link e.keeper
 hailing_step id g _ e = unmoved e
 
 abbrev pub linked_step : {C : Type 0} → Keeper C → Identity → EndEvent → EndState C → EndEffect C
-linked_step k id (packet_found_whole device_failed p) e = packet_came k id device_failed p e.link e.keeper
-linked_step k id broken_found e = bad_came k id e.link e.keeper
-linked_step k id time_ran_out e = late id (k.has_parted e.keeper) e.link e.keeper
+linked_step k id (packet_found_whole device_failed p) e = packet_came e.number k id device_failed p e.link e.keeper
+linked_step k id broken_found e = bad_came e.number k id e.link e.keeper
+linked_step k id time_ran_out e = late e.number id (k.has_parted e.keeper) e.link e.keeper
 linked_step k id line_lost e =
-    greeted_so id (Ended (how_it_ends (k.has_parted e.keeper) ends.HungUp)) [] e.link e.keeper
+    greeted_so e.number id (Ended (how_it_ends (k.has_parted e.keeper) ends.HungUp)) [] e.link e.keeper
 linked_step k id _ e = unmoved e
 
 -- nothing happens to an end whose session is over
@@ -253,6 +268,11 @@ stage_step k id (ended how) event e = unmoved e
 
 abbrev pub end_step : {C : Type 0} → Keeper C → Identity → EndEvent → EndState C → EndEffect C
 end_step k id event e = stage_step k id e.stage event e
+
+-- whether the number rises at an event: where a text of the greeting lets the caller in
+abbrev pub rises_at : Identity → (number : Option ℕ) → Stage → EndEvent → Bool
+rises_at id number (hailing g) (text_found text) = (text_came id.me id.peer number g text).rises
+rises_at id number _ _ = false
 
 -- ---- a session begins
 
@@ -267,9 +287,9 @@ first_link called own = called_state own
 abbrev pub first_words : Side → (me : List ℕ) → List Emitted
 first_words side me = map says_text (first_texts side me)
 
-abbrev pub begins_session : {C : Type 0} → Identity → Announced → C → EndEffect C
-begins_session id own c = record {
-  state = record { stage = first_stage id.side; link = first_link id.side own; keeper = c };
+abbrev pub begins_session : {C : Type 0} → Identity → Announced → (number : Option ℕ) → C → EndEffect C
+begins_session id own number c = record {
+  state = record { stage = first_stage id.side; link = first_link id.side own; keeper = c; number = number };
   emitted = first_words id.side id.me;
   took = false;
 }

@@ -1,5 +1,5 @@
 -- An end but for its spool and the bytes that it has not read yet, and what its calls do: the step of the definitions.
-use Rattle.std.specs.Prelude.{◌≡◌, ◌<◌, ◌⊎◌, ℕ, Bool, true, false, List, [], ◌++◌, map, ⊤}
+use Rattle.std.specs.Prelude.{◌≡◌, ◌<◌, ◌⊎◌, ℕ, Bool, true, false, List, [], ◌++◌, map, ⊤, Option}
 use Rattle.uug_link.specs.Announced.{Announced}
 use Rattle.uug_link.specs.Entries.{EntryValue, Held}
 use Rattle.uug_link.specs.Follows.{written}
@@ -28,10 +28,13 @@ pub record EngineState : Type 0 where
   pub talking : Talking
   -- what was emitted and not yet cleared
   pub outbox : Held
+  -- the number of its conversations, where it keeps one
+  pub number : Option ℕ
 
 -- beside a spool with these holdings that has kept these files
 abbrev pub end_of : Holdings → List Kept → EngineState → EndState Talk
-end_of h kept engine = record { stage = engine.stage; link = engine.link; keeper = talk_of h kept engine.talking }
+end_of h kept engine =
+    record { stage = engine.stage; link = engine.link; keeper = talk_of h kept engine.talking; number = engine.number }
 
 -- what goes out, as an outbox holds it: a text framed, a packet in its canonical spelling
 abbrev pub entry_of : Emitted → EntryValue
@@ -46,7 +49,7 @@ stage_of (Ended how) = ended how
 
 -- with what the code keeps of the conversation as its keeper's value
 abbrev pub bare : EngineState → EndState Talking
-bare engine = record { stage = engine.stage; link = engine.link; keeper = engine.talking }
+bare engine = record { stage = engine.stage; link = engine.link; keeper = engine.talking; number = engine.number }
 
 -- The call did what the step says: the end is then as it says, and exactly what it emits stands in order behind what the
 -- outbox held. Who the end is stays.
@@ -90,6 +93,7 @@ after_sends n h kept engine =
 
 -- all else stays
 pub record StandsStill (before after : EngineState) : Type 0 where
+  pub number : after.number ≡ before.number
   pub stage : after.stage ≡ before.stage
   pub identity : after.identity ≡ before.identity
   pub own : after.own ≡ before.own
@@ -110,10 +114,10 @@ pub record IsUnopened (l : Lists) (talking : Talking) : Type 0 where
 
 -- ---- nothing has come for some time
 
-abbrev pub stage_late : {C : Type 0} → Identity → (has_parted : Bool) → Stage → State → C → EndEffect C
-stage_late id has_parted (hailing greeting) s c = behind_greeting id (timed_out greeting) s c
-stage_late id has_parted linked s c = late id has_parted s c
-stage_late id has_parted (ended how) s c = unmoved (record { stage = ended how; link = s; keeper = c })
+abbrev pub stage_late : {C : Type 0} → (number : Option ℕ) → Identity → (has_parted : Bool) → Stage → State → C → EndEffect C
+stage_late number id has_parted (hailing greeting) s c = behind_greeting number id (timed_out greeting) s c
+stage_late number id has_parted linked s c = late number id has_parted s c
+stage_late number id has_parted (ended how) s c = unmoved (record { stage = ended how; link = s; keeper = c; number = number })
 
 -- all else as before
 abbrev pub with_stage : Stage → EngineState → EngineState
@@ -121,6 +125,9 @@ with_stage stage engine = record engine { stage = stage }
 
 abbrev pub with_outbox : Held → EngineState → EngineState
 with_outbox outbox engine = record engine { outbox = outbox }
+
+abbrev pub with_number : Option ℕ → EngineState → EngineState
+with_number number engine = record engine { number = number }
 
 -- ---- the line is gone
 
@@ -133,7 +140,8 @@ hung_up has_parted (ended how) = ended how
 
 abbrev pub packet_effect : Holdings → List Kept → (device_failed : Bool) → PacketValue → EngineState → EndEffect Talk
 packet_effect h kept device_failed p engine =
-    packet_came (end_keeper engine.identity.side h) engine.identity device_failed p engine.link (talk_of h kept engine.talking)
+    packet_came engine.number (end_keeper engine.identity.side h) engine.identity device_failed p engine.link
+    (talk_of h kept engine.talking)
 
 -- the device failed between these counts of faults, of which the greatest stands
 abbrev pub HasFailed : (most faults faults_after : ℕ) → Type 0
@@ -163,11 +171,11 @@ IsEnded _ = ⊥
 abbrev pub all_ahead : Lists → Lists
 all_ahead l = at_start (pending l) l.struck l.failed
 
--- The end that is so called and announces this has begun a session, with these jobs: nothing is left of an earlier
--- session, and what it says first stands behind these entries of its outbox.
-pub record BeginsSession (id : Identity) (announces : Announced) (l : Lists) (entries : List EntryValue) (after : EngineState) : Type 0 where
-  pub end : bare after ≡ (begins_session id announces after.talking).state
-  pub emitted : after.outbox.entries ≡ entries ++ map entry_of (begins_session id announces after.talking).emitted
+-- The end that is so called, announces this, and keeps this number or none has begun a session, with these jobs: nothing is
+-- left of an earlier session, and what it says first stands behind these entries of its outbox.
+pub record BeginsSession (id : Identity) (announces : Announced) (number : Option ℕ) (l : Lists) (entries : List EntryValue) (after : EngineState) : Type 0 where
+  pub end : bare after ≡ (begins_session id announces number after.talking).state
+  pub emitted : after.outbox.entries ≡ entries ++ map entry_of (begins_session id announces number after.talking).emitted
   pub identity : after.identity ≡ id
   pub own : after.own ≡ announces
   pub unopened : IsUnopened l after.talking

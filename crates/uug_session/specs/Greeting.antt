@@ -1,9 +1,11 @@
 -- The greeting: the texts that two ends exchange before the link begins. Taylor UUCP manual, "UUCP Protocol"; that a text
--- which is not awaited is passed over, and the count of timeouts, is this project's profile.
-use Rattle.std.specs.Prelude.{ℕ, ◌+◌, Bool, ◌==◌, nat_eq, nat_lt, if◌then◌else◌, List, [], ◌∷◌, ◌++◌, take, drop, codes}
+-- which is not awaited is passed over, the count of timeouts, and when the number of an end's conversations rises, is this
+-- project's profile.
+use Rattle.std.specs.Prelude.{ℕ, ◌+◌, ◌%◌, Bool, true, false, ◌==◌, nat_eq, nat_lt, if◌then◌else◌, List, [], ◌∷◌, ◌++◌, take, drop, codes, Option, Some, None}
 use Rattle.std.specs.List.{starts_with, list_any, position_or_len}
 use Rattle.std.specs.Str.{bytes_eq}
 use Rattle.uug_link.specs.declared.limits.TheConstants.{TIMEOUTS_MAX}
+use Rattle.uug_talk.specs.Call.{call_text, number_in_call}
 use Rattle.uug_talk.specs.Words.{is_space}
 use Rattle.uug_session.specs.declared.end.End.{End}
 use Rattle.uug_session.specs.declared.end.End.TheVariants as ends
@@ -14,10 +16,11 @@ use Rattle.uug_session.specs.declared.greeting.Greeted.TheVariants.{GoesOn, Link
 use Rattle.uug_session.specs.declared.greeting.Greeting.{Greeting}
 use Rattle.uug_session.specs.Turns.{Side, caller, called}
 
--- what an end says at once, and what becomes of its greeting
+-- what an end says at once, what becomes of its greeting, and whether the number of its conversations rises
 pub record GreetingStep : Type 0 where
   pub says : List (List ℕ)
   pub greeted : Greeted
+  pub rises : Bool
 
 -- an end that waits for a text, with no timeout yet
 abbrev pub first_greeting : AwaitedText → Greeting
@@ -25,24 +28,47 @@ first_greeting awaited = record { awaited = awaited; timeouts = 0 }
 
 -- the text is not the awaited one: nothing changes, the count of timeouts neither
 abbrev pub passes_over : Greeting → GreetingStep
-passes_over g = record { says = []; greeted = GoesOn g }
+passes_over g = record { says = []; greeted = GoesOn g; rises = false }
 
 abbrev pub goes_on : (says : List (List ℕ)) → AwaitedText → GreetingStep
-goes_on says awaited = record { says = says; greeted = GoesOn (first_greeting awaited) }
+goes_on says awaited = record { says = says; greeted = GoesOn (first_greeting awaited); rises = false }
+
+-- the called end lets the caller in, or the caller hears so: the greeting goes on, and the number rises
+abbrev pub lets_in : (says : List (List ℕ)) → AwaitedText → GreetingStep
+lets_in says awaited = record { says = says; greeted = GoesOn (first_greeting awaited); rises = true }
 
 abbrev pub begins : (says : List (List ℕ)) → GreetingStep
-begins says = record { says = says; greeted = LinkBegins }
+begins says = record { says = says; greeted = LinkBegins; rises = false }
 
 abbrev pub fails : (says : List (List ℕ)) → End → GreetingStep
-fails says how = record { says = says; greeted = Ended how }
+fails says how = record { says = says; greeted = Ended how; rises = false }
+
+-- ---- the number of an end's conversations
+
+-- behind the greatest one comes 0
+abbrev pub next_number : ℕ → ℕ
+next_number number = (number + 1) % 4294967296
+
+-- where one is kept
+abbrev pub risen : Option ℕ → Option ℕ
+risen None = None
+risen (Some number) = Some (next_number number)
+
+-- by whether it rises
+abbrev pub number_by : (rises : Bool) → Option ℕ → Option ℕ
+number_by false number = number
+number_by true number = risen number
+
+-- A called end that keeps a number expects the same one of the caller; one that keeps none expects any, and none.
+abbrev pub is_expected : (kept told : Option ℕ) → Bool
+is_expected None told = true
+is_expected (Some number) None = false
+is_expected (Some number) (Some told) = told == number
 
 -- ---- the texts
 
 abbrev pub called_text : (name : List ℕ) → List ℕ
 called_text name = codes "Shere=" ++ name
-
-abbrev pub caller_text : (name : List ℕ) → List ℕ
-caller_text name = codes "S" ++ name
 
 -- the text begins so
 abbrev pub begins_with : List ℕ → List ℕ → Bool
@@ -70,28 +96,36 @@ first_texts called me = called_text me ∷ []
 
 -- ---- the table
 
--- The caller waits for the called end's name. It need not be told; where it is, it is the one that was called.
-abbrev pub called_name_came : (me peer : List ℕ) → Greeting → List ℕ → GreetingStep
-called_name_came me peer g text =
-    if bytes_eq text (codes "Shere") then goes_on (caller_text me ∷ []) Admission else
+-- The caller waits for the called end's name. It need not be told; where it is, it is the one that was called. The caller
+-- says its own, with its number where it keeps one.
+abbrev pub called_name_came : (me peer : List ℕ) → (number : Option ℕ) → Greeting → List ℕ → GreetingStep
+called_name_came me peer number g text =
+    if bytes_eq text (codes "Shere") then goes_on (call_text me number ∷ []) Admission else
     (if begins_with text (codes "Shere=")
-    then (if bytes_eq (drop 6 text) peer then goes_on (caller_text me ∷ []) Admission else fails [] ends.WrongName)
+    then (if bytes_eq (drop 6 text) peer then goes_on (call_text me number ∷ []) Admission else fails [] ends.WrongName)
     else passes_over g)
 
--- The called end waits for the caller's name, and lets in the caller that it expects.
-abbrev pub caller_name_came : (peer : List ℕ) → Greeting → List ℕ → GreetingStep
-caller_name_came peer g text =
+-- by whether the caller tells the number that is expected
+abbrev pub number_came : (is_expected : Bool) → GreetingStep
+number_came false = fails (codes "RBADSEQ" ∷ []) ends.BadSequence
+number_came true = lets_in (codes "ROK" ∷ codes "Pg" ∷ []) Choice
+
+-- The called end waits for the caller's name, and lets in the caller that it expects, with the number that it expects. The
+-- name is looked at first.
+abbrev pub caller_name_came : (peer : List ℕ) → (number : Option ℕ) → Greeting → List ℕ → GreetingStep
+caller_name_came peer number g text =
     if begins_with text (codes "S")
     then (if bytes_eq (name_in_caller_text text) peer
-    then goes_on (codes "ROK" ∷ codes "Pg" ∷ []) Choice
+    then number_came (is_expected number (number_in_call text))
     else fails (codes "RYou are unknown to me" ∷ []) ends.Refused)
     else passes_over g
 
 -- The caller waits to be let in.
 abbrev pub admission_came : Greeting → List ℕ → GreetingStep
 admission_came g text =
-    if begins_with text (codes "ROK") then goes_on [] Protocols else
-    (if begins_with text (codes "R") then fails [] ends.Refused else passes_over g)
+    if begins_with text (codes "ROK") then lets_in [] Protocols else
+    (if begins_with text (codes "RBADSEQ") then fails [] ends.BadSequence else
+    (if begins_with text (codes "R") then fails [] ends.Refused else passes_over g))
 
 -- The caller waits for the protocols that the called end offers, and chooses g.
 abbrev pub protocols_came : Greeting → List ℕ → GreetingStep
@@ -106,16 +140,16 @@ choice_came g text =
     if bytes_eq text (codes "Ug") then begins [] else
     (if begins_with text (codes "U") then fails [] ends.NoProtocol else passes_over g)
 
-abbrev pub came_for : AwaitedText → (me peer : List ℕ) → Greeting → List ℕ → GreetingStep
-came_for CalledName me peer g text = called_name_came me peer g text
-came_for CallerName me peer g text = caller_name_came peer g text
-came_for Admission me peer g text = admission_came g text
-came_for Protocols me peer g text = protocols_came g text
-came_for Choice me peer g text = choice_came g text
+abbrev pub came_for : AwaitedText → (me peer : List ℕ) → (number : Option ℕ) → Greeting → List ℕ → GreetingStep
+came_for CalledName me peer number g text = called_name_came me peer number g text
+came_for CallerName me peer number g text = caller_name_came peer number g text
+came_for Admission me peer number g text = admission_came g text
+came_for Protocols me peer number g text = protocols_came g text
+came_for Choice me peer number g text = choice_came g text
 
--- a text came, to the end that is called me and speaks to peer
-abbrev pub text_came : (me peer : List ℕ) → Greeting → List ℕ → GreetingStep
-text_came me peer g text = came_for g.awaited me peer g text
+-- a text came, to the end that is called me, speaks to peer, and keeps this number or none
+abbrev pub text_came : (me peer : List ℕ) → (number : Option ℕ) → Greeting → List ℕ → GreetingStep
+text_came me peer number g text = came_for g.awaited me peer number g text
 
 -- a text came that was too long
 abbrev pub long_text_came : GreetingStep
@@ -125,5 +159,5 @@ long_text_came = fails [] ends.BadTalk
 abbrev pub timed_out : Greeting → GreetingStep
 timed_out g =
     if nat_lt (g.timeouts + 1) TIMEOUTS_MAX
-    then record { says = []; greeted = GoesOn (record { awaited = g.awaited; timeouts = g.timeouts + 1 }) }
+    then record { says = []; greeted = GoesOn (record { awaited = g.awaited; timeouts = g.timeouts + 1 }); rises = false }
     else fails [] ends.GaveUp

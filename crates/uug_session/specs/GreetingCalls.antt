@@ -20,12 +20,12 @@ pub data Hearing : Type 0 where
   hears_long_text : Hearing
   hears_nothing : Hearing
 
--- what it does then, by the table; where a call brings nothing to be heard, all stays
-abbrev pub greets_to : (me peer : List ℕ) → Option Hearing → Greeting → GreetingStep
-greets_to me peer (Some (hears_text text)) g = text_came me peer g text
-greets_to me peer (Some hears_long_text) g = long_text_came
-greets_to me peer (Some hears_nothing) g = timed_out g
-greets_to me peer None g = passes_over g
+-- what it does then, by the table, where it keeps this number or none; where a call brings nothing to be heard, all stays
+abbrev pub greets_to : (me peer : List ℕ) → (number : Option ℕ) → Option Hearing → Greeting → GreetingStep
+greets_to me peer number (Some (hears_text text)) g = text_came me peer number g text
+greets_to me peer number (Some hears_long_text) g = long_text_came
+greets_to me peer number (Some hears_nothing) g = timed_out g
+greets_to me peer number None g = passes_over g
 
 -- the texts among it
 abbrev pub text_in : Option Hearing → List (List ℕ)
@@ -58,12 +58,13 @@ pub record GreetsAt (id : Identity) (g : Greeting) (texts : List (List ℕ)) (ca
 
 -- what a step of the greeting emits, and to what it leads, whatever the end keeps of its conversation
 abbrev pub told_of : Identity → GreetingStep → NodeState → EndEffect (Unit {0})
-told_of id step n = behind_greeting id step n.engine.link tt
+told_of id step n = behind_greeting n.engine.number id step n.engine.link tt
 
 -- the step was done: just what it says was added to the outbox, and the end is as it says
 pub record DoesStep (id : Identity) (step : GreetingStep) (added : List EntryValue) (old new : NodeState) : Type 0 where
   pub stage : new.engine.stage ≡ (told_of id step old).state.stage
   pub link : new.engine.link ≡ (told_of id step old).state.link
+  pub number : new.engine.number ≡ (told_of id step old).state.number
   pub says : added ≡ map entry_of (told_of id step old).emitted
 
 -- How it goes on: the greeting does, or with exactly the bytes behind the last text the link begins, or the session is
@@ -81,7 +82,7 @@ GreetsThrough h most id (call ∷ calls) texts came added old new g =
     GreetsAt id g texts came old.node
     × (middle : Beside) × (first more : List EntryValue) × (added ≡ first ++ more)
     × (x : Option Hearing) × Brings call texts came x
-    × DoesStep id (greets_to id.me id.peer x g) first old.node middle.node
+    × DoesStep id (greets_to id.me id.peer old.node.engine.number x g) first old.node middle.node
     × GreetsOn (GreetsThrough h most id calls (texts ++ text_in x) (came ++ taken_in call) more middle new)
     (Make h most calls more middle new) (texts ++ text_in x) (came ++ taken_in call)
-    (greets_to id.me id.peer x g).greeted middle.node
+    (greets_to id.me id.peer old.node.engine.number x g).greeted middle.node

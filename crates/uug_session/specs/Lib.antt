@@ -1,5 +1,6 @@
 pub mod Alternation
 pub mod Arriving
+pub mod Backlog
 pub mod Choice
 pub mod Conversation
 pub mod Count
@@ -29,6 +30,7 @@ pub mod NodeCalls
 pub mod NodeGreeting
 pub mod NodeLoan
 pub mod NodeSteps
+pub mod NumberStanding
 pub mod Offers
 pub mod Outgoing
 pub mod OwnEntries

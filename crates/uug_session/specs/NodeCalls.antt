@@ -47,7 +47,7 @@ pub record HoldsTheSame (old new : Beside) : Type 0 where
 -- what a timeout does to an end
 abbrev pub IsLate : (old new : EngineState) → Type 0
 IsLate old new =
-    Does (stage_late old.identity (talking_has_parted old.talking) old.stage old.link old.talking) (bare new) old new
+    Does (stage_late old.number old.identity (talking_has_parted old.talking) old.stage old.link old.talking) (bare new) old new
 
 -- the clauses of `offer`, of `next_found`, of `take_found`, of `on_timeout` and of `clear_outbox`; `most` is the greatest
 -- count of faults

@@ -1,5 +1,5 @@
 -- How a node greets, by all bytes that came to it since its session began. Taylor UUCP manual, "UUCP Protocol".
-use Rattle.std.specs.Prelude.{◌≡◌, ◌≢◌, ℕ, Bool, List, [], ◌++◌, map}
+use Rattle.std.specs.Prelude.{◌≡◌, ◌≢◌, ℕ, Bool, List, [], ◌++◌, map, Option}
 use Rattle.uug_link.specs.Announced.{Announced}
 use Rattle.uug_link.specs.Entries.{EntryValue}
 use Rattle.uug_session.specs.declared.end.End.{End}
@@ -26,21 +26,21 @@ holding_nothing x = record { held = []; end = x }
 
 -- when its greeting was this run: it has said these texts, and where they led to the link, the caller has begun it
 abbrev pub greeted_by : Identity → Announced → GreetingRun → Talk → EndEffect Talk
-greeted_by id own run talk = greeted_so id run.greeted (map says_text run.says) (first_link id.side own) talk
+greeted_by id own run talk = greeted_so run.number id run.greeted (map says_text run.says) (first_link id.side own) talk
 
--- the link's begin alone
-abbrev pub at_link : Identity → Announced → Talk → EndEffect Talk
-at_link id own talk = begins_link id.side (first_link id.side own) talk []
+-- the link's begin alone, at an end that keeps this number or none
+abbrev pub at_link : Identity → Announced → (number : Option ℕ) → Talk → EndEffect Talk
+at_link id own number talk = begins_link number id.side (first_link id.side own) talk []
 
 -- a node whose link has begun so, and that has emitted nothing since
-abbrev pub on_link : Identity → Announced → Talk → (failures : List Bool) → NodeEnd
-on_link id own talk failures = record { state = (at_link id own talk).state; emitted = []; failures = failures }
+abbrev pub on_link : Identity → Announced → (number : Option ℕ) → Talk → (failures : List Bool) → NodeEnd
+on_link id own number talk failures = record { state = (at_link id own number talk).state; emitted = []; failures = failures }
 
 -- ---- a node to which bytes came
 
--- A node has begun a session, and then these bytes have come to it, in whatever pieces, and all that is found in them was
--- taken up. What it emits in the session stands behind these entries of its outbox.
-pub record HasHeard (h : Holdings) (id : Identity) (own : Announced) (entries : List EntryValue) (came : List ℕ) (now : NodeState) : Type 0 where
+-- A node that kept this number or none has begun a session, and then these bytes have come to it, in whatever pieces, and all
+-- that is found in them was taken up. What it emits in the session stands behind these entries of its outbox.
+pub record HasHeard (h : Holdings) (id : Identity) (own : Announced) (number : Option ℕ) (entries : List EntryValue) (came : List ℕ) (now : NodeState) : Type 0 where
   pub lists : Lists
   pub kept : List Kept
   pub kept_now : List Kept
@@ -49,32 +49,36 @@ pub record HasHeard (h : Holdings) (id : Identity) (own : Announced) (entries : 
   pub faults : ℕ
   pub faults_now : ℕ
   pub start : NodeState
-  pub begins : BeginsSession id own lists entries start.engine
+  pub begins : BeginsSession id own number lists entries start.engine
   pub held : HoldsNothing start
   pub takes : TakesAll h kept kept_now (HasFailed most faults faults_now) came start now
 
 -- what it keeps of the conversation until its link is up
-abbrev pub talk_at_first : {h : Holdings} {id : Identity} {own : Announced} {entries : List EntryValue} {came : List ℕ} {now : NodeState} → HasHeard h id own entries came now → Talk
+abbrev pub talk_at_first : {h : Holdings} {id : Identity} {own : Announced} {number : Option ℕ} {entries : List EntryValue} {came : List ℕ} {now : NodeState} → HasHeard h id own number entries came now → Talk
 talk_at_first m = unopened m.lists m.kept
 
--- It greets still. It has said these texts, its link has not begun, and it holds what waits of these bytes.
-pub record GreetsStill (id : Identity) (own : Announced) (entries : List EntryValue) (texts : List (List ℕ)) (g : Greeting) (behind : List ℕ) (now : NodeState) : Type 0 where
+-- It greets still. It has said these texts, keeps this number or none, its link has not begun, and it holds what waits of
+-- these bytes.
+pub record GreetsStill (id : Identity) (own : Announced) (entries : List EntryValue) (texts : List (List ℕ)) (number : Option ℕ) (g : Greeting) (behind : List ℕ) (now : NodeState) : Type 0 where
   pub stage : now.engine.stage ≡ hailing g
+  pub keeps : now.engine.number ≡ number
   pub says : now.engine.outbox.entries ≡ entries ++ map entry_of_text texts
   pub link : now.engine.link ≡ first_link id.side own
   pub waits : finding (hailing g) behind ≡ finds_nothing (held_bytes now)
 
--- Its greeting has ended the session. It has said these texts, and nothing else.
-pub record HasEnded (entries : List EntryValue) (texts : List (List ℕ)) (how : End) (now : NodeState) : Type 0 where
+-- Its greeting has ended the session. It has said these texts, and nothing else, and keeps this number or none.
+pub record HasEnded (entries : List EntryValue) (texts : List (List ℕ)) (number : Option ℕ) (how : End) (now : NodeState) : Type 0 where
   pub stage : now.engine.stage ≡ ended how
+  pub keeps : now.engine.number ≡ number
   pub says : now.engine.outbox.entries ≡ entries ++ map entry_of_text texts
 
--- Its greeting has led to the link. Behind these texts stands what the link's begin has emitted, and then what these bytes,
--- and no others, led to on the link.
-pub record HasBegunLink {h : Holdings} {id : Identity} {own : Announced} {entries : List EntryValue} {came : List ℕ} {now : NodeState} (m : HasHeard h id own entries came now) (texts : List (List ℕ)) (behind : List ℕ) : Type 0 where
+-- Its greeting has led to the link and left it this number or none, which it keeps. Behind these texts stands what the link's
+-- begin has emitted, and then what these bytes, and no others, led to on the link.
+pub record HasBegunLink {h : Holdings} {id : Identity} {own : Announced} {first : Option ℕ} {entries : List EntryValue} {came : List ℕ} {now : NodeState} (m : HasHeard h id own first entries came now) (texts : List (List ℕ)) (number : Option ℕ) (behind : List ℕ) : Type 0 where
   pub stage : (g : Greeting) → now.engine.stage ≢ hailing g
+  pub keeps : now.engine.number ≡ number
   pub later : List Emitted
   pub says : now.engine.outbox.entries ≡ entries ++ map entry_of_text texts
-      ++ map entry_of (at_link id own (talk_at_first m)).emitted ++ map entry_of later
-  pub takes : takes_piece (node_taker h id) behind (holding_nothing (on_link id own (talk_at_first m) m.takes.course.failures))
+      ++ map entry_of (at_link id own number (talk_at_first m)).emitted ++ map entry_of later
+  pub takes : takes_piece (node_taker h id) behind (holding_nothing (on_link id own number (talk_at_first m) m.takes.course.failures))
       ≡ all_taken (hearer_of h m.kept_now later [] now)

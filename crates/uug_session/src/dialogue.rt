@@ -1,4 +1,5 @@
-ghost use Rattle.std.specs.Prelude.{◌≡◌, ◌≢◌, ◌≤◌, ◌<◌, ◌⊎◌, ◌++◌, [], length, option_map, true, false, All, OnOk, OnErr, IfOk, IfErr, IfSome, IfNone};
+ghost use Rattle.std.specs.Prelude.{◌≡◌, ◌≢◌, ◌≤◌, ◌<◌, ◌⊎◌, ◌++◌, [], length, true, false, All, OnOk, OnErr, IfOk, IfErr, IfSome, IfNone, Some, None};
+ghost use Rattle.std.specs.Bool.{OnTrue, OnFalse};
 ghost use Rattle.uug_talk.specs.Gathering.{OfFile};
 ghost use Rattle.uug_session.specs.Jobs.{at_start, pending};
 ghost use Rattle.uug_session.specs.Machine.{between, kind_awaited, opening, step};
@@ -158,17 +159,18 @@ impl<A: Allocator + Copy> Dialogue<A> {
         Ok(())
     }
 
-    /// The next message to go out, if there is one, which is taken as sent.
-    pub(crate) fn take_message<S: Spool>(&mut self, spool: &S) -> Option<Message>
+    /// Puts the next message to go out into `message`, and says whether there was one. It is taken as sent.
+    pub(crate) fn take_message<S: Spool>(&mut self, spool: &S, message: &mut Message) -> bool
         requires { self.old.opened ≡ true }
-        ensures first { first_of (talk_of (S.holdings spool.now)
-            (S.kept spool.now) self.old).waiting
-            ≡ option_map (λ message. message.items) result }
+        ensures first { OnTrue result (first_of (talk_of (S.holdings spool.now)
+            (S.kept spool.now) self.old).waiting ≡ Some message.new.items) }
+        ensures none { OnFalse result (first_of (talk_of (S.holdings spool.now)
+            (S.kept spool.now) self.old).waiting ≡ None) }
         ensures sent { talk_of (S.holdings spool.now) (S.kept spool.now) self.new
             ≡ with_first_sent (talk_of (S.holdings spool.now) (S.kept spool.now) self.old) }
-        ensures size { IfSome result (λ message. length message.items ≤ self.old.size) }
+        ensures size { OnTrue result (length message.new.items ≤ self.old.size) }
     {
-        self.outgoing.take_message(spool, self.size)
+        self.outgoing.take_message(spool, self.size, message)
     }
 
     /// Whether what was taken fitted no turn.

@@ -19,4 +19,6 @@ pub enum End {
     SpoolFault,
     /// The line was gone.
     HungUp,
+    /// The called end expected another number of the conversation, and did not let the caller in.
+    BadSequence,
 }

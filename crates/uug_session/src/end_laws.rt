@@ -1,12 +1,13 @@
 //! Laws of one end, whatever the other is. The functions do nothing.
-ghost use Rattle.std.specs.Prelude.{◌≡◌, ◌≤◌, ℕ, List, [], All, length};
+ghost use Rattle.std.specs.Prelude.{◌≡◌, ◌≤◌, ℕ, List, [], All, Option, length};
 ghost use Rattle.uug_link.specs.Announced.{Announced};
 ghost use Rattle.uug_link.specs.InRange.{IsAnnouncement};
 ghost use Rattle.uug_link.specs.State.{IsStarting};
 ghost use Rattle.uug_session.specs.declared.job.Job.{Job};
 ghost use Rattle.uug_session.specs.declared.phase.Phase.TheVariants.{Starting};
 ghost use Rattle.uug_session.specs.EarlierJobs.{behind, state_behind, reply_behind};
-ghost use Rattle.uug_session.specs.EndStep.{EndEvent, EndState, Identity, begins_session, end_step};
+ghost use Rattle.uug_session.specs.EndStep.{EndEvent, EndState, Identity, begins_session, end_step, rises_at};
+ghost use Rattle.uug_session.specs.Greeting.{number_by};
 ghost use Rattle.uug_session.specs.Holdings.{Holdings};
 ghost use Rattle.uug_session.specs.InRange.{CanBeWritten, IsEndInRange, MayFind};
 ghost use Rattle.uug_session.specs.Jobs.{Lists, at_start};
@@ -42,9 +43,10 @@ pub fn own_messages_fit()
 /// Each packet that an end emits can be written, and so is read again as what it is, where the end has made a right
 /// announcement.
 pub fn what_an_end_emits_can_be_written()
-    ensures first { (id : Identity) (own : Announced) (talk : Talk) → IsAnnouncement own
-        → IsEndInRange id.side (begins_session id own talk).state
-        × All CanBeWritten (begins_session id own talk).emitted }
+    ensures first { (id : Identity) (own : Announced) (number : Option ℕ) (talk : Talk)
+        → IsAnnouncement own
+        → IsEndInRange id.side (begins_session id own number talk).state
+        × All CanBeWritten (begins_session id own number talk).emitted }
     ensures stays { (side : Side) (h : Holdings) (id : Identity) (event : EndEvent) (e : EndState Talk)
         → IsEndInRange id.side e → MayFind event
         → IsEndInRange id.side (end_step (end_keeper side h) id event e).state }
@@ -59,7 +61,8 @@ pub fn what_an_end_emits_can_be_written()
 
 /// The session of an end whose link has ended is over. This holds of whatever keeps the conversation.
 pub fn a_session_ends_with_its_link<C>()
-    ensures first { (id : Identity) (own : Announced) (c : C) → EndsWithItsLink (begins_session id own c).state }
+    ensures first { (id : Identity) (own : Announced) (number : Option ℕ) (c : C)
+        → EndsWithItsLink (begins_session id own number c).state }
     ensures stays { (k : Keeper C) (id : Identity) (event : EndEvent) (e : EndState C) → EndsWithItsLink e
         → EndsWithItsLink (end_step k id event e).state }
     // So an end that is starting has a link that has not come up yet.
@@ -68,3 +71,13 @@ pub fn a_session_ends_with_its_link<C>()
 {
     what_a_link_answers();
 }
+
+/// The number of an end's conversations rises where a text of the greeting lets the caller in, and stays at all else: through
+/// the link, timeouts and a lost line. This holds of whatever keeps the conversation.
+pub fn a_number_rises_in_the_greeting_alone<C>()
+    ensures first { (id : Identity) (own : Announced) (number : Option ℕ) (c : C)
+        → (begins_session id own number c).state.number ≡ number }
+    ensures step { (k : Keeper C) (id : Identity) (event : EndEvent) (e : EndState C)
+        → (end_step k id event e).state.number
+        ≡ number_by (rises_at id e.number e.stage event) e.number }
+{}

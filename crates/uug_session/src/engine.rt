@@ -1,11 +1,11 @@
-ghost use Rattle.std.specs.Prelude.{◌≡◌, ◌≢◌, ℕ, suc, ◌+◌, ◌<◌, ◌≤◌, ◌↔◌, List, length, [], ◌++◌, map, true, false, OnOk, OnErr, IfOk, IsTrue, MatchOption, All};
+ghost use Rattle.std.specs.Prelude.{◌≡◌, ◌≢◌, ℕ, suc, ◌+◌, ◌<◌, ◌≤◌, ◌↔◌, List, length, [], ◌++◌, map, true, false, OnOk, OnErr, IfOk, IsTrue, MatchOption, All, Some};
 ghost use Rattle.std.specs.Bool.{OnTrue, OnFalse};
 ghost use Rattle.uug_link.specs.Announced.{announced};
 ghost use Rattle.uug_link.specs.State.{IsUp, IsFresh};
 ghost use Rattle.uug_link.specs.Follows.{written};
 ghost use Rattle.uug_link.specs.Step.{step, packet_found, timed_out, to_close, taken};
 ghost use Rattle.uug_packet.specs.Packet.{shown};
-ghost use Rattle.uug_session.specs.Engine.{BeginsSession, CountsFaults, Does, IsHailing, StandsStill, TakesUp, after_sends, after_speaking, all_ahead, bare, end_of, entry_of, hung_up, packet_effect, spoken_of, stage_late, stage_of, with_outbox, with_stage};
+ghost use Rattle.uug_session.specs.Engine.{BeginsSession, CountsFaults, Does, IsHailing, StandsStill, TakesUp, after_sends, after_speaking, all_ahead, bare, end_of, entry_of, hung_up, packet_effect, spoken_of, stage_late, stage_of, with_number, with_outbox, with_stage};
 ghost use Rattle.uug_session.specs.EndStep.{bad_came, begins_link, ended, final_text, first_link, first_stage, first_words, greeted_so, hailing, hailing_step, how_it_ends, late, leave, linked, message_of, text_found, unmoved};
 ghost use Rattle.uug_session.specs.Jobs.{pending};
 ghost use Rattle.uug_session.specs.Party.{HasNames};
@@ -17,7 +17,7 @@ ghost use Rattle.uug_session.specs.Talking.{talk_of, talking_has_parted};
 
 use crate::dialogue::Dialogue;
 use crate::end::End;
-use crate::greeting::{Greeted, Greeting};
+use crate::greeting::{Greeted, Greeting, number_behind};
 use crate::outgoing::SAYINGS_MAX;
 use crate::phase::Phase;
 use crate::place::Place;
@@ -32,7 +32,7 @@ use std::marker::Model;
 use uug_link::laws::what_a_link_answers;
 use uug_link::{Announce, Link, LinkFault, Outbox, Outcome, TIMEOUTS_MAX, WINDOW_MAX};
 use uug_packet::Packet;
-use uug_talk::Name;
+use uug_talk::{Message, Name};
 
 /// More than what a packet, a broken one or a timeout can bring an end to emit: the link's answer, as many new messages
 /// as a window has, CLOSE and the final text.
@@ -47,6 +47,8 @@ pub(crate) struct Engine<A: Allocator> {
     link: Link,
     dialogue: Dialogue<A>,
     outbox: Outbox<A>,
+    /// Where a message is made that goes out: what it holds means nothing between two calls.
+    message: Message,
 }
 
 impl<A: Allocator> Model for Engine<A> {
@@ -67,6 +69,7 @@ impl<A: Allocator> Model for Engine<A> {
       link = engine.link;
       talking = engine.dialogue;
       outbox = engine.outbox;
+      number = engine.place.number;
     } };
 
     ghost invariant = { λ engine. IsReady (stage_of engine.stage)
@@ -91,10 +94,10 @@ impl<A: Allocator + Copy> Engine<A> {
         if !self.link.room() {
             return false;
         }
-        let Some(message) = self.dialogue.take_message(spool) else {
+        if !self.dialogue.take_message(spool, &mut self.message) {
             return false;
-        };
-        let Ok(()) = self.link.send(&message, &mut self.outbox) else {
+        }
+        let Ok(()) = self.link.send(&self.message, &mut self.outbox) else {
             unreachable!();
         };
         true
@@ -160,6 +163,7 @@ impl<A: Allocator + Copy> Engine<A> {
         ensures talking { self.new.talking ≡ self.old.talking }
         ensures identity { self.new.identity ≡ self.old.identity }
         ensures own { self.new.own ≡ self.old.own }
+        ensures number { self.new.number ≡ self.old.number }
     {
         if !has_parted {
             self.stage = Stage::Ended(how);
@@ -267,6 +271,7 @@ impl<A: Allocator + Copy> Engine<A> {
         ensures talking { self.new.talking ≡ self.old.talking }
         ensures identity { self.new.identity ≡ self.old.identity }
         ensures own { self.new.own ≡ self.old.own }
+        ensures number { self.new.number ≡ self.old.number }
     {
         self.close();
         self.finish(has_parted, how);
@@ -305,14 +310,15 @@ impl<A: Allocator + Copy> Engine<A> {
     /// Takes up a broken packet, on a link that has begun.
     pub(crate) fn on_bad<S: Spool>(&mut self, spool: &S) -> Result<(), AllocError>
         requires linked { self.old.stage ≡ linked }
-        ensures ok { OnOk result (Does (bad_came (end_keeper self.old.identity.side
+        ensures ok { OnOk result (Does (bad_came self.old.number (end_keeper self.old.identity.side
             (S.holdings spool.now)) self.old.identity
             self.old.link (talk_of (S.holdings spool.now) (S.kept spool.now) self.old.talking))
             (end_of (S.holdings spool.now) (S.kept spool.now) self.new) self.old self.new) }
         ensures says { OnOk result (SaysWhatItCan self.new) }
         ensures err { OnErr result (Does (unmoved (bare self.old))
             (bare self.new) self.old self.new) }
-        ensures nothing_taken { (bad_came (end_keeper self.old.identity.side (S.holdings spool.now))
+        ensures nothing_taken { (bad_came self.old.number
+            (end_keeper self.old.identity.side (S.holdings spool.now))
             self.old.identity
             self.old.link (talk_of (S.holdings spool.now) (S.kept spool.now) self.old.talking)).took
             ≡ false }
@@ -330,7 +336,7 @@ impl<A: Allocator + Copy> Engine<A> {
 
     /// Takes up that nothing has come for some time.
     pub(crate) fn on_timeout(&mut self) -> Result<(), AllocError>
-        ensures ok { OnOk result (Does (stage_late self.old.identity
+        ensures ok { OnOk result (Does (stage_late self.old.number self.old.identity
             (talking_has_parted self.old.talking) self.old.stage
             self.old.link self.old.talking) (bare self.new) self.old self.new) }
         ensures err { OnErr result (Does (unmoved (bare self.old))
@@ -349,7 +355,8 @@ impl<A: Allocator + Copy> Engine<A> {
     /// Nothing has come on a link for some time.
     fn late(&mut self) -> Result<(), AllocError>
         requires linked { self.old.stage ≡ linked }
-        ensures ok { OnOk result (Does (late self.old.identity (talking_has_parted self.old.talking)
+        ensures ok { OnOk result (Does (late self.old.number self.old.identity
+            (talking_has_parted self.old.talking)
             self.old.link self.old.talking) (bare self.new) self.old self.new) }
         ensures err { OnErr result (Does (unmoved (bare self.old))
             (bare self.new) self.old self.new) }
@@ -365,7 +372,8 @@ impl<A: Allocator + Copy> Engine<A> {
     /// The same on a link that has something to repeat, or that ends.
     fn repeat(&mut self) -> Result<(), AllocError>
         requires linked { self.old.stage ≡ linked }
-        ensures ok { OnOk result (Does (late self.old.identity (talking_has_parted self.old.talking)
+        ensures ok { OnOk result (Does (late self.old.number self.old.identity
+            (talking_has_parted self.old.talking)
             self.old.link self.old.talking) (bare self.new) self.old self.new) }
         ensures err { OnErr result (Does (unmoved (bare self.old))
             (bare self.new) self.old self.new) }
@@ -389,7 +397,7 @@ impl<A: Allocator + Copy> Engine<A> {
     fn stay_silent(&mut self)
         requires linked { self.old.stage ≡ linked }
         requires silent { (step self.old.link timed_out).emitted ≡ [] }
-        ensures { Does (late self.old.identity (talking_has_parted self.old.talking)
+        ensures { Does (late self.old.number self.old.identity (talking_has_parted self.old.talking)
             self.old.link self.old.talking) (bare self.new) self.old self.new }
     {
         what_a_link_answers();
@@ -412,8 +420,9 @@ impl<A: Allocator + Copy> Engine<A> {
             (bare self.new) self.old self.new) }
     {
         self.outbox.reserve(EMITTED_MAX)?;
-        let greeted = greeting.on_text(&self.place.me, &self.place.peer, text, &mut self.outbox)?;
-        self.lead_to(greeted);
+        let led = greeting.on_text(&self.place, text, &mut self.outbox)?;
+        self.place.number = number_behind(led.rises, self.place.number);
+        self.lead_to(led.greeted);
         Ok(())
     }
 
@@ -428,7 +437,8 @@ impl<A: Allocator + Copy> Engine<A> {
     fn lead_to(&mut self, greeted: Greeted)
         requires hailing { IsHailing self.old.stage }
         requires spare { greeted ≡ Greeted.LinkBegins → WINDOW_MAX ≤ self.old.outbox.spare }
-        ensures does { Does (greeted_so self.old.identity greeted [] self.old.link self.old.talking)
+        ensures does { Does (greeted_so self.old.number self.old.identity greeted []
+            self.old.link self.old.talking)
             (bare self.new) self.old self.new }
         ensures says { SaysWhatItCan self.new }
     {
@@ -443,7 +453,8 @@ impl<A: Allocator + Copy> Engine<A> {
     fn begin_link(&mut self)
         requires hailing { IsHailing self.old.stage }
         requires spare { WINDOW_MAX ≤ self.old.outbox.spare }
-        ensures does { Does (begins_link self.old.identity.side self.old.link self.old.talking [])
+        ensures does { Does (begins_link self.old.number self.old.identity.side
+            self.old.link self.old.talking [])
             (bare self.new) self.old self.new }
         ensures says { SaysWhatItCan self.new }
     {
@@ -527,6 +538,20 @@ impl<A: Allocator + Copy> Engine<A> {
         self.outbox.clear();
     }
 
+    /// The number of the next conversation, where one is kept.
+    pub(crate) fn number(&self) -> Option<u32>
+        ensures { result ≡ self.now.number }
+    {
+        self.place.number
+    }
+
+    /// From now on this number is kept.
+    pub(crate) fn set_number(&mut self, number: u32)
+        ensures { self.new ≡ with_number (Some number) self.old }
+    {
+        self.place.number = Some(number);
+    }
+
     /// The jobs.
     pub(crate) fn queue(&self) -> &Queue<A>
         ensures jobs { result.now ≡ self.now.talking.machine.lists }
@@ -548,6 +573,7 @@ impl<A: Allocator + Copy> Engine<A> {
         requires spare { 1 ≤ outbox.spare }
         ensures { BeginsSession (record { side = side_of side; me = place.me; peer = place.peer })
             (announced place.announce)
+            place.number
             (all_ahead queue) outbox.entries result }
     {
         queue.restart();
@@ -559,6 +585,7 @@ impl<A: Allocator + Copy> Engine<A> {
             link: first_link(side, place.announce),
             dialogue: Dialogue::new(alloc, queue),
             outbox,
+            message: Message::new(),
         }
     }
 
@@ -573,7 +600,7 @@ impl<A: Allocator + Copy> Engine<A> {
     /// The next session begins: what was left of the last one is dropped, and every pending job is to be offered.
     pub(crate) fn restart(&mut self)
         requires spare { 1 ≤ self.old.outbox.spare }
-        ensures { BeginsSession self.old.identity self.old.own
+        ensures { BeginsSession self.old.identity self.old.own self.old.number
             (all_ahead self.old.talking.machine.lists)
             self.old.outbox.entries self.new }
     {

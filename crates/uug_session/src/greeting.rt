@@ -1,14 +1,17 @@
-ghost use Rattle.std.specs.Prelude.{◌≡◌, [], ◌∷◌, IfOk, length, ◌<◌, ◌≤◌};
+ghost use Rattle.std.specs.Prelude.{◌≡◌, [], ◌∷◌, IfOk, length, ◌<◌, ◌≤◌, true, false};
 ghost use Rattle.std.specs.List.{position_or_len};
-ghost use Rattle.uug_session.specs.Greeting.{first_greeting, goes_on, called_text, caller_text, name_in_caller_text, text_came, called_name_came, caller_name_came, admission_came, protocols_came, choice_came, long_text_came, timed_out};
+ghost use Rattle.uug_session.specs.Greeting.{first_greeting, goes_on, called_text, name_in_caller_text, text_came, called_name_came, caller_name_came, number_came, admission_came, protocols_came, choice_came, long_text_came, timed_out};
+ghost use Rattle.uug_session.specs.Greeting.{is_expected, number_by};
 ghost use Rattle.uug_session.specs.Says.{Says};
+ghost use Rattle.uug_talk.specs.Call.{call_text, number_in_call};
 ghost use Rattle.uug_talk.specs.Words.{is_space};
 
 use crate::end::End;
+use crate::place::Place;
 use crate::saying::{say, say_both, say_name};
 use std::alloc::{AllocError, Allocator};
 use uug_link::{Outbox, TIMEOUTS_MAX};
-use uug_talk::Name;
+use uug_talk::{Name, caller_number, write_call};
 
 /// The text for which an end waits, in the order in which they come.
 #[derive(Clone, Copy, Debug, PartialEq, Eq)]
@@ -45,6 +48,15 @@ pub enum Greeted {
     Ended(End),
 }
 
+/// What a text leads to.
+#[derive(Clone, Copy, Debug, PartialEq, Eq)]
+pub struct Led {
+    /// What becomes of the greeting.
+    pub greeted: Greeted,
+    /// Whether the caller is let in, so that the number of the end's conversations rises.
+    pub rises: bool,
+}
+
 impl Greeting {
     /// The caller's greeting, before anything has come.
     pub fn caller() -> Self
@@ -62,21 +74,23 @@ impl Greeting {
         Ok(Greeting::awaiting(AwaitedText::CallerName))
     }
 
-    /// Takes up a text, of the end that is called `me` and speaks to `peer`. Without memory for what it says the
-    /// outbox's entries stay.
+    /// Takes up a text, of the end that stands at this place. Without memory for what it says the outbox's entries stay.
     pub fn on_text<A: Allocator>(
         self,
-        me: &Name,
-        peer: &Name,
+        place: &Place,
         text: &[u8],
         out: &mut Outbox<A>,
-    ) -> Result<Greeted, AllocError>
-        ensures greeted { IfOk result (λ greeted. greeted ≡ (text_came me.now peer.now self text.now).greeted) }
-        ensures says { Says (text_came me.now peer.now self text.now).says out.old out.new result }
+    ) -> Result<Led, AllocError>
+        ensures greeted { IfOk result (λ led. led.greeted
+            ≡ (text_came place.now.me place.now.peer place.now.number self text.now).greeted) }
+        ensures rises { IfOk result (λ led. led.rises
+            ≡ (text_came place.now.me place.now.peer place.now.number self text.now).rises) }
+        ensures says { Says (text_came place.now.me place.now.peer
+            place.now.number self text.now).says out.old out.new result }
     {
         match self.awaited {
-            AwaitedText::CalledName => self.on_called_name(me, peer, text, out),
-            AwaitedText::CallerName => self.on_caller_name(peer, text, out),
+            AwaitedText::CalledName => self.on_called_name(place, text, out),
+            AwaitedText::CallerName => self.on_caller_name(place, text, out),
             AwaitedText::Admission => Ok(self.on_admission(text)),
             AwaitedText::Protocols => self.on_protocols(text, out),
             AwaitedText::Choice => Ok(self.on_choice(text)),
@@ -114,95 +128,170 @@ impl Greeting {
 
     fn on_called_name<A: Allocator>(
         self,
-        me: &Name,
-        peer: &Name,
+        place: &Place,
         text: &[u8],
         out: &mut Outbox<A>,
-    ) -> Result<Greeted, AllocError>
-        ensures greeted { IfOk result (λ greeted. greeted ≡ (called_name_came me.now peer.now self text.now).greeted) }
-        ensures says { Says (called_name_came me.now peer.now self text.now).says out.old out.new result }
+    ) -> Result<Led, AllocError>
+        ensures greeted { IfOk result (λ led. led.greeted
+            ≡ (called_name_came place.now.me place.now.peer place.now.number self text.now).greeted) }
+        ensures rises { IfOk result (λ led. led.rises
+            ≡ (called_name_came place.now.me place.now.peer place.now.number self text.now).rises) }
+        ensures says { Says (called_name_came place.now.me place.now.peer
+            place.now.number self text.now).says out.old out.new result }
     {
         if text == b"Shere".as_slice() {
-            return Greeting::tell_name(me, out);
+            return Greeting::tell_name(place, out);
         }
         if !text.starts_with(b"Shere=") {
-            return Ok(Greeted::GoesOn(self));
+            return Ok(Led::to(Greeted::GoesOn(self)));
         }
-        if &text[6..] != peer.as_bytes() {
-            return Ok(Greeted::Ended(End::WrongName));
+        if &text[6..] != place.peer.as_bytes() {
+            return Ok(Led::to(Greeted::Ended(End::WrongName)));
         }
-        Greeting::tell_name(me, out)
+        Greeting::tell_name(place, out)
     }
 
-    fn tell_name<A: Allocator>(me: &Name, out: &mut Outbox<A>) -> Result<Greeted, AllocError>
-        ensures greeted { IfOk result (λ greeted. greeted ≡ (goes_on (caller_text me.now ∷ []) AwaitedText.Admission).greeted) }
-        ensures says { Says (caller_text me.now ∷ []) out.old out.new result }
+    fn tell_name<A: Allocator>(place: &Place, out: &mut Outbox<A>) -> Result<Led, AllocError>
+        ensures greeted { IfOk result (λ led. led.greeted
+            ≡ (goes_on (call_text place.now.me place.now.number ∷ [])
+            AwaitedText.Admission).greeted) }
+        ensures rises { IfOk result (λ led. led.rises ≡ false) }
+        ensures says { Says (call_text place.now.me place.now.number ∷ []) out.old out.new result }
     {
-        say_name(b"S", me, out)?;
-        Ok(Greeted::GoesOn(Greeting::awaiting(AwaitedText::Admission)))
+        say(&write_call(&place.me, place.number), out)?;
+        Ok(Led::to(Greeted::GoesOn(Greeting::awaiting(AwaitedText::Admission))))
     }
 
     fn on_caller_name<A: Allocator>(
         self,
-        peer: &Name,
+        place: &Place,
         text: &[u8],
         out: &mut Outbox<A>,
-    ) -> Result<Greeted, AllocError>
-        ensures greeted { IfOk result (λ greeted. greeted ≡ (caller_name_came peer.now self text.now).greeted) }
-        ensures says { Says (caller_name_came peer.now self text.now).says out.old out.new result }
+    ) -> Result<Led, AllocError>
+        ensures greeted { IfOk result (λ led. led.greeted
+            ≡ (caller_name_came place.now.peer place.now.number self text.now).greeted) }
+        ensures rises { IfOk result (λ led. led.rises
+            ≡ (caller_name_came place.now.peer place.now.number self text.now).rises) }
+        ensures says { Says (caller_name_came place.now.peer place.now.number self text.now).says
+            out.old out.new result }
     {
         if !text.starts_with(b"S") {
-            return Ok(Greeted::GoesOn(self));
+            return Ok(Led::to(Greeted::GoesOn(self)));
         }
-        if name_in(text) != peer.as_bytes() {
+        if name_in(text) != place.peer.as_bytes() {
             say(b"RYou are unknown to me", out)?;
-            return Ok(Greeted::Ended(End::Refused));
+            return Ok(Led::to(Greeted::Ended(End::Refused)));
+        }
+        Greeting::on_known_caller(expects(place.number, text), out)
+    }
+
+    /// The caller is the one that is expected.
+    fn on_known_caller<A: Allocator>(
+        is_expected: bool,
+        out: &mut Outbox<A>,
+    ) -> Result<Led, AllocError>
+        ensures greeted { IfOk result (λ led. led.greeted ≡ (number_came is_expected).greeted) }
+        ensures rises { IfOk result (λ led. led.rises ≡ (number_came is_expected).rises) }
+        ensures says { Says (number_came is_expected).says out.old out.new result }
+    {
+        if !is_expected {
+            say(b"RBADSEQ", out)?;
+            return Ok(Led::to(Greeted::Ended(End::BadSequence)));
         }
         say_both(b"ROK", b"Pg", out)?;
-        Ok(Greeted::GoesOn(Greeting::awaiting(AwaitedText::Choice)))
+        Ok(Led::in_by(Greeting::awaiting(AwaitedText::Choice)))
     }
 
-    fn on_admission(self, text: &[u8]) -> Greeted
-        ensures { result ≡ (admission_came self text.now).greeted }
+    fn on_admission(self, text: &[u8]) -> Led
+        ensures greeted { result.greeted ≡ (admission_came self text.now).greeted }
+        ensures rises { result.rises ≡ (admission_came self text.now).rises }
     {
         if text.starts_with(b"ROK") {
-            Greeted::GoesOn(Greeting::awaiting(AwaitedText::Protocols))
+            Led::in_by(Greeting::awaiting(AwaitedText::Protocols))
+        } else if text.starts_with(b"RBADSEQ") {
+            Led::to(Greeted::Ended(End::BadSequence))
         } else if text.starts_with(b"R") {
-            Greeted::Ended(End::Refused)
+            Led::to(Greeted::Ended(End::Refused))
         } else {
-            Greeted::GoesOn(self)
+            Led::to(Greeted::GoesOn(self))
         }
     }
 
-    fn on_protocols<A: Allocator>(
-        self,
-        text: &[u8],
-        out: &mut Outbox<A>,
-    ) -> Result<Greeted, AllocError>
-        ensures greeted { IfOk result (λ greeted. greeted ≡ (protocols_came self text.now).greeted) }
+    fn on_protocols<A: Allocator>(self, text: &[u8], out: &mut Outbox<A>) -> Result<Led, AllocError>
+        ensures greeted { IfOk result (λ led. led.greeted
+            ≡ (protocols_came self text.now).greeted) }
+        ensures rises { IfOk result (λ led. led.rises ≡ (protocols_came self text.now).rises) }
         ensures says { Says (protocols_came self text.now).says out.old out.new result }
     {
         if !text.starts_with(b"P") {
-            return Ok(Greeted::GoesOn(self));
+            return Ok(Led::to(Greeted::GoesOn(self)));
         }
         if !text[1..].contains(&b'g') {
             say(b"UN", out)?;
-            return Ok(Greeted::Ended(End::NoProtocol));
+            return Ok(Led::to(Greeted::Ended(End::NoProtocol)));
         }
         say(b"Ug", out)?;
-        Ok(Greeted::LinkBegins)
+        Ok(Led::to(Greeted::LinkBegins))
     }
 
-    fn on_choice(self, text: &[u8]) -> Greeted
-        ensures { result ≡ (choice_came self text.now).greeted }
+    fn on_choice(self, text: &[u8]) -> Led
+        ensures greeted { result.greeted ≡ (choice_came self text.now).greeted }
+        ensures rises { result.rises ≡ (choice_came self text.now).rises }
     {
         if text == b"Ug".as_slice() {
-            Greeted::LinkBegins
+            Led::to(Greeted::LinkBegins)
         } else if text.starts_with(b"U") {
-            Greeted::Ended(End::NoProtocol)
+            Led::to(Greeted::Ended(End::NoProtocol))
         } else {
-            Greeted::GoesOn(self)
+            Led::to(Greeted::GoesOn(self))
         }
+    }
+}
+
+impl Led {
+    /// The number stays.
+    fn to(greeted: Greeted) -> Self
+        ensures greeted { result.greeted ≡ greeted }
+        ensures rises { result.rises ≡ false }
+    {
+        Led {
+            greeted,
+            rises: false,
+        }
+    }
+
+    /// The caller is let in, and the number rises.
+    fn in_by(greeting: Greeting) -> Self
+        ensures greeted { result.greeted ≡ Greeted.GoesOn greeting }
+        ensures rises { result.rises ≡ true }
+    {
+        Led {
+            greeted: Greeted::GoesOn(greeting),
+            rises: true,
+        }
+    }
+}
+
+/// Whether a called end that keeps this number, or none, expects the one in a caller's text.
+fn expects(number: Option<u32>, text: &[u8]) -> bool
+    ensures { result ≡ is_expected number (number_in_call text.now) }
+{
+    let Some(number) = number else {
+        return true;
+    };
+    match caller_number(text) {
+        Some(told) => told == number,
+        None => false,
+    }
+}
+
+/// The number behind a text, by whether it rises. Behind the greatest one comes 0.
+pub(crate) fn number_behind(rises: bool, number: Option<u32>) -> Option<u32>
+    ensures { result ≡ number_by rises number }
+{
+    match number {
+        Some(number) if rises => Some(number.wrapping_add(1)),
+        _ => number,
     }
 }
 

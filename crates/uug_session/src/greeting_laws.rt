@@ -1,5 +1,5 @@
 //! Laws over the definition of the greeting, and of a node in it. The functions do nothing.
-ghost use Rattle.std.specs.Prelude.{◌≡◌, ◌≢◌, ◌++◌, ℕ, Bool, List, []};
+ghost use Rattle.std.specs.Prelude.{◌≡◌, ◌≢◌, ◌⊎◌, ◌++◌, ℕ, Bool, true, false, List, [], Option};
 ghost use Rattle.uug_link.specs.Announced.{Announced};
 ghost use Rattle.uug_link.specs.Entries.{EntryValue};
 ghost use Rattle.uug_talk.specs.Name.{IsName};
@@ -7,11 +7,11 @@ ghost use Rattle.uug_session.specs.declared.greeting.Greeting.{Greeting};
 ghost use Rattle.uug_session.specs.declared.greeting.Greeted.TheVariants.{GoesOn, LinkBegins, Ended};
 ghost use Rattle.uug_session.specs.declared.greeting.AwaitedText.TheVariants.{CallerName};
 ghost use Rattle.uug_session.specs.declared.end.End.{End};
-ghost use Rattle.uug_session.specs.declared.end.End.TheVariants.{WrongName, Refused};
+ghost use Rattle.uug_session.specs.declared.end.End.TheVariants.{WrongName, Refused, BadSequence};
 ghost use Rattle.uug_session.specs.Arriving.{takes_piece};
 ghost use Rattle.uug_session.specs.EndStep.{Identity, begins_session};
 ghost use Rattle.uug_session.specs.Engine.{BeginsSession};
-ghost use Rattle.uug_session.specs.Greeting.{first_greeting, greeting_at_first};
+ghost use Rattle.uug_session.specs.Greeting.{first_greeting, greeting_at_first, is_expected, number_by, risen};
 ghost use Rattle.uug_session.specs.GreetingCalls.{GreetsAt, GreetsThrough};
 ghost use Rattle.uug_session.specs.Holdings.{Holdings};
 ghost use Rattle.uug_session.specs.Jobs.{Lists};
@@ -21,8 +21,8 @@ ghost use Rattle.uug_session.specs.NodeCalls.{Beside, Make, NodeCall};
 ghost use Rattle.uug_session.specs.NodeGreeting.{GreetsStill, HasBegunLink, HasEnded, HasHeard, come_to, greeted_by, holding_nothing};
 ghost use Rattle.uug_session.specs.Sessions.{HoldsNothing};
 ghost use Rattle.uug_session.specs.Talk.{Talk};
-ghost use Rattle.uug_session.specs.Turns.{Side};
-ghost use Rattle.uug_session.specs.WholeGreeting.{GreetingRun, GreetsBy, Greets, GreetEachOther, BecomeOf, IsOver, greeting_run, whole_greeting, run_behind};
+ghost use Rattle.uug_session.specs.Turns.{Side, caller as caller_side, called as called_side};
+ghost use Rattle.uug_session.specs.WholeGreeting.{GreetingRun, GreetsBy, Greets, GreetEachOther, BecomeOf, IsNumber, IsOver, IsRefusal, greeting_run, has_let_in, whole_greeting, run_behind};
 
 use crate::arriving_laws::what_is_found_stays;
 use crate::text_laws::hearing_laws;
@@ -30,25 +30,33 @@ use uug_talk::{hearing_finds_the_texts, one_first_text, one_reading_of_texts, te
 
 /// Whatever bytes are delivered make one thing of the whole greeting of an end, and of a greeting from any stage on.
 pub fn one_greeting()
-    ensures whole { (side : Side) (me peer delivered : List ℕ)
-        → (behind : List ℕ) × Greets side me peer delivered
-        (whole_greeting side me peer delivered) behind }
-    ensures only_whole { (side : Side) (me peer delivered : List ℕ) (run : GreetingRun)
+    ensures whole { (side : Side) (me peer : List ℕ) (number : Option ℕ) (delivered : List ℕ)
+        → (behind : List ℕ) × Greets side me peer number delivered
+        (whole_greeting side me peer number delivered) behind }
+    ensures only_whole { (side : Side) (me peer : List ℕ) (number : Option ℕ) (delivered : List ℕ)
+        (run : GreetingRun)
         (behind : List ℕ)
-        → Greets side me peer delivered run behind → run ≡ whole_greeting side me peer delivered }
-    ensures one_rest_of_whole { (side : Side) (me peer delivered : List ℕ) (run : GreetingRun)
+        → Greets side me peer number delivered run behind
+        → run ≡ whole_greeting side me peer number delivered }
+    ensures one_rest_of_whole { (side : Side) (me peer : List ℕ) (number : Option ℕ)
+        (delivered : List ℕ) (run : GreetingRun)
         (behind other : List ℕ)
-        → Greets side me peer delivered run behind → Greets side me peer delivered run other
+        → Greets side me peer number delivered run behind
+        → Greets side me peer number delivered run other
         → behind ≡ other }
-    ensures some { (me peer : List ℕ) (g : Greeting) (delivered : List ℕ)
-        → (behind : List ℕ) × GreetsBy me peer g delivered
-        (greeting_run me peer g delivered) behind }
-    ensures only { (me peer : List ℕ) (g : Greeting) (delivered : List ℕ) (run : GreetingRun)
+    ensures some { (me peer : List ℕ) (number : Option ℕ) (g : Greeting) (delivered : List ℕ)
+        → (behind : List ℕ) × GreetsBy me peer number g delivered
+        (greeting_run me peer number g delivered) behind }
+    ensures only { (me peer : List ℕ) (number : Option ℕ) (g : Greeting) (delivered : List ℕ)
+        (run : GreetingRun)
         (behind : List ℕ)
-        → GreetsBy me peer g delivered run behind → run ≡ greeting_run me peer g delivered }
-    ensures one_rest { (me peer : List ℕ) (g : Greeting) (delivered : List ℕ) (run : GreetingRun)
+        → GreetsBy me peer number g delivered run behind
+        → run ≡ greeting_run me peer number g delivered }
+    ensures one_rest { (me peer : List ℕ) (number : Option ℕ) (g : Greeting) (delivered : List ℕ)
+        (run : GreetingRun)
         (behind other : List ℕ)
-        → GreetsBy me peer g delivered run behind → GreetsBy me peer g delivered run other → behind
+        → GreetsBy me peer number g delivered run behind
+        → GreetsBy me peer number g delivered run other → behind
         ≡ other }
 {
     one_reading_of_texts();
@@ -59,60 +67,96 @@ pub fn one_greeting()
 /// make of what it is then, behind the bytes that are left. Where it is over, more bytes are only left with them. Both hold of
 /// the whole greeting of an end, and of a greeting from any stage on.
 pub fn greeting_in_pieces()
-    ensures whole_goes_on { (side : Side) (me peer : List ℕ) (next : Greeting)
+    ensures whole_goes_on { (side : Side) (me peer : List ℕ) (number : Option ℕ) (next : Greeting)
         (delivered more rest left : List ℕ)
-        (run later : GreetingRun) → Greets side me peer delivered run rest → run.greeted
+        (run later : GreetingRun) → Greets side me peer number delivered run rest → run.greeted
         ≡ GoesOn next
-        → GreetsBy me peer next (rest ++ more) later left
-        → Greets side me peer (delivered ++ more) (run_behind run later) left }
-    ensures whole_over { (side : Side) (me peer delivered more rest : List ℕ) (run : GreetingRun)
-        → Greets side me peer delivered run rest → IsOver run.greeted
-        → Greets side me peer (delivered ++ more) run (rest ++ more) }
-    ensures goes_on { (me peer : List ℕ) (g next : Greeting) (delivered more rest left : List ℕ)
+        → GreetsBy me peer run.number next (rest ++ more) later left
+        → Greets side me peer number (delivered ++ more) (run_behind run later) left }
+    ensures whole_over { (side : Side) (me peer : List ℕ) (number : Option ℕ)
+        (delivered more rest : List ℕ) (run : GreetingRun)
+        → Greets side me peer number delivered run rest → IsOver run.greeted
+        → Greets side me peer number (delivered ++ more) run (rest ++ more) }
+    ensures goes_on { (me peer : List ℕ) (number : Option ℕ) (g next : Greeting)
+        (delivered more rest left : List ℕ)
         (run later : GreetingRun)
-        → GreetsBy me peer g delivered run rest → run.greeted ≡ GoesOn next
-        → GreetsBy me peer next (rest ++ more) later left
-        → GreetsBy me peer g (delivered ++ more) (run_behind run later) left }
-    ensures over { (me peer : List ℕ) (g : Greeting) (delivered more rest : List ℕ)
+        → GreetsBy me peer number g delivered run rest → run.greeted ≡ GoesOn next
+        → GreetsBy me peer run.number next (rest ++ more) later left
+        → GreetsBy me peer number g (delivered ++ more) (run_behind run later) left }
+    ensures over { (me peer : List ℕ) (number : Option ℕ) (g : Greeting)
+        (delivered more rest : List ℕ)
         (run : GreetingRun)
-        → GreetsBy me peer g delivered run rest → IsOver run.greeted
-        → GreetsBy me peer g (delivered ++ more) run (rest ++ more) }
+        → GreetsBy me peer number g delivered run rest → IsOver run.greeted
+        → GreetsBy me peer number g (delivered ++ more) run (rest ++ more) }
 {
     one_reading_of_texts();
     one_first_text();
     texts_in_pieces();
 }
 
-/// Two ends that greet each other over a clean line both begin the link where each expects the other. Where the caller
+/// Two ends that greet each other over a clean line both begin the link where each expects the other, and the called end
+/// keeps no number or the same one as the caller; both then have the next number, where they keep one. Where the caller
 /// has called another end than it meant, it ends, and the called end still waits for the caller's name. Where the caller
-/// is not the one that the called end expects, both end.
+/// is not the one that the called end expects, or does not tell the number that it expects, both end. In these cases both
+/// numbers stay.
 pub fn ends_that_expect_each_other_begin()
-    ensures begin { (caller called : List ℕ) (at_caller at_called : GreetingRun) → IsName caller
-        → IsName called
-        → GreetEachOther caller called called caller at_caller at_called
-        → BecomeOf at_caller at_called LinkBegins LinkBegins }
-    ensures wrong_called { (caller meant called expected : List ℕ)
+    ensures begin { (caller called : List ℕ) (m n : Option ℕ)
         (at_caller at_called : GreetingRun)
-        → IsName caller → IsName called → called ≢ meant
-        → GreetEachOther caller meant called expected at_caller at_called
-        → BecomeOf at_caller at_called (Ended WrongName) (GoesOn (first_greeting CallerName)) }
-    ensures wrong_caller { (caller called expected : List ℕ) (at_caller at_called : GreetingRun)
-        → IsName caller → IsName called → caller ≢ expected
-        → GreetEachOther caller called called expected at_caller at_called
-        → BecomeOf at_caller at_called (Ended Refused) (Ended Refused) }
-    ensures greet { (caller meant called expected : List ℕ) → IsName caller → IsName called
+        → IsName caller → IsName called → IsNumber m → IsNumber n → is_expected n m ≡ true
+        → GreetEachOther caller called called caller m n at_caller at_called
+        → BecomeOf at_caller at_called LinkBegins LinkBegins (risen m) (risen n) }
+    ensures wrong_called { (caller meant called expected : List ℕ) (m n : Option ℕ)
+        (at_caller at_called : GreetingRun)
+        → IsName caller → IsName called → IsNumber m → IsNumber n → called ≢ meant
+        → GreetEachOther caller meant called expected m n at_caller at_called
+        → BecomeOf at_caller at_called (Ended WrongName) (GoesOn (first_greeting CallerName)) m n }
+    ensures wrong_caller { (caller called expected : List ℕ) (m n : Option ℕ)
+        (at_caller at_called : GreetingRun)
+        → IsName caller → IsName called → IsNumber m → IsNumber n → caller ≢ expected
+        → GreetEachOther caller called called expected m n at_caller at_called
+        → BecomeOf at_caller at_called (Ended Refused) (Ended Refused) m n }
+    ensures wrong_number { (caller called : List ℕ) (m n : Option ℕ)
+        (at_caller at_called : GreetingRun)
+        → IsName caller → IsName called → IsNumber m → IsNumber n → is_expected n m ≡ false
+        → GreetEachOther caller called called caller m n at_caller at_called
+        → BecomeOf at_caller at_called (Ended BadSequence) (Ended BadSequence) m n }
+    ensures greet { (caller meant called expected : List ℕ) (m n : Option ℕ) → IsName caller
+        → IsName called
+        → IsNumber m → IsNumber n
         → (at_caller : GreetingRun) × (at_called : GreetingRun)
-        × GreetEachOther caller meant called expected at_caller at_called }
+        × GreetEachOther caller meant called expected m n at_caller at_called }
 {
     one_reading_of_texts();
     hearing_finds_the_texts();
 }
 
+/// In any greeting, whatever bytes come: the number of a called end rises exactly where it says that the caller is let in, and
+/// once; a caller's at most once; either has risen where the link begins; and a refused call leaves it as it was.
+pub fn a_number_rises_where_a_call_is_let_in()
+    ensures called { (me peer : List ℕ) (number : Option ℕ) (delivered behind : List ℕ)
+        (run : GreetingRun)
+        → Greets called_side me peer number delivered run behind
+        → run.number ≡ number_by (has_let_in run.says) number }
+    ensures caller { (me peer : List ℕ) (number : Option ℕ) (delivered behind : List ℕ)
+        (run : GreetingRun)
+        → Greets caller_side me peer number delivered run behind
+        → (run.number ≡ number) ⊎ (run.number ≡ risen number) }
+    ensures begun { (side : Side) (me peer : List ℕ) (number : Option ℕ)
+        (delivered behind : List ℕ) (run : GreetingRun)
+        → Greets side me peer number delivered run behind → run.greeted ≡ LinkBegins
+        → run.number ≡ risen number }
+    ensures refused { (side : Side) (me peer : List ℕ) (number : Option ℕ)
+        (delivered behind : List ℕ) (run : GreetingRun)
+        (how : End) → Greets side me peer number delivered run behind → run.greeted ≡ Ended how
+        → IsRefusal how
+        → run.number ≡ number }
+{}
+
 /// From the start of a session on, a node greets as the whole greeting says that follows from its side, its name, the
-/// other's, and all bytes that came to it, in whatever pieces these came: it has said the same texts, and nothing else as
-/// long as it greets; it waits for the same text, or the session has ended the same way; and it holds what waits of the
-/// bytes behind the last text used. Where the greeting leads to the link, the link's begin comes behind the texts, and just
-/// the bytes behind the last text are taken up on it.
+/// other's, the number that it keeps, and all bytes that came to it, in whatever pieces these came: it has said the same
+/// texts, and nothing else as long as it greets; it waits for the same text, or the session has ended the same way; it keeps
+/// the same number; and it holds what waits of the bytes behind the last text used. Where the greeting leads to the link, the
+/// link's begin comes behind the texts, and just the bytes behind the last text are taken up on it.
 pub fn a_node_greets()
     // Whatever is called, each call is a step by the table: with a text that it takes up, with one that is too long, with a
     // timeout, or with nothing. What it says to that is what is added to the outbox, and the texts are the first of all
@@ -122,34 +166,43 @@ pub fn a_node_greets()
         (g : Greeting)
         → GreetsAt id g texts came old.node → Make h most calls added old new
         → GreetsThrough h most id calls texts came added old new g }
-    ensures at_first { (id : Identity) (own : Announced) (l : Lists) (entries : List EntryValue)
-        (n : NodeState) → BeginsSession id own l entries n.engine → HoldsNothing n
+    ensures at_first { (id : Identity) (own : Announced) (number : Option ℕ) (l : Lists)
+        (entries : List EntryValue) (n : NodeState)
+        → BeginsSession id own number l entries n.engine → HoldsNothing n
         → GreetsAt id (greeting_at_first id.side) [] [] n }
-    ensures goes_on { (h : Holdings) (id : Identity) (own : Announced) (entries : List EntryValue)
+    ensures goes_on { (h : Holdings) (id : Identity) (own : Announced) (number : Option ℕ)
+        (entries : List EntryValue)
         (came behind : List ℕ)
         (now : NodeState) (run : GreetingRun) (g : Greeting)
-        → HasHeard h id own entries came now → Greets id.side id.me id.peer came run behind
+        → HasHeard h id own number entries came now
+        → Greets id.side id.me id.peer number came run behind
         → run.greeted ≡ GoesOn g
-        → GreetsStill id own entries run.says g behind now }
-    ensures ended { (h : Holdings) (id : Identity) (own : Announced) (entries : List EntryValue)
+        → GreetsStill id own entries run.says run.number g behind now }
+    ensures ended { (h : Holdings) (id : Identity) (own : Announced) (number : Option ℕ)
+        (entries : List EntryValue)
         (came behind : List ℕ)
         (now : NodeState) (run : GreetingRun) (how : End)
-        → HasHeard h id own entries came now → Greets id.side id.me id.peer came run behind
+        → HasHeard h id own number entries came now
+        → Greets id.side id.me id.peer number came run behind
         → run.greeted ≡ Ended how
-        → HasEnded entries run.says how now }
-    ensures link { (h : Holdings) (id : Identity) (own : Announced) (entries : List EntryValue)
+        → HasEnded entries run.says run.number how now }
+    ensures link { (h : Holdings) (id : Identity) (own : Announced) (number : Option ℕ)
+        (entries : List EntryValue)
         (came behind : List ℕ)
         (now : NodeState) (run : GreetingRun)
-        → (m : HasHeard h id own entries came now) → Greets id.side id.me id.peer came run behind
+        → (m : HasHeard h id own number entries came now)
+        → Greets id.side id.me id.peer number came run behind
         → run.greeted ≡ LinkBegins
-        → HasBegunLink m run.says behind }
+        → HasBegunLink m run.says run.number behind }
     // The same as one equation, whatever the node keeps and its spool's device does: all bytes from the start lead to what the
     // bytes left lead to behind the whole greeting.
-    ensures comes { (h : Holdings) (id : Identity) (own : Announced) (talk : Talk)
+    ensures comes { (h : Holdings) (id : Identity) (own : Announced) (number : Option ℕ)
+        (talk : Talk)
         (failures : List Bool)
-        (came behind : List ℕ) (run : GreetingRun) → Greets id.side id.me id.peer came run behind
+        (came behind : List ℕ) (run : GreetingRun)
+        → Greets id.side id.me id.peer number came run behind
         → takes_piece (node_taker h id) came (holding_nothing
-        (come_to (begins_session id own talk) failures))
+        (come_to (begins_session id own number talk) failures))
         ≡ takes_piece (node_taker h id) behind (holding_nothing
         (come_to (greeted_by id own run talk) failures)) }
 {

@@ -18,7 +18,7 @@ use uug_talk::{
 
 /// The number behind the limit of jobs.
 pub fn limits()
-    ensures jobs { JOBS_MAX ≡ 64 }
+    ensures jobs { JOBS_MAX ≡ 1024 }
 {}
 
 /// A spool's file may be given exactly where it has at most `FILE_MAX` bytes, and then it is given as it is; with one byte

@@ -4,6 +4,7 @@
 mod arrive;
 pub mod arriving_laws;
 mod awaits;
+mod backlog;
 mod choice;
 pub mod conversation_laws;
 mod dialogue;
@@ -42,7 +43,7 @@ mod whole_file;
 pub use arrive::Unfinished;
 pub use awaits::Awaits;
 pub use end::End;
-pub use greeting::{AwaitedText, Greeted, Greeting};
+pub use greeting::{AwaitedText, Greeted, Greeting, Led};
 pub use item::Item;
 pub use job::Job;
 pub use memory_spool::MemorySpool;

@@ -1,8 +1,8 @@
 ghost use Rattle.std.specs.Prelude.{◌≡◌, ◌≢◌, ◌↔◌, ◌<◌, ◌≤◌, ℕ, [], length, take, true, false, All};
-ghost use Rattle.std.specs.Prelude.{OnOk, OnErr, IfOk, IfSome, IsNone, MatchOption};
+ghost use Rattle.std.specs.Prelude.{OnOk, OnErr, IfOk, IfSome, IsNone, MatchOption, Some};
 ghost use Rattle.uug_link.specs.Step.{step, timed_out};
-ghost use Rattle.uug_session.specs.Engine.{CountsFaults, Does, IsHailing, bare, hung_up};
-ghost use Rattle.uug_session.specs.Engine.{stage_late, with_outbox, with_stage};
+ghost use Rattle.uug_session.specs.Engine.{CountsFaults, Does, IsEnded, IsHailing, bare, hung_up};
+ghost use Rattle.uug_session.specs.Engine.{stage_late, with_number, with_outbox, with_stage};
 ghost use Rattle.uug_session.specs.Jobs.{pending};
 ghost use Rattle.uug_session.specs.Node.{node_of, spool_of, accepted, held_bytes, item_size};
 ghost use Rattle.uug_session.specs.Node.{offered, searched, shown_item};
@@ -207,7 +207,8 @@ impl<S: Spool, A: Allocator + Copy> Node<S, A> {
     /// Nothing has come for some time. Memory is needed only where the link has begun and emits something: in the
     /// greeting, and after the session's end, the answer is always Ok.
     pub fn on_timeout(&mut self) -> Result<(), AllocError>
-        ensures ok { OnOk result (Does (stage_late (node_of self.old).engine.identity
+        ensures ok { OnOk result (Does (stage_late (node_of self.old).engine.number
+            (node_of self.old).engine.identity
             (talking_has_parted (node_of self.old).engine.talking) (node_of self.old).engine.stage
             (node_of self.old).engine.link (node_of self.old).engine.talking)
             (bare (node_of self.new).engine) (node_of self.old).engine (node_of self.new).engine) }
@@ -283,6 +284,25 @@ impl<S: Spool, A: Allocator + Copy> Node<S, A> {
         ensures spool { spool_of self.new ≡ spool_of self.old }
     {
         self.engine.clear_outbox();
+    }
+
+    /// The number of the next conversation with the other end, where one is kept.
+    pub fn number(&self) -> Option<u32>
+        ensures { result ≡ (node_of self.now).engine.number }
+    {
+        self.engine.number()
+    }
+
+    /// From now on this number is kept, of an end whose session is over. All else stays.
+    pub fn set_number(&mut self, number: u32)
+        requires ended { IsEnded (node_of self.old).engine.stage }
+        ensures number { (node_of self.new).engine
+            ≡ with_number (Some number) (node_of self.old).engine }
+        ensures bytes { ((node_of self.new).texts ≡ (node_of self.old).texts)
+            × ((node_of self.new).packets ≡ (node_of self.old).packets) }
+        ensures spool { spool_of self.new ≡ spool_of self.old }
+    {
+        self.engine.set_number(number);
     }
 
     /// The jobs. The names of those that are pending are names.

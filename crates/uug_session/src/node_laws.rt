@@ -1,5 +1,5 @@
 //! Laws of a node's calls. The functions do nothing.
-ghost use Rattle.std.specs.Prelude.{◌≡◌, ℕ, List};
+ghost use Rattle.std.specs.Prelude.{◌≡◌, ℕ, List, Option};
 ghost use Rattle.uug_link.specs.Announced.{Announced};
 ghost use Rattle.uug_link.specs.Entries.{EntryValue};
 ghost use Rattle.uug_session.specs.declared.job.Job.{Job};
@@ -9,6 +9,7 @@ ghost use Rattle.uug_session.specs.Holdings.{Holdings, Kept};
 ghost use Rattle.uug_session.specs.Jobs.{Lists};
 ghost use Rattle.uug_session.specs.Node.{NodeState, effect_of, struck_jobs};
 ghost use Rattle.uug_session.specs.NodeArriving.{GoesOn, TakesAll};
+ghost use Rattle.uug_session.specs.NumberStanding.{KeepsNumber, NumberStands};
 ghost use Rattle.uug_session.specs.OwnRequests.{KeepsWhatItAskedFor};
 ghost use Rattle.uug_session.specs.Sharing.{HaveSameJobs, OnlyMoves, all_jobs};
 ghost use Rattle.uug_session.specs.Talk.{unopened};
@@ -17,15 +18,18 @@ ghost use Rattle.uug_session.specs.Talking.{talking_has_parted};
 /// What is told of a call without the spool is the end's step beside it.
 pub fn calls_are_steps()
     ensures late { (h : Holdings) (kept : List Kept) (before after : EngineState)
-        → Does (stage_late before.identity (talking_has_parted before.talking) before.stage before.link before.talking)
+        → Does (stage_late before.number before.identity
+        (talking_has_parted before.talking) before.stage before.link before.talking)
         (bare after) before after
         → Does (effect_of h kept time_ran_out before) (end_of h kept after) before after }
     ensures lost { (h : Holdings) (kept : List Kept) (e : EngineState)
         → effect_of h kept line_lost e
         ≡ unmoved (end_of h kept (with_stage (hung_up (talking_has_parted e.talking) e.stage) e)) }
-    ensures begins { (h : Holdings) (kept : List Kept) (id : Identity) (own : Announced) (l : Lists) (entries : List EntryValue)
-        (after : EngineState) → BeginsSession id own l entries after
-        → end_of h kept after ≡ (begins_session id own (unopened l kept)).state }
+    ensures begins { (h : Holdings) (kept : List Kept) (id : Identity) (own : Announced)
+        (number : Option ℕ) (l : Lists)
+        (entries : List EntryValue) (after : EngineState)
+        → BeginsSession id own number l entries after
+        → end_of h kept after ≡ (begins_session id own number (unopened l kept)).state }
 {}
 
 /// Whatever a node is called with, and however many sessions it has, the jobs of the three lists stay the same together,
@@ -69,4 +73,29 @@ pub fn struck_requests_were_kept()
         → KeepsWhatItAskedFor struck struck_after kept kept_after }
     // The next session begins with what was struck.
     ensures again { (l : Lists) → (all_ahead l).struck ≡ l.struck }
+{}
+
+/// Whatever an end is called with: from the start of its session its number is as it was, until the caller is let in, or hears
+/// that it is; then it is the next one. Where the call was refused it is as it was when the session is over.
+pub fn a_number_stands_as_the_session_does()
+    ensures begins { (id : Identity) (own : Announced) (number : Option ℕ) (l : Lists)
+        (entries : List EntryValue) (after : EngineState)
+        → BeginsSession id own number l entries after
+        → NumberStands number after.stage after.number }
+    // Each event that happens to an end.
+    ensures event { (h : Holdings) (kept : List Kept) (event : EndEvent) (e : EngineState)
+        (number : Option ℕ) → NumberStands number e.stage e.number
+        → NumberStands number (effect_of h kept event e).state.stage
+        (effect_of h kept event e).state.number }
+    // All that is found in bytes that come, in whatever pieces.
+    ensures taken { (h : Holdings) (kept kept_after : List Kept) (most faults later : ℕ)
+        (bytes : List ℕ) (before after : NodeState)
+        → TakesAll h kept kept_after (HasFailed most faults later) bytes before after
+        → KeepsNumber before.engine after.engine }
+    ensures late { (before after : EngineState)
+        → Does (stage_late before.number before.identity
+        (talking_has_parted before.talking) before.stage before.link before.talking)
+        (bare after) before after → KeepsNumber before after }
+    ensures lost { (e : EngineState)
+        → KeepsNumber e (with_stage (hung_up (talking_has_parted e.talking) e.stage) e) }
 {}

@@ -1,8 +1,9 @@
-ghost use Rattle.std.specs.Prelude.{◌≡◌, ◌≢◌, ◌≤◌, ◌<◌, ◌++◌, [], length, drop, option_map, All, OnOk, IfSome};
+ghost use Rattle.std.specs.Prelude.{◌≡◌, ◌≢◌, ◌≤◌, ◌<◌, ◌++◌, [], length, drop, All, OnOk, Some, None};
+ghost use Rattle.std.specs.Bool.{OnTrue, OnFalse};
 ghost use Rattle.uug_session.specs.Outgoing.{IsSayable, IsWithin, is_silent, outgoing_messages, sayings_of};
 ghost use Rattle.uug_session.specs.Talk.{first_of, behind_first};
 
-use crate::part::{Part, part_of};
+use crate::part::part_of;
 use crate::reaction::{Saying, Says};
 use crate::spool::Spool;
 use std::alloc::{AllocError, Allocator};
@@ -100,25 +101,35 @@ impl<A: Allocator> Outgoing<A> {
         self.said == self.sayings.len()
     }
 
-    /// The next message to go out, of at most `size` bytes, which is taken away.
-    pub(crate) fn take_message<S: Spool>(&mut self, spool: &S, size: usize) -> Option<Message>
+    /// Puts the next message to go out, of at most `size` bytes, into `message`, and says whether there was one. It is
+    /// taken away.
+    pub(crate) fn take_message<S: Spool>(
+        &mut self,
+        spool: &S,
+        size: usize,
+        message: &mut Message,
+    ) -> bool
         requires some { 0 < size }
         requires fits { size ≤ MESSAGE_MAX }
-        ensures first { first_of (outgoing_messages (S.holdings spool.now) size self.old)
-            ≡ option_map (λ message. message.items) result }
+        ensures first { OnTrue result
+            (first_of (outgoing_messages (S.holdings spool.now) size self.old)
+            ≡ Some message.new.items) }
+        ensures none { OnFalse result
+            (first_of (outgoing_messages (S.holdings spool.now) size self.old) ≡ None) }
         ensures behind { outgoing_messages (S.holdings spool.now) size self.new
             ≡ behind_first (outgoing_messages (S.holdings spool.now) size self.old) }
-        ensures size { IfSome result (λ message. length message.items ≤ size) }
+        ensures size { OnTrue result (length message.new.items ≤ size) }
         ensures room { self.old.room ≤ self.new.room }
     {
-        let first = self.sayings.get(self.said)?;
-        let Part { message, is_last } = part_of(first, spool, size, self.offset);
-        if is_last {
+        let Some(first) = self.sayings.get(self.said) else {
+            return false;
+        };
+        if part_of(first, spool, size, self.offset, message) {
             self.drop_first();
         } else {
             self.offset += size;
         }
-        Some(message)
+        true
     }
 
     /// The first one was said. When all were, the room that they took is free again.

@@ -12,68 +12,69 @@ use uug_talk::{
     write_answer, write_order,
 };
 
-/// A message of a text or a file.
-pub(crate) struct Part {
-    pub(crate) message: Message,
-    /// Whether no more of them follow.
-    pub(crate) is_last: bool,
-}
-
-/// The message of at most `size` bytes that stands at an offset in the text or file.
-pub(crate) fn part_of<S: Spool>(saying: &Saying, spool: &S, size: usize, offset: usize) -> Part
+/// Puts the message of at most `size` bytes that stands at an offset in the text or file into `message`, and says whether
+/// it is the last.
+pub(crate) fn part_of<S: Spool>(
+    saying: &Saying,
+    spool: &S,
+    size: usize,
+    offset: usize,
+    message: &mut Message,
+) -> bool
     requires sayable { IsSayable saying.now }
     requires within { IsWithin (saying.now ∷ []) offset }
     requires some { 0 < size }
     requires fits { size ≤ MESSAGE_MAX }
     ensures messages { messages_from size offset (said_by (S.holdings spool.now) saying.now)
-        ≡ result.message.items
-        ∷ unless_last result.is_last (messages_from size (offset + size) (said_by (S.holdings spool.now) saying.now)) }
-    ensures size { length result.message.items ≤ size }
-    ensures next { result.is_last ≡ false → IsWithin (saying.now ∷ []) (offset + size) }
-    ensures limit { result.is_last ≡ false → offset < FILE_MAX }
+        ≡ message.new.items
+        ∷ unless_last result (messages_from size (offset + size)
+        (said_by (S.holdings spool.now) saying.now)) }
+    ensures size { length message.new.items ≤ size }
+    ensures next { result ≡ false → IsWithin (saying.now ∷ []) (offset + size) }
+    ensures limit { result ≡ false → offset < FILE_MAX }
 {
     match saying {
-        Saying::Order(order) => part_of_text(&write_order(order), size, offset),
-        Saying::Answer(answer) => part_of_text(&write_answer(answer), size, offset),
+        Saying::Order(order) => part_of_text(&write_order(order), size, offset, message),
+        Saying::Answer(answer) => part_of_text(&write_answer(answer), size, offset, message),
         Saying::File(name) => match to_give(spool, name) {
-            Some(file) => part_of_file(file.bytes, size, offset),
-            None => part_of_file(&[], size, offset),
+            Some(file) => part_of_file(file.bytes, size, offset, message),
+            None => part_of_file(&[], size, offset, message),
         },
     }
 }
 
-fn part_of_text(text: &[u8], size: usize, offset: usize) -> Part
+fn part_of_text(text: &[u8], size: usize, offset: usize, message: &mut Message) -> bool
     requires text { IsCommandText text.now }
     requires within { offset ≤ length text.now }
     requires some { 0 < size }
     requires fits { size ≤ MESSAGE_MAX }
     ensures messages { command_messages size (drop offset text.now)
-        ≡ result.message.items ∷ unless_last result.is_last (command_messages size (drop (offset + size) text.now)) }
-    ensures size { length result.message.items ≤ size }
-    ensures next { result.is_last ≡ false → offset + size ≤ length text.now }
+        ≡ message.new.items ∷ unless_last result
+        (command_messages size (drop (offset + size) text.now)) }
+    ensures size { length message.new.items ≤ size }
+    ensures next { result ≡ false → offset + size ≤ length text.now }
 {
     command_goes_on();
     messages_fit();
     let rest = behind(text, offset);
-    let is_last = rest.len() < size;
-    let message = first_of(&mut Chunks::command(rest, size));
-    Part { message, is_last }
+    first_into(&mut Chunks::command(rest, size), message);
+    rest.len() < size
 }
 
-fn part_of_file(bytes: &[u8], size: usize, offset: usize) -> Part
+fn part_of_file(bytes: &[u8], size: usize, offset: usize, message: &mut Message) -> bool
     requires some { 0 < size }
     requires fits { size ≤ MESSAGE_MAX }
     ensures messages { file_messages size (drop offset bytes.now)
-        ≡ result.message.items ∷ unless_last result.is_last (file_messages size (drop (offset + size) bytes.now)) }
-    ensures size { length result.message.items ≤ size }
-    ensures next { result.is_last ≡ false → offset < length bytes.now }
+        ≡ message.new.items ∷ unless_last result
+        (file_messages size (drop (offset + size) bytes.now)) }
+    ensures size { length message.new.items ≤ size }
+    ensures next { result ≡ false → offset < length bytes.now }
 {
     file_goes_on();
     messages_fit();
     let rest = behind(bytes, offset);
-    let is_last = rest.is_empty();
-    let message = first_of(&mut Chunks::file(rest, size));
-    Part { message, is_last }
+    first_into(&mut Chunks::file(rest, size), message);
+    rest.is_empty()
 }
 
 /// What stands behind so many bytes, which is nothing where there are fewer.
@@ -83,12 +84,11 @@ fn behind(bytes: &[u8], offset: usize) -> &[u8]
     &bytes[offset.min(bytes.len())..]
 }
 
-fn first_of(chunks: &mut Chunks<'_>) -> Message
+fn first_into(chunks: &mut Chunks<'_>, message: &mut Message)
     requires { messages_left chunks.old ≢ [] }
-    ensures { messages_left chunks.old ≡ result.items ∷ messages_left chunks.new }
+    ensures { messages_left chunks.old ≡ message.new.items ∷ messages_left chunks.new }
 {
-    let Some(message) = chunks.next() else {
+    if !chunks.next_into(message) {
         unreachable!();
-    };
-    message
+    }
 }

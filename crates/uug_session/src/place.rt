@@ -1,7 +1,8 @@
 use uug_link::Announce;
 use uug_talk::Name;
 
-/// Where an end stands: its name, the name of the end that it calls or is called by, and what it announces.
+/// Where an end stands: its name, the name of the end that it calls or is called by, what it announces, and the number of
+/// its conversations with that end.
 #[derive(Clone, Copy, Debug, PartialEq, Eq)]
 pub struct Place {
     /// The end's own name.
@@ -10,4 +11,6 @@ pub struct Place {
     pub peer: Name,
     /// The window and the packet size that the other end shall use.
     pub announce: Announce,
+    /// The number of the next conversation, of an end that keeps one.
+    pub number: Option<u32>,
 }

@@ -1,15 +1,16 @@
-ghost use Rattle.std.specs.Prelude.{◌≡◌, ◌+◌, ◌≤◌, [], ◌∷◌, ◌++◌, length, vec_len, vec_capacity, OnOk, OnErr, MatchOption, ◌↔◌, slice_get, Some, All};
+ghost use Rattle.std.specs.Prelude.{◌≡◌, ◌+◌, ◌<◌, ◌≤◌, [], ◌∷◌, ◌++◌, length, vec_len, vec_capacity, OnOk, OnErr, MatchOption, ◌↔◌, slice_get, Some, All};
 ghost use Rattle.uug_session.specs.Jobs.{Lists, pending, at_start, moved_once, added};
 ghost use Rattle.uug_session.specs.Jobs.{pass, strike, fail};
 ghost use Rattle.uug_session.specs.Party.{HasNames};
 
+use crate::backlog::Backlog;
 use crate::job::Job;
 use std::alloc::{AllocError, Allocator};
 use std::marker::Model;
 use thiserror::Error;
 
 /// The most jobs that may be pending at one end.
-pub const JOBS_MAX: usize = 64;
+pub const JOBS_MAX: usize = 1024;
 
 /// Why a job was not added.
 #[derive(Clone, Copy, Debug, PartialEq, Eq, Error)]
@@ -26,7 +27,7 @@ pub enum QueueFault {
 /// sees them as lists, and of the pending ones, which were passed over in this session and which are still ahead.
 #[derive(Drop)]
 pub struct Queue<A: Allocator> {
-    pending: Vec<Job, A>,
+    pending: Backlog<A>,
     /// So many of the pending ones, from the front, were passed over in this session.
     passed: usize,
     /// These two have room for every pending job.
@@ -35,7 +36,7 @@ pub struct Queue<A: Allocator> {
 }
 
 impl<A: Allocator> Model for Queue<A> {
-    ghost use Rattle.std.specs.Prelude.{◌≡◌, ◌+◌, ◌≤◌, vec_len, vec_capacity, take, drop, All};
+    ghost use Rattle.std.specs.Prelude.{◌+◌, ◌≤◌, length, vec_len, vec_capacity, take, drop, All};
     ghost use Rattle.uug_session.specs.declared.queue.TheConstants.{JOBS_MAX};
     ghost use Rattle.uug_session.specs.Jobs.{Lists};
     ghost use Rattle.uug_session.specs.Party.{HasNames};
@@ -43,16 +44,16 @@ impl<A: Allocator> Model for Queue<A> {
     ghost Value = { Lists };
 
     ghost view = { λ q. record {
-      passed = take q.passed q.pending.items;
-      ahead = drop q.passed q.pending.items;
+      passed = take q.passed q.pending.jobs;
+      ahead = drop q.passed q.pending.jobs;
       struck = q.struck.items;
       failed = q.failed.items;
     } };
 
-    ghost invariant = { λ q. (q.passed ≤ vec_len q.pending) × (vec_len q.pending ≤ JOBS_MAX)
-        × (vec_len q.struck + vec_len q.pending ≤ vec_capacity q.struck)
-        × (vec_len q.failed + vec_len q.pending ≤ vec_capacity q.failed)
-        × All HasNames q.pending.items };
+    ghost invariant = { λ q. (q.passed ≤ length q.pending.jobs) × (length q.pending.jobs ≤ JOBS_MAX)
+        × (vec_len q.struck + length q.pending.jobs ≤ vec_capacity q.struck)
+        × (vec_len q.failed + length q.pending.jobs ≤ vec_capacity q.failed)
+        × All HasNames q.pending.jobs };
 }
 
 impl<A: Allocator + Copy> Queue<A> {
@@ -61,7 +62,7 @@ impl<A: Allocator + Copy> Queue<A> {
         ensures { result ≡ at_start [] [] [] }
     {
         Queue {
-            pending: Vec::new(alloc),
+            pending: Backlog::new(alloc),
             passed: 0,
             struck: Vec::new(alloc),
             failed: Vec::new(alloc),
@@ -123,6 +124,7 @@ impl<A: Allocator> Queue<A> {
     pub(crate) fn restart(&mut self)
         ensures { self.new ≡ at_start (pending self.old) self.old.struck self.old.failed }
     {
+        self.pending.close_up();
         self.passed = 0;
     }
 
@@ -158,24 +160,24 @@ impl<A: Allocator> Queue<A> {
 
 /// Room for one more pending job, and for every pending job to be moved to one of the other lists.
 fn make_room<A: Allocator>(
-    pending: &mut Vec<Job, A>,
+    pending: &mut Backlog<A>,
     struck: &mut Vec<Job, A>,
     failed: &mut Vec<Job, A>,
 ) -> Result<(), AllocError>
-    ensures pending { pending.new.items ≡ pending.old.items }
+    requires { length pending.old.jobs < JOBS_MAX }
+    ensures pending { pending.new.jobs ≡ pending.old.jobs }
     ensures struck { struck.new.items ≡ struck.old.items }
     ensures failed { failed.new.items ≡ failed.old.items }
-    ensures pending_room { OnOk result (vec_len pending.new + 1 ≤ vec_capacity pending.new) }
-    ensures struck_room { OnOk result (vec_len struck.new + (vec_len pending.new + 1)
+    ensures pending_room { OnOk result (0 < pending.new.room) }
+    ensures struck_room { OnOk result (vec_len struck.new + (length pending.new.jobs + 1)
         ≤ vec_capacity struck.new) }
-    ensures failed_room { OnOk result (vec_len failed.new + (vec_len pending.new + 1)
+    ensures failed_room { OnOk result (vec_len failed.new + (length pending.new.jobs + 1)
         ≤ vec_capacity failed.new) }
-    ensures pending_kept { vec_capacity pending.old ≤ vec_capacity pending.new }
     ensures struck_kept { vec_capacity struck.old ≤ vec_capacity struck.new }
     ensures failed_kept { vec_capacity failed.old ≤ vec_capacity failed.new }
 {
     let jobs = pending.len() + 1;
     struck.reserve(jobs)?;
     failed.reserve(jobs)?;
-    pending.reserve(1)
+    pending.reserve()
 }

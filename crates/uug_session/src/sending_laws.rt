@@ -1,5 +1,5 @@
 //! That an end sends while there is room, and closes where all is over. The functions do nothing.
-ghost use Rattle.std.specs.Prelude.{◌≤◌, List};
+ghost use Rattle.std.specs.Prelude.{◌≤◌, ℕ, List, Option};
 ghost use Rattle.uug_link.specs.Announced.{Announced};
 ghost use Rattle.uug_link.specs.declared.limits.TheConstants.{WINDOW_MAX};
 ghost use Rattle.uug_session.specs.EndStep.{EndEvent, EndState, Identity, begins_session, end_step};
@@ -12,8 +12,8 @@ ghost use Rattle.uug_session.specs.Sending.{HasClosedWhereItIsOver, HasSaidWhatI
 /// After each event, on a link that is up, the window lets no message more out or none waits to be sent: whatever keeps the
 /// conversation, and for each window that can be announced, 1 to 7.
 pub fn an_end_sends_while_there_is_room<C>()
-    ensures first { (k : Keeper C) (id : Identity) (own : Announced) (c : C)
-        → HasSaidWhatItCan k (begins_session id own c).state }
+    ensures first { (k : Keeper C) (id : Identity) (own : Announced) (number : Option ℕ) (c : C)
+        → HasSaidWhatItCan k (begins_session id own number c).state }
     ensures stays { (k : Keeper C) (id : Identity) (event : EndEvent) (e : EndState C)
         → (end_step k id event e).state.link.window ≤ WINDOW_MAX
         → HasSaidWhatItCan k e → HasSaidWhatItCan k (end_step k id event e).state }
@@ -21,8 +21,8 @@ pub fn an_end_sends_while_there_is_room<C>()
 
 /// After each event an end whose link is up has something to say or to take yet: where all is over it has closed.
 pub fn an_end_closes_where_all_is_over<C>()
-    ensures first { (k : Keeper C) (id : Identity) (own : Announced) (c : C)
-        → HasClosedWhereItIsOver k (begins_session id own c).state }
+    ensures first { (k : Keeper C) (id : Identity) (own : Announced) (number : Option ℕ) (c : C)
+        → HasClosedWhereItIsOver k (begins_session id own number c).state }
     ensures stays { (k : Keeper C) (id : Identity) (event : EndEvent) (e : EndState C)
         → HasClosedWhereItIsOver k e → HasClosedWhereItIsOver k (end_step k id event e).state }
 {}

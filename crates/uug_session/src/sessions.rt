@@ -49,7 +49,7 @@ impl<S: Spool, A: Allocator + Copy> Node<S, A> {
     pub fn caller(alloc: A, place: Place, queue: Queue<A>, spool: S) -> Result<Self, NotMade<S, A>>
         ensures session { IfOk result (λ node. BeginsSession
             (record { side = caller; me = place.me; peer = place.peer })
-            (announced place.announce) (all_ahead queue) [] (node_of node).engine) }
+            (announced place.announce) place.number (all_ahead queue) [] (node_of node).engine) }
         ensures nothing_held { IfOk result (λ node. HoldsNothing (node_of node)) }
         ensures spool { IfOk result (λ node. spool_of node ≡ spool) }
         ensures place_back { IfErr result (λ refused. refused.place ≡ place) }
@@ -63,7 +63,7 @@ impl<S: Spool, A: Allocator + Copy> Node<S, A> {
     pub fn called(alloc: A, place: Place, queue: Queue<A>, spool: S) -> Result<Self, NotMade<S, A>>
         ensures session { IfOk result (λ node. BeginsSession
             (record { side = called; me = place.me; peer = place.peer })
-            (announced place.announce) (all_ahead queue) [] (node_of node).engine) }
+            (announced place.announce) place.number (all_ahead queue) [] (node_of node).engine) }
         ensures nothing_held { IfOk result (λ node. HoldsNothing (node_of node)) }
         ensures spool { IfOk result (λ node. spool_of node ≡ spool) }
         ensures place_back { IfErr result (λ refused. refused.place ≡ place) }
@@ -75,11 +75,11 @@ impl<S: Spool, A: Allocator + Copy> Node<S, A> {
 
     /// The next session begins, on a new call, of an end whose session is over. All that are pending still are to be
     /// offered; no byte of the last session is read any more, and what the outbox holds stays in front of what the end
-    /// says. Without memory for that nothing has changed.
+    /// says. The number of its conversations stays. Without memory for that nothing has changed.
     pub fn call_again(&mut self) -> Result<(), AllocError>
         requires ended { IsEnded (node_of self.old).engine.stage }
         ensures session { OnOk result (BeginsSession (node_of self.old).engine.identity
-            (node_of self.old).engine.own
+            (node_of self.old).engine.own (node_of self.old).engine.number
             (all_ahead (node_of self.old).engine.talking.machine.lists)
             (node_of self.old).engine.outbox.entries (node_of self.new).engine) }
         ensures nothing_held { OnOk result (HoldsNothing (node_of self.new)) }
@@ -107,7 +107,7 @@ impl<S: Spool, A: Allocator + Copy> Node<S, A> {
     ) -> Result<Self, NotMade<S, A>>
         ensures session { IfOk result (λ node. BeginsSession
             (record { side = side_of side; me = place.me; peer = place.peer })
-            (announced place.announce) (all_ahead queue) [] (node_of node).engine) }
+            (announced place.announce) place.number (all_ahead queue) [] (node_of node).engine) }
         ensures nothing_held { IfOk result (λ node. HoldsNothing (node_of node)) }
         ensures spool { IfOk result (λ node. spool_of node ≡ spool) }
         ensures place_back { IfErr result (λ refused. refused.place ≡ place) }

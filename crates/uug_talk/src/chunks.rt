@@ -1,4 +1,5 @@
-ghost use Rattle.std.specs.Prelude.{◌≡◌, ◌≢◌, ◌-◌, ◌<◌, ◌≤◌, [], ◌∷◌, ◌++◌, length, take, drop, replicate, All, IsTrue, MatchOption, ◌↔◌};
+ghost use Rattle.std.specs.Prelude.{◌≡◌, ◌≢◌, ◌-◌, ◌<◌, ◌≤◌, [], ◌∷◌, ◌++◌, length, take, drop, replicate, All, IsTrue, ◌↔◌};
+ghost use Rattle.std.specs.Bool.{OnTrue, OnFalse};
 ghost use Rattle.std.specs.Iterator.{YieldsFirstBy, item_count};
 ghost use Rattle.uug_talk.specs.declared.chunks.TheConstants.{MESSAGE_MAX};
 ghost use Rattle.uug_talk.specs.Chunks.{IsCommandText, command_messages, file_messages};
@@ -83,70 +84,80 @@ impl<'a> Iterator for Chunks<'a> {
     ghost remaining = { item_count messages_left };
 
     fn next(&mut self) -> Option<Message> {
-        self.next_message()
+        let mut message = ArrayVec::new();
+        if self.next_into(&mut message) {
+            Some(message)
+        } else {
+            None
+        }
     }
 }
 
 impl Chunks<'_> {
     ghost use Rattle.uug_talk.specs.MessagesLeft.{messages_left};
 
-    fn next_message(&mut self) -> Option<Message>
-        ensures { MatchOption result ((messages_left self.old ≡ []) × (messages_left self.new ≡ []))
-            (λ message. messages_left self.old ≡ message.items ∷ messages_left self.new) }
+    /// Puts the next message into `message`, in the place of what that held, and says whether there was one. Where there
+    /// is none, `message` stays. `next` makes a new message of `MESSAGE_MAX` bytes each time; this makes none.
+    pub fn next_into(&mut self, message: &mut Message) -> bool
+        ensures some { OnTrue result (messages_left self.old ≡ message.new.items ∷ messages_left self.new) }
+        ensures none { OnFalse result ((messages_left self.old ≡ []) × (messages_left self.new ≡ [])) }
+        ensures stays { OnFalse result (message.new ≡ message.old) }
     {
         match self.ending {
-            Ending::Zeros => Some(self.next_of_command()),
-            Ending::Empty => Some(self.next_of_file()),
-            Ending::Given => None,
+            Ending::Zeros => self.command_into(message),
+            Ending::Empty => self.file_into(message),
+            Ending::Given => return false,
         }
+        true
     }
 
-    fn next_of_command(&mut self) -> Message
+    fn command_into(&mut self, message: &mut Message)
         requires { self.old.ending ≡ Ending.Zeros }
-        ensures { messages_left self.old ≡ result.items ∷ messages_left self.new }
+        ensures { messages_left self.old ≡ message.new.items ∷ messages_left self.new }
     {
         if self.rest.len() < self.size {
             self.ending = Ending::Given;
-            return padded(self.rest, self.size);
+            pad_into(self.rest, self.size, message);
+            return;
         }
-        self.cut_front()
+        self.cut_into(message);
     }
 
-    fn next_of_file(&mut self) -> Message
+    fn file_into(&mut self, message: &mut Message)
         requires { self.old.ending ≡ Ending.Empty }
-        ensures { messages_left self.old ≡ result.items ∷ messages_left self.new }
+        ensures { messages_left self.old ≡ message.new.items ∷ messages_left self.new }
     {
         if self.rest.is_empty() {
             self.ending = Ending::Given;
-            return ArrayVec::new();
+            message.clear();
+            return;
         }
-        self.cut_front()
+        self.cut_into(message);
     }
 
     // The first bytes that are left, as many as a message has.
-    fn cut_front(&mut self) -> Message
-        ensures message { result.items ≡ take self.old.size self.old.rest.now }
+    fn cut_into(&mut self, message: &mut Message)
+        ensures message { message.new.items ≡ take self.old.size self.old.rest.now }
         ensures rest { self.new.rest.now ≡ drop self.old.size self.old.rest.now }
         ensures kept { (self.new.size ≡ self.old.size) × (self.new.ending ≡ self.old.ending) }
     {
         let (piece, rest) = self.rest.split_at(self.size.min(self.rest.len()));
         self.rest = rest;
-        padded(piece, piece.len())
+        pad_into(piece, piece.len(), message);
     }
 }
 
 // The piece, and zeros behind it up to the size.
-fn padded(piece: &[u8], size: usize) -> Message
+fn pad_into(piece: &[u8], size: usize, message: &mut Message)
     requires room { length piece.now ≤ size }
     requires fits { size ≤ MESSAGE_MAX }
-    ensures { result.items ≡ piece.now ++ replicate (size - length piece.now) 0 }
+    ensures { message.new.items ≡ piece.now ++ replicate (size - length piece.now) 0 }
 {
-    let mut message = ArrayVec::new();
+    message.clear();
     let Ok(()) = message.try_extend_from_slice(piece) else {
         unreachable!();
     };
     for _zero in 0..size - piece.len() {
         message.push(0);
     }
-    message
 }

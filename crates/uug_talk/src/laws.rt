@@ -21,7 +21,7 @@ ghost use Rattle.uug_talk.specs.Texts.{IsFirstText, IsTooLong, Heard, Passing, W
 /// a mode, of the octal digits in which one is read, and the mode of a file that is given without one.
 pub fn limits()
     ensures name { NAME_MAX ≡ 200 }
-    ensures command { COMMAND_MAX ≡ 1024 }
+    ensures command { COMMAND_MAX ≡ 4096 }
     ensures hail { HAIL_MAX ≡ 256 }
     ensures message { MESSAGE_MAX ≡ 4096 }
     ensures file { FILE_MAX ≡ 1048576 }

@@ -5,7 +5,7 @@ ghost use Rattle.uug_talk.specs.Words.{is_space, words};
 use arrayvec::ArrayVec;
 
 /// The longest text of a command or an answer, without its zero byte.
-pub const COMMAND_MAX: usize = 1024;
+pub const COMMAND_MAX: usize = 4096;
 
 /// The room for a text that is written. It is more than the longest one needs.
 pub const WRITTEN_MAX: usize = 1024;

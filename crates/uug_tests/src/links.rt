@@ -3,6 +3,7 @@
 //! ample memory and with each of its requests refused. This catches a call that answers want of memory where none was
 //! refused, one that changes something when it is refused, and one that cannot be made again.
 
+mod fields;
 mod outboxes;
 mod runs;
 
@@ -24,8 +25,10 @@ enum Wire<'a> {
     Rr(u8),
     Rj(u8),
     Srj(u8),
-    /// A data packet in a field of 64 bytes: its number, the number that it acknowledges, and its message.
+    /// A data packet in a field of 32 bytes: its number, the number that it acknowledges, and its message.
     Data(u8, u8, &'a [u8]),
+    /// The same in a field of 64 bytes.
+    Padded(u8, u8, &'a [u8]),
 }
 
 /// What is done to a link.
@@ -57,15 +60,18 @@ fn packet_of(wire: Wire<'_>) -> Packet<'_> {
         Wire::Rr(value) => Control::Rr(number(value)),
         Wire::Rj(value) => Control::Rj(number(value)),
         Wire::Srj(value) => Control::Srj(number(value)),
-        Wire::Data(value, ack, message) => {
-            return Packet::Carry {
-                seq: number(value),
-                ack: number(ack),
-                k: 2,
-                message,
-            };
-        }
+        Wire::Data(value, ack, message) => return carrying(1, value, ack, message),
+        Wire::Padded(value, ack, message) => return carrying(2, value, ack, message),
     })
+}
+
+fn carrying(k: u8, value: u8, ack: u8, message: &[u8]) -> Packet<'_> {
+    Packet::Carry {
+        seq: number(value),
+        ack: number(ack),
+        k,
+        message,
+    }
 }
 
 /// Makes the call. One whose condition does not hold is answered as on a link that has ended.

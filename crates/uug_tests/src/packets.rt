@@ -4,7 +4,8 @@ use arrayvec::ArrayVec;
 use std::alloc::AllocError;
 use std::process::Abort;
 use uug_packet::{
-    NoPacket, Packet, Seq, check, decode, encode, field_code, field_size, message_start, re_ack,
+    Control, NoPacket, Packet, Seq, check, control_packet, decode, encode, field_code, field_size,
+    is_written, message_in, message_start, re_ack,
 };
 
 /// The number of a packet: all that are written here are below eight.
@@ -52,7 +53,11 @@ fn writes_and_reads_packets(rt: HostRuntime) {
     encode(&packet, &mut out);
     assert_eq!(rt; &out[..7], front.as_slice());
     assert_eq!(rt; message_start(&out), 7);
+    assert_eq!(rt; message_in(&out), Some([].as_slice()));
+    assert!(rt; is_written(&packet, out.as_slice()));
     assert_eq!(rt; decode(&out), Ok((packet, 38)));
+    let init = [0x10, 0x09, 0x6f, 0xaa, 0x3b, 0xf7];
+    assert_eq!(rt; control_packet(Control::InitA(number(3))), init);
 }
 
 /// A packet in a field of 32 bytes, which is written with the acknowledgement `old` and then gets `ack`: it is then these

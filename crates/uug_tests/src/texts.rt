@@ -33,12 +33,41 @@ fn what_is_read_is_written(rt: HostRuntime) -> Result<(), Fail> {
     Ok(())
 }
 
+/// Numbers that the caller `a` keeps, and what it says.
+const SAID: [(Option<u32>, &[u8]); 4] = [
+    (None, b"Sa"),
+    (Some(0), b"Sa -Q0"),
+    (Some(7), b"Sa -Q7"),
+    (Some(4_294_967_295), b"Sa -Q4294967295"),
+];
+
+/// Texts of a caller, and the number that a called end reads in them.
+const CALLS: [(&[u8], Option<u32>); 12] = [
+    (b"Sa", None),
+    (b"Sa -p -Q7 -Q8", Some(7)),
+    (b"Sa  -Q0000000007", Some(7)),
+    (b"Sa -Q4294967295", Some(4_294_967_295)),
+    (b"Sa -Q4294967296 -Q5", Some(5)),
+    (b"Sa -Q00000000007", None),
+    (b"Sa -Q", None),
+    (b"Sa -Q-7", None),
+    // the number stands in another word
+    (b"Sa -Q 7", None),
+    (b"Sa -p-Q7", None),
+    (b"Sa-Q7", None),
+    (b"", None),
+];
+
 #[test]
 fn a_caller_writes_its_number_and_a_called_end_reads_it(rt: HostRuntime) -> Result<(), Fail> {
     let name = Name::new(b"a")?;
-    assert_eq!(rt; write_call(&name, None).as_slice(), b"Sa".as_slice());
-    assert_eq!(rt; write_call(&name, Some(7)).as_slice(), b"Sa -Q7".as_slice());
-    assert_eq!(rt; caller_number(b"Sa -p -Q7 -Q8"), Some(7));
+    for (number, text) in SAID {
+        assert_eq!(rt; write_call(&name, number).as_slice(), text);
+        assert_eq!(rt; caller_number(text), number);
+    }
+    for (text, number) in CALLS {
+        assert_eq!(rt; caller_number(text), number, "in {text:?}");
+    }
     assert_eq!(rt; read_number(b"007", 6), None);
     Ok(())
 }
@@ -103,6 +132,21 @@ fn what_is_cut_is_gathered(rt: HostRuntime) {
         gathers_a_file(&rt, rt.alloc(), &bytes[..len]);
         gathers_a_command(&rt, &bytes[..len]);
     }
+}
+
+/// A text as long as a command may be, in messages of 32 bytes, and the message behind them.
+fn longest_and(message: &[u8]) -> Option<Result<Progress, BadText>> {
+    let mut command = Gather::<Global>::command();
+    for _ in 0..128 {
+        push(&mut command, &[b'x'; 32]);
+    }
+    push(&mut command, message)
+}
+
+#[test]
+fn a_command_has_at_most_4096_bytes(rt: HostRuntime) {
+    assert_eq!(rt; longest_and(&[0; 32]), Some(Ok(Progress::Whole)));
+    assert_eq!(rt; longest_and(&[b'x'; 32]), Some(Err(BadText::TooLong)));
 }
 
 /// A file's message makes one request. Refused, it changes nothing, and pushed again it is taken. The end of a file

@@ -24,4 +24,5 @@ IsScanFault faults.Memory = ⊤
 IsScanFault faults.Device = ⊤
 IsScanFault (faults.Script line) = ⊥
 IsScanFault (faults.Jobs line) = ⊥
+IsScanFault faults.Number = ⊥
 IsScanFault faults.Usage = ⊥

@@ -24,6 +24,7 @@ fn place() -> Result<Place, Fail> {
         me: Name::new(b"a")?,
         peer: Name::new(b"b")?,
         announce: Announce::new(2, 32)?,
+        number: None,
     })
 }
 

@@ -11,14 +11,14 @@ use uug_session::{End, Phase};
 const NEVER: usize = 1_000_000;
 
 /// So many bytes are enough for each session that ends by itself.
-const AMPLE: u64 = 1_000_000;
+pub(super) const AMPLE: u64 = 1_000_000;
 
 const HI: &[u8] = b"hi";
 
 /// Thirteen packets of 32 bytes, the last of them with 16, which is more than a window.
 const LONG: &[u8] = &[97; 400];
 
-const CLEAN: Manner = Manner {
+pub(super) const CLEAN: Manner = Manner {
     other: Other::Speaks,
     at_once: NEVER,
     ends_behind: NEVER,

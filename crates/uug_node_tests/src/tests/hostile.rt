@@ -1,12 +1,10 @@
 //! Ends that keep to no rule.
 
-use super::greetings::{CALLED_GREETS, CALLED_STARTS, CALLER_STARTS};
+use super::greetings::{CALLED_STARTS, CALLER_STARTS};
 use super::script::Act::Hear;
-use super::script::Wire::{
-    Bytes, Close, Command, Data, Flood, InitA, InitB, InitC, Rj, Rr, RrFlood, Text,
-};
-use super::script::{Row, SILENCE, Script, Start, Wire};
-use super::{Given, Left, NO_WORK, NOTHING, SEND, Side};
+use super::script::Wire::{Bytes, Close, Command, Data, Flood, InitC, Rj, Rr, RrFlood};
+use super::script::{Row, SILENCE, Script, Wire};
+use super::{Given, Left, NO_WORK, NOTHING, SEND, wide_peers};
 use std::test::Fail;
 use uug_session::{End, Phase};
 
@@ -80,12 +78,12 @@ const SCRIPTS: &[Script<'static>] = &[
         phase: Phase::Talking,
         left: NOTHING,
     },
-    // a command of 1024 bytes with no zero byte, and more
+    // a command of 4096 bytes with no zero byte, and more
     Script {
         start: CALLED_STARTS,
         has: NO_WORK,
         rows: &[
-            (Hear(&[Flood(32, 1, 1, 0)]), &[RrFlood(32, 1)]),
+            (Hear(&[Flood(128, 1, 1, 0)]), &[RrFlood(128, 1)]),
             (Hear(&[Flood(1, 1, 1, 0)]), &[Rr(1), Close]),
         ],
         phase: Phase::Ended(End::BadTalk),
@@ -93,17 +91,7 @@ const SCRIPTS: &[Script<'static>] = &[
     },
     // a file of 1048576 bytes, and one more
     Script {
-        start: Start {
-            side: Side::Called,
-            size: 4096,
-            rows: &[
-                CALLED_GREETS,
-                (Hear(&[Text(b"Sa")]), &[Text(b"ROK"), Text(b"Pg")]),
-                (Hear(&[Text(b"Ug"), InitA(2)]), &[InitA(2)]),
-                (Hear(&[InitB(0)]), &[InitB(7)]),
-                (Hear(&[InitC(2)]), &[InitC(2)]),
-            ],
-        },
+        start: wide_peers::CALLED_STARTS,
         has: NO_WORK,
         rows: &[
             TAKES_Y,

@@ -24,6 +24,9 @@ pub(super) enum Wire<'a> {
     Data(u8, u8, &'a [u8]),
     /// A command or an answer of less than 32 bytes, in a field of 32.
     Command(u8, u8, &'a [u8]),
+    /// Both with a field of 4,096 bytes.
+    Wide(u8, u8, &'a [u8]),
+    WideCommand(u8, u8, &'a [u8]),
     /// So many full messages, with the code of their size, the number of the first, and what they acknowledge.
     Flood(u16, u8, u8, u8),
     /// So many acknowledgements, from this number on.
@@ -77,7 +80,9 @@ fn spell(wire: Wire<'_>, line: &mut Vec<u8, Global>) -> Result<(), Fail> {
         Wire::Data(seq, ack, message) => return spell_data(1, seq, ack, message, line),
         Wire::Flood(count, k, seq, ack) => return spell_flood(count, k, seq, ack, line),
         Wire::RrFlood(count, seq) => return spell_answers(count, seq, line),
-        Wire::Command(seq, ack, text) => return spell_data(1, seq, ack, &filled(text)?, line),
+        Wire::Command(seq, ack, text) => return spell_command(1, seq, ack, text, line),
+        Wire::Wide(seq, ack, message) => return spell_data(8, seq, ack, message, line),
+        Wire::WideCommand(seq, ack, text) => return spell_command(8, seq, ack, text, line),
         Wire::InitA(window) => Control::InitA(number(window)),
         Wire::InitB(size_code) => Control::InitB(number(size_code)),
         Wire::InitC(window) => Control::InitC(number(window)),
@@ -108,14 +113,20 @@ fn spell_text(text: &[u8], line: &mut Vec<u8, Global>) -> Result<(), Fail> {
     Ok(line.push(0)?)
 }
 
-/// A text, and zeros behind it.
-fn filled(text: &[u8]) -> Result<[u8; 32], Fail> {
-    if text.len() >= 32 {
+/// A text, and zeros behind it that fill the field.
+fn spell_command(
+    k: u8,
+    seq: u8,
+    ack: u8,
+    text: &[u8],
+    line: &mut Vec<u8, Global>,
+) -> Result<(), Fail> {
+    if k < 1 || k > FIELD_CODE_MAX || text.len() >= field_size(k) {
         return Err("a short text".into());
     }
-    let mut field = [0; 32];
+    let mut field = [0; 4096];
     field[..text.len()].copy_from_slice(text);
-    Ok(field)
+    spell_data(k, seq, ack, &field[..field_size(k)], line)
 }
 
 fn spell_data(
@@ -177,7 +188,7 @@ pub(super) fn assert_says<S: Spool, A: Allocator + Copy>(
 }
 
 /// Does what the rows say, and takes away what the end says in each.
-fn follow(
+pub(super) fn follow(
     rt: &impl Abort,
     log: Global,
     node: &mut MemoryNode<Global>,

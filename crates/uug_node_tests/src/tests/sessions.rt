@@ -13,9 +13,11 @@ use uug_session::{End, NotMade};
 
 type HeapNode<'a> = MemoryNode<&'a Refusing<Global>>;
 
-/// What the caller and the called end have, what happens, and what they then have.
+/// What the caller and the called end have, what happens, and what they then have. Both keep the same number or none, which
+/// is told as it is before and after.
 #[derive(Clone, Copy)]
 struct Session<'a> {
+    numbers: (Option<u32>, Option<u32>),
     caller_has: &'a [Given<'a>],
     called_has: &'a [Given<'a>],
     events: &'a [Event],
@@ -33,6 +35,10 @@ impl Session<'_> {
     ) -> Result<(), Fail> {
         line.play(self.events, caller, called)?;
         let (left, right) = (caller.spool().stored(), called.spool().stored());
+        assert_eq!(rt;
+            (caller.number(), called.number()),
+            (self.numbers.1, self.numbers.1)
+        );
         assert_ended(rt, caller, left, End::Done, self.caller_left)?;
         assert_ended(rt, called, right, End::Done, self.called_left)
     }
@@ -48,6 +54,7 @@ const LONG: &[u8] =
 
 const SESSIONS: &[Session<'static>] = &[
     Session {
+        numbers: (Some(7), Some(8)),
         caller_has: SENDER,
         called_has: NO_WORK,
         events: &[Event::Flow(20)],
@@ -56,6 +63,7 @@ const SESSIONS: &[Session<'static>] = &[
     },
     // the roles are exchanged
     Session {
+        numbers: (None, None),
         caller_has: NO_WORK,
         called_has: SENDER,
         events: &[Event::Flow(20)],
@@ -63,6 +71,7 @@ const SESSIONS: &[Session<'static>] = &[
         called_left: &[Left::Struck(SEND)],
     },
     Session {
+        numbers: (None, None),
         caller_has: SENDER,
         called_has: &[Given::Deny(b"y")],
         events: &[Event::Flow(20)],
@@ -70,6 +79,7 @@ const SESSIONS: &[Session<'static>] = &[
         called_left: NOTHING,
     },
     Session {
+        numbers: (None, None),
         caller_has: SENDER,
         called_has: &[Given::Later(b"y")],
         events: &[Event::Flow(20)],
@@ -77,6 +87,7 @@ const SESSIONS: &[Session<'static>] = &[
         called_left: NOTHING,
     },
     Session {
+        numbers: (None, None),
         caller_has: SENDER,
         called_has: &[Given::Immovable(b"y")],
         events: &[Event::Flow(20)],
@@ -85,6 +96,7 @@ const SESSIONS: &[Session<'static>] = &[
     },
     // there is no file to be given
     Session {
+        numbers: (None, None),
         caller_has: &[Given::Job(REQUEST)],
         called_has: NO_WORK,
         events: &[Event::Flow(20)],
@@ -92,6 +104,7 @@ const SESSIONS: &[Session<'static>] = &[
         called_left: NOTHING,
     },
     Session {
+        numbers: (None, None),
         caller_has: &[Given::Job(REQUEST)],
         called_has: &[Given::File(b"q", b"")],
         events: &[Event::Flow(20)],
@@ -100,6 +113,7 @@ const SESSIONS: &[Session<'static>] = &[
     },
     // INITA goes out twice, and the command is lost
     Session {
+        numbers: (None, None),
         caller_has: SENDER,
         called_has: NO_WORK,
         events: &[
@@ -113,8 +127,9 @@ const SESSIONS: &[Session<'static>] = &[
         caller_left: &[Left::Struck(SEND)],
         called_left: &[Left::Stored(b"y", b"")],
     },
-    // files of several messages go both ways, at the second call; the third has no job
+    // files of several messages go both ways, at the second call; the third has no job; of the first nothing is heard
     Session {
+        numbers: (Some(4_294_967_295), Some(1)),
         caller_has: &[
             Given::File(b"x", LONG),
             Given::Job(SEND),
@@ -140,10 +155,12 @@ const SESSIONS: &[Session<'static>] = &[
 fn insist<'a>(
     heap: &'a Refusing<Global>,
     side: Side,
+    number: Option<u32>,
     given: &[Given<'_>],
     nth: u64,
 ) -> Result<HeapNode<'a>, Fail> {
-    let place = place(side, 32)?;
+    let mut place = place(side, 32)?;
+    place.number = number;
     heap.refuse(0);
     let (queue, spool) = stock(heap, given)?;
     heap.refuse(nth);
@@ -168,7 +185,13 @@ fn follow(
     line: &mut Line,
     nth: u64,
 ) -> Result<bool, Fail> {
-    let mut caller = insist(heap, Side::Caller, session.caller_has, nth)?;
+    let mut caller = insist(
+        heap,
+        Side::Caller,
+        session.numbers.0,
+        session.caller_has,
+        nth,
+    )?;
     follow_from(rt, heap, session, line, nth, &mut caller)
 }
 
@@ -180,7 +203,13 @@ fn follow_from<'a>(
     nth: u64,
     caller: &mut HeapNode<'a>,
 ) -> Result<bool, Fail> {
-    let mut called = insist(heap, Side::Called, session.called_has, nth)?;
+    let mut called = insist(
+        heap,
+        Side::Called,
+        session.numbers.0,
+        session.called_has,
+        nth,
+    )?;
     heap.refuse(nth);
     session.play(rt, line, caller, &mut called)?;
     Ok(heap.was_refused())

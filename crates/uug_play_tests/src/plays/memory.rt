@@ -1,6 +1,6 @@
 //! Each request for memory refused in turn.
 
-use super::{BROKEN_OFF, SENT_TWICE};
+use super::{NUMBERED, SENT_NUMBERED};
 use std::alloc::Global;
 use std::process::Abort;
 use std::test::Fail;
@@ -17,12 +17,12 @@ fn requests_of_a_player(rt: &impl Abort, alloc: Global) -> Result<u64, Fail> {
         let mut output = MemoryOutput::new(alloc);
         let result = play_stream(
             &heap,
-            &mut MemoryInput::new(BROKEN_OFF.as_bytes()),
+            &mut MemoryInput::new(NUMBERED.as_bytes()),
             &mut output,
         );
         if !heap.was_refused() {
             assert_eq!(rt; result, Ok(0));
-            assert_eq!(rt; output.bytes(), SENT_TWICE.as_bytes());
+            assert_eq!(rt; output.bytes(), SENT_NUMBERED.as_bytes());
             return Ok(nth - 1);
         }
         assert_eq!(rt; result, Err(ToolFault::Memory), "of request {nth}");
@@ -34,7 +34,7 @@ fn requests_of_a_player(rt: &impl Abort, alloc: Global) -> Result<u64, Fail> {
 /// Runs the script, with the nth request of the run refused. Why the run gave up, if it did.
 fn refuse(heap: &Refusing<Global>, nth: u64) -> Result<Option<RunFault>, Fail> {
     heap.refuse(0);
-    let script = read_script(heap, BROKEN_OFF.as_bytes())?;
+    let script = read_script(heap, NUMBERED.as_bytes())?;
     heap.refuse(nth);
     Ok(run(heap, script.setup, script.events.as_slice()).err())
 }

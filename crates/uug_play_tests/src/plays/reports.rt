@@ -18,7 +18,7 @@ const GIVEN_UP: &str =
     caller pending 0 struck 0 failed 1\ncalled pending 0 struck 0 failed 0\nverdict clean\n";
 
 /// Scripts, the reports of what they say, and the statuses.
-const SCRIPTS: [(&str, &str, u8); 14] = [
+const SCRIPTS: [(&str, &str, u8); 19] = [
     (
         "caller a 2 32\ncalled b 2 32\nfile caller x 0644 -\nsend caller x y u\nflow 20\n",
         SENT,
@@ -113,6 +113,49 @@ const SCRIPTS: [(&str, &str, u8); 14] = [
          caller pending 0 struck 0 failed 0\ncalled pending 0 struck 0 failed 0\nverdict clean\n",
         1,
     ),
+    // both ends keep the same number
+    (
+        "caller a 2 32\ncalled b 2 32\nfile caller x 0644 -\nsend caller x y u\n\
+         number caller 7\nnumber called 7\nflow 20\n",
+        "session 1\ncaller sent 4 taken 3 most 1 done\ncalled sent 3 taken 4 most 1 done\n\
+         caller pending 0 struck 1 failed 0\ncalled pending 0 struck 0 failed 0\n\
+         called stored y 0644 -\ncaller number 8\ncalled number 8\nverdict clean\n",
+        0,
+    ),
+    // the caller tells another number, or none
+    (
+        "caller a 2 32\ncalled b 2 32\nfile caller x 0644 -\nsend caller x y u\n\
+         number caller 7\nnumber called 9\nflow 20\n",
+        "session 1\ncaller sent 0 taken 0 most 0 badsequence\ncalled sent 0 taken 0 most 0 badsequence\n\
+         caller pending 1 struck 0 failed 0\ncalled pending 0 struck 0 failed 0\n\
+         caller number 7\ncalled number 9\nverdict clean\n",
+        1,
+    ),
+    (
+        "caller a 2 32\ncalled b 2 32\nfile caller x 0644 -\nsend caller x y u\nnumber called 7\nflow 20\n",
+        "session 1\ncaller sent 0 taken 0 most 0 badsequence\ncalled sent 0 taken 0 most 0 badsequence\n\
+         caller pending 1 struck 0 failed 0\ncalled pending 0 struck 0 failed 0\n\
+         called number 7\nverdict clean\n",
+        1,
+    ),
+    // the called end looks at none
+    (
+        "caller a 2 32\ncalled b 2 32\nfile caller x 0644 -\nsend caller x y u\nnumber caller 7\nflow 20\n",
+        "session 1\ncaller sent 4 taken 3 most 1 done\ncalled sent 3 taken 4 most 1 done\n\
+         caller pending 0 struck 1 failed 0\ncalled pending 0 struck 0 failed 0\n\
+         called stored y 0644 -\ncaller number 8\nverdict clean\n",
+        0,
+    ),
+    // the caller is let in, and never hears so
+    (
+        "caller a 2 32\ncalled b 2 32\nfile caller x 0644 -\nsend caller x y u\n\
+         number caller 7\nnumber called 7\nflow 1\npass called 1000\ncall\nflow 20\n",
+        "session 1\ncaller sent 0 taken 0 most 0 hungup\ncalled sent 0 taken 0 most 0 hungup\n\
+         session 2\ncaller sent 0 taken 0 most 0 badsequence\ncalled sent 0 taken 0 most 0 badsequence\n\
+         caller pending 1 struck 0 failed 0\ncalled pending 0 struck 0 failed 0\n\
+         caller number 7\ncalled number 8\nverdict clean\n",
+        1,
+    ),
     (
         "caller a 2 32\ncalled b 2 32\ntimeout caller\ntimeout caller\ntimeout caller\ntimeout caller\n\
          timeout caller\ntimeout caller\ntimeout caller\ntimeout caller\n",
@@ -148,7 +191,7 @@ fn writes_nothing_of_a_bad_script(rt: HostRuntime) -> Result<(), Fail> {
     for (lines, jobs, bad) in [
         ("", 0, 1),
         ("caller a 2 32\ncalled b 8 32\n", 0, 2),
-        ("caller a 2 32\ncalled b 2 32\n", 65, 67),
+        ("caller a 2 32\ncalled b 2 32\n", 1_025, 1_027),
     ] {
         let mut script = String::from_str(rt.alloc(), lines)?;
         with_jobs(&mut script, jobs)?;

@@ -4,10 +4,12 @@
 use std::alloc::Global;
 use std::process::Abort;
 use std::test::Fail;
-use uug_line::{EndReport, Report, RunFault, run, settle};
+use uug_line::{EndReport, Report, RunFault, Side, run, settle};
+use uug_play::{Unsettled, play_settled, why_unsettled};
 use uug_refusal::Refusing;
 use uug_script::read_script;
 use uug_session::{End, Phase};
+use uug_tool::{MemoryInput, MemoryOutput, ToolFault};
 
 /// The caller offers a file, and the packet that does is lost.
 const LOST: &str =
@@ -19,41 +21,44 @@ const LOST_SEVEN_TIMES: &str =
     timeout caller\ndrop called 1000\ntimeout caller\ndrop called 1000\ntimeout caller\ndrop called 1000\n\
     timeout caller\ndrop called 1000\ntimeout caller\ndrop called 1000\ntimeout caller\ndrop called 1000\n";
 
-/// Scripts, and whether their runs may settle.
-const SCRIPTS: [(&str, bool); 8] = [
-    (LOST, true),
-    (LOST_SEVEN_TIMES, true),
+/// Scripts, and why their runs may not settle, if so.
+const SCRIPTS: [(&str, Option<Unsettled>); 8] = [
+    (LOST, None),
+    (LOST_SEVEN_TIMES, None),
     // seven times
     (
         "caller a 2 32\ncalled b 2 32\nfile caller x 0644 -\nsend caller x y u\nflow 5\ndrop called 1000\n\
          timeout caller\ndrop called 1000\ntimeout caller\ndrop called 1000\ntimeout caller\ndrop called 1000\n\
          timeout caller\ndrop called 1000\ntimeout caller\ndrop called 1000\ntimeout caller\ndrop called 1000\n\
          timeout caller\ndrop called 1000\n",
-        false,
+        Some(Unsettled::Late(Side::Caller)),
     ),
     // both sessions are over
     (
         "caller a 2 32\ncalled b 2 32\nfile caller x 0644 -\nsend caller x y u\nflow 20\n",
-        false,
+        Some(Unsettled::Silent(Side::Caller)),
     ),
     // the packet is on the line
     (
         "caller a 2 32\ncalled b 2 32\nfile caller x 0644 -\nsend caller x y u\nflow 5\n",
-        false,
+        Some(Unsettled::OnLine),
     ),
     // a front of it came, which the called end holds
     (
         "caller a 2 32\ncalled b 2 32\nfile caller x 0644 -\nsend caller x y u\nflow 5\npass called 10\ndrop called 1000\n",
-        false,
+        Some(Unsettled::Holds(Side::Called)),
     ),
     // the line fooled an end
     (
         "caller a 2 32\ncalled b 2 32\nfile caller x 0644 100985aa2503\nsend caller x y u\n\
          flow 5\npass called 1000\npass caller 1000\npass called 6\ndrop called 6\npass called 1000\n",
-        false,
+        Some(Unsettled::Fooled),
     ),
     // the two ends greet each other
-    ("caller a 2 32\ncalled b 2 32\n", false),
+    (
+        "caller a 2 32\ncalled b 2 32\n",
+        Some(Unsettled::Silent(Side::Caller)),
+    ),
 ];
 
 /// What is reported of the script.
@@ -64,11 +69,48 @@ fn report_of(alloc: Global, text: &str) -> Result<Report<Global>, Fail> {
 
 #[test]
 fn settles_only_where_nothing_waits(rt: HostRuntime) -> Result<(), Fail> {
-    for (text, may) in SCRIPTS {
-        let settles = report_of(rt.alloc(), text)?.can_settle();
-        assert_eq!(rt; settles, may, "after {text}");
+    for (text, why) in SCRIPTS {
+        let report = report_of(rt.alloc(), text)?;
+        assert_eq!(rt; why_unsettled(&report), why, "after {text}");
+        assert_eq!(rt; report.can_settle(), why.is_none(), "after {text}");
     }
     Ok(())
+}
+
+/// The report of what was lost, and that of what it settles to, which is the one of a line that loses nothing.
+const LOST_AND_SETTLED: &str =
+    "session 1\ncaller sent 1 taken 0 most 1 talking\ncalled sent 0 taken 0 most 0 talking\n\
+    caller pending 1 struck 0 failed 0\ncalled pending 0 struck 0 failed 0\nverdict clean\n\
+    session 1\ncaller sent 4 taken 3 most 1 done\ncalled sent 3 taken 4 most 1 done\n\
+    caller pending 0 struck 1 failed 0\ncalled pending 0 struck 0 failed 0\n\
+    called stored y 0644 -\nverdict clean\n";
+
+/// Scripts, the status, and what is written.
+const PLAYED: [(&str, u8, &str); 3] = [
+    (LOST, 0, LOST_AND_SETTLED),
+    (LOST_SEVEN_TIMES, 0, LOST_AND_SETTLED),
+    (
+        "caller a 2 32\ncalled b 2 32\n",
+        1,
+        "session 1\ncaller sent 0 taken 0 most 0 hail\ncalled sent 0 taken 0 most 0 hail\n\
+         caller pending 0 struck 0 failed 0\ncalled pending 0 struck 0 failed 0\nverdict clean\n\
+         not settled: caller is not talking\n",
+    ),
+];
+
+/// Plays the script, and goes on.
+fn play_on(alloc: Global, text: &str, output: &mut MemoryOutput<Global>) -> Result<u8, ToolFault> {
+    play_settled(alloc, &mut MemoryInput::new(text.as_bytes()), output)
+}
+
+#[test]
+fn writes_what_it_settles_to(rt: HostRuntime) {
+    for (text, status, printed) in PLAYED {
+        let mut output = MemoryOutput::new(rt.alloc());
+        let result = play_on(rt.alloc(), text, &mut output);
+        assert_eq!(rt; result, Ok(status));
+        assert_eq!(rt; output.bytes(), printed.as_bytes());
+    }
 }
 
 /// How many messages an end sent and took, the most that were unacknowledged, and how far it came.

@@ -52,7 +52,12 @@ const GOES_ON: &[Row<'static>] = &[
         NOTHING,
         2,
     ),
-    (Call::Hear(Wire::Data(1, 2, b"x")), &[Wire::Rr(1)], TAKEN, 1),
+    (
+        Call::Hear(Wire::Padded(1, 2, b"x")),
+        &[Wire::Rr(1)],
+        TAKEN,
+        1,
+    ),
     (Call::Timeout, &[Wire::Data(3, 1, b"c")], NOTHING, 1),
     (Call::Bad, &[Wire::Rj(1)], NOTHING, 1),
     (Call::Bad, SILENCE, NOTHING, 1),

@@ -1,18 +1,18 @@
 //! Greetings of an end `a` that calls `b`, text by text as they stand in what comes over the line. What this catches
 //! beyond the clauses: an end that always answers want of memory.
 
-use super::name;
+use super::place;
 use std::alloc::{AllocError, Allocator, Global};
 use std::process::Abort;
 use std::test::Fail;
 use uug_link::Outbox;
-use uug_session::{End, Greeted, Greeting};
-use uug_talk::{Hail, Name};
+use uug_session::{End, Greeted, Greeting, Place};
+use uug_talk::Hail;
 
 /// Takes up the texts of a stream of at most eight.
 fn hear<A: Allocator>(
     mut greeting: Greeting,
-    ends: &(Name, Name),
+    place: &Place,
     mut stream: &[u8],
     out: &mut Outbox<A>,
 ) -> Result<Greeted, AllocError> {
@@ -24,7 +24,7 @@ fn hear<A: Allocator>(
         if !hail.is_whole() {
             break;
         }
-        match greeting.on_text(&ends.0, &ends.1, hail.text(), out)? {
+        match greeting.on_text(place, hail.text(), out)?.greeted {
             Greeted::GoesOn(next) => greeting = next,
             over => return Ok(over),
         }
@@ -37,16 +37,16 @@ fn hear<A: Allocator>(
 /// What an end hears, what it says, and what becomes of it.
 type Row<'a> = (&'a [u8], &'a [u8], Greeted);
 
-fn greets_as_caller(rt: &impl Abort, alloc: Global, ends: &(Name, Name), row: Row<'_>) {
+fn greets_as_caller(rt: &impl Abort, alloc: Global, place: &Place, row: Row<'_>) {
     let mut out = Outbox::new(alloc);
-    assert_eq!(rt; hear(Greeting::caller(), ends, row.0, &mut out), Ok(row.2));
+    assert_eq!(rt; hear(Greeting::caller(), place, row.0, &mut out), Ok(row.2));
     assert_eq!(rt; out.bytes(), row.1);
 }
 
-fn greets_as_called_end(rt: &impl Abort, alloc: Global, ends: &(Name, Name), row: Row<'_>) {
+fn greets_as_called_end(rt: &impl Abort, alloc: Global, place: &Place, row: Row<'_>) {
     let mut out = Outbox::new(alloc);
-    let greeted = match Greeting::called(&ends.0, &mut out) {
-        Ok(greeting) => hear(greeting, ends, row.0, &mut out),
+    let greeted = match Greeting::called(&place.me, &mut out) {
+        Ok(greeting) => hear(greeting, place, row.0, &mut out),
         Err(refused) => Err(refused),
     };
     assert_eq!(rt; greeted, Ok(row.2));
@@ -55,7 +55,7 @@ fn greets_as_called_end(rt: &impl Abort, alloc: Global, ends: &(Name, Name), row
 
 #[test]
 fn ends_greet_each_other(rt: HostRuntime) -> Result<(), Fail> {
-    let ends = (name(b"a")?, name(b"b")?);
+    let (a, b) = (place(b"a", b"b")?, place(b"b", b"a")?);
     let mut long = [b'x'; 258];
     long[0] = 0x10;
     let rows: [Row<'_>; 3] = [
@@ -72,13 +72,13 @@ fn ends_greet_each_other(rt: HostRuntime) -> Result<(), Fail> {
         (&long, b"", Greeted::Ended(End::BadTalk)),
     ];
     for row in rows {
-        greets_as_caller(&rt, rt.alloc(), &ends, row);
+        greets_as_caller(&rt, rt.alloc(), &a, row);
     }
     let answered: Row<'_> = (
         b"\x10Sa\0\x10Ug\0",
         b"\x10Shere=b\0\x10ROK\0\x10Pg\0",
         Greeted::LinkBegins,
     );
-    greets_as_called_end(&rt, rt.alloc(), &(ends.1, ends.0), answered);
+    greets_as_called_end(&rt, rt.alloc(), &b, answered);
     Ok(())
 }

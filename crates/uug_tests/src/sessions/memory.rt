@@ -1,12 +1,12 @@
 //! Each request for memory of each call, refused in turn. What this catches beyond the clauses: a call that answers want
 //! of memory where none was refused, or that cannot be made again.
 
-use super::{name, send_job};
+use super::{place, send_job};
 use std::alloc::{Allocator, Global};
 use std::test::Fail;
 use uug_link::{ENTRIES_MAX, Outbox};
 use uug_refusal::Refusing;
-use uug_session::{AwaitedText, Greeting, MemorySpool, Queue, Spool, Verdict};
+use uug_session::{AwaitedText, Greeting, MemorySpool, Place, Queue, Spool, Verdict};
 use uug_talk::Name;
 
 /// A call that takes memory.
@@ -40,8 +40,9 @@ impl<A: Allocator + Copy> Stores<A> {
         }
     }
 
-    /// Makes the call. Whether it was done.
-    fn make(&mut self, call: Call<'_>, x: &Name) -> bool {
+    /// Makes the call, with the name of an end at this place. Whether it was done.
+    fn make(&mut self, call: Call<'_>, place: &Place) -> bool {
+        let x = &place.me;
         match call {
             Call::Add => self.queue.add(send_job(*x)).is_ok(),
             Call::AddFile => self.spool.add_file(*x, 0o644, b"abc").is_ok(),
@@ -57,7 +58,7 @@ impl<A: Allocator + Copy> Stores<A> {
                     awaited,
                     timeouts: 0,
                 };
-                greeting.on_text(x, x, text, &mut self.out).is_ok()
+                greeting.on_text(place, text, &mut self.out).is_ok()
             }
         }
     }
@@ -74,19 +75,20 @@ impl<A: Allocator + Copy> Stores<A> {
 
 /// Refuses the nth request of the call, if there is one. Whether one was refused, and whether all is well: the refused
 /// call leaves nothing behind, and is done when it is made again; one that is not refused is done.
-fn refuse(heap: &Refusing<Global>, call: Call<'_>, x: &Name, nth: u64) -> (bool, bool) {
+fn refuse(heap: &Refusing<Global>, call: Call<'_>, place: &Place, nth: u64) -> (bool, bool) {
     let mut stores = Stores::new(heap);
     heap.refuse(nth);
-    let is_done = stores.make(call, x);
+    let is_done = stores.make(call, place);
     if !heap.was_refused() {
         return (false, is_done);
     }
-    (true, !is_done && stores.is_empty(x) && stores.make(call, x))
+    let is_as_before = !is_done && stores.is_empty(&place.me);
+    (true, is_as_before && stores.make(call, place))
 }
 
 #[test]
 fn makes_refused_calls_good(rt: HostRuntime) -> Result<(), Fail> {
-    let x = name(b"x")?;
+    let place = place(b"x", b"x")?;
     let calls = [
         (Call::Add, 3),
         (Call::AddFile, 2),
@@ -106,7 +108,7 @@ fn makes_refused_calls_good(rt: HostRuntime) -> Result<(), Fail> {
     let heap = Refusing::new(rt.alloc(), 0);
     for (call, requests) in calls {
         for nth in 1..6 {
-            let seen = refuse(&heap, call, &x, nth);
+            let seen = refuse(&heap, call, &place, nth);
             assert_eq!(rt; seen, (nth <= requests, true), "{call:?} at {nth}");
         }
     }

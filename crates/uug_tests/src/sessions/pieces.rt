@@ -1,18 +1,13 @@
 //! A whole end that takes a whole piece.
 
-use super::name;
+use super::place;
 use std::test::Fail;
-use uug_link::Announce;
-use uug_session::{MemorySpool, Node, Place, Queue};
+use uug_session::{MemorySpool, Node, Queue};
 
 #[test]
 fn takes_a_whole_piece(rt: HostRuntime) -> Result<(), Fail> {
     let alloc = rt.alloc();
-    let place = Place {
-        me: name(b"a")?,
-        peer: name(b"b")?,
-        announce: Announce::new(2, 32)?,
-    };
+    let place = place(b"a", b"b")?;
     let Ok(mut caller) = Node::caller(alloc, place, Queue::new(alloc), MemorySpool::new(alloc))
     else {
         return Err("a caller".into());

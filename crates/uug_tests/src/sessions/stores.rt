@@ -17,7 +17,7 @@ fn takes_jobs_up_to_the_limit(rt: HostRuntime) -> Result<(), Fail> {
         assert_eq!(rt; queue.add(job), Ok(()));
     }
     assert_eq!(rt; queue.add(job), Err(QueueFault::Full));
-    assert_eq!(rt; queue.pending().len(), 64);
+    assert_eq!(rt; queue.pending().len(), 1024);
     assert_eq!(rt; queue.struck().len() + queue.failed().len(), 0);
     Ok(())
 }

@@ -7,7 +7,7 @@ returns c = record {
     one = c.a_search_shows_what_is_found.ensures.one;
     none = c.a_search_shows_what_is_found.ensures.none;
   };
-  reads = c.packets_are_well_formed.ensures.read;
+  reads = record { packet = c.packets_are_well_formed.ensures.read; message = c.messages_are_read.ensures.written };
   in_range = c.what_an_end_emits_can_be_written.ensures;
   spelled = c.packets_are_well_formed.ensures.spelled;
   places = c.arrivals.ensures.place;

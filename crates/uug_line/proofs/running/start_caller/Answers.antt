@@ -13,5 +13,5 @@ returns g c =
     let id : Identity = record { side = caller; me = place.me; peer = place.peer } in
     let own = announced place.announce in
     let jobs = all_ahead c.args.setup.queue in
-    subst (λ (m : MemoryHoldings). HasBegun id own jobs m (parts_of c.in_ok-end.end)) (ap held_by c.in-Ok.ensures.spool)
-    (c.in_ok-end.ensures id own jobs (c.line_laws.ensures.announces place.announce) c.in-Ok.ensures.session c.in-Ok.ensures.nothing_held)
+    subst (λ (m : MemoryHoldings). HasBegun id own place.number jobs m (parts_of c.in_ok-end.end)) (ap held_by c.in-Ok.ensures.spool)
+    (c.in_ok-end.ensures id own place.number jobs (c.line_laws.ensures.announces place.announce) c.in-Ok.ensures.session c.in-Ok.ensures.nothing_held)

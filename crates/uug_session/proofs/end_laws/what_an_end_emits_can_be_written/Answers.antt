@@ -14,7 +14,7 @@ returns c =
     } in
     let fit : MessagesFit = record { command = c.messages_fit.ensures.command; file = c.messages_fit.ensures.file } in
     record {
-      first = λ id own talk h. (end_begins link id own talk h, first_words_can id own talk);
+      first = λ id own number talk h. (end_begins link id own number talk h, first_words_can id own number talk);
       stays = end_stays link fit;
       emitted = end_emits link fit;
     }

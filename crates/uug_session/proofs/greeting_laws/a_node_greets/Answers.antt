@@ -10,21 +10,21 @@ pub returns-clause-at_first : goal.returns-clause-at_first
 returns-clause-at_first c = greets_first
 
 pub returns-clause-goes_on : goal.returns-clause-goes_on
-returns-clause-goes_on c = λ h id own entries came behind now run g m greets is.
+returns-clause-goes_on c = λ h id own number entries came behind now run g m greets is.
     let steps : FindingLaws = record { more = c.what_is_found_stays.ensures.more; fewer = c.what_is_found_stays.ensures.fewer } in
-    greets_still c.hearing_laws.ensures steps c.one_first_text.ensures.texts h id own entries came now m behind run greets g is
+    greets_still c.hearing_laws.ensures steps c.one_first_text.ensures.texts h id own number entries came now m behind run greets g is
 
 pub returns-clause-ended : goal.returns-clause-ended
-returns-clause-ended c = λ h id own entries came behind now run how m greets is.
+returns-clause-ended c = λ h id own number entries came behind now run how m greets is.
     let steps : FindingLaws = record { more = c.what_is_found_stays.ensures.more; fewer = c.what_is_found_stays.ensures.fewer } in
-    has_ended c.hearing_laws.ensures steps c.one_first_text.ensures.texts h id own entries came now m behind run greets how is
+    has_ended c.hearing_laws.ensures steps c.one_first_text.ensures.texts h id own number entries came now m behind run greets how is
 
 pub returns-clause-link : goal.returns-clause-link
-returns-clause-link c = λ h id own entries came behind now run m greets is.
+returns-clause-link c = λ h id own number entries came behind now run m greets is.
     let steps : FindingLaws = record { more = c.what_is_found_stays.ensures.more; fewer = c.what_is_found_stays.ensures.fewer } in
-    has_begun_link c.hearing_laws.ensures steps c.one_first_text.ensures.texts h id own entries came now m behind run greets is
+    has_begun_link c.hearing_laws.ensures steps c.one_first_text.ensures.texts h id own number entries came now m behind run greets is
 
 pub returns-clause-comes : goal.returns-clause-comes
-returns-clause-comes c = λ h id own talk failures came behind run greets.
+returns-clause-comes c = λ h id own number talk failures came behind run greets.
     let steps : FindingLaws = record { more = c.what_is_found_stays.ensures.more; fewer = c.what_is_found_stays.ensures.fewer } in
-    (whole c.hearing_laws.ensures steps c.one_first_text.ensures.texts h id own talk failures came behind run greets).same
+    (whole c.hearing_laws.ensures steps c.one_first_text.ensures.texts h id own number talk failures came behind run greets).same

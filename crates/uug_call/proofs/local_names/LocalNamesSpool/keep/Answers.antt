@@ -1,4 +1,4 @@
-use Rattle.std.proofs.Common.{rules, ap, ◌∙◌, ◌++◌, ◌∷◌, [], ℕ, List}
+use Rattle.std.proofs.Common.{ap, ◌∙◌, ◌++◌, ◌∷◌, [], ℕ, List}
 use Rattle.uug_call.proofs.LocalLemmas.{kept_more}
 use Rattle.uug_call.proofs.local_names.LocalNamesSpool.keep.Goals as goal
 

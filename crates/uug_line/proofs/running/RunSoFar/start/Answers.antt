@@ -18,8 +18,8 @@ returns g c =
     starts_as (setup_of setup) (held_by setup.caller.spool) (held_by setup.called.spool) _
     (sessions_none c.new.result.items c.new.ensures.items) refl refl refl refl
     (begun_as caller first.result.me first.result.peer setup.caller.name setup.called.name (announced first.result.announce) (announced setup.caller.announce)
-    (all_ahead setup.caller.queue) (held_by setup.caller.spool) first_parts first.ensures.me first.ensures.peer (ap announced first.ensures.announce)
-    c.in_ok-start_caller.ensures)
+    first.result.number setup.caller.number (all_ahead setup.caller.queue) (held_by setup.caller.spool) first_parts first.ensures.me first.ensures.peer (ap announced first.ensures.announce)
+    first.ensures.number c.in_ok-start_caller.ensures)
     (begun_as called next.result.me next.result.peer setup.called.name setup.caller.name (announced next.result.announce) (announced setup.called.announce)
-    (all_ahead setup.called.queue) (held_by setup.called.spool) next_parts next.ensures.me next.ensures.peer (ap announced next.ensures.announce)
-    c.in_ok-start_called.ensures)
+    next.result.number setup.called.number (all_ahead setup.called.queue) (held_by setup.called.spool) next_parts next.ensures.me next.ensures.peer (ap announced next.ensures.announce)
+    next.ensures.number c.in_ok-start_called.ensures)

@@ -8,7 +8,14 @@ use Rattle.uug_link.specs.Step.{data_packet, nothing, step, to_send}
 use Rattle.uug_packet.specs.Number.{number_of}
 use Rattle.uug_packet.specs.Packet.{PacketValue}
 use Rattle.uug_link.proofs.LinkLemmas.{IsSent, sent-follows, sent-linked, sent-messages, sent-packet}
+use Rattle.uug_link.proofs.SmallestLemmas.{within_most}
 use Rattle.uug_link.proofs.link.Link.send.Goals as goal
+
+pub send_first-requires-clause-fits : goal.send_first-requires-clause-fits
+send_first-requires-clause-fits g c =
+    let own = c.self.inside in
+    within_most (number_of own.status.size_code) _ own.status.size_code.below
+    (subst (λ (s : State). Fits s.size_code c.args.message.now) (sym c.self.view_is) c.requires.fits)
 
 pub invariant_of-self : goal.invariant_of-self
 invariant_of-self g c =

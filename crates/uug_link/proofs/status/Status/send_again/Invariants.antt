@@ -9,7 +9,7 @@ use Rattle.uug_link.proofs.status.Status.send_again.Given as goal
 -- what is still to go out makes up what goes out, and there is room for it
 abbrev pub invariant-loop-i : goal.invariant-loop-i
 invariant-loop-i g l = record {
-  slots : AreSlots (number_of l.fn.self.size_code) (number_of l.fn.self.oldest) l.slots;
+  slots : AreSlots (number_of l.fn.self.oldest) l.slots;
   messages : messages_in l.slots ≡ messages_in l.fn.slots;
   entries :
       l.out.entries

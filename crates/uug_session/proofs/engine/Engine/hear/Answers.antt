@@ -1,9 +1,10 @@
-use Rattle.std.proofs.Common.{◌≡◌, ℕ, Bool, false, ◌++◌, map, subst, ap, ◌∙◌, refl, Ok}
+use Rattle.std.proofs.Common.{◌≡◌, ℕ, Bool, false, ◌++◌, map, subst, ap, ◌∙◌, refl, Err, Ok}
 use Rattle.uug_link.specs.Announced.{announced}
+use Rattle.uug_link.specs.declared.outcome.LinkFault.{LinkFault}
 use Rattle.uug_link.specs.declared.outcome.Outcome.{Outcome}
 use Rattle.uug_link.specs.Follows.{Follows, answered}
 use Rattle.uug_link.specs.State.{State}
-use Rattle.uug_link.specs.Step.{Effect, step, packet_found, nothing, up, closed}
+use Rattle.uug_link.specs.Step.{Effect, step, packet_found, nothing, up, closed, halted}
 use Rattle.uug_link.specs.Terms.{size_of_code}
 use Rattle.uug_packet.specs.Packet.{shown}
 use Rattle.uug_session.specs.declared.end.End.TheVariants as ends
@@ -29,6 +30,7 @@ returns-in-Ok-Nothing-clause-does g c =
       link = i.link;
       talking = i.dialogue;
       outbox = i.outbox;
+      number = i.place.number;
     } in
     let m : EngineState = record {
       identity = b.identity;
@@ -37,6 +39,7 @@ returns-in-Ok-Nothing-clause-does g c =
       link = c.on_packet.new.self;
       talking = i.dialogue;
       outbox = c.on_packet.new.out;
+      number = b.number;
     } in
     let e : Effect = step i.link (packet_found p) in
     let told = subst (λ (o : Outcome). Follows e i.link c.on_packet.new.self i.outbox c.on_packet.new.out (answered (Ok o)))
@@ -45,7 +48,40 @@ returns-in-Ok-Nothing-clause-does g c =
     subst (λ (x : EngineState). Does (packet_effect h kept false p x) (end_of h kept after) x after) c.self.view_is
     (by_outcome (end_keeper b.identity.side h) b.identity false nothing e (message_of p) (talk_of h kept b.talking) (end_of h kept after) b after told.outcome
     (goes_on_does h kept false e b m after told.state told.emitted
-    (ap (λ (x : EngineState). x.stage) c.self.view_is ∙ c.requires.linked) refl refl c.speak.ensures.spoken c.speak.ensures.still))
+    (ap (λ (x : EngineState). x.stage) c.self.view_is ∙ c.requires.linked) refl refl refl c.speak.ensures.spoken c.speak.ensures.still))
+
+pub returns-in-Err-Halted-clause-does : goal.returns-in-Err-Halted-clause-does
+returns-in-Err-Halted-clause-does g c =
+    let h = g.S.Spool.holdings c.args.spool.now in
+    let kept = g.S.Spool.kept c.args.spool.now in
+    let p = shown c.args.packet.now in
+    let i = c.self.inside in
+    let b : EngineState = record {
+      identity = record { side = side_of i.side; me = i.place.me; peer = i.place.peer };
+      own = announced i.place.announce;
+      stage = stage_of i.stage;
+      link = i.link;
+      talking = i.dialogue;
+      outbox = i.outbox;
+      number = i.place.number;
+    } in
+    let m : EngineState = record {
+      identity = b.identity;
+      own = b.own;
+      stage = b.stage;
+      link = c.on_packet.new.self;
+      talking = i.dialogue;
+      outbox = c.on_packet.new.out;
+      number = b.number;
+    } in
+    let e : Effect = step i.link (packet_found p) in
+    let told = subst (λ (o : LinkFault). Follows e i.link c.on_packet.new.self i.outbox c.on_packet.new.out (answered (Err o)))
+    c.in-Err-Halted.field-0-is c.in-Err-Halted.ensures in
+    let after = c.speak-in-Err-Halted.new.self in
+    subst (λ (x : EngineState). Does (packet_effect h kept false p x) (end_of h kept after) x after) c.self.view_is
+    (by_outcome (end_keeper b.identity.side h) b.identity false halted e (message_of p) (talk_of h kept b.talking) (end_of h kept after) b after told.outcome
+    (goes_on_does h kept false e b m after told.state told.emitted
+    (ap (λ (x : EngineState). x.stage) c.self.view_is ∙ c.requires.linked) refl refl refl c.speak-in-Err-Halted.ensures.spoken c.speak-in-Err-Halted.ensures.still))
 
 pub returns-in-Ok-Up-clause-does : goal.returns-in-Ok-Up-clause-does
 returns-in-Ok-Up-clause-does g c =
@@ -60,6 +96,7 @@ returns-in-Ok-Up-clause-does g c =
       link = i.link;
       talking = i.dialogue;
       outbox = i.outbox;
+      number = i.place.number;
     } in
     let m : EngineState = record {
       identity = b.identity;
@@ -68,6 +105,7 @@ returns-in-Ok-Up-clause-does g c =
       link = c.on_packet.new.self;
       talking = c.open.new.self;
       outbox = c.on_packet.new.out;
+      number = b.number;
     } in
     let e : Effect = step i.link (packet_found p) in
     let told = subst (λ (o : Outcome). Follows e i.link c.on_packet.new.self i.outbox c.on_packet.new.out (answered (Ok o)))
@@ -79,9 +117,9 @@ returns-in-Ok-Up-clause-does g c =
     (c.size-size.ensures.value ∙ ap (λ (s : State). size_of_code s.size_code) told.state) in
     subst (λ (x : EngineState). Does (packet_effect h kept false p x) (end_of h kept after) x after) c.self.view_is
     (by_outcome (end_keeper b.identity.side h) b.identity false up e (message_of p) talk (end_of h kept after) b after told.outcome
-    (subst (λ (t : Talk). Does (goes_on (end_keeper b.identity.side h) false e t) (end_of h kept after) b after) opened
+    (subst (λ (t : Talk). Does (goes_on b.number (end_keeper b.identity.side h) false e t) (end_of h kept after) b after) opened
     (goes_on_does h kept false e b m after told.state told.emitted
-    (ap (λ (x : EngineState). x.stage) c.self.view_is ∙ c.requires.linked) refl refl c.speak-in-Ok-Up.ensures.spoken c.speak-in-Ok-Up.ensures.still)))
+    (ap (λ (x : EngineState). x.stage) c.self.view_is ∙ c.requires.linked) refl refl refl c.speak-in-Ok-Up.ensures.spoken c.speak-in-Ok-Up.ensures.still)))
 
 pub returns-in-Ok-Closed-clause-does : goal.returns-in-Ok-Closed-clause-does
 returns-in-Ok-Closed-clause-does g c =
@@ -96,6 +134,7 @@ returns-in-Ok-Closed-clause-does g c =
       link = i.link;
       talking = i.dialogue;
       outbox = i.outbox;
+      number = i.place.number;
     } in
     let e : Effect = step i.link (packet_found p) in
     let told = subst (λ (o : Outcome). Follows e i.link c.on_packet.new.self i.outbox c.on_packet.new.out (answered (Ok o)))
@@ -106,8 +145,8 @@ returns-in-Ok-Closed-clause-does g c =
     let parted = c.has_parted-has_parted.ensures ∙ has_parted_told h kept b.talking in
     subst (λ (x : EngineState). Does (packet_effect h kept false p x) (end_of h kept after) x after) c.self.view_is
     (by_outcome (end_keeper b.identity.side h) b.identity false closed e (message_of p) talk (end_of h kept after) b after told.outcome
-    (subst (λ (x : Bool). Does (ends_so b.identity x ends.PeerClosed e talk false) (end_of h kept after) b after) parted
+    (subst (λ (x : Bool). Does (ends_so b.number b.identity x ends.PeerClosed e talk false) (end_of h kept after) b after) parted
     (ends_does b.identity c.has_parted-has_parted.result ends.PeerClosed e talk (talk_of h kept after.talking) false b after
     done.stage (done.link ∙ told.state) (ap (talk_of h kept) done.talking)
     (done.emitted ∙ ap (λ x. x ++ map entry_of (leave c.has_parted-has_parted.result b.identity.side)) told.emitted)
-    done.identity done.own)))
+    done.identity done.own done.number)))

@@ -23,6 +23,7 @@ returns-in-Ok-Nothing-clause-ok g c =
       link = i.link;
       talking = i.dialogue;
       outbox = i.outbox;
+      number = i.place.number;
     } in
     let m : EngineState = record {
       identity = b.identity;
@@ -31,13 +32,14 @@ returns-in-Ok-Nothing-clause-ok g c =
       link = c.on_bad.new.self;
       talking = i.dialogue;
       outbox = c.on_bad.new.out;
+      number = b.number;
     } in
     let e : Effect = step i.link bad_found in
     let told = subst (λ (o : Outcome). Follows e i.link c.on_bad.new.self c.reserve.new.self c.on_bad.new.out (answered (Ok o)))
     c.in-Ok-Nothing.field-0-is c.in-Ok-Nothing.ensures in
     let after = c.speak.new.self in
-    subst (λ (x : EngineState). Does (bad_came (end_keeper x.identity.side h) x.identity x.link (talk_of h kept x.talking))
+    subst (λ (x : EngineState). Does (bad_came x.number (end_keeper x.identity.side h) x.identity x.link (talk_of h kept x.talking))
     (end_of h kept after) x after) c.self.view_is
     (by_outcome (end_keeper b.identity.side h) b.identity false nothing e [] (talk_of h kept b.talking) (end_of h kept after) b after told.outcome
     (goes_on_does h kept false e b m after told.state (told.emitted ∙ ap (λ x. x ++ map written e.emitted) c.reserve.ensures.entries)
-    (ap (λ (x : EngineState). x.stage) c.self.view_is ∙ c.requires.linked) refl refl c.speak.ensures.spoken c.speak.ensures.still))
+    (ap (λ (x : EngineState). x.stage) c.self.view_is ∙ c.requires.linked) refl refl refl c.speak.ensures.spoken c.speak.ensures.still))

@@ -1,10 +1,10 @@
-use Rattle.std.proofs.Common.{List, ◌++◌, map, subst, ap, ◌∙◌, refl}
+use Rattle.std.proofs.Common.{◌≡◌, ℕ, Bool, List, Option, ◌++◌, map, subst, ap, ◌∙◌, refl}
 use Rattle.uug_link.specs.Announced.{announced}
 use Rattle.uug_link.specs.Entries.{EntryValue}
 use Rattle.uug_session.specs.declared.greeting.Greeted.{Greeted}
 use Rattle.uug_session.specs.EndStep.{behind_greeting, greeted_so, says_text}
 use Rattle.uug_session.specs.Engine.{Does, EngineState, bare, stage_of}
-use Rattle.uug_session.specs.Greeting.{GreetingStep, text_came}
+use Rattle.uug_session.specs.Greeting.{GreetingStep, number_by, text_came}
 use Rattle.uug_session.specs.Says.{entry_of_text}
 use Rattle.uug_session.specs.Side.{side_of}
 use Rattle.uug_session.proofs.EngineLemmas.{greeted_does}
@@ -20,6 +20,7 @@ returns-clause-ok g c =
       link = i.link;
       talking = i.dialogue;
       outbox = i.outbox;
+      number = i.place.number;
     } in
     let m : EngineState = record {
       identity = b.identity;
@@ -28,12 +29,16 @@ returns-clause-ok g c =
       link = i.link;
       talking = i.dialogue;
       outbox = c.on_text.new.out;
+      number = c.number_behind-self-inside.result;
     } in
     let after = c.lead_to.new.self in
-    let greeted : GreetingStep = text_came i.place.me i.place.peer c.args.greeting c.args.text.now in
-    subst (λ (x : EngineState). Does (behind_greeting x.identity (text_came x.identity.me x.identity.peer c.args.greeting c.args.text.now) x.link x.talking)
+    let came : GreetingStep = text_came i.place.me i.place.peer i.place.number c.args.greeting c.args.text.now in
+    let risen_so : m.number ≡ number_by came.rises b.number =
+    c.number_behind-self-inside.ensures ∙ ap (λ (x : Bool). number_by x i.place.number) c.in_ok-led.ensures.rises in
+    subst (λ (x : EngineState). Does (behind_greeting x.number x.identity (text_came x.identity.me x.identity.peer x.number c.args.greeting c.args.text.now) x.link x.talking)
     (bare after) x after) c.self.view_is
-    (subst (λ (x : Greeted). Does (greeted_so b.identity x (map says_text greeted.says) i.link i.dialogue) (bare after) b after) c.in_ok-greeted.ensures.greeted
-    (greeted_does b.identity c.in_ok-greeted.greeted greeted.says i.link i.dialogue (bare after) b m after
-    (c.in_ok-greeted.ensures.says.added ∙ ap (λ (x : List EntryValue). x ++ map entry_of_text greeted.says) c.reserve.ensures.entries)
-    refl refl c.lead_to.ensures.does))
+    (subst (λ (x : Greeted). Does (greeted_so (number_by came.rises b.number) b.identity x (map says_text came.says) i.link i.dialogue) (bare after) b after) c.in_ok-led.ensures.greeted
+    (subst (λ (x : Option ℕ). Does (greeted_so x b.identity c.in_ok-led.led.greeted (map says_text came.says) i.link i.dialogue) (bare after) b after) risen_so
+    (greeted_does b.identity c.in_ok-led.led.greeted came.says i.link i.dialogue (bare after) b m after
+    (c.in_ok-led.ensures.says.added ∙ ap (λ (x : List EntryValue). x ++ map entry_of_text came.says) c.reserve.ensures.entries)
+    refl refl c.lead_to.ensures.does)))

@@ -20,6 +20,7 @@ returns-in-Ok-Nothing-clause-ok g c =
       link = i.link;
       talking = i.dialogue;
       outbox = i.outbox;
+      number = i.place.number;
     } in
     let m : EngineState = record {
       identity = b.identity;
@@ -28,10 +29,11 @@ returns-in-Ok-Nothing-clause-ok g c =
       link = c.on_timeout.new.self;
       talking = i.dialogue;
       outbox = c.on_timeout.new.out;
+      number = b.number;
     } in
     let e : Effect = step i.link timed_out in
     let told = subst (λ (o : Outcome). Follows e i.link c.on_timeout.new.self c.reserve.new.self c.on_timeout.new.out (answered (Ok o)))
     c.in-Ok-Nothing.field-0-is c.in-Ok-Nothing.ensures in
-    subst (λ (x : EngineState). Does (late x.identity (talking_has_parted x.talking) x.link x.talking) (bare m) x m) c.self.view_is
+    subst (λ (x : EngineState). Does (late x.number x.identity (talking_has_parted x.talking) x.link x.talking) (bare m) x m) c.self.view_is
     (late_by b.identity (talking_has_parted b.talking) nothing e b.talking (bare m) b m told.outcome
-    (quiet_does e b.talking b m (ap (λ (x : EngineState). x.stage) c.self.view_is ∙ c.requires.linked) told.state (told.emitted ∙ ap (λ x. x ++ map written e.emitted) c.reserve.ensures.entries) refl refl))
+    (quiet_does e b.talking b m (ap (λ (x : EngineState). x.stage) c.self.view_is ∙ c.requires.linked) told.state (told.emitted ∙ ap (λ x. x ++ map written e.emitted) c.reserve.ensures.entries) refl refl refl))

@@ -19,6 +19,7 @@ loop-sent-preserved g c =
       within = omega (arith, c.loop-sent-test.true);
       sends = sym (one.more left) ∙ ap (λ (n : ℕ). after_sends n h kept c.loop-sent.self) one_less ∙ before.sends;
       still = record {
+        number = one.still.number ∙ before.still.number;
         stage = one.still.stage ∙ before.still.stage;
         identity = one.still.identity ∙ before.still.identity;
         own = one.still.own ∙ before.still.own;

@@ -1,5 +1,4 @@
-use Rattle.std.proofs.Common.{sym, ◌∙◌, ap, ℕ, option_map}
-use Rattle.arrayvec.specs.ArrayVec.{ArrayVec}
+use Rattle.std.proofs.Common.{sym, ◌∙◌, ap}
 use Rattle.uug_link.specs.Announced.{announced}
 use Rattle.uug_session.specs.EndStep.{has_room}
 use Rattle.uug_session.specs.Engine.{EngineState, after_sends, stage_of}
@@ -19,8 +18,8 @@ returns-then-not-room-clause-done g c n =
     (ap (λ (x : EngineState). has_room x.link) (sym c.self.view_is)
     ∙ room_told c.self.inside.link c.room.result c.room.ensures ∙ c.if-not-room.true))
 
-pub returns-in_default-clause-done : goal.returns-in_default-clause-done
-returns-in_default-clause-done g c n =
+pub returns-then-not-take_message-clause-done : goal.returns-then-not-take_message-clause-done
+returns-then-not-take_message-clause-done g c n =
     let h = g.S.Spool.holdings c.args.spool.now in
     let kept = g.S.Spool.kept c.args.spool.now in
     let i = c.self.inside in
@@ -31,7 +30,8 @@ returns-in_default-clause-done g c n =
       link = i.link;
       talking = i.dialogue;
       outbox = i.outbox;
+      number = i.place.number;
     } in
     ap (after_sends n h kept) (sym c.self.view_is)
     ∙ says_nothing_more n h kept e c.take_message.new.self
-    (c.take_message.ensures.first ∙ ap (option_map (λ (m : ArrayVec ℕ). m.items)) c.in_default.is) c.take_message.ensures.sent
+    c.if-not-take_message.ensures.none c.take_message.ensures.sent

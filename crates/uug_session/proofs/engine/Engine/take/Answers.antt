@@ -32,6 +32,7 @@ returns-then-is_bad-clause-ok g c =
       link = i.link;
       talking = i.dialogue;
       outbox = i.outbox;
+      number = i.place.number;
     } in
     let e : Effect = step i.link (packet_found p) in
     let k = end_keeper b.identity.side h in
@@ -51,9 +52,9 @@ returns-then-is_bad-clause-ok g c =
     let parted = c.has_parted-has_parted.result in
     let as_parted = c.has_parted-has_parted.ensures ∙ has_parted_told h kept i.dialogue in
     subst (λ (x : EngineState). TakesUp h kept kept_after counts p x after true) c.self.view_is
-    (takes_up h kept kept_after counts false p b after (ends_so b.identity (k.has_parted talk) ends.BadTalk (then_closes e) (taking h (message_of p) talk) true)
-    (taken_bad k b.identity e (message_of p) talk outcome (bad_as ∙ c.if-is_bad.true))
-    (subst (λ (x : Bool). Does (ends_so b.identity x ends.BadTalk (then_closes e) (taking h (message_of p) talk) true) (end_of h kept_after after) b after) as_parted
+    (takes_up h kept kept_after counts false p b after (ends_so b.number b.identity (k.has_parted talk) ends.BadTalk (then_closes e) (taking h (message_of p) talk) true)
+    (taken_bad b.number k b.identity e (message_of p) talk outcome (bad_as ∙ c.if-is_bad.true))
+    (subst (λ (x : Bool). Does (ends_so b.number b.identity x ends.BadTalk (then_closes e) (taking h (message_of p) talk) true) (end_of h kept_after after) b after) as_parted
     (ends_does b.identity parted ends.BadTalk (then_closes e) (taking h (message_of p) talk) (talk_of h kept_after after.talking) true b after
     done.stage (done.link ∙ ap (λ (s : State). (step s to_close).state) answered.link)
     (ap (talk_of h kept_after) (done.talking ∙ answered.talking) ∙ told)
@@ -61,7 +62,7 @@ returns-then-is_bad-clause-ok g c =
     ∙ ap (λ (x : Identity). (a.outbox.entries ++ map written (step a.link to_close).emitted) ++ map entry_of (leave parted x.side)) answered.still.identity
     ∙ ap (λ (x : List EntryValue). x ++ map entry_of (leave parted b.identity.side))
     (closed_behind e a.link b.outbox.entries a.outbox.entries _ answered.link answered.emitted refl))
-    (done.identity ∙ answered.still.identity) (done.own ∙ answered.still.own)))
+    (done.identity ∙ answered.still.identity) (done.own ∙ answered.still.own) (done.number ∙ answered.still.number)))
     refl (c.in-Ok.ensures.stands (λ is. absurd cc)))
 
 pub returns-else-is_bad-clause-ok : goal.returns-else-is_bad-clause-ok
@@ -79,6 +80,7 @@ returns-else-is_bad-clause-ok g c =
       link = i.link;
       talking = i.dialogue;
       outbox = i.outbox;
+      number = i.place.number;
     } in
     let e : Effect = step i.link (packet_found p) in
     let k = end_keeper b.identity.side h in
@@ -96,12 +98,12 @@ returns-else-is_bad-clause-ok g c =
     let after = c.speak.new.self in
     let spoken = subst (λ (x : Holdings). spoken_of x kept_after after ≡ after_speaking x kept_after a) c.in-Ok.ensures.holdings c.speak.ensures.spoken in
     subst (λ (x : EngineState). TakesUp h kept kept_after counts p x after true) c.self.view_is
-    (takes_up h kept kept_after counts false p b after (goes_on k true e (taking h (message_of p) talk))
-    (taken_well k b.identity e (message_of p) talk outcome (bad_as ∙ c.if-is_bad.false))
-    (subst (λ (x : Talk). Does (goes_on k true e x) (end_of h kept_after after) b after) (ap (talk_of h kept_after) answered.talking ∙ told)
+    (takes_up h kept kept_after counts false p b after (goes_on b.number k true e (taking h (message_of p) talk))
+    (taken_well b.number k b.identity e (message_of p) talk outcome (bad_as ∙ c.if-is_bad.false))
+    (subst (λ (x : Talk). Does (goes_on b.number k true e x) (end_of h kept_after after) b after) (ap (talk_of h kept_after) answered.talking ∙ told)
     (goes_on_does h kept_after true e b a after answered.link answered.emitted
     (answered.still.stage ∙ ap (λ (x : EngineState). x.stage) c.self.view_is ∙ c.requires.linked)
-    answered.still.identity answered.still.own spoken c.speak.ensures.still))
+    answered.still.identity answered.still.own answered.still.number spoken c.speak.ensures.still))
     refl (c.in-Ok.ensures.stands (λ is. absurd cc)))
 
 pub returns-in-Err-Device-clause-ok : goal.returns-in-Err-Device-clause-ok
@@ -119,6 +121,7 @@ returns-in-Err-Device-clause-ok g c =
       link = i.link;
       talking = i.dialogue;
       outbox = i.outbox;
+      number = i.place.number;
     } in
     let e : Effect = step i.link (packet_found p) in
     let k = end_keeper b.identity.side h in
@@ -134,10 +137,10 @@ returns-in-Err-Device-clause-ok g c =
     let told : talk_of h kept_after c.take.new.self ≡ talk =
     ap (talk_of h kept_after) failed.same ∙ ap (λ (x : List Kept). talk_of h x i.dialogue) failed.none_kept in
     subst (λ (x : EngineState). TakesUp h kept kept_after counts p x after true) c.self.view_is
-    (takes_up h kept kept_after counts true p b after (ends_so b.identity (k.has_parted talk) ends.SpoolFault (then_closes e) talk true)
-    (taken_failed k b.identity e (message_of p) talk outcome
+    (takes_up h kept kept_after counts true p b after (ends_so b.number b.identity (k.has_parted talk) ends.SpoolFault (then_closes e) talk true)
+    (taken_failed b.number k b.identity e (message_of p) talk outcome
     (ap (asks_spool h i.dialogue.machine) (sym c.message_of.ensures) ∙ failed.asked (ap Err c.in-Err-Device.field-0-is)))
-    (subst (λ (x : Bool). Does (ends_so b.identity x ends.SpoolFault (then_closes e) talk true) (end_of h kept_after after) b after) as_parted
+    (subst (λ (x : Bool). Does (ends_so b.number b.identity x ends.SpoolFault (then_closes e) talk true) (end_of h kept_after after) b after) as_parted
     (ends_does b.identity parted ends.SpoolFault (then_closes e) talk (talk_of h kept_after after.talking) true b after
     done.stage (done.link ∙ ap (λ (s : State). (step s to_close).state) answered.link)
     (ap (talk_of h kept_after) (done.talking ∙ answered.talking) ∙ told)
@@ -145,5 +148,5 @@ returns-in-Err-Device-clause-ok g c =
     ∙ ap (λ (x : Identity). (a.outbox.entries ++ map written (step a.link to_close).emitted) ++ map entry_of (leave parted x.side)) answered.still.identity
     ∙ ap (λ (x : List EntryValue). x ++ map entry_of (leave parted b.identity.side))
     (closed_behind e a.link b.outbox.entries a.outbox.entries _ answered.link answered.emitted refl))
-    (done.identity ∙ answered.still.identity) (done.own ∙ answered.still.own)))
+    (done.identity ∙ answered.still.identity) (done.own ∙ answered.still.own) (done.number ∙ answered.still.number)))
     refl (failed.device (ap Err c.in-Err-Device.field-0-is)))

@@ -6,5 +6,5 @@ use Rattle.uug_session.proofs.queue.Queue.pass_first.Goals as goal
 pub returns-then-self-len : goal.returns-then-self-len
 returns-then-self-len g c =
     let q = c.self.inside in
-    one_more_passed q.pending.items q.struck.items q.failed.items q.passed (omega arith)
+    one_more_passed q.pending.jobs q.struck.items q.failed.items q.passed (omega arith)
     ∙ ap (λ (l : Lists). moved_once pass l) c.self.view_is

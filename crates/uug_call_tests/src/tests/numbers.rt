@@ -1,0 +1,197 @@
+//! Ends that keep a number of their conversations. What this catches beyond the clauses: a rule that the definitions state
+//! wrongly, and a call that gives up where it need not.
+
+use super::memory_text::MemoryText;
+use super::scenes::{AMPLE, CLEAN};
+use super::scripted_line::ScriptedLine;
+use super::{MemorySeat, Nobody, called, caller, noise};
+use std::alloc::Global;
+use std::process::Abort;
+use std::test::Fail;
+use uug_call::{CallEnd, call_over, number_at_start, number_line, read_number_text};
+use uug_line::Side;
+use uug_session::MemorySpool;
+use uug_tool::{MemoryOutput, ToolFault};
+
+type MemoryEnd = CallEnd<MemorySpool<Global>, MemoryText, MemoryText, Global>;
+
+/// What is left of a call: the answer, what both files and the output have, and the number of the end that was called.
+#[derive(Clone, Copy)]
+struct Left<'a> {
+    answer: Result<u8, ToolFault>,
+    jobs: &'a [u8],
+    number: &'a [u8],
+    report: &'a [u8],
+    other: Option<u32>,
+}
+
+/// The numbers that the caller and the called end keep, which file of the caller can't be written (that of its jobs, that
+/// of its number), and what is left.
+type Call<'a> = (Option<u32>, Option<u32>, (bool, bool), Left<'a>);
+
+const NONE_FAILS: (bool, bool) = (false, false);
+
+const DONE: &[u8] = b"caller done pending 0 struck 1 failed 0\n";
+
+const REFUSED: &[u8] = b"caller badsequence pending 1 struck 0 failed 0\n";
+
+/// The job of the caller, as its file has it.
+const JOB: &[u8] = b"send x y u\n";
+
+const CALLS: &[Call<'static>] = &[
+    (
+        Some(7),
+        Some(7),
+        NONE_FAILS,
+        Left {
+            answer: Ok(0),
+            jobs: b"",
+            number: b"8\n",
+            report: DONE,
+            other: Some(8),
+        },
+    ),
+    (
+        Some(4_294_967_295),
+        None,
+        NONE_FAILS,
+        Left {
+            answer: Ok(0),
+            jobs: b"",
+            number: b"0\n",
+            report: DONE,
+            other: None,
+        },
+    ),
+    // no number is kept, so that its file stays
+    (
+        None,
+        None,
+        NONE_FAILS,
+        Left {
+            answer: Ok(0),
+            jobs: b"",
+            number: b"",
+            report: DONE,
+            other: None,
+        },
+    ),
+    // a stranger, who says another number or none
+    (
+        Some(7),
+        Some(9),
+        NONE_FAILS,
+        Left {
+            answer: Ok(1),
+            jobs: JOB,
+            number: b"7\n",
+            report: REFUSED,
+            other: Some(9),
+        },
+    ),
+    (
+        None,
+        Some(9),
+        NONE_FAILS,
+        Left {
+            answer: Ok(1),
+            jobs: JOB,
+            number: b"",
+            report: REFUSED,
+            other: Some(9),
+        },
+    ),
+    // a file that can't be written keeps nothing else from being done
+    (
+        Some(7),
+        Some(7),
+        (true, false),
+        Left {
+            answer: Err(ToolFault::Device),
+            jobs: b"",
+            number: b"8\n",
+            report: DONE,
+            other: Some(8),
+        },
+    ),
+    (
+        Some(7),
+        Some(9),
+        (false, true),
+        Left {
+            answer: Err(ToolFault::Device),
+            jobs: JOB,
+            number: b"",
+            report: REFUSED,
+            other: Some(9),
+        },
+    ),
+];
+
+/// Texts of a file `number`, and the number in it.
+const TEXTS: [(&[u8], Option<u32>); 11] = [
+    (b"7\n", Some(7)),
+    (b"7", Some(7)),
+    (b"007\n", Some(7)),
+    (b"4294967295\n", Some(4_294_967_295)),
+    (b"4294967296\n", None),
+    (b"", None),
+    (b"\n", None),
+    (b"7\n\n", None),
+    (b"7\n8\n", None),
+    (b" 7\n", None),
+    (b"-7\n", None),
+];
+
+fn end(seat: MemorySeat, fails: (bool, bool)) -> MemoryEnd {
+    CallEnd {
+        seat,
+        jobs: MemoryText::new(fails.0),
+        number: MemoryText::new(fails.1),
+    }
+}
+
+fn make_call(rt: &impl Abort, alloc: Global, call: &Call<'_>) -> Result<(), Fail> {
+    let (mine, theirs, fails, left) = *call;
+    let mut end = end(caller(alloc, b"hi", mine)?, fails);
+    let mut line = ScriptedLine::new(called(alloc, theirs)?, noise()?, CLEAN);
+    let mut output = MemoryOutput::new(alloc);
+    let answer = call_over(
+        alloc,
+        Side::Caller,
+        &mut end,
+        &mut line,
+        &mut noise()?,
+        AMPLE,
+        &mut Nobody,
+        &mut output,
+    );
+    assert_eq!(rt; answer, left.answer);
+    assert_eq!(rt;
+        (end.jobs.text(), end.number.text()),
+        (left.jobs, left.number)
+    );
+    assert_eq!(rt; output.bytes(), left.report);
+    assert_eq!(rt; line.other().node().number(), left.other);
+    Ok(())
+}
+
+#[test]
+fn calls_keep_their_number(rt: HostRuntime) -> Result<(), Fail> {
+    for call in CALLS {
+        make_call(&rt, rt.alloc(), call)?;
+    }
+    Ok(())
+}
+
+#[test]
+fn reads_the_number_of_a_file(rt: HostRuntime) {
+    for (text, number) in TEXTS {
+        assert_eq!(rt; read_number_text(text), number, "in {text:?}");
+        let at_start = number_at_start(Some(text), true);
+        assert_eq!(rt; at_start, number.map(Some).ok_or(ToolFault::Number));
+    }
+    assert_eq!(rt; number_line(70).as_slice(), b"70\n".as_slice());
+    assert_eq!(rt; number_at_start(None, true), Ok(Some(0)));
+    assert_eq!(rt; number_at_start(None, false), Ok(None));
+}

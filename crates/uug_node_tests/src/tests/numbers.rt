@@ -1,0 +1,155 @@
+//! An end that keeps a number of its conversations.
+
+use super::greetings::CALLED_GREETS;
+use super::script::Act::{CallAgain, Hear};
+use super::script::Wire::{InitA, Text};
+use super::script::{Row, SILENCE, follow};
+use super::{MemoryNode, NO_WORK, Side, make, place, stock};
+use std::alloc::Global;
+use std::process::Abort;
+use std::test::Fail;
+use uug_session::{End, Phase};
+
+/// An end, the number that it keeps, what it hears and says, how far it is then, and its number.
+type Conversation<'a> = (Side, Option<u32>, &'a [Row<'a>], Phase, Option<u32>);
+
+/// A caller that keeps 7 says its name when it has heard that of the called end.
+const CALLER_SAYS_7: Row<'static> = (Hear(&[Text(b"Shere=b")]), &[Text(b"Sa -Q7")]);
+
+const CONVERSATIONS: &[Conversation<'static>] = &[
+    (
+        Side::Caller,
+        Some(7),
+        &[CALLER_SAYS_7],
+        Phase::Hail,
+        Some(7),
+    ),
+    (
+        Side::Caller,
+        Some(7),
+        &[
+            CALLER_SAYS_7,
+            (Hear(&[Text(b"ROK"), Text(b"Pg")]), &[Text(b"Ug"), InitA(2)]),
+        ],
+        Phase::Starting,
+        Some(8),
+    ),
+    (
+        Side::Caller,
+        Some(7),
+        &[CALLER_SAYS_7, (Hear(&[Text(b"RBADSEQ")]), SILENCE)],
+        Phase::Ended(End::BadSequence),
+        Some(7),
+    ),
+    (
+        Side::Caller,
+        Some(7),
+        &[CALLER_SAYS_7, (Hear(&[Text(b"RLCK")]), SILENCE)],
+        Phase::Ended(End::Refused),
+        Some(7),
+    ),
+    (
+        Side::Called,
+        Some(7),
+        &[
+            CALLED_GREETS,
+            (Hear(&[Text(b"Sa -Q7")]), &[Text(b"ROK"), Text(b"Pg")]),
+        ],
+        Phase::Hail,
+        Some(8),
+    ),
+    (
+        Side::Called,
+        Some(4_294_967_295),
+        &[
+            CALLED_GREETS,
+            (
+                Hear(&[Text(b"Sa -Q4294967295")]),
+                &[Text(b"ROK"), Text(b"Pg")],
+            ),
+        ],
+        Phase::Hail,
+        Some(0),
+    ),
+    // in the next session it expects the same number as before, since it has let nobody in
+    (
+        Side::Called,
+        Some(9),
+        &[
+            CALLED_GREETS,
+            (Hear(&[Text(b"Sa -Q7")]), &[Text(b"RBADSEQ")]),
+            (CallAgain, &[Text(b"Shere=b")]),
+            (Hear(&[Text(b"Sa -Q9")]), &[Text(b"ROK"), Text(b"Pg")]),
+            (CallAgain, &[Text(b"Shere=b")]),
+            (Hear(&[Text(b"Sa -Q9")]), &[Text(b"RBADSEQ")]),
+        ],
+        Phase::Ended(End::BadSequence),
+        Some(10),
+    ),
+    (
+        Side::Called,
+        Some(7),
+        &[
+            CALLED_GREETS,
+            (Hear(&[Text(b"Sz -Q8")]), &[Text(b"RYou are unknown to me")]),
+        ],
+        Phase::Ended(End::Refused),
+        Some(7),
+    ),
+    (
+        Side::Called,
+        Some(7),
+        &[CALLED_GREETS, (Hear(&[Text(b"Sa")]), &[Text(b"RBADSEQ")])],
+        Phase::Ended(End::BadSequence),
+        Some(7),
+    ),
+    (
+        Side::Called,
+        None,
+        &[
+            CALLED_GREETS,
+            (Hear(&[Text(b"Sa -Q7")]), &[Text(b"ROK"), Text(b"Pg")]),
+        ],
+        Phase::Hail,
+        None,
+    ),
+];
+
+fn keeping(alloc: Global, side: Side, number: Option<u32>) -> Result<MemoryNode<Global>, Fail> {
+    let mut place = place(side, 32)?;
+    place.number = number;
+    let (queue, spool) = stock(alloc, NO_WORK)?;
+    let node = make(alloc, side, place, queue, spool);
+    Ok(node.ok().ok_or("an end")?)
+}
+
+fn converse(rt: &impl Abort, alloc: Global, conversation: &Conversation<'_>) -> Result<(), Fail> {
+    let (side, number, rows, phase, then) = *conversation;
+    let mut node = keeping(alloc, side, number)?;
+    follow(rt, alloc, &mut node, rows)?;
+    assert_eq!(rt; node.phase(), phase);
+    assert_eq!(rt; node.number(), then);
+    Ok(())
+}
+
+// a number that is not said, not looked at, or that rises where it must not
+#[test]
+fn keeps_its_number(rt: HostRuntime) -> Result<(), Fail> {
+    for conversation in CONVERSATIONS {
+        converse(&rt, rt.alloc(), conversation)?;
+    }
+    Ok(())
+}
+
+// a number that is given between two sessions and not said in the next
+#[test]
+fn says_the_number_that_it_was_given(rt: HostRuntime) -> Result<(), Fail> {
+    let alloc = rt.alloc();
+    let mut node = keeping(alloc, Side::Caller, None)?;
+    assert_eq!(rt; node.number(), None);
+    node.hang_up();
+    node.set_number(7);
+    assert_eq!(rt; node.number(), Some(7));
+    node.call_again()?;
+    follow(&rt, alloc, &mut node, &[CALLER_SAYS_7])
+}

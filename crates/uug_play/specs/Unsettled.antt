@@ -1,0 +1,54 @@
+-- Why a report may not settle (this project's profile).
+use Rattle.std.specs.Prelude.{◌≡◌, ℕ, ◌≤◌, List, [], codes}
+use Rattle.uug_session.specs.declared.phase.Phase.TheVariants.{Talking}
+use Rattle.uug_session.specs.Phases.{phase_at}
+use Rattle.uug_line.specs.declared.side.Side.{Side}
+use Rattle.uug_line.specs.declared.side.Side.TheVariants.{Caller, Called}
+use Rattle.uug_line.specs.declared.verdict.LineVerdict.TheVariants.{Clean}
+use Rattle.uug_line.specs.Settled.{EndCanSettle}
+use Rattle.uug_line.specs.Sides.{at}
+use Rattle.uug_line.specs.Told.{EndNow}
+use Rattle.uug_line.specs.WholeReport.{WholeReport}
+use Rattle.uug_tool.specs.Listing.{ended}
+use Rattle.uug_play.specs.declared.unsettled.Unsettled.{Unsettled}
+use Rattle.uug_play.specs.declared.unsettled.Unsettled.TheVariants.{Fooled, Silent, Late, Holds, OnLine}
+
+abbrev pub Talks : EndNow → Type 0
+Talks now = phase_at now.stage now.link.phase ≡ Talking
+
+-- the condition does not hold of the report
+abbrev pub Fails : Unsettled → WholeReport → Type 0
+Fails Fooled report = report.told.verdict ≡ Clean → ⊥
+Fails (Silent side) report = Talks (at side report.told.ends) → ⊥
+Fails (Late side) report = (at side report.told.ends).link.timeouts ≤ 6 → ⊥
+Fails (Holds side) report = at side report.held ≡ [] → ⊥
+Fails OnLine report = ((side : Side) → (at side report.left).line ≡ []) → ⊥
+
+-- ---- of one end
+
+-- the end may settle where nothing is on the line from it
+abbrev pub IsQuietEnd : (now : EndNow) (held : List ℕ) → Type 0
+IsQuietEnd now held = EndCanSettle now held []
+
+-- the condition is one of the end on this side, and does not hold of it
+abbrev pub EndFails : (side : Side) (now : EndNow) (held : List ℕ) → Unsettled → Type 0
+EndFails side now held Fooled = ⊥
+EndFails side now held (Silent s) = (s ≡ side) × (Talks now → ⊥)
+EndFails side now held (Late s) = (s ≡ side) × (now.link.timeouts ≤ 6 → ⊥)
+EndFails side now held (Holds s) = (s ≡ side) × (held ≡ [] → ⊥)
+EndFails side now held OnLine = ⊥
+
+-- ---- as it is written
+
+abbrev pub unsettled_words : Unsettled → List ℕ
+unsettled_words Fooled = codes "not settled: the line fooled an end"
+unsettled_words (Silent Caller) = codes "not settled: caller is not talking"
+unsettled_words (Silent Called) = codes "not settled: called is not talking"
+unsettled_words (Late Caller) = codes "not settled: caller has timed out more than 6 times"
+unsettled_words (Late Called) = codes "not settled: called has timed out more than 6 times"
+unsettled_words (Holds Caller) = codes "not settled: caller holds a part of a packet"
+unsettled_words (Holds Called) = codes "not settled: called holds a part of a packet"
+unsettled_words OnLine = codes "not settled: bytes are on the line"
+
+abbrev pub unsettled_line : Unsettled → List ℕ
+unsettled_line why = ended (unsettled_words why)

@@ -1,0 +1,38 @@
+use Rattle.std.proofs.Common.{◌∙◌, false, subst, sym, refl, true≢false}
+use Rattle.uug_link.specs.Announced.{announced}
+use Rattle.uug_packet.specs.Packet.{shown}
+use Rattle.uug_session.specs.Engine.{CountsFaults, EngineState, TakesUp, stage_of}
+use Rattle.uug_session.specs.Side.{side_of}
+use Rattle.uug_session.proofs.EngineLemmas.{hears_reserved, talk_reserved}
+use Rattle.uug_session.proofs.engine.Engine.on_packet.Goals as goal
+
+pub returns-else-takes-clause-ok : goal.returns-else-takes-clause-ok
+returns-else-takes-clause-ok g c =
+    let h = g.S.Spool.holdings c.args.spool.now in
+    let kept = g.S.Spool.kept c.args.spool.now in
+    let faults = g.S.Spool.faults c.args.spool.now in
+    let p = shown c.args.packet.now in
+    let i = c.self.inside in
+    let b : EngineState = record {
+      identity = record { side = side_of i.side; me = i.place.me; peer = i.place.peer };
+      own = announced i.place.announce;
+      stage = stage_of i.stage;
+      link = i.link;
+      talking = i.dialogue;
+      outbox = i.outbox;
+      number = i.place.number;
+    } in
+    let m : EngineState = record {
+      identity = b.identity;
+      own = b.own;
+      stage = b.stage;
+      link = i.link;
+      talking = c.reserve-2.new.self;
+      outbox = c.reserve.new.self;
+      number = b.number;
+    } in
+    let room = c.in_ok-reserve-2.ensures in
+    subst (λ (x : EngineState). TakesUp h kept kept (CountsFaults 18446744073709551615 faults faults) p x c.hear.new.self false) c.self.view_is
+    (hears_reserved h kept (CountsFaults 18446744073709551615 faults faults) p b m c.hear.new.self refl refl refl refl
+    (talk_reserved h kept i.dialogue c.reserve-2.new.self room.opened room.machine room.size room.sayings room.offset)
+    c.in_ok-reserve.ensures.entries (λ is. true≢false (sym (c.takes.ensures.1 is) ∙ c.if-takes.false)) refl c.hear.ensures.does)

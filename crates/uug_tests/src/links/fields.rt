@@ -1,0 +1,54 @@
+//! The fields in which messages go out, byte by byte, where the other end has announced the greatest size.
+
+use super::{Call, NOTHING, Row, Wire, announce, follow, make};
+use std::alloc::Global;
+use std::process::Abort;
+use std::test::Fail;
+use uug_link::{Link, Outbox, Outcome};
+
+/// A called end comes up.
+const COMES_UP: &[Row<'static>] = &[
+    (Call::Hear(Wire::InitA(7)), &[Wire::InitA(2)], NOTHING, 0),
+    (Call::Hear(Wire::InitB(7)), &[Wire::InitB(0)], NOTHING, 0),
+    (
+        Call::Hear(Wire::InitC(7)),
+        &[Wire::InitC(2)],
+        Ok(Outcome::Up),
+        0,
+    ),
+];
+
+/// How many zeros a message has; its packet's first eight bytes, the header and two of the field; and how many it has.
+type Field = (usize, [u8; 8], usize);
+
+const FIELDS: [Field; 6] = [
+    (0, [0x10, 1, 0xa1, 0x0e, 0xc8, 0x66, 0x20, 0], 38),
+    (32, [0x10, 1, 0x0d, 0x3a, 0x88, 0xbe, 0, 0], 38),
+    (33, [0x10, 2, 0xb6, 0xc4, 0xc8, 0xb8, 0x1f, 0], 70),
+    (257, [0x10, 5, 0x80, 0x0b, 0xc8, 0x46, 0xff, 0x01], 518),
+    (2048, [0x10, 7, 0xa6, 0x7a, 0x88, 0x53, 0, 0], 2054),
+    (2049, [0x10, 8, 0xd4, 0x01, 0xc8, 0x15, 0xff, 0x0f], 4102),
+];
+
+/// The first message of a link goes out so, and again so at a timeout. What else stands in its field is zeros.
+fn assert_goes_out(rt: &impl Abort, alloc: Global, link: &mut Link, field: Field) {
+    let (len, front, size) = field;
+    let message = &[0; 4096][..len.min(4096)];
+    for call in [Call::Send(message), Call::Timeout] {
+        let mut out = Outbox::new(alloc);
+        assert_eq!(rt; make(call, link, &mut out), NOTHING);
+        let bytes = out.bytes();
+        assert_eq!(rt; (out.len(), bytes.len()), (1, size));
+        assert!(rt; bytes.starts_with(&front) && bytes.iter().skip(8).all(|b| *b == 0));
+    }
+}
+
+#[test]
+fn messages_go_out_in_the_smallest_field(rt: HostRuntime) -> Result<(), Fail> {
+    for field in FIELDS {
+        let mut link = Link::called(announce(2, 32)?);
+        follow(&rt, rt.alloc(), &mut link, COMES_UP);
+        assert_goes_out(&rt, rt.alloc(), &mut link, field);
+    }
+    Ok(())
+}
