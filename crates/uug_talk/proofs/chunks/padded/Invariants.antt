@@ -1,5 +1,0 @@
-use Rattle.std.proofs.Common.{◌≡◌, ◌++◌, replicate}
-use Rattle.uug_talk.proofs.chunks.padded.Given as goal
-
-abbrev pub invariant-loop-zero : goal.invariant-loop-zero
-invariant-loop-zero l = l.message.items ≡ l.piece ++ replicate l._zero 0
