@@ -13,7 +13,7 @@ use std::process::Abort;
 use std::test::Fail;
 use uug_link::{Announce, Entry, Link, LinkFault, Outbox, Outcome};
 use uug_packet::{Control, Packet, decode};
-use uug_refusal::Refusing;
+use uug_refusal::{Refusing, assert_same, assert_so};
 
 /// A packet, as a table writes it.
 #[derive(Clone, Copy)]
@@ -108,8 +108,8 @@ fn insist(
         if !heap.was_refused() {
             return (answer, refused);
         }
-        assert_eq!(rt; answer, Err(LinkFault::Memory));
-        assert_eq!(rt; (out.len(), link.unacked()), (0, unacked));
+        assert_same(rt, answer, Err(LinkFault::Memory));
+        assert_same(rt, (out.len(), link.unacked()), (0, unacked));
     }
     (Err(LinkFault::Memory), 9)
 }
@@ -131,9 +131,9 @@ fn assert_holds<A: Allocator>(
     wires: &[Wire<'_>],
     is_first: bool,
 ) {
-    assert_eq!(rt; out.len(), wires.len());
+    assert_same(rt, out.len(), wires.len());
     for (i, wire) in wires.iter().enumerate() {
-        assert!(rt; i < out.len() && is_packet(&out.entry(i), *wire, is_first));
+        assert_so(rt, i < out.len() && is_packet(&out.entry(i), *wire, is_first));
     }
 }
 
@@ -143,11 +143,11 @@ fn follow_row(rt: &impl Abort, heap: &Refusing<Global>, link: &mut Link, row: Ro
     let (call, emits, answer, unacked) = row;
     let mut out = Outbox::new(heap);
     if let Call::Timeout = call {
-        assert_eq!(rt; link.speaks_when_late(), !emits.is_empty());
+        assert_same(rt, link.speaks_when_late(), !emits.is_empty());
     }
     let requests = if emits.is_empty() { 0 } else { 2 };
-    assert_eq!(rt; insist(rt, heap, call, link, &mut out), (answer, requests));
-    assert_eq!(rt; link.unacked(), unacked);
+    assert_same(rt, insist(rt, heap, call, link, &mut out), (answer, requests));
+    assert_same(rt, link.unacked(), unacked);
     assert_holds(rt, &out, emits, matches!(call, Call::Send(_)));
 }
 

@@ -7,6 +7,7 @@ use uug_packet::{
     Control, NoPacket, Packet, Seq, check, control_packet, decode, encode, field_code, field_size,
     is_written, message_in, message_start, re_ack,
 };
+use uug_refusal::{assert_same, assert_so};
 
 /// The number of a packet: all that are written here are below eight.
 pub fn number(value: u8) -> Seq {
@@ -18,10 +19,10 @@ pub fn number(value: u8) -> Seq {
 
 #[test]
 fn counts_and_checks(rt: HostRuntime) {
-    assert_eq!(rt; number(7).next().value(), 0);
-    assert_eq!(rt; number(1).ahead_of(number(6)), 3);
-    assert_eq!(rt; check(&[0x41, 0x42]), 0x0046);
-    assert_eq!(rt; field_size(1), 32);
+    assert_same(&rt, number(7).next().value(), 0);
+    assert_same(&rt, number(1).ahead_of(number(6)), 3);
+    assert_same(&rt, check(&[0x41, 0x42]), 0x0046);
+    assert_same(&rt, field_size(1), 32);
 }
 
 // The bytes of a message, and the code of the smallest field that holds it.
@@ -36,7 +37,7 @@ fn finds_the_smallest_field(rt: HostRuntime) {
         (2049, 8),
         (4096, 8),
     ] {
-        assert_eq!(rt; field_code(len), code);
+        assert_same(&rt, field_code(len), code);
     }
 }
 
@@ -51,13 +52,13 @@ fn writes_and_reads_packets(rt: HostRuntime) {
     let front = [0x10, 0x01, 0x9a, 0x0e, 0xd1, 0x44, 0x20];
     let mut out = ArrayVec::new();
     encode(&packet, &mut out);
-    assert_eq!(rt; &out[..7], front.as_slice());
-    assert_eq!(rt; message_start(&out), 7);
-    assert_eq!(rt; message_in(&out), Some([].as_slice()));
-    assert!(rt; is_written(&packet, out.as_slice()));
-    assert_eq!(rt; decode(&out), Ok((packet, 38)));
+    assert_same(&rt, &out[..7], front.as_slice());
+    assert_same(&rt, message_start(&out), 7);
+    assert_same(&rt, message_in(&out), Some([].as_slice()));
+    assert_so(&rt, is_written(&packet, out.as_slice()));
+    assert_same(&rt, decode(&out), Ok((packet, 38)));
     let init = [0x10, 0x09, 0x6f, 0xaa, 0x3b, 0xf7];
-    assert_eq!(rt; control_packet(Control::InitA(number(3))), init);
+    assert_same(&rt, control_packet(Control::InitA(number(3))), init);
 }
 
 /// A packet in a field of 32 bytes, which is written with the acknowledgement `old` and then gets `ack`: it is then these
@@ -78,7 +79,7 @@ fn assert_acknowledged(
     let mut written = ArrayVec::new();
     encode(&packet, &mut written);
     re_ack(&mut written, number(ack));
-    assert_eq!(rt; written.as_slice(), bytes.as_slice());
+    assert_same(&rt, written.as_slice(), bytes.as_slice());
 }
 
 // the old checksum; the old exclusive or; a field that is written anew
@@ -122,8 +123,8 @@ fn refuses_packets(rt: HostRuntime) -> Result<(), AllocError> {
         (&no_missing_byte, NoPacket::BadLength, "bad length"),
     ];
     for (bytes, fault, text) in rows {
-        assert_eq!(rt; decode(bytes), Err(fault));
-        assert_eq!(rt; format!(in rt.alloc(); "{fault}")?.as_str(), text);
+        assert_same(&rt, decode(bytes), Err(fault));
+        assert_same(&rt, format!(in rt.alloc(); "{fault}")?.as_str(), text);
     }
     Ok(())
 }

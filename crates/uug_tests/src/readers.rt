@@ -5,7 +5,7 @@ use std::alloc::{AllocError, Allocator};
 use std::process::Abort;
 use uug_packet::{Control, Packet};
 use uug_reader::{Found, READER_SIZE, Reader};
-use uug_refusal::Refusing;
+use uug_refusal::{Refusing, assert_same, assert_same_at, assert_so};
 
 /// Two bytes of noise, INITA 3, and the front of RR 1.
 const FRONT: [u8; 10] = [0x10, 0x11, 0x10, 0x09, 0x6f, 0xaa, 0x3b, 0xf7, 0x10, 0x09];
@@ -42,15 +42,15 @@ fn take_piece<A: Allocator>(
     items: &[Found<'_>],
     waiting: usize,
 ) {
-    assert_eq!(rt; reader.push(piece), piece.len());
+    assert_same(rt, reader.push(piece), piece.len());
     for item in items {
-        assert_eq!(rt; reader.find(), Some(*item));
-        assert_eq!(rt; reader.showing(), Some(*item), "shown again");
-        assert!(rt; reader.search());
+        assert_same(rt, reader.find(), Some(*item));
+        assert_same_at(rt, reader.showing(), Some(*item), "shown again");
+        assert_so(rt, reader.search());
         reader.drop_found();
     }
-    assert_eq!(rt; reader.find(), None);
-    assert_eq!(rt; reader.waiting(), waiting);
+    assert_same(rt, reader.find(), None);
+    assert_same(rt, reader.waiting(), waiting);
 }
 
 #[test]
@@ -78,30 +78,30 @@ fn finds_what_comes_in_pieces(rt: HostRuntime) -> Result<(), AllocError> {
 
 /// As many bytes are accepted as there is room for, and those that are noise give room again.
 fn fill<A: Allocator>(rt: &impl Abort, reader: &mut Reader<A>) {
-    assert_eq!(rt; reader.push(&[0x10; READER_SIZE]), READER_SIZE);
-    assert_eq!(rt; reader.push(&[0x10]), 0);
-    assert_eq!(rt; reader.find(), None);
-    assert_eq!(rt; reader.push(&[0x10; READER_SIZE]), READER_SIZE - 5);
+    assert_same(rt, reader.push(&[0x10; READER_SIZE]), READER_SIZE);
+    assert_same(rt, reader.push(&[0x10]), 0);
+    assert_same(rt, reader.find(), None);
+    assert_same(rt, reader.push(&[0x10; READER_SIZE]), READER_SIZE - 5);
     reader.clear();
-    assert_eq!(rt; reader.waiting(), 0);
+    assert_same(rt, reader.waiting(), 0);
 }
 
 /// 107 packets, and the front of one more, are as much as a reader holds.
 fn fill_with_packets<A: Allocator>(rt: &impl Abort, reader: &mut Reader<A>) {
     for _ in 0..107 {
-        assert_eq!(rt; reader.push(&PACKET), 38);
+        assert_same(rt, reader.push(&PACKET), 38);
     }
-    assert_eq!(rt; reader.push(&PACKET), 36);
+    assert_same(rt, reader.push(&PACKET), 36);
 }
 
 /// Of these the packets that are whole are dropped.
 fn drop_packets<A: Allocator>(rt: &impl Abort, reader: &mut Reader<A>) {
     for _ in 0..107 {
-        assert!(rt; reader.search());
+        assert_so(rt, reader.search());
         reader.drop_found();
     }
-    assert_eq!(rt; reader.find(), None);
-    assert_eq!(rt; reader.waiting(), 36);
+    assert_same(rt, reader.find(), None);
+    assert_same(rt, reader.waiting(), 36);
 }
 
 #[test]
@@ -117,8 +117,8 @@ fn finds_a_packet_across_the_end(rt: HostRuntime) -> Result<(), AllocError> {
 #[test]
 fn is_full_at_the_longest_packet(rt: HostRuntime) -> Result<(), AllocError> {
     let heap = Refusing::new(rt.alloc(), 1);
-    assert!(rt; Reader::new(&heap).is_err());
+    assert_so(&rt, Reader::new(&heap).is_err());
     fill(&rt, &mut Reader::new(&heap)?);
-    assert_eq!(rt; heap.requests(), 2, "the one refused, and the other");
+    assert_same_at(&rt, heap.requests(), 2, "the one refused, and the other");
     Ok(())
 }

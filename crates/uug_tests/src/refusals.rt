@@ -4,7 +4,7 @@
 use linked_list_allocator::LocalHeap;
 use std::alloc::Global;
 use std::test::Fail;
-use uug_refusal::Refusing;
+use uug_refusal::{Refusing, assert_same, assert_so};
 
 /// Asks four times for a block: which requests are refused, how many came, and whether one was refused.
 fn ask_four_times(heap: &Refusing<Global>) -> ([bool; 4], u64, bool) {
@@ -28,9 +28,9 @@ fn only_the_nth_request_is_refused(rt: HostRuntime) {
     ];
     let again = Refusing::new(rt.alloc(), 0);
     for (nth, answer) in rows {
-        assert_eq!(rt; ask_four_times(&Refusing::new(rt.alloc(), nth)), answer);
+        assert_same(&rt, ask_four_times(&Refusing::new(rt.alloc(), nth)), answer);
         again.refuse(nth);
-        assert_eq!(rt; ask_four_times(&again), answer);
+        assert_same(&rt, ask_four_times(&again), answer);
     }
 }
 
@@ -40,11 +40,11 @@ fn blocks_grow_and_go_back(rt: HostRuntime) -> Result<(), Fail> {
     let room = LocalHeap::new(rt.alloc(), 1024)?;
     let heap = Refusing::new(&room, 2);
     let mut items = Vec::<u8, &Refusing<&LocalHeap>>::with_capacity(&heap, 16)?;
-    assert!(rt; items.reserve(100).is_err());
+    assert_so(&rt, items.reserve(100).is_err());
     items.reserve(100)?;
-    assert_eq!(rt; heap.requests(), 3);
-    assert!(rt; room.used() > 0);
+    assert_same(&rt, heap.requests(), 3);
+    assert_so(&rt, room.used() > 0);
     drop(items);
-    assert_eq!(rt; room.used(), 0);
+    assert_same(&rt, room.used(), 0);
     Ok(())
 }

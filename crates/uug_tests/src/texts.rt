@@ -4,7 +4,7 @@
 use std::alloc::{Allocator, Global};
 use std::process::Abort;
 use std::test::Fail;
-use uug_refusal::Refusing;
+use uug_refusal::{Refusing, assert_same, assert_so, assert_so_at};
 use uug_talk::{
     Answer, BadText, Chunks, Gather, Hail, Name, Order, Progress, caller_number, is_command_text,
     is_hail_text, read_answer, read_number, read_order, write_answer, write_call, write_hail,
@@ -21,14 +21,14 @@ fn is_answer_written_as(answer: &Answer, text: &[u8]) -> bool {
 
 #[test]
 fn what_is_read_is_written(rt: HostRuntime) -> Result<(), Fail> {
-    assert_eq!(rt; Name::new(b"x~!")?.as_bytes(), b"x~!".as_slice());
+    assert_same(&rt, Name::new(b"x~!")?.as_bytes(), b"x~!".as_slice());
     match read_order(b"S x y u -C q 0644 n 12") {
-        Ok(order) => assert!(rt; is_order_written_as(&order, b"S x y u -C q 0644")),
-        Err(fault) => assert!(rt; false, "{fault}"),
+        Ok(order) => assert_so(&rt, is_order_written_as(&order, b"S x y u -C q 0644")),
+        Err(fault) => assert_so_at(&rt, false, fault),
     }
     match read_answer(b"RY 0644 x") {
-        Ok(answer) => assert!(rt; is_answer_written_as(&answer, b"RY 0644")),
-        Err(fault) => assert!(rt; false, "{fault}"),
+        Ok(answer) => assert_so(&rt, is_answer_written_as(&answer, b"RY 0644")),
+        Err(fault) => assert_so_at(&rt, false, fault),
     }
     Ok(())
 }
@@ -62,13 +62,13 @@ const CALLS: [(&[u8], Option<u32>); 12] = [
 fn a_caller_writes_its_number_and_a_called_end_reads_it(rt: HostRuntime) -> Result<(), Fail> {
     let name = Name::new(b"a")?;
     for (number, text) in SAID {
-        assert_eq!(rt; write_call(&name, number).as_slice(), text);
-        assert_eq!(rt; caller_number(text), number);
+        assert_same(&rt, write_call(&name, number).as_slice(), text);
+        assert_same(&rt, caller_number(text), number);
     }
     for (text, number) in CALLS {
-        assert_eq!(rt; caller_number(text), number, "in {text:?}");
+        assert_same(&rt, (text, caller_number(text)), (text, number));
     }
-    assert_eq!(rt; read_number(b"007", 6), None);
+    assert_same(&rt, read_number(b"007", 6), None);
     Ok(())
 }
 
@@ -81,18 +81,18 @@ const HEARD: [(&[u8], usize, usize, bool); 3] = [
 
 fn hear(rt: &impl Abort, hail: &mut Hail) {
     for (piece, used, waiting, is_whole) in HEARD {
-        assert_eq!(rt; hail.push(piece).map(|heard| heard.0), Ok(used));
-        assert_eq!(rt; (hail.waiting(), hail.is_whole()), (waiting, is_whole));
+        assert_same(rt, hail.push(piece).map(|heard| heard.0), Ok(used));
+        assert_same(rt, (hail.waiting(), hail.is_whole()), (waiting, is_whole));
     }
-    assert!(rt; hail.is_whole() && hail.text() == b"Sa".as_slice());
+    assert_so(rt, hail.is_whole() && hail.text() == b"Sa".as_slice());
     hail.clear();
-    assert!(rt; !hail.is_whole());
+    assert_so(rt, !hail.is_whole());
 }
 
 #[test]
 fn handshake_texts_are_written_and_heard(rt: HostRuntime) {
-    assert!(rt; is_hail_text(b"Sa"));
-    assert_eq!(rt; write_hail(b"Sa").as_slice(), b"\x10Sa\0".as_slice());
+    assert_so(&rt, is_hail_text(b"Sa"));
+    assert_same(&rt, write_hail(b"Sa").as_slice(), b"\x10Sa\0".as_slice());
     hear(&rt, &mut Hail::new());
 }
 
@@ -107,22 +107,22 @@ fn push<A: Allocator>(gather: &mut Gather<A>, message: &[u8]) -> Option<Result<P
 /// Pushes all the messages. The last one makes the whole.
 fn gather_all<A: Allocator>(rt: &impl Abort, gather: &mut Gather<A>, chunks: Chunks<'_>) {
     for message in chunks {
-        assert!(rt; matches!(push(gather, message.as_slice()), Some(Ok(_))));
+        assert_so(rt, matches!(push(gather, message.as_slice()), Some(Ok(_))));
     }
-    assert!(rt; gather.is_whole());
+    assert_so(rt, gather.is_whole());
 }
 
 fn gathers_a_file(rt: &impl Abort, alloc: Global, bytes: &[u8]) {
     let mut file = Gather::file(alloc);
     gather_all(rt, &mut file, Chunks::file(bytes, 64));
-    assert_eq!(rt; file.bytes(), bytes);
+    assert_same(rt, file.bytes(), bytes);
 }
 
 fn gathers_a_command(rt: &impl Abort, text: &[u8]) {
     let mut command = Gather::<Global>::command();
-    assert!(rt; is_command_text(text));
+    assert_so(rt, is_command_text(text));
     gather_all(rt, &mut command, Chunks::command(text, 64));
-    assert_eq!(rt; command.bytes(), text);
+    assert_same(rt, command.bytes(), text);
 }
 
 #[test]
@@ -145,8 +145,8 @@ fn longest_and(message: &[u8]) -> Option<Result<Progress, BadText>> {
 
 #[test]
 fn a_command_has_at_most_4096_bytes(rt: HostRuntime) {
-    assert_eq!(rt; longest_and(&[0; 32]), Some(Ok(Progress::Whole)));
-    assert_eq!(rt; longest_and(&[b'x'; 32]), Some(Err(BadText::TooLong)));
+    assert_same(&rt, longest_and(&[0; 32]), Some(Ok(Progress::Whole)));
+    assert_same(&rt, longest_and(&[b'x'; 32]), Some(Err(BadText::TooLong)));
 }
 
 /// A file's message makes one request. Refused, it changes nothing, and pushed again it is taken. The end of a file
@@ -158,11 +158,11 @@ fn refuse_a_message(
 ) {
     heap.refuse(1);
     for answer in [Err(BadText::Memory), Ok(Progress::More), Ok(Progress::More)] {
-        assert_eq!(rt; push(gather, b"0123456789"), Some(answer));
+        assert_same(rt, push(gather, b"0123456789"), Some(answer));
     }
-    assert_eq!(rt; push(gather, b""), Some(Ok(Progress::Whole)));
-    assert_eq!(rt; gather.bytes(), b"01234567890123456789".as_slice());
-    assert_eq!(rt; heap.requests(), 3);
+    assert_same(rt, push(gather, b""), Some(Ok(Progress::Whole)));
+    assert_same(rt, gather.bytes(), b"01234567890123456789".as_slice());
+    assert_same(rt, heap.requests(), 3);
 }
 
 #[test]

@@ -5,6 +5,7 @@ use std::alloc::Global;
 use std::process::Abort;
 use std::test::Fail;
 use uug_link::{Link, Outbox, Outcome};
+use uug_refusal::{assert_same, assert_so};
 
 /// A called end comes up.
 const COMES_UP: &[Row<'static>] = &[
@@ -36,10 +37,10 @@ fn assert_goes_out(rt: &impl Abort, alloc: Global, link: &mut Link, field: Field
     let message = &[0; 4096][..len.min(4096)];
     for call in [Call::Send(message), Call::Timeout] {
         let mut out = Outbox::new(alloc);
-        assert_eq!(rt; make(call, link, &mut out), NOTHING);
+        assert_same(rt, make(call, link, &mut out), NOTHING);
         let bytes = out.bytes();
-        assert_eq!(rt; (out.len(), bytes.len()), (1, size));
-        assert!(rt; bytes.starts_with(&front) && bytes.iter().skip(8).all(|b| *b == 0));
+        assert_same(rt, (out.len(), bytes.len()), (1, size));
+        assert_so(rt, bytes.starts_with(&front) && bytes.iter().skip(8).all(|b| *b == 0));
     }
 }
 

@@ -5,15 +5,15 @@ use std::alloc::Global;
 use std::process::Abort;
 use std::test::Fail;
 use uug_link::{Announce, Entry, Link, Outbox};
-use uug_refusal::Refusing;
+use uug_refusal::{Refusing, assert_same, assert_so};
 
 /// A text and a packet, with no memory.
 fn fill(rt: &impl Abort, own: Announce, out: &mut Outbox<&Refusing<Global>>) {
-    assert!(rt; out.add_text(b"abc").is_ok());
-    assert!(rt; Link::caller(own).begin(out).is_ok());
-    assert_eq!(rt; out.len(), 2);
-    assert_eq!(rt; out.entry(0), Entry::Text(b"abc"));
-    assert!(rt; is_packet(&out.entry(1), Wire::InitA(3), false));
+    assert_so(rt, out.add_text(b"abc").is_ok());
+    assert_so(rt, Link::caller(own).begin(out).is_ok());
+    assert_same(rt, out.len(), 2);
+    assert_same(rt, out.entry(0), Entry::Text(b"abc"));
+    assert_so(rt, is_packet(&out.entry(1), Wire::InitA(3), false));
 }
 
 // two entries for which there is room, and that ask for memory all the same
@@ -22,11 +22,11 @@ fn outboxes_hold_what_they_have_room_for(rt: HostRuntime) -> Result<(), Fail> {
     let own = announce(3, 32)?;
     let heap = Refusing::new(rt.alloc(), 0);
     let mut out = Outbox::new(&heap);
-    assert!(rt; out.reserve(2).is_ok());
-    assert!(rt; out.spare() >= 2);
+    assert_so(&rt, out.reserve(2).is_ok());
+    assert_so(&rt, out.spare() >= 2);
     heap.refuse(1);
     fill(&rt, own, &mut out);
     out.clear();
-    assert!(rt; out.bytes().is_empty());
+    assert_so(&rt, out.bytes().is_empty());
     Ok(())
 }

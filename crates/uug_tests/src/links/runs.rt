@@ -5,7 +5,7 @@ use std::alloc::{AllocError, Global};
 use std::process::Abort;
 use std::test::Fail;
 use uug_link::{Announce, BadAnnounce, Link, LinkFault, Outbox, Outcome};
-use uug_refusal::Refusing;
+use uug_refusal::{Refusing, assert_same, assert_so};
 
 const UP: Answer = Ok(Outcome::Up);
 
@@ -17,10 +17,10 @@ const HALTED: Answer = Err(LinkFault::Halted);
 
 #[test]
 fn announces_windows_and_sizes(rt: HostRuntime) -> Result<(), Fail> {
-    assert_eq!(rt; Announce::new(0, 48), Err(BadAnnounce::BadWindow));
-    assert_eq!(rt; Announce::new(7, 48), Err(BadAnnounce::BadSize));
+    assert_same(&rt, Announce::new(0, 48), Err(BadAnnounce::BadWindow));
+    assert_same(&rt, Announce::new(7, 48), Err(BadAnnounce::BadSize));
     let greatest = announce(7, 4096)?;
-    assert_eq!(rt; (greatest.window(), greatest.size()), (7, 4096));
+    assert_same(&rt, (greatest.window(), greatest.size()), (7, 4096));
     Ok(())
 }
 
@@ -92,9 +92,9 @@ fn begun(rt: &impl Abort, alloc: Global, own: Announce) -> Result<Link, AllocErr
     let heap = Refusing::new(alloc, 1);
     let mut out = Outbox::new(&heap);
     let mut link = Link::caller(own);
-    assert!(rt; link.begin(&mut out).is_err());
+    assert_so(rt, link.begin(&mut out).is_err());
     heap.refuse(2);
-    assert!(rt; link.begin(&mut out).is_err());
+    assert_so(rt, link.begin(&mut out).is_err());
     heap.refuse(3);
     link.begin(&mut out)?;
     assert_holds(rt, &out, &[Wire::InitA(3)], false);
@@ -103,8 +103,8 @@ fn begun(rt: &impl Abort, alloc: Global, own: Announce) -> Result<Link, AllocErr
 
 /// The link is up, with that window and size.
 fn assert_up(rt: &impl Abort, link: &Link, window: usize, size: usize) {
-    assert!(rt; link.is_up());
-    assert_eq!(rt; (link.window(), link.size()), (window, size));
+    assert_so(rt, link.is_up());
+    assert_same(rt, (link.window(), link.size()), (window, size));
 }
 
 #[test]
@@ -113,9 +113,9 @@ fn a_caller_sends_and_closes(rt: HostRuntime) -> Result<(), Fail> {
     follow(&rt, rt.alloc(), &mut link, COMES_UP);
     assert_up(&rt, &link, 3, 64);
     follow(&rt, rt.alloc(), &mut link, FILLS);
-    assert!(rt; !link.room());
+    assert_so(&rt, !link.room());
     follow(&rt, rt.alloc(), &mut link, GOES_ON);
-    assert!(rt; link.is_closing());
+    assert_so(&rt, link.is_closing());
     follow(&rt, rt.alloc(), &mut link, CLOSES);
     Ok(())
 }

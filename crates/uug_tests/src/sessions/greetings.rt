@@ -8,6 +8,7 @@ use std::test::Fail;
 use uug_link::Outbox;
 use uug_session::{End, Greeted, Greeting, Place};
 use uug_talk::Hail;
+use uug_refusal::{assert_same};
 
 /// Takes up the texts of a stream of at most eight.
 fn hear<A: Allocator>(
@@ -39,8 +40,8 @@ type Row<'a> = (&'a [u8], &'a [u8], Greeted);
 
 fn greets_as_caller(rt: &impl Abort, alloc: Global, place: &Place, row: Row<'_>) {
     let mut out = Outbox::new(alloc);
-    assert_eq!(rt; hear(Greeting::caller(), place, row.0, &mut out), Ok(row.2));
-    assert_eq!(rt; out.bytes(), row.1);
+    assert_same(rt, hear(Greeting::caller(), place, row.0, &mut out), Ok(row.2));
+    assert_same(rt, out.bytes(), row.1);
 }
 
 fn greets_as_called_end(rt: &impl Abort, alloc: Global, place: &Place, row: Row<'_>) {
@@ -49,8 +50,8 @@ fn greets_as_called_end(rt: &impl Abort, alloc: Global, place: &Place, row: Row<
         Ok(greeting) => hear(greeting, place, row.0, &mut out),
         Err(refused) => Err(refused),
     };
-    assert_eq!(rt; greeted, Ok(row.2));
-    assert_eq!(rt; out.bytes(), row.1);
+    assert_same(rt, greeted, Ok(row.2));
+    assert_same(rt, out.bytes(), row.1);
 }
 
 #[test]

@@ -3,6 +3,7 @@
 use super::place;
 use std::test::Fail;
 use uug_session::{MemorySpool, Node, Queue};
+use uug_refusal::{assert_same};
 
 #[test]
 fn takes_a_whole_piece(rt: HostRuntime) -> Result<(), Fail> {
@@ -13,7 +14,7 @@ fn takes_a_whole_piece(rt: HostRuntime) -> Result<(), Fail> {
         return Err("a caller".into());
     };
     caller.arrive(b"login:\x10Shere=b\n")?;
-    assert_eq!(rt; caller.outbox().bytes(), b"\x10Sa\0".as_slice());
-    assert_eq!(rt; caller.waiting(), 0);
+    assert_same(&rt, caller.outbox().bytes(), b"\x10Sa\0".as_slice());
+    assert_same(&rt, caller.waiting(), 0);
     Ok(())
 }

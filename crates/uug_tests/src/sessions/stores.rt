@@ -8,17 +8,18 @@ use uug_session::{
     FileView, JOBS_MAX, KeepFault, MemorySpool, Queue, QueueFault, Spool, Stored, Verdict,
 };
 use uug_talk::Name;
+use uug_refusal::{assert_same, assert_so};
 
 #[test]
 fn takes_jobs_up_to_the_limit(rt: HostRuntime) -> Result<(), Fail> {
     let job = send_job(name(b"x")?);
     let mut queue = Queue::new(rt.alloc());
     for _ in 0..JOBS_MAX {
-        assert_eq!(rt; queue.add(job), Ok(()));
+        assert_same(&rt, queue.add(job), Ok(()));
     }
-    assert_eq!(rt; queue.add(job), Err(QueueFault::Full));
-    assert_eq!(rt; queue.pending().len(), 1024);
-    assert_eq!(rt; queue.struck().len() + queue.failed().len(), 0);
+    assert_same(&rt, queue.add(job), Err(QueueFault::Full));
+    assert_same(&rt, queue.pending().len(), 1024);
+    assert_same(&rt, queue.struck().len() + queue.failed().len(), 0);
     Ok(())
 }
 
@@ -38,13 +39,10 @@ fn is_file(file: Option<FileView<'_>>, mode: u16, bytes: &[u8]) -> bool {
 }
 
 fn assert_gives(rt: &impl Abort, spool: &MemorySpool<Global>, names: &[Name; 4]) {
-    assert!(rt; is_file(spool.fetch(&names[0]), 0o644, b""));
-    assert!(rt; spool.fetch(&names[1]).is_none());
+    assert_so(rt, is_file(spool.fetch(&names[0]), 0o644, b""));
+    assert_so(rt, spool.fetch(&names[1]).is_none());
     let verdicts = names.map(|name| spool.may_keep(&name));
-    assert_eq!(rt;
-        verdicts,
-        [Verdict::Yes, Verdict::Later, Verdict::Never, Verdict::Yes]
-    );
+    assert_same(rt, verdicts, [Verdict::Yes, Verdict::Later, Verdict::Never, Verdict::Yes]);
 }
 
 fn is_stored(file: &Stored<Global>, name: Name, mode: u16, bytes: &[u8]) -> bool {
@@ -52,13 +50,10 @@ fn is_stored(file: &Stored<Global>, name: Name, mode: u16, bytes: &[u8]) -> bool
 }
 
 fn assert_keeps(rt: &impl Abort, spool: &mut MemorySpool<Global>, names: &[Name; 4]) {
-    assert_eq!(rt; spool.keep(&names[0], 0o644, b"abc"), Ok(()));
-    assert_eq!(rt;
-        spool.keep(&names[3], 0o644, b"abc"),
-        Err(KeepFault::Refused)
-    );
-    assert_eq!(rt; (spool.stored().len(), spool.faults()), (1, 0));
-    assert!(rt; is_stored(&spool.stored()[0], names[0], 0o644, b"abc"));
+    assert_same(rt, spool.keep(&names[0], 0o644, b"abc"), Ok(()));
+    assert_same(rt, spool.keep(&names[3], 0o644, b"abc"), Err(KeepFault::Refused));
+    assert_same(rt, (spool.stored().len(), spool.faults()), (1, 0));
+    assert_so(rt, is_stored(&spool.stored()[0], names[0], 0o644, b"abc"));
 }
 
 #[test]
