@@ -17,6 +17,7 @@ use std::alloc::Allocator;
 use std::process::Abort;
 use std::test::Fail;
 use uug_link::Announce;
+use uug_refusal::{assert_same, assert_so};
 use uug_session::{End, Job, MemorySpool, Node, NotMade, Phase, Place, Queue, Spool, Stored};
 use uug_talk::Name;
 
@@ -165,7 +166,7 @@ fn assert_ended<S: Spool, A: Allocator + Copy>(
     how: End,
     left: &[Left<'_>],
 ) -> Result<(), Fail> {
-    assert_eq!(rt; node.phase(), Phase::Ended(how));
+    assert_same(rt, node.phase(), Phase::Ended(how));
     assert_lists(rt, node.queue(), stored, left)
 }
 
@@ -188,16 +189,16 @@ fn assert_lists<A: Allocator>(
             Left::Stored(target, bytes) => assert_file(rt, stored.next(), target, bytes)?,
         }
     }
-    assert!(rt; pending.next().is_none());
-    assert!(rt; struck.next().is_none());
-    assert!(rt; failed.next().is_none());
-    assert!(rt; stored.next().is_none());
+    assert_so(rt, pending.next().is_none());
+    assert_so(rt, struck.next().is_none());
+    assert_so(rt, failed.next().is_none());
+    assert_so(rt, stored.next().is_none());
     Ok(())
 }
 
 fn assert_job(rt: &impl Abort, found: Option<&Job>, task: Task<'_>) -> Result<(), Fail> {
     let found = found.ok_or("a job")?;
-    assert_eq!(rt; *found, job(task)?);
+    assert_same(rt, *found, job(task)?);
     Ok(())
 }
 
@@ -208,7 +209,7 @@ fn assert_file<A: Allocator>(
     bytes: &[u8],
 ) -> Result<(), Fail> {
     let found = found.ok_or("a file")?;
-    assert_eq!(rt; (found.name, found.mode), (name(target)?, 0o644));
-    assert_eq!(rt; found.bytes.as_slice(), bytes);
+    assert_same(rt, (found.name, found.mode), (name(target)?, 0o644));
+    assert_same(rt, found.bytes.as_slice(), bytes);
     Ok(())
 }

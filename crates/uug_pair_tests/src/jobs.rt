@@ -6,7 +6,7 @@ use std::process::Abort;
 use std::test::Fail;
 use uug_line::Side;
 use uug_pair::{JobsFault, add_failed, add_state, read_jobs, write_jobs};
-use uug_refusal::Refusing;
+use uug_refusal::{Refusing, assert_same, assert_same_at, assert_so, assert_so_at};
 use uug_session::{Job, Phase, Queue};
 use uug_talk::Name;
 
@@ -72,9 +72,9 @@ fn two_jobs() -> Option<[Job; 2]> {
 fn reads_jobs(rt: HostRuntime) -> Result<(), Fail> {
     let jobs = two_jobs().ok_or("names")?;
     let queue = read_jobs(rt.alloc(), TWO_JOBS)?;
-    assert_eq!(rt; queue.pending(), jobs.as_slice());
-    assert_eq!(rt; queue.struck().len(), 0);
-    assert_eq!(rt; queue.failed().len(), 0);
+    assert_same(&rt, queue.pending(), jobs.as_slice());
+    assert_same(&rt, queue.struck().len(), 0);
+    assert_same(&rt, queue.failed().len(), 0);
     Ok(())
 }
 
@@ -87,9 +87,9 @@ fn read_and_write(alloc: Global, text: &str) -> Result<String, JobsFault> {
 /// Reads a text that has these jobs, or this bad line.
 fn assert_reads(rt: &impl Abort, alloc: Global, text: &str, jobs: Result<&str, usize>) {
     match (read_and_write(alloc, text), jobs) {
-        (Ok(written), Ok(expected)) => assert_eq!(rt; written.as_str(), expected, "{text}"),
-        (Err(fault), Err(line)) => assert_eq!(rt; fault, JobsFault::Bad(line), "{text}"),
-        _ => assert!(rt; false, "{text}"),
+        (Ok(written), Ok(expected)) => assert_same_at(rt, written.as_str(), expected, text),
+        (Err(fault), Err(line)) => assert_same_at(rt, fault, JobsFault::Bad(line), text),
+        _ => assert_so_at(rt, false, text),
     }
 }
 
@@ -125,7 +125,7 @@ fn keeps_to_the_limits(rt: HostRuntime) -> Result<(), Fail> {
     for (front, part, times, back, jobs) in LONG_TEXTS {
         let text = long_text(rt.alloc(), (front, part, times, back))?;
         let found = count_jobs(rt.alloc(), text.as_str());
-        assert_eq!(rt; found, jobs.map_err(JobsFault::Bad), "{front}{part}{back}");
+        assert_same_at(&rt, found, jobs.map_err(JobsFault::Bad), times);
     }
     Ok(())
 }
@@ -167,10 +167,10 @@ fn refuse(
     heap.refuse(nth);
     let is_done = make(call, heap, queue, &mut text);
     let was_refused = heap.was_refused();
-    assert_eq!(rt; is_done, !was_refused, "request {nth}");
+    assert_same_at(rt, is_done, !was_refused, nth);
     if was_refused {
-        assert_eq!(rt; text.as_str(), "in front");
-        assert!(rt; make(call, heap, queue, &mut text));
+        assert_same(rt, text.as_str(), "in front");
+        assert_so(rt, make(call, heap, queue, &mut text));
     }
     Ok(was_refused)
 }
@@ -207,7 +207,7 @@ fn refuse_calls(
 ) -> Result<(), AllocError> {
     for (call, least) in CALLS {
         let count = requests(rt, heap, call, queue)?;
-        assert!(rt; count >= least && count < ENOUGH, "{count} requests");
+        assert_so_at(rt, count >= least && count < ENOUGH, count);
     }
     Ok(())
 }
@@ -240,9 +240,10 @@ fn caller_text(alloc: Global) -> Result<String<Global>, Fail> {
 #[test]
 fn tells_how_an_end_stands(rt: HostRuntime) -> Result<(), Fail> {
     let text = caller_text(rt.alloc())?;
-    assert_eq!(rt;
+    assert_same(
+        &rt,
         text.as_str(),
-        "in front\ncaller hail pending 2 struck 0 failed 0\n"
+        "in front\ncaller hail pending 2 struck 0 failed 0\n",
     );
     Ok(())
 }

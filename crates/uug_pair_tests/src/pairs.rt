@@ -11,7 +11,7 @@ use std::process::Abort;
 use std::test::Fail;
 use uug_line::Side;
 use uug_pair::{Folder, Line, Noise, TextFile, pair_over};
-use uug_refusal::Refusing;
+use uug_refusal::{Refusing, assert_same, assert_same_at, assert_so, assert_so_at};
 use uug_tool::{Output, ToolFault};
 
 /// More turns than two ends take in any of these tests.
@@ -90,7 +90,7 @@ fn is_not_lost(ends: &Ends<'_>, printed: &[u8], number: usize, task: &Task<'_>) 
 
 fn assert_not_lost(rt: &impl Abort, ends: &Ends<'_>, printed: &[u8]) {
     for (number, task) in TASKS.iter().enumerate() {
-        assert!(rt; is_not_lost(ends, printed, number, task), "{}", task.line);
+        assert_so_at(rt, is_not_lost(ends, printed, number, task), task.line);
     }
 }
 
@@ -118,14 +118,14 @@ fn left_jobs<'a>(given: &'a str, plan: Plan, call: Call) -> &'a [u8] {
 fn assert_done(rt: &impl Abort, ends: &Ends<'_>, plan: Plan) {
     let caller = left_jobs(CALLER.jobs, plan, Call::JobsOfCaller);
     let called = left_jobs(CALLED.jobs, plan, Call::JobsOfCalled);
-    assert_eq!(rt; jobs(ends, Side::Caller), caller);
-    assert_eq!(rt; jobs(ends, Side::Called), called);
+    assert_same(rt, jobs(ends, Side::Caller), caller);
+    assert_same(rt, jobs(ends, Side::Called), called);
 }
 
 /// All jobs are as before.
 fn assert_as_before(rt: &impl Abort, ends: &Ends<'_>) {
-    assert_eq!(rt; jobs(ends, Side::Caller), CALLER.jobs.as_bytes());
-    assert_eq!(rt; jobs(ends, Side::Called), CALLED.jobs.as_bytes());
+    assert_same(rt, jobs(ends, Side::Caller), CALLER.jobs.as_bytes());
+    assert_same(rt, jobs(ends, Side::Called), CALLED.jobs.as_bytes());
 }
 
 /// Whether the sessions come to their end whatever call of this kind fails.
@@ -145,7 +145,7 @@ fn assert_left(rt: &impl Abort, ends: &Ends<'_>, plan: Plan, output: &ShortOutpu
         return;
     }
     if is_done(plan.call) {
-        assert_eq!(rt; output.text(), REPORT.as_bytes());
+        assert_same(rt, output.text(), REPORT.as_bytes());
     }
     assert_not_lost(rt, ends, output.text());
 }
@@ -162,7 +162,7 @@ fn fail(
     let mut output = ShortOutput::new(plan.number_of(Call::Print));
     let outcome = run(heap, &mut ends, (plan, ENOUGH), &mut noise, &mut output);
     let expected = if outcome.has_failed { expected } else { Ok(0) };
-    assert_eq!(rt; outcome.answer, expected, "at {}", plan.number);
+    assert_same_at(rt, outcome.answer, expected, plan.number);
     assert_left(rt, &ends, plan, &output);
     Some(outcome.has_failed)
 }
@@ -189,7 +189,7 @@ fn loses_no_job_by_a_fault(rt: HostRuntime) -> Result<(), Fail> {
     let heap = Refusing::new(rt.alloc(), 0);
     for (call, least, answer) in FAULTS {
         let count = fail_each(&rt, &heap, call, answer).ok_or("two ends that come to an end")?;
-        assert!(rt; count >= least, "{count} calls");
+        assert_so_at(&rt, count >= least, count);
     }
     Ok(())
 }
@@ -203,11 +203,11 @@ fn assert_refused(
     printed: &[u8],
 ) {
     if was_refused {
-        assert_eq!(rt; outcome.answer, Err(ToolFault::Memory));
+        assert_same(rt, outcome.answer, Err(ToolFault::Memory));
         assert_as_before(rt, ends);
-        assert!(rt; printed.is_empty());
+        assert_so(rt, printed.is_empty());
     } else {
-        assert_eq!(rt; outcome.answer, Ok(0));
+        assert_same(rt, outcome.answer, Ok(0));
         assert_done(rt, ends, NO_FAULT);
     }
 }
@@ -238,7 +238,7 @@ fn refuse_each(rt: &impl Abort, heap: Heap<'_>) -> Option<u64> {
 fn leaves_all_jobs_when_out_of_memory(rt: HostRuntime) -> Result<(), Fail> {
     let heap = Refusing::new(rt.alloc(), 0);
     let requests = refuse_each(&rt, &heap).ok_or("two ends that come to an end")?;
-    assert!(rt; requests > 30, "{requests} requests");
+    assert_so_at(&rt, requests > 30, requests);
     Ok(())
 }
 
@@ -248,11 +248,12 @@ fn break_off(rt: &impl Abort, heap: Heap<'_>, limit: u32) -> Option<()> {
     let mut ends = Ends::new(heap, NO_FAULT, &mut noise)?;
     let mut output = ShortOutput::new(0);
     let outcome = run(heap, &mut ends, (NO_FAULT, limit), &mut noise, &mut output);
-    assert_eq!(rt; outcome.answer, Ok(1));
+    assert_same(rt, outcome.answer, Ok(1));
     assert_as_before(rt, &ends);
-    assert_eq!(rt;
+    assert_same(
+        rt,
         output.text(),
-        b"caller hungup pending 4 struck 0 failed 0\ncalled hungup pending 2 struck 0 failed 0\n".as_slice()
+        b"caller hungup pending 4 struck 0 failed 0\ncalled hungup pending 2 struck 0 failed 0\n".as_slice(),
     );
     Some(())
 }

@@ -11,7 +11,7 @@ use std::rt::Runtime;
 use std::test::Fail;
 use std::{env, fs, io, process};
 use uug_pair::pair_run;
-use uug_refusal::Refusing;
+use uug_refusal::{Refusing, assert_same, assert_same_at, assert_so, assert_so_at};
 use uug_tool::ToolFault;
 
 /// What there is before a run, beside the folder `a/send`. `a` and `b` are the folders of the two ends.
@@ -456,15 +456,15 @@ impl Row<'_> {
         let mut output = ShortOutput::new(0);
         let every = (self.drop_every, self.flip_every);
         let answer = run_ends(rt.alloc(), rt, dir, every, &mut output)?;
-        assert_eq!(rt; answer, self.answer, "{}", self.printed);
-        assert_eq!(rt; output.text(), self.printed.as_bytes());
+        assert_same_at(rt, answer, self.answer, self.printed);
+        assert_same(rt, output.text(), self.printed.as_bytes());
         Ok(())
     }
 
     /// All files are there that are to be left.
     fn assert_left(&self, rt: &(impl Runtime + Abort + AllocGlobal), dir: &str) -> io::Result<()> {
         for (name, bytes) in self.left {
-            assert!(rt; has_file(rt, dir, name, bytes)?, "{name}");
+            assert_so_at(rt, has_file(rt, dir, name, bytes)?, name);
         }
         Ok(())
     }
@@ -475,7 +475,7 @@ impl Row<'_> {
         let had_socket = has_socket(rt, dir)?;
         self.run(rt, dir)?;
         self.assert_left(rt, dir)?;
-        assert_eq!(rt; has_socket(rt, dir)?, had_socket);
+        assert_same(rt, has_socket(rt, dir)?, had_socket);
         fs::remove_dir_all(rt, dir)
     }
 }
@@ -504,10 +504,10 @@ fn assert_refused(
     printed: &[u8],
 ) {
     if was_refused {
-        assert_eq!(rt; answer, Err(ToolFault::Memory));
-        assert!(rt; printed.is_empty());
+        assert_same(rt, answer, Err(ToolFault::Memory));
+        assert_so(rt, printed.is_empty());
     } else {
-        assert_eq!(rt; answer, Ok(0));
+        assert_same(rt, answer, Ok(0));
     }
 }
 
@@ -535,11 +535,8 @@ fn refuse_each(
         if !refuse(rt, heap, dir, nth)? {
             return Ok(nth - 1);
         }
-        assert!(rt; !has_socket(rt, dir)?, "of request {nth}");
-        assert!(rt;
-            has_file(rt, dir, "a/jobs", b"send x y u\n")?,
-            "of request {nth}"
-        );
+        assert_so_at(rt, !has_socket(rt, dir)?, nth);
+        assert_so_at(rt, has_file(rt, dir, "a/jobs", b"send x y u\n")?, nth);
     }
     Ok(0)
 }
@@ -548,7 +545,7 @@ fn refuse_in_folder(rt: &(impl Runtime + Net + Abort + AllocGlobal), dir: &str) 
     place_all(rt, dir, &[SEND, X, Given::Folder("b/got")])?;
     let heap = Refusing::new(rt.alloc(), 0);
     let requests = refuse_each(rt, &heap, dir)?;
-    assert!(rt; requests > 30, "{requests} requests");
+    assert_so_at(rt, requests > 30, requests);
     fs::remove_dir_all(rt, dir)
 }
 

@@ -3,6 +3,7 @@
 
 use std::process::Abort;
 use std::test::Fail;
+use uug_refusal::{assert_same, assert_so};
 use uug_remark::play_remarked;
 use uug_tool::{MemoryInput, MemoryOutput, ToolFault};
 
@@ -64,9 +65,9 @@ fn check_remark(
     let mut output = MemoryOutput::new(rt.alloc());
     let mut remark = String::new(rt.alloc());
     let answer = play_remarked(rt.alloc(), &mut input, &mut output, &mut remark);
-    assert_eq!(rt; answer, Err(ToolFault::Script(number)));
-    assert_eq!(rt; remark.as_str(), expected);
-    assert_eq!(rt; output.bytes().len(), 0);
+    assert_same(rt, answer, Err(ToolFault::Script(number)));
+    assert_same(rt, remark.as_str(), expected);
+    assert_same(rt, output.bytes().len(), 0);
     Ok(())
 }
 
@@ -92,8 +93,8 @@ fn says_nothing_of_a_good_script(rt: HostRuntime) -> Result<(), Fail> {
     let mut output = MemoryOutput::new(rt.alloc());
     let mut remark = String::new(rt.alloc());
     let answer = play_remarked(rt.alloc(), &mut input, &mut output, &mut remark);
-    assert_eq!(rt; answer, Ok(0));
-    assert_eq!(rt; remark.as_str(), "");
-    assert!(rt; !output.bytes().is_empty());
+    assert_same(&rt, answer, Ok(0));
+    assert_same(&rt, remark.as_str(), "");
+    assert_so(&rt, !output.bytes().is_empty());
     Ok(())
 }

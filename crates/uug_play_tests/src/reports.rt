@@ -3,7 +3,7 @@
 use std::alloc::{Allocator, Global};
 use std::test::Fail;
 use uug_line::{LineVerdict, Side};
-use uug_refusal::Refusing;
+use uug_refusal::{Refusing, assert_same, assert_so};
 use uug_script::{EndNumbers, SessionNumbers, ShownEnd, ShownReport, add_report};
 use uug_session::{End, MemorySpool, Phase, Spool, Stored};
 use uug_talk::Name;
@@ -70,7 +70,8 @@ fn writes_a_clean_report(rt: HostRuntime) -> Result<(), Fail> {
     let report = report_of(&[DONE], &spool, LineVerdict::Clean);
     let mut text = String::new(rt.alloc());
     add_report(rt.alloc(), &mut text, &report)?;
-    assert_eq!(rt;
+    assert_same(
+        &rt,
         text.as_str(),
         "session 1
 caller sent 4 taken 3 most 1 done
@@ -79,7 +80,7 @@ caller pending 0 struck 1 failed 0
 called pending 0 struck 0 failed 0
 called stored y 0644 -
 verdict clean
-"
+",
     );
     Ok(())
 }
@@ -96,7 +97,8 @@ fn writes_a_fooled_report(rt: HostRuntime) -> Result<(), Fail> {
     let report = report_of(&[BROKEN, DONE], &spool, verdict);
     let mut text = String::new(rt.alloc());
     add_report(rt.alloc(), &mut text, &report)?;
-    assert_eq!(rt;
+    assert_same(
+        &rt,
         text.as_str(),
         "session 1
 caller sent 2 taken 1 most 12 hungup
@@ -109,7 +111,7 @@ called pending 0 struck 0 failed 0
 called stored long.name 0007 00ab
 called stored y 7777 78
 verdict fooled 14 called
-"
+",
     );
     Ok(())
 }
@@ -120,5 +122,5 @@ fn writes_no_report_without_memory(rt: HostRuntime) {
     let report = report_of(&[], &spool, LineVerdict::Clean);
     let heap = Refusing::new(rt.alloc(), 1);
     let mut text = String::new(&heap);
-    assert!(rt; add_report(&heap, &mut text, &report).is_err());
+    assert_so(&rt, add_report(&heap, &mut text, &report).is_err());
 }

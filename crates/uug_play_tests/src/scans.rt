@@ -6,7 +6,7 @@ use std::alloc::Global;
 use std::fmt::Display;
 use std::process::Abort;
 use std::test::Fail;
-use uug_refusal::Refusing;
+use uug_refusal::{Refusing, assert_same, assert_same_at, assert_so_at};
 use uug_tool::{
     Input, MemoryInput, MemoryOutput, Output, ReadFailed, ToolFault, WriteFailed, scan_stream,
     scan_within,
@@ -103,9 +103,9 @@ fn lists_streams(rt: HostRuntime) -> Result<(), Fail> {
         let mut input = MemoryInput::new(&bytes);
         let mut output = MemoryOutput::new(rt.alloc());
         scan_stream(rt.alloc(), &mut input, &mut output)?;
-        assert_eq!(rt; output.bytes(), listing.as_bytes());
-        assert_eq!(rt; input.bytes().len(), 0);
-        assert_eq!(rt; (input.faults(), output.faults()), (0, 0));
+        assert_same(&rt, output.bytes(), listing.as_bytes());
+        assert_same(&rt, input.bytes().len(), 0);
+        assert_same(&rt, (input.faults(), output.faults()), (0, 0));
     }
     Ok(())
 }
@@ -183,9 +183,9 @@ fn lists_each_read_before_the_next(rt: HostRuntime) {
         let mut input = link_in_reads(reads);
         let mut output = MemoryOutput::new(rt.alloc());
         let result = scan_within(rt.alloc(), &mut input, &mut output, limit);
-        assert_eq!(rt; result, Err(fault));
-        assert_eq!(rt; input.reads, left, "reads within {limit}");
-        assert_eq!(rt; output.bytes(), listing.as_bytes());
+        assert_same(&rt, result, Err(fault));
+        assert_same_at(&rt, input.reads, left, limit);
+        assert_same(&rt, output.bytes(), listing.as_bytes());
     }
 }
 
@@ -196,11 +196,11 @@ fn reads_of_a_scan(rt: &(impl Abort + AllocGlobal)) -> Result<u32, Fail> {
         let mut output = MemoryOutput::new(rt.alloc());
         let result = scan_stream(rt.alloc(), &mut input, &mut output);
         if input.faults() == 0 {
-            assert_eq!(rt; result, Ok(()));
+            assert_same(rt, result, Ok(()));
             return Ok(reads);
         }
-        assert_eq!(rt; result, Err(ToolFault::Read), "after {reads} reads");
-        assert_eq!(rt; input.faults(), 1, "read on");
+        assert_same_at(rt, result, Err(ToolFault::Read), reads);
+        assert_same_at(rt, input.faults(), 1, "read on");
     }
     Err("a scan that is never done".into())
 }
@@ -221,11 +221,11 @@ fn writes_of_a_scan(
         };
         let result = scan_stream(rt.alloc(), &mut input, &mut output);
         if output.faults() == 0 {
-            assert_eq!(rt; result, Ok(()));
+            assert_same(rt, result, Ok(()));
             return Ok(writes);
         }
-        assert_eq!(rt; result, Err(fault), "after {writes} writes");
-        assert_eq!(rt; input.reads, 99 - writes, "went on");
+        assert_same_at(rt, result, Err(fault), writes);
+        assert_same_at(rt, input.reads, 99 - writes, "went on");
     }
     Err("a scan that is never done".into())
 }
@@ -233,14 +233,16 @@ fn writes_of_a_scan(
 // Seven packets, one a read, whose lines go out before the next; then the read that finds the end, and the last line.
 #[test]
 fn stops_at_each_fault(rt: HostRuntime) -> Result<(), Fail> {
-    assert_eq!(rt; reads_of_a_scan(&rt)?, 8);
-    assert_eq!(rt;
+    assert_same(&rt, reads_of_a_scan(&rt)?, 8);
+    assert_same(
+        &rt,
         writes_of_a_scan(&rt, WriteFailed::Device, ToolFault::Write)?,
-        8
+        8,
     );
-    assert_eq!(rt;
+    assert_same(
+        &rt,
         writes_of_a_scan(&rt, WriteFailed::Memory, ToolFault::Memory)?,
-        8
+        8,
     );
     Ok(())
 }
@@ -249,12 +251,12 @@ fn stops_at_each_fault(rt: HostRuntime) -> Result<(), Fail> {
 fn makes_a_refused_write_good(rt: HostRuntime) {
     let heap = Refusing::new(rt.alloc(), 0);
     let mut output = MemoryOutput::new(&heap);
-    assert_eq!(rt; output.write(b"REST"), Ok(4));
+    assert_same(&rt, output.write(b"REST"), Ok(4));
     heap.refuse(1);
-    assert_eq!(rt; output.write(&[0x20; 300]), Err(WriteFailed::Memory));
-    assert_eq!(rt; output.bytes(), b"REST".as_slice());
-    assert_eq!(rt; output.write(&[0x20; 300]), Ok(300));
-    assert_eq!(rt; output.bytes().len(), 304);
+    assert_same(&rt, output.write(&[0x20; 300]), Err(WriteFailed::Memory));
+    assert_same(&rt, output.bytes(), b"REST".as_slice());
+    assert_same(&rt, output.write(&[0x20; 300]), Ok(300));
+    assert_same(&rt, output.bytes().len(), 304);
 }
 
 /// Refuses each request of a scan in turn: the reader's, the lines' and the output's. How many requests it makes.
@@ -264,11 +266,11 @@ fn requests_of_a_scan(rt: &impl Abort, alloc: Global) -> Result<u64, Fail> {
         let mut output = MemoryOutput::new(&heap);
         let result = scan_stream(&heap, &mut MemoryInput::new(&LINK), &mut output);
         if !heap.was_refused() {
-            assert_eq!(rt; result, Ok(()));
+            assert_same(rt, result, Ok(()));
             return Ok(nth - 1);
         }
-        assert_eq!(rt; result, Err(ToolFault::Memory));
-        assert_eq!(rt; heap.requests(), nth, "went on after {nth}");
+        assert_same(rt, result, Err(ToolFault::Memory));
+        assert_same_at(rt, heap.requests(), nth, nth);
     }
     Err("a scan that is never done".into())
 }
@@ -276,7 +278,7 @@ fn requests_of_a_scan(rt: &impl Abort, alloc: Global) -> Result<u64, Fail> {
 #[test]
 fn passes_on_want_of_memory(rt: HostRuntime) -> Result<(), Fail> {
     let requests = requests_of_a_scan(&rt, rt.alloc())?;
-    assert!(rt; requests >= 3, "a reader, lines and an output");
+    assert_so_at(&rt, requests >= 3, "a reader, lines and an output");
     Ok(())
 }
 
@@ -287,7 +289,7 @@ fn reads_as(
     expected: &str,
 ) -> Result<(), Fail> {
     let text = shown.to_string(rt.alloc())?;
-    assert_eq!(rt; text.as_str(), expected);
+    assert_same(rt, text.as_str(), expected);
     Ok(())
 }
 
@@ -311,7 +313,7 @@ fn says_why_a_tool_gave_up(rt: HostRuntime) -> Result<(), Fail> {
         (ToolFault::Device, 3, "device fault"),
         (ToolFault::Usage, 2, "bad usage"),
     ] {
-        assert_eq!(rt; fault.status(), status);
+        assert_same(&rt, fault.status(), status);
         reads_as(&rt, &fault, text)?;
     }
     Ok(())

@@ -5,7 +5,7 @@ use std::alloc::Global;
 use std::process::Abort;
 use std::test::Fail;
 use uug_line::{Event, Side};
-use uug_refusal::Refusing;
+use uug_refusal::{Refusing, assert_same, assert_so, assert_so_at};
 use uug_script::{ScriptFault, read_script};
 use uug_session::{Job, Spool, Verdict};
 use uug_talk::Name;
@@ -96,36 +96,43 @@ const GOOD_LINES: [(&[u8], usize); 18] = [
 fn reads_a_script(rt: HostRuntime) -> Result<(), Fail> {
     let script = read_script(rt.alloc(), SENT)?;
     let (caller, called) = (&script.setup.caller, &script.setup.called);
-    assert_eq!(rt;
+    assert_same(
+        &rt,
         (caller.name, called.name),
-        (Name::new(b"a")?, Name::new(b"b")?)
+        (Name::new(b"a")?, Name::new(b"b")?),
     );
-    assert_eq!(rt; (caller.announce.window(), called.announce.size()), (2, 32));
+    assert_same(
+        &rt,
+        (caller.announce.window(), called.announce.size()),
+        (2, 32),
+    );
     let job = Job::Send {
         source: Name::new(b"x")?,
         target: Name::new(b"y")?,
         user: Name::new(b"u")?,
         temp: None,
     };
-    assert_eq!(rt; caller.queue.pending(), [job].as_slice());
-    assert_eq!(rt; called.queue.pending().len(), 0);
+    assert_same(&rt, caller.queue.pending(), [job].as_slice());
+    assert_same(&rt, called.queue.pending().len(), 0);
     let file = caller.spool.fetch(&Name::new(b"x")?).ok_or("a file")?;
-    assert_eq!(rt; (file.mode, file.bytes.len()), (0o644, 0));
-    assert_eq!(rt; script.events.len(), 40);
+    assert_same(&rt, (file.mode, file.bytes.len()), (0o644, 0));
+    assert_same(&rt, script.events.len(), 40);
     let n = 1_000_000_000;
-    assert_eq!(rt;
+    assert_same(
+        &rt,
         script.events[0],
         Event::Pass {
             side: Side::Called,
-            n
-        }
+            n,
+        },
     );
-    assert_eq!(rt;
+    assert_same(
+        &rt,
         script.events[39],
         Event::Pass {
             side: Side::Caller,
-            n
-        }
+            n,
+        },
     );
     Ok(())
 }
@@ -136,11 +143,11 @@ fn reads_verdicts_and_numbers_anywhere(rt: HostRuntime) -> Result<(), Fail> {
         b"deny called y\nlater caller z\ncalled b 7 4096\nimmovable called w\ncaller a 1 64\nnumber called 7";
     let script = read_script(rt.alloc(), text)?;
     let (y, z) = (Name::new(b"y")?, Name::new(b"z")?);
-    assert_eq!(rt; script.setup.called.spool.may_keep(&y), Verdict::Never);
-    assert_eq!(rt; script.setup.caller.spool.may_keep(&z), Verdict::Later);
-    assert_eq!(rt; script.setup.caller.spool.may_keep(&y), Verdict::Yes);
-    assert_eq!(rt; script.setup.called.number, Some(7));
-    assert_eq!(rt; script.setup.caller.number, None);
+    assert_same(&rt, script.setup.called.spool.may_keep(&y), Verdict::Never);
+    assert_same(&rt, script.setup.caller.spool.may_keep(&z), Verdict::Later);
+    assert_same(&rt, script.setup.caller.spool.may_keep(&y), Verdict::Yes);
+    assert_same(&rt, script.setup.called.number, Some(7));
+    assert_same(&rt, script.setup.caller.number, None);
     Ok(())
 }
 
@@ -160,7 +167,7 @@ fn answers_the_line_behind_the_last(rt: HostRuntime) {
     ];
     for (text, line) in texts {
         let fault = read_script(rt.alloc(), text).err();
-        assert_eq!(rt; fault, Some(ScriptFault::Bad(line)), "in {text:?}");
+        assert_eq!(rt; fault, Some(ScriptFault::Bad(line)), "{text:?}");
     }
 }
 
@@ -171,7 +178,7 @@ fn answers_the_first_bad_line(rt: HostRuntime) -> Result<(), Fail> {
         text.extend_from_slice(line)?;
         text.extend_from_slice(b"\nflip caller 1\n")?;
         let fault = read_script(rt.alloc(), text.as_slice()).err();
-        assert_eq!(rt; fault, Some(ScriptFault::Bad(3)), "in {line:?}");
+        assert_eq!(rt; fault, Some(ScriptFault::Bad(3)), "{line:?}");
     }
     Ok(())
 }
@@ -182,7 +189,7 @@ fn takes_good_lines(rt: HostRuntime) -> Result<(), Fail> {
         let mut text = ENDS.to_vec(rt.alloc())?;
         text.extend_from_slice(line)?;
         let script = read_script(rt.alloc(), text.as_slice())?;
-        assert_eq!(rt; script.events.len(), events, "in {line:?}");
+        assert_eq!(rt; script.events.len(), events, "{line:?}");
     }
     Ok(())
 }
@@ -194,10 +201,10 @@ fn takes_lines_up_to_the_limit(rt: HostRuntime) -> Result<(), Fail> {
     for _ in 1..65_536 {
         text.push(b' ')?;
     }
-    assert!(rt; read_script(rt.alloc(), text.as_slice()).is_ok());
+    assert_so(&rt, read_script(rt.alloc(), text.as_slice()).is_ok());
     text.push(b' ')?;
     let fault = read_script(rt.alloc(), text.as_slice()).err();
-    assert_eq!(rt; fault, Some(ScriptFault::Bad(3)));
+    assert_same(&rt, fault, Some(ScriptFault::Bad(3)));
     Ok(())
 }
 
@@ -208,10 +215,10 @@ fn takes_jobs_up_to_the_limit(rt: HostRuntime) -> Result<(), Fail> {
         text.extend_from_slice(b"send caller x y u\n")?;
     }
     text.extend_from_slice(b"send called x y u\n")?;
-    assert!(rt; read_script(rt.alloc(), text.as_slice()).is_ok());
+    assert_so(&rt, read_script(rt.alloc(), text.as_slice()).is_ok());
     text.extend_from_slice(b"request caller x y u\n")?;
     let fault = read_script(rt.alloc(), text.as_slice()).err();
-    assert_eq!(rt; fault, Some(ScriptFault::Bad(1028)));
+    assert_same(&rt, fault, Some(ScriptFault::Bad(1028)));
     Ok(())
 }
 
@@ -226,10 +233,10 @@ fn requests_of_a_reader(rt: &impl Abort, alloc: Global) -> Result<u64, Fail> {
         let heap = Refusing::new(alloc, nth);
         let fault = read_script(&heap, EACH_KIND).err();
         if !heap.was_refused() {
-            assert_eq!(rt; fault, None);
+            assert_same(rt, fault, None);
             return Ok(nth - 1);
         }
-        assert_eq!(rt; fault, Some(ScriptFault::Memory));
+        assert_same(rt, fault, Some(ScriptFault::Memory));
     }
     Err("a reader that is never done".into())
 }
@@ -237,6 +244,10 @@ fn requests_of_a_reader(rt: &impl Abort, alloc: Global) -> Result<u64, Fail> {
 #[test]
 fn passes_on_want_of_memory(rt: HostRuntime) -> Result<(), Fail> {
     let requests = requests_of_a_reader(&rt, rt.alloc())?;
-    assert!(rt; requests >= 8, "a file, a job, three verdicts and events");
+    assert_so_at(
+        &rt,
+        requests >= 8,
+        "a file, a job, three verdicts and events",
+    );
     Ok(())
 }

@@ -8,6 +8,7 @@ use super::{MemoryNode, NO_WORK, Side, make, place, stock};
 use std::alloc::Global;
 use std::process::Abort;
 use std::test::Fail;
+use uug_refusal::assert_same;
 use uug_session::{End, Phase};
 
 /// An end, the number that it keeps, what it hears and says, how far it is then, and its number.
@@ -127,8 +128,8 @@ fn converse(rt: &impl Abort, alloc: Global, conversation: &Conversation<'_>) -> 
     let (side, number, rows, phase, then) = *conversation;
     let mut node = keeping(alloc, side, number)?;
     follow(rt, alloc, &mut node, rows)?;
-    assert_eq!(rt; node.phase(), phase);
-    assert_eq!(rt; node.number(), then);
+    assert_same(rt, node.phase(), phase);
+    assert_same(rt, node.number(), then);
     Ok(())
 }
 
@@ -146,10 +147,10 @@ fn keeps_its_number(rt: HostRuntime) -> Result<(), Fail> {
 fn says_the_number_that_it_was_given(rt: HostRuntime) -> Result<(), Fail> {
     let alloc = rt.alloc();
     let mut node = keeping(alloc, Side::Caller, None)?;
-    assert_eq!(rt; node.number(), None);
+    assert_same(&rt, node.number(), None);
     node.hang_up();
     node.set_number(7);
-    assert_eq!(rt; node.number(), Some(7));
+    assert_same(&rt, node.number(), Some(7));
     node.call_again()?;
     follow(&rt, alloc, &mut node, &[CALLER_SAYS_7])
 }

@@ -7,6 +7,7 @@ use std::alloc::{Allocator, Global};
 use std::process::Abort;
 use std::test::Fail;
 use uug_packet::{Control, FIELD_CODE_MAX, Packet, Seq, encode, field_size};
+use uug_refusal::assert_same;
 use uug_session::{Node, Phase, Spool};
 
 /// What goes over the line.
@@ -183,7 +184,7 @@ pub(super) fn assert_says<S: Spool, A: Allocator + Copy>(
     wires: &[Wire<'_>],
 ) -> Result<(), Fail> {
     let line = spelled(log, wires)?;
-    assert_eq!(rt; node.outbox().bytes(), line.as_slice());
+    assert_same(rt, node.outbox().bytes(), line.as_slice());
     Ok(())
 }
 
@@ -200,7 +201,7 @@ pub(super) fn follow(
             Act::Hear(wires) => line.bring(&spelled(log, wires)?, node)?,
             Act::Timeout(counted) => {
                 line.time_out(node)?;
-                assert_eq!(rt; node.timeouts(), *counted);
+                assert_same(rt, node.timeouts(), *counted);
             }
             Act::CallAgain => line.call_again(node)?,
         }
@@ -224,7 +225,7 @@ impl Script<'_> {
     ) -> Result<(), Fail> {
         follow(rt, log, node, self.start.rows)?;
         follow(rt, log, node, self.rows)?;
-        assert_eq!(rt; node.phase(), self.phase);
+        assert_same(rt, node.phase(), self.phase);
         assert_lists(rt, node.queue(), node.spool().stored(), self.left)
     }
 }

@@ -8,7 +8,7 @@ use super::{
 use std::alloc::{Allocator, Global};
 use std::process::Abort;
 use std::test::Fail;
-use uug_refusal::Refusing;
+use uug_refusal::{Refusing, assert_same, assert_so};
 use uug_session::{End, NotMade};
 
 type HeapNode<'a> = MemoryNode<&'a Refusing<Global>>;
@@ -223,7 +223,7 @@ fn follow_in_pieces(rt: &impl Abort, alloc: Global, session: &Session<'_>) -> Re
     for size in [1, 7, usize::MAX] {
         let mut line = Line::new(alloc, Hand::Pieces(size));
         follow(rt, &heap, session, &mut line, 0)?;
-        assert_eq!(rt; line.said.as_slice(), whole.said.as_slice());
+        assert_same(rt, line.said.as_slice(), whole.said.as_slice());
     }
     Ok(())
 }
@@ -250,7 +250,7 @@ fn refuse_each(
     for nth in 1..1000 {
         line.said.clear();
         let is_refused = follow(rt, &heap, session, line, nth)?;
-        assert_eq!(rt; line.said.as_slice(), whole.said.as_slice());
+        assert_same(rt, line.said.as_slice(), whole.said.as_slice());
         if !is_refused {
             return Ok(());
         }
@@ -263,9 +263,9 @@ fn refuse_each_of_all(rt: &impl Abort, alloc: Global, hand: Hand) -> Result<(), 
     for session in SESSIONS {
         refuse_each(rt, alloc, session, &mut line)?;
     }
-    assert!(rt; line.refused.items > 0);
-    assert!(rt; line.refused.timeouts > 0);
-    assert!(rt; line.refused.calls > 0);
+    assert_so(rt, line.refused.items > 0);
+    assert_so(rt, line.refused.timeouts > 0);
+    assert_so(rt, line.refused.calls > 0);
     Ok(())
 }
 

@@ -6,6 +6,7 @@ use std::alloc::Global;
 use std::process::Abort;
 use std::test::Fail;
 use uug_play::{play_stream, play_within, read_whole};
+use uug_refusal::{assert_same, assert_same_at};
 use uug_tool::{Input, MemoryInput, MemoryOutput, Output, ToolFault, WriteFailed};
 
 /// An input of the script that fails after so many reads.
@@ -27,8 +28,8 @@ fn played_byte_by_byte(output: &mut MemoryOutput<Global>, alloc: Global) -> Resu
 fn plays_what_comes_byte_by_byte(rt: HostRuntime) {
     let mut output = MemoryOutput::new(rt.alloc());
     let result = played_byte_by_byte(&mut output, rt.alloc());
-    assert_eq!(rt; result, Ok(0));
-    assert_eq!(rt; output.bytes(), SENT_TWICE.as_bytes());
+    assert_same(&rt, result, Ok(0));
+    assert_same(&rt, output.bytes(), SENT_TWICE.as_bytes());
 }
 
 /// Lets each read fail in turn. How many reads it takes.
@@ -38,12 +39,12 @@ fn reads_of_a_player(rt: &(impl Abort + AllocGlobal)) -> Result<u32, Fail> {
         let mut input = script_in_reads(10, reads);
         let result = play_stream(rt.alloc(), &mut input, &mut output);
         if input.faults() == 0 {
-            assert_eq!(rt; result, Ok(0));
+            assert_same(rt, result, Ok(0));
             return Ok(reads);
         }
-        assert_eq!(rt; result, Err(ToolFault::Read));
-        assert_eq!(rt; input.faults(), 1, "read on");
-        assert_eq!(rt; output.bytes().len(), 0);
+        assert_same(rt, result, Err(ToolFault::Read));
+        assert_same_at(rt, input.faults(), 1, "read on");
+        assert_same(rt, output.bytes().len(), 0);
     }
     Err("a player that is never done".into())
 }
@@ -64,11 +65,11 @@ fn writes_of_a_player(
         };
         let result = play_stream(rt.alloc(), &mut input, &mut output);
         if output.faults() == 0 {
-            assert_eq!(rt; result, Ok(0));
+            assert_same(rt, result, Ok(0));
             return Ok(writes);
         }
-        assert_eq!(rt; result, Err(fault));
-        assert_eq!(rt; output.faults(), 1, "wrote on");
+        assert_same(rt, result, Err(fault));
+        assert_same_at(rt, output.faults(), 1, "wrote on");
     }
     Err("a player that is never done".into())
 }
@@ -76,16 +77,18 @@ fn writes_of_a_player(
 // The script has 118 bytes and the report 290, ten at a time; one read finds the end.
 #[test]
 fn says_which_stream_failed(rt: HostRuntime) -> Result<(), Fail> {
-    assert_eq!(rt; BROKEN_OFF.len(), 118);
-    assert_eq!(rt; SENT_TWICE.len(), 290);
-    assert_eq!(rt; reads_of_a_player(&rt)?, 13);
-    assert_eq!(rt;
+    assert_same(&rt, BROKEN_OFF.len(), 118);
+    assert_same(&rt, SENT_TWICE.len(), 290);
+    assert_same(&rt, reads_of_a_player(&rt)?, 13);
+    assert_same(
+        &rt,
         writes_of_a_player(&rt, WriteFailed::Device, ToolFault::Write)?,
-        29
+        29,
     );
-    assert_eq!(rt;
+    assert_same(
+        &rt,
         writes_of_a_player(&rt, WriteFailed::Memory, ToolFault::Memory)?,
-        29
+        29,
     );
     Ok(())
 }
@@ -96,12 +99,13 @@ fn stops_at_the_limit_of_reads(rt: HostRuntime) -> Result<(), Fail> {
     for (limit, result) in [(12, Err(ToolFault::Device)), (13, Ok(0))] {
         let mut output = MemoryOutput::new(rt.alloc());
         let mut input = script_in_reads(10, 100);
-        assert_eq!(rt;
+        assert_same(
+            &rt,
             play_within(rt.alloc(), &mut input, &mut output, limit),
-            result
+            result,
         );
     }
     let bytes = read_whole(rt.alloc(), &mut script_in_reads(10, 100), 13)?;
-    assert_eq!(rt; bytes.as_slice(), BROKEN_OFF.as_bytes());
+    assert_same(&rt, bytes.as_slice(), BROKEN_OFF.as_bytes());
     Ok(())
 }

@@ -4,6 +4,7 @@
 use std::alloc::Global;
 use std::test::Fail;
 use uug_line::{Report, run};
+use uug_refusal::assert_same_at;
 use uug_script::read_script;
 use uug_session::{End, MemorySpool, Node, Phase};
 
@@ -55,7 +56,7 @@ fn standings_after(alloc: Global, text: &str) -> Result<((Phase, usize), (Phase,
 fn lends_the_ends_as_they_stand(rt: HostRuntime) -> Result<(), Fail> {
     for (text, caller, called) in SCRIPTS {
         let standings = standings_after(rt.alloc(), text)?;
-        assert_eq!(rt; standings, (caller, called), "after {text}");
+        assert_same_at(&rt, standings, (caller, called), text);
     }
     Ok(())
 }

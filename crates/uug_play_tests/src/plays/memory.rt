@@ -6,7 +6,7 @@ use std::process::Abort;
 use std::test::Fail;
 use uug_line::{RunFault, run};
 use uug_play::play_stream;
-use uug_refusal::Refusing;
+use uug_refusal::{Refusing, assert_same, assert_same_at, assert_so_at};
 use uug_script::read_script;
 use uug_tool::{MemoryInput, MemoryOutput, ToolFault};
 
@@ -21,12 +21,12 @@ fn requests_of_a_player(rt: &impl Abort, alloc: Global) -> Result<u64, Fail> {
             &mut output,
         );
         if !heap.was_refused() {
-            assert_eq!(rt; result, Ok(0));
-            assert_eq!(rt; output.bytes(), SENT_NUMBERED.as_bytes());
+            assert_same(rt, result, Ok(0));
+            assert_same(rt, output.bytes(), SENT_NUMBERED.as_bytes());
             return Ok(nth - 1);
         }
-        assert_eq!(rt; result, Err(ToolFault::Memory), "of request {nth}");
-        assert_eq!(rt; output.bytes().len(), 0);
+        assert_same_at(rt, result, Err(ToolFault::Memory), nth);
+        assert_same(rt, output.bytes().len(), 0);
     }
     Err("a player that is never done".into())
 }
@@ -45,11 +45,11 @@ fn requests_of_a_run(rt: &impl Abort, alloc: Global) -> Result<u64, Fail> {
     for nth in 1..10_000 {
         let fault = refuse(&heap, nth)?;
         if !heap.was_refused() {
-            assert_eq!(rt; fault, None);
+            assert_same(rt, fault, None);
             return Ok(nth - 1);
         }
-        assert_eq!(rt; fault, Some(RunFault::Memory), "of request {nth}");
-        assert_eq!(rt; heap.requests(), nth, "went on after {nth}");
+        assert_same_at(rt, fault, Some(RunFault::Memory), nth);
+        assert_same_at(rt, heap.requests(), nth, nth);
     }
     Err("a run that is never done".into())
 }
@@ -57,16 +57,17 @@ fn requests_of_a_run(rt: &impl Abort, alloc: Global) -> Result<u64, Fail> {
 #[test]
 fn gives_up_when_out_of_memory(rt: HostRuntime) -> Result<(), Fail> {
     let requests = requests_of_a_run(&rt, rt.alloc())?;
-    assert!(rt; requests >= 15, "two ends and two sessions");
+    assert_so_at(&rt, requests >= 15, "two ends and two sessions");
     Ok(())
 }
 
 #[test]
 fn passes_on_want_of_memory(rt: HostRuntime) -> Result<(), Fail> {
     let requests = requests_of_a_player(&rt, rt.alloc())?;
-    assert!(rt;
+    assert_so_at(
+        &rt,
         requests >= 20,
-        "a script, two ends, two sessions and a text"
+        "a script, two ends, two sessions and a text",
     );
     Ok(())
 }

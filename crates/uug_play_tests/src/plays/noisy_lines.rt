@@ -5,6 +5,7 @@ use std::alloc::Global;
 use std::process::Abort;
 use std::test::Fail;
 use uug_line::{EndReport, Event, Report, Side, run, settle};
+use uug_refusal::assert_so_at;
 use uug_script::read_script;
 use uug_session::{FileView, Job, MemorySpool, Node, Spool, Stored};
 use uug_talk::Name;
@@ -176,7 +177,7 @@ fn keeps_promises(report: &Report<Global>, caller: u8, called: u8) -> bool {
 fn struck_in_list(rt: &(impl Abort + AllocGlobal), list: u32) -> Result<usize, Fail> {
     let (caller, called) = windows_of_list(list as usize);
     let report = report_of_list(rt.alloc(), list)?;
-    assert!(rt; keeps_promises(&report, caller, called), "in list {list}");
+    assert_so_at(rt, keeps_promises(&report, caller, called), list);
     Ok(report.caller().queue().struck().len())
 }
 
@@ -186,7 +187,7 @@ fn keeps_its_promises_on_noisy_lines(rt: HostRuntime) -> Result<(), Fail> {
     for list in 0..LISTS {
         struck = struck_in_list(&rt, list)?.saturating_add(struck);
     }
-    assert!(rt; struck >= LISTS as usize, "little was done: {struck} jobs");
+    assert_so_at(&rt, struck >= LISTS as usize, struck);
     Ok(())
 }
 
@@ -203,13 +204,11 @@ fn settles_list(rt: &(impl Abort + AllocGlobal), list: u32) -> Result<bool, Fail
         return Ok(false);
     }
     let settled = settle(rt.alloc(), report)?;
-    assert!(rt;
-        keeps_promises(&settled, caller, called),
-        "settled from list {list}"
-    );
-    assert!(rt;
+    assert_so_at(rt, keeps_promises(&settled, caller, called), list);
+    assert_so_at(
+        rt,
         has_no_job_left(settled.caller()) && has_no_job_left(settled.called()),
-        "settled from list {list}"
+        list,
     );
     Ok(true)
 }
@@ -222,6 +221,6 @@ fn settles_after_noise(rt: HostRuntime) -> Result<(), Fail> {
             settled = settled.saturating_add(1);
         }
     }
-    assert!(rt; settled >= 10, "only {settled} lists settled");
+    assert_so_at(&rt, settled >= 10, settled);
     Ok(())
 }

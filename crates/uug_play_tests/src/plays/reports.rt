@@ -4,6 +4,7 @@
 use super::{BROKEN_OFF, SENT_TWICE};
 use std::test::Fail;
 use uug_play::play_stream;
+use uug_refusal::assert_same;
 use uug_tool::{MemoryInput, MemoryOutput, ToolFault};
 
 /// The report of a session in which the caller sends an empty file.
@@ -171,9 +172,9 @@ fn reports_what_was_played(rt: HostRuntime) {
         let mut output = MemoryOutput::new(rt.alloc());
         let mut input = MemoryInput::new(script.as_bytes());
         let result = play_stream(rt.alloc(), &mut input, &mut output);
-        assert_eq!(rt; result, Ok(status));
-        assert_eq!(rt; output.bytes(), report.as_bytes());
-        assert_eq!(rt; input.bytes().len(), 0);
+        assert_same(&rt, result, Ok(status));
+        assert_same(&rt, output.bytes(), report.as_bytes());
+        assert_same(&rt, input.bytes().len(), 0);
     }
 }
 
@@ -201,8 +202,8 @@ fn writes_nothing_of_a_bad_script(rt: HostRuntime) -> Result<(), Fail> {
             &mut MemoryInput::new(script.as_bytes()),
             &mut output,
         );
-        assert_eq!(rt; result, Err(ToolFault::Script(bad)));
-        assert_eq!(rt; output.bytes().len(), 0);
+        assert_same(&rt, result, Err(ToolFault::Script(bad)));
+        assert_same(&rt, output.bytes().len(), 0);
     }
     Ok(())
 }

@@ -6,7 +6,7 @@ use std::process::Abort;
 use std::test::Fail;
 use uug_line::{EndReport, Report, RunFault, Side, run, settle};
 use uug_play::{Unsettled, play_settled, why_unsettled};
-use uug_refusal::Refusing;
+use uug_refusal::{Refusing, assert_same, assert_same_at, assert_so_at};
 use uug_script::read_script;
 use uug_session::{End, Phase};
 use uug_tool::{MemoryInput, MemoryOutput, ToolFault};
@@ -71,8 +71,8 @@ fn report_of(alloc: Global, text: &str) -> Result<Report<Global>, Fail> {
 fn settles_only_where_nothing_waits(rt: HostRuntime) -> Result<(), Fail> {
     for (text, why) in SCRIPTS {
         let report = report_of(rt.alloc(), text)?;
-        assert_eq!(rt; why_unsettled(&report), why, "after {text}");
-        assert_eq!(rt; report.can_settle(), why.is_none(), "after {text}");
+        assert_same_at(&rt, why_unsettled(&report), why, text);
+        assert_same_at(&rt, report.can_settle(), why.is_none(), text);
     }
     Ok(())
 }
@@ -108,8 +108,8 @@ fn writes_what_it_settles_to(rt: HostRuntime) {
     for (text, status, printed) in PLAYED {
         let mut output = MemoryOutput::new(rt.alloc());
         let result = play_on(rt.alloc(), text, &mut output);
-        assert_eq!(rt; result, Ok(status));
-        assert_eq!(rt; output.bytes(), printed.as_bytes());
+        assert_same(&rt, result, Ok(status));
+        assert_same(&rt, output.bytes(), printed.as_bytes());
     }
 }
 
@@ -148,7 +148,7 @@ fn has_sent(report: &Report<Global>) -> bool {
 fn settles_what_was_lost(rt: HostRuntime) -> Result<(), Fail> {
     for text in [LOST, LOST_SEVEN_TIMES] {
         let report = settled_from(rt.alloc(), text)?;
-        assert!(rt; has_sent(&report), "after {text}");
+        assert_so_at(&rt, has_sent(&report), text);
     }
     Ok(())
 }
@@ -171,10 +171,10 @@ fn requests_to_settle(rt: &impl Abort, alloc: Global) -> Result<u64, Fail> {
     for nth in 1..10_000 {
         let fault = refuse(&heap, nth)?;
         if !heap.was_refused() {
-            assert_eq!(rt; fault, None);
+            assert_same(rt, fault, None);
             return Ok(nth - 1);
         }
-        assert_eq!(rt; fault, Some(RunFault::Memory), "of request {nth}");
+        assert_same_at(rt, fault, Some(RunFault::Memory), nth);
     }
     Err("it never settles".into())
 }
@@ -182,6 +182,10 @@ fn requests_to_settle(rt: &impl Abort, alloc: Global) -> Result<u64, Fail> {
 #[test]
 fn gives_up_settling_when_out_of_memory(rt: HostRuntime) -> Result<(), Fail> {
     let requests = requests_to_settle(&rt, rt.alloc())?;
-    assert!(rt; requests >= 10, "seven messages and their acknowledgements");
+    assert_so_at(
+        &rt,
+        requests >= 10,
+        "seven messages and their acknowledgements",
+    );
     Ok(())
 }
