@@ -116,7 +116,7 @@ fn reads_a_script(rt: HostRuntime) -> Result<(), Fail> {
     assert_same(&rt, called.queue.pending().len(), 0);
     let file = caller.spool.fetch(&Name::new(b"x")?).ok_or("a file")?;
     assert_same(&rt, (file.mode, file.bytes.len()), (0o644, 0));
-    assert_same(&rt, script.events.len(), 40);
+    assert_so(&rt, script.events.len() == 40);
     let n = 1_000_000_000;
     assert_same(
         &rt,

@@ -1,5 +1,6 @@
 //! Assertions that a test calls. What is called is proved once, here, and so at far less cost than `assert_eq!` in each
 //! test, which lends both values, compares them, and has their texts at hand.
+ghost use Rattle.std.specs.Prelude.{IsTrue};
 
 use std::fmt::{Debug, Display};
 use std::process::Abort;
@@ -20,11 +21,15 @@ pub fn assert_same_at<T: PartialEq + Debug + Copy, P: Display + Copy>(
 }
 
 /// This is so.
-pub fn assert_so(rt: &impl Abort, fact: bool) {
+pub fn assert_so(rt: &impl Abort, fact: bool)
+    ensures { IsTrue fact }
+{
     assert!(rt; fact);
 }
 
 /// This is so, at this place of a table or a loop.
-pub fn assert_so_at<P: Display + Copy>(rt: &impl Abort, fact: bool, place: P) {
+pub fn assert_so_at<P: Display + Copy>(rt: &impl Abort, fact: bool, place: P)
+    ensures { IsTrue fact }
+{
     assert!(rt; fact, "at {place}");
 }

@@ -133,7 +133,10 @@ fn assert_holds<A: Allocator>(
 ) {
     assert_same(rt, out.len(), wires.len());
     for (i, wire) in wires.iter().enumerate() {
-        assert_so(rt, i < out.len() && is_packet(&out.entry(i), *wire, is_first));
+        assert_so(
+            rt,
+            i < out.len() && is_packet(&out.entry(i), *wire, is_first),
+        );
     }
 }
 
@@ -146,7 +149,11 @@ fn follow_row(rt: &impl Abort, heap: &Refusing<Global>, link: &mut Link, row: Ro
         assert_same(rt, link.speaks_when_late(), !emits.is_empty());
     }
     let requests = if emits.is_empty() { 0 } else { 2 };
-    assert_same(rt, insist(rt, heap, call, link, &mut out), (answer, requests));
+    assert_same(
+        rt,
+        insist(rt, heap, call, link, &mut out),
+        (answer, requests),
+    );
     assert_same(rt, link.unacked(), unacked);
     assert_holds(rt, &out, emits, matches!(call, Call::Send(_)));
 }

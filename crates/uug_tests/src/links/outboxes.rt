@@ -11,7 +11,7 @@ use uug_refusal::{Refusing, assert_same, assert_so};
 fn fill(rt: &impl Abort, own: Announce, out: &mut Outbox<&Refusing<Global>>) {
     assert_so(rt, out.add_text(b"abc").is_ok());
     assert_so(rt, Link::caller(own).begin(out).is_ok());
-    assert_same(rt, out.len(), 2);
+    assert_so(rt, out.len() == 2);
     assert_same(rt, out.entry(0), Entry::Text(b"abc"));
     assert_so(rt, is_packet(&out.entry(1), Wire::InitA(3), false));
 }

@@ -6,9 +6,9 @@ use std::alloc::{AllocError, Allocator, Global};
 use std::process::Abort;
 use std::test::Fail;
 use uug_link::Outbox;
+use uug_refusal::assert_same;
 use uug_session::{End, Greeted, Greeting, Place};
 use uug_talk::Hail;
-use uug_refusal::{assert_same};
 
 /// Takes up the texts of a stream of at most eight.
 fn hear<A: Allocator>(
@@ -40,7 +40,11 @@ type Row<'a> = (&'a [u8], &'a [u8], Greeted);
 
 fn greets_as_caller(rt: &impl Abort, alloc: Global, place: &Place, row: Row<'_>) {
     let mut out = Outbox::new(alloc);
-    assert_same(rt, hear(Greeting::caller(), place, row.0, &mut out), Ok(row.2));
+    assert_same(
+        rt,
+        hear(Greeting::caller(), place, row.0, &mut out),
+        Ok(row.2),
+    );
     assert_same(rt, out.bytes(), row.1);
 }
 

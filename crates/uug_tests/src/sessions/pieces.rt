@@ -2,8 +2,8 @@
 
 use super::place;
 use std::test::Fail;
+use uug_refusal::assert_same;
 use uug_session::{MemorySpool, Node, Queue};
-use uug_refusal::{assert_same};
 
 #[test]
 fn takes_a_whole_piece(rt: HostRuntime) -> Result<(), Fail> {

@@ -4,11 +4,11 @@ use super::{name, send_job};
 use std::alloc::{AllocError, Global};
 use std::process::Abort;
 use std::test::Fail;
+use uug_refusal::{assert_same, assert_so};
 use uug_session::{
     FileView, JOBS_MAX, KeepFault, MemorySpool, Queue, QueueFault, Spool, Stored, Verdict,
 };
 use uug_talk::Name;
-use uug_refusal::{assert_same, assert_so};
 
 #[test]
 fn takes_jobs_up_to_the_limit(rt: HostRuntime) -> Result<(), Fail> {
@@ -42,7 +42,11 @@ fn assert_gives(rt: &impl Abort, spool: &MemorySpool<Global>, names: &[Name; 4])
     assert_so(rt, is_file(spool.fetch(&names[0]), 0o644, b""));
     assert_so(rt, spool.fetch(&names[1]).is_none());
     let verdicts = names.map(|name| spool.may_keep(&name));
-    assert_same(rt, verdicts, [Verdict::Yes, Verdict::Later, Verdict::Never, Verdict::Yes]);
+    assert_same(
+        rt,
+        verdicts,
+        [Verdict::Yes, Verdict::Later, Verdict::Never, Verdict::Yes],
+    );
 }
 
 fn is_stored(file: &Stored<Global>, name: Name, mode: u16, bytes: &[u8]) -> bool {
@@ -51,8 +55,13 @@ fn is_stored(file: &Stored<Global>, name: Name, mode: u16, bytes: &[u8]) -> bool
 
 fn assert_keeps(rt: &impl Abort, spool: &mut MemorySpool<Global>, names: &[Name; 4]) {
     assert_same(rt, spool.keep(&names[0], 0o644, b"abc"), Ok(()));
-    assert_same(rt, spool.keep(&names[3], 0o644, b"abc"), Err(KeepFault::Refused));
-    assert_same(rt, (spool.stored().len(), spool.faults()), (1, 0));
+    assert_same(
+        rt,
+        spool.keep(&names[3], 0o644, b"abc"),
+        Err(KeepFault::Refused),
+    );
+    assert_so(rt, spool.stored().len() == 1);
+    assert_same(rt, spool.faults(), 0);
     assert_so(rt, is_stored(&spool.stored()[0], names[0], 0o644, b"abc"));
 }
 
