@@ -6,7 +6,7 @@ use std::alloc::Global;
 use std::process::Abort;
 use std::test::Fail;
 use uug_detail::{scan_detailed, scan_detailed_within};
-use uug_refusal::Refusing;
+use uug_refusal::{Refusing, assert_same, assert_same_at, assert_so_at};
 use uug_tool::{Input, MemoryInput, MemoryOutput, Output, ToolFault, WriteFailed};
 
 /// A stream: its first bytes, the byte that fills it up and to how many, and the bytes behind; and its detailed listing.
@@ -135,8 +135,8 @@ fn lists_streams_in_detail(rt: HostRuntime) -> Result<(), Fail> {
             let mut input = in_pieces(&bytes, most, u32::MAX);
             let mut output = MemoryOutput::new(rt.alloc());
             scan_detailed(rt.alloc(), &mut input, &mut output)?;
-            assert_eq!(rt; output.bytes(), listing.as_bytes());
-            assert_eq!(rt; input.bytes.len(), 0);
+            assert_same(&rt, output.bytes(), listing.as_bytes());
+            assert_same(&rt, input.bytes.len(), 0);
         }
     }
     Ok(())
@@ -169,9 +169,9 @@ fn lists_each_read_before_the_next(rt: HostRuntime) {
         let mut input = in_pieces(LINE, 8, reads);
         let mut output = MemoryOutput::new(rt.alloc());
         let result = scan_detailed_within(rt.alloc(), &mut input, &mut output, limit);
-        assert_eq!(rt; result, Err(fault));
-        assert_eq!(rt; input.reads, left, "reads within {limit}");
-        assert_eq!(rt; output.bytes(), listing.as_bytes());
+        assert_same(&rt, result, Err(fault));
+        assert_same_at(&rt, input.reads, left, limit);
+        assert_same(&rt, output.bytes(), listing.as_bytes());
     }
 }
 
@@ -182,11 +182,11 @@ fn reads_of_a_scan(rt: &(impl Abort + AllocGlobal)) -> Result<u32, Fail> {
         let mut output = MemoryOutput::new(rt.alloc());
         let result = scan_detailed(rt.alloc(), &mut input, &mut output);
         if input.faults() == 0 {
-            assert_eq!(rt; result, Ok(()));
+            assert_same(rt, result, Ok(()));
             return Ok(reads);
         }
-        assert_eq!(rt; result, Err(ToolFault::Read), "after {reads} reads");
-        assert_eq!(rt; input.faults(), 1, "read on");
+        assert_same_at(rt, result, Err(ToolFault::Read), reads);
+        assert_same_at(rt, input.faults(), 1, reads);
     }
     Err("a scan that is never done".into())
 }
@@ -206,10 +206,10 @@ fn writes_of_a_scan(
         };
         let result = scan_detailed(rt.alloc(), &mut in_pieces(LINE, 4, 100), &mut output);
         if output.faults() == 0 {
-            assert_eq!(rt; result, Ok(()));
+            assert_same(rt, result, Ok(()));
             return Ok(writes);
         }
-        assert_eq!(rt; result, Err(fault), "after {writes} writes");
+        assert_same_at(rt, result, Err(fault), writes);
     }
     Err("a scan that is never done".into())
 }
@@ -217,14 +217,16 @@ fn writes_of_a_scan(
 // Four pieces, and the read that finds the end. The text, and noise with the packet, go out at once; and the last line.
 #[test]
 fn stops_at_each_fault(rt: HostRuntime) -> Result<(), Fail> {
-    assert_eq!(rt; reads_of_a_scan(&rt)?, 5);
-    assert_eq!(rt;
+    assert_same(&rt, reads_of_a_scan(&rt)?, 5);
+    assert_same(
+        &rt,
         writes_of_a_scan(&rt, WriteFailed::Device, ToolFault::Write)?,
-        3
+        3,
     );
-    assert_eq!(rt;
+    assert_same(
+        &rt,
         writes_of_a_scan(&rt, WriteFailed::Memory, ToolFault::Memory)?,
-        3
+        3,
     );
     Ok(())
 }
@@ -236,11 +238,11 @@ fn requests_of_a_scan(rt: &impl Abort, alloc: Global) -> Result<u64, Fail> {
         let mut output = MemoryOutput::new(&heap);
         let result = scan_detailed(&heap, &mut MemoryInput::new(LINE), &mut output);
         if !heap.was_refused() {
-            assert_eq!(rt; result, Ok(()));
+            assert_same(rt, result, Ok(()));
             return Ok(nth - 1);
         }
-        assert_eq!(rt; result, Err(ToolFault::Memory));
-        assert_eq!(rt; heap.requests(), nth, "went on after {nth}");
+        assert_same(rt, result, Err(ToolFault::Memory));
+        assert_same_at(rt, heap.requests(), nth, "each request is the last");
     }
     Err("a scan that is never done".into())
 }
@@ -248,6 +250,6 @@ fn requests_of_a_scan(rt: &impl Abort, alloc: Global) -> Result<u64, Fail> {
 #[test]
 fn passes_on_want_of_memory(rt: HostRuntime) -> Result<(), Fail> {
     let requests = requests_of_a_scan(&rt, rt.alloc())?;
-    assert!(rt; requests >= 3, "what is held, lines and an output");
+    assert_so_at(&rt, requests >= 3, "what is held, lines and an output");
     Ok(())
 }

@@ -152,7 +152,7 @@ fn lists_short_packets_of_all_sizes(rt: HostRuntime) -> Result<(), Fail> {
     }
     let mut output = MemoryOutput::new(rt.alloc());
     scan_stream(rt.alloc(), &mut MemoryInput::new(&bytes), &mut output)?;
-    assert_eq!(rt; output.bytes(), LISTING_OF_SHORT_PACKETS.as_bytes());
+    assert_same(&rt, output.bytes(), LISTING_OF_SHORT_PACKETS.as_bytes());
     Ok(())
 }
 

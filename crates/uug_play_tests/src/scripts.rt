@@ -167,7 +167,7 @@ fn answers_the_line_behind_the_last(rt: HostRuntime) {
     ];
     for (text, line) in texts {
         let fault = read_script(rt.alloc(), text).err();
-        assert_eq!(rt; fault, Some(ScriptFault::Bad(line)), "{text:?}");
+        assert_same(&rt, (text, fault), (text, Some(ScriptFault::Bad(line))));
     }
 }
 
@@ -178,7 +178,7 @@ fn answers_the_first_bad_line(rt: HostRuntime) -> Result<(), Fail> {
         text.extend_from_slice(line)?;
         text.extend_from_slice(b"\nflip caller 1\n")?;
         let fault = read_script(rt.alloc(), text.as_slice()).err();
-        assert_eq!(rt; fault, Some(ScriptFault::Bad(3)), "{line:?}");
+        assert_same(&rt, (line, fault), (line, Some(ScriptFault::Bad(3))));
     }
     Ok(())
 }
@@ -189,7 +189,7 @@ fn takes_good_lines(rt: HostRuntime) -> Result<(), Fail> {
         let mut text = ENDS.to_vec(rt.alloc())?;
         text.extend_from_slice(line)?;
         let script = read_script(rt.alloc(), text.as_slice())?;
-        assert_eq!(rt; script.events.len(), events, "{line:?}");
+        assert_same(&rt, (line, script.events.len()), (line, events));
     }
     Ok(())
 }
