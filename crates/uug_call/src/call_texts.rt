@@ -31,7 +31,8 @@ impl<A: Allocator + Copy> CallTexts<A> {
         ensures jobs { IfOk result (λ texts. string_bytes texts.jobs
             ≡ jobs_text (pending (jobs_of_end (node_of end.now)))) }
         ensures number { IfOk result (λ texts. texts.number ≡ number_of_end (node_of end.now)) }
-        ensures report { IfOk result (λ texts. string_bytes texts.report ≡ report_of side (node_of end.now)) }
+        ensures report { IfOk result (λ texts.
+            string_bytes texts.report ≡ report_of side (node_of end.now)) }
     {
         Ok(CallTexts {
             jobs: write_jobs(alloc, end.queue().pending())?,

@@ -62,17 +62,20 @@ where
         ≡ holding_number (number_of_end (seated end.new.seat)) (N.text end.old.number)) }
     ensures report { OnOk result (Appends (report_of side (seated end.new.seat))
         (O.written output.old) (O.written output.new)) }
-    ensures status { IfOk result (λ status. status ≡ status_of_phase (phase_of_end (seated end.new.seat))) }
+    ensures status { IfOk result (λ status.
+        status ≡ status_of_phase (phase_of_end (seated end.new.seat))) }
     // Where the line has failed and the session is not done, that is answered, whatever fails later but memory.
     ensures line_calm { result ≡ Ok 1 → L.fault_count line.new ≡ L.fault_count line.old }
-    ensures jobs_calm { UnlessDevice result (J.fault_count end.new.jobs ≡ J.fault_count end.old.jobs) }
+    ensures jobs_calm { UnlessDevice result (J.fault_count end.new.jobs
+        ≡ J.fault_count end.old.jobs) }
     ensures number_calm { UnlessDevice result
         (N.fault_count end.new.number ≡ N.fault_count end.old.number) }
     ensures device { result ≡ Err ToolFault.Device
         → HasFailed u64.MAX (L.fault_count line.old) (L.fault_count line.new)
         ⊎ (HasFailed u64.MAX (J.fault_count end.old.jobs) (J.fault_count end.new.jobs)
         ⊎ HasFailed u64.MAX (N.fault_count end.old.number) (N.fault_count end.new.number)) }
-    ensures write { result ≡ Err ToolFault.Write → CountsFault (O.fault_count output.old) (O.fault_count output.new) }
+    ensures write { result ≡ Err ToolFault.Write
+        → CountsFault (O.fault_count output.old) (O.fault_count output.new) }
     ensures no_other { IfErr result IsPairFault }
 {
     match talk(&mut end.seat, line, noise, most, watcher) {

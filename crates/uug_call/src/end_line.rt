@@ -16,7 +16,8 @@ pub trait EndLine {
         requires some { 0 < length piece.now }
         ensures within { IfOk result (λ n. (0 < n) × (n ≤ length piece.now)) }
         ensures calm { OnOk result (fault_count self.new ≡ fault_count self.old) }
-        ensures fault { OnErr result (HasFailed u64.MAX (fault_count self.old) (fault_count self.new)) }
+        ensures fault { OnErr result
+            (HasFailed u64.MAX (fault_count self.old) (fault_count self.new)) }
         ensures grows { fault_count self.old ≤ fault_count self.new };
 
     /// Reads what has come to the front of `buffer`, or says that nothing came for as long as the line waits, or that
@@ -25,7 +26,8 @@ pub trait EndLine {
         requires room { 0 < length buffer.old }
         ensures within { IfOk result (λ heard. IsWithin (length buffer.old) heard) }
         ensures calm { OnOk result (fault_count self.new ≡ fault_count self.old) }
-        ensures fault { OnErr result (HasFailed u64.MAX (fault_count self.old) (fault_count self.new)) }
+        ensures fault { OnErr result
+            (HasFailed u64.MAX (fault_count self.old) (fault_count self.new)) }
         ensures grows { fault_count self.old ≤ fault_count self.new };
 
     /// How many times the line has failed. At the greatest number the count stands.

@@ -57,7 +57,8 @@ impl<T: Read + Write> EndLine for StreamLine<T> {
 pub(crate) fn read_some<T: Read>(stream: &mut T, buffer: &mut [u8]) -> io::Result<Heard>
     requires room { 0 < length buffer.old }
     ensures within { IfOk result (λ heard. IsWithin (length buffer.old) heard) }
-    ensures given { IfOk result (λ heard. IsGiven (T.remaining stream.old) (T.remaining stream.new) buffer.new heard) }
+    ensures given { IfOk result (λ heard.
+        IsGiven (T.remaining stream.old) (T.remaining stream.new) buffer.new heard) }
 {
     match stream.read(buffer) {
         Ok(0) => Ok(Heard::End),

@@ -30,7 +30,8 @@ pub fn talk<S: Spool + Drop, L: EndLine, W: Watcher, A: Allocator + Copy>(
         (KeepsNumber (seated seat.old).engine (seated seat.new).engine) }
     ensures over { IsEnded (seated seat.new).engine.stage }
     ensures calm { UnlessLineFailed result (L.fault_count line.new ≡ L.fault_count line.old) }
-    ensures fault { result ≡ Err TurnFault.Line → HasFailed u64.MAX (L.fault_count line.old) (L.fault_count line.new) }
+    ensures fault { result ≡ Err TurnFault.Line
+        → HasFailed u64.MAX (L.fault_count line.old) (L.fault_count line.new) }
     ensures grows { L.fault_count line.old ≤ L.fault_count line.new }
 {
     calls_keep();
@@ -53,7 +54,8 @@ fn take_turns<S: Spool + Drop, L: EndLine, W: Watcher, A: Allocator + Copy>(
     ensures number { UnlessRefused result
         (KeepsNumber (seated seat.old).engine (seated seat.new).engine) }
     ensures calm { UnlessLineFailed result (L.fault_count line.new ≡ L.fault_count line.old) }
-    ensures fault { result ≡ Err TurnFault.Line → HasFailed u64.MAX (L.fault_count line.old) (L.fault_count line.new) }
+    ensures fault { result ≡ Err TurnFault.Line
+        → HasFailed u64.MAX (L.fault_count line.old) (L.fault_count line.new) }
     ensures grows { L.fault_count line.old ≤ L.fault_count line.new }
 {
     calls_keep();
@@ -82,7 +84,8 @@ fn write_all<S: Spool + Drop, L: EndLine, A: Allocator + Copy>(
     ensures spool { spool_in seat.new ≡ spool_in seat.old }
     ensures all { OnOk result (to_write seat.new ≡ []) }
     ensures calm { OnOk result (L.fault_count line.new ≡ L.fault_count line.old) }
-    ensures fault { OnErr result (HasFailed u64.MAX (L.fault_count line.old) (L.fault_count line.new)) }
+    ensures fault { OnErr result
+        (HasFailed u64.MAX (L.fault_count line.old) (L.fault_count line.new)) }
     ensures grows { L.fault_count line.old ≤ L.fault_count line.new }
 {
     while seat.outgoing().len() > 0 {
@@ -105,9 +108,12 @@ fn take_heard<S: Spool + Drop, A: Allocator + Copy>(
         (seated seat.old) (seated seat.new) }
     ensures number { OnOk result
         (KeepsNumber (seated seat.old).engine (seated seat.new).engine) }
-    ensures takes { OnOk result (TakesHeard (S.holdings (spool_in seat.old)) (S.kept (spool_in seat.old))
-        (S.kept (spool_in seat.new)) (HasFailed u64.MAX (S.faults (spool_in seat.old)) (S.faults (spool_in seat.new)))
-        heard buffer.now noise.old noise.new (to_write seat.old) (to_write seat.new) (seated seat.old) (seated seat.new)) }
+    ensures takes { OnOk result
+        (TakesHeard (S.holdings (spool_in seat.old)) (S.kept (spool_in seat.old))
+        (S.kept (spool_in seat.new))
+        (HasFailed u64.MAX (S.faults (spool_in seat.old)) (S.faults (spool_in seat.new)))
+        heard buffer.now noise.old noise.new (to_write seat.old) (to_write seat.new)
+        (seated seat.old) (seated seat.new)) }
 {
     calls_keep();
     match heard {

@@ -76,7 +76,8 @@ impl<A: Allocator + Copy> Journal<A> {
         took: bool,
     ) -> Result<(), AllocError>
         requires { place < usize.MAX }
-        ensures { OnOk result (jotted self.new ≡ packet_jotted packet.now place (jotted self.old) took) }
+        ensures { OnOk result (jotted self.new
+            ≡ packet_jotted packet.now place (jotted self.old) took) }
     {
         self.add_arrival(place)?;
         if took {
@@ -109,7 +110,8 @@ impl<A: Allocator + Copy> Journal<A> {
         outbox: &Outbox<A>,
         unacked: usize,
     ) -> Result<(), AllocError>
-        ensures { OnOk result (jotted self.new ≡ with_most unacked (saying outbox.now.entries (jotted self.old))) }
+        ensures { OnOk result (jotted self.new
+            ≡ with_most unacked (saying outbox.now.entries (jotted self.old))) }
     {
         self.add_entries(alloc, outbox)?;
         self.most = self.most.max(unacked);
@@ -126,7 +128,8 @@ impl<A: Allocator + Copy> Journal<A> {
     }
 
     fn add_entry(&mut self, alloc: A, entry: Entry<'_>) -> Result<(), AllocError>
-        ensures { OnOk result (jotted self.new ≡ saying (shown_entry entry.entry ∷ []) (jotted self.old)) }
+        ensures { OnOk result (jotted self.new
+            ≡ saying (shown_entry entry.entry ∷ []) (jotted self.old)) }
     {
         let Entry::Packet { bytes, first } = entry else {
             return Ok(());

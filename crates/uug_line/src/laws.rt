@@ -24,7 +24,8 @@ pub fn least_places_are_the_right_choice()
     // So a packet that has no place behind them was not sent, and only such a packet has none.
     ensures none { (found emitted : List PacketValue) (places : List ℕ) (p : PacketValue)
         → HavePlaces found places emitted 0
-        → (place_of p emitted (passed_at places 0) ≡ None) ↔ (WereSent (found ++ p ∷ []) emitted → ⊥) }
+        → (place_of p emitted (passed_at places 0) ≡ None)
+        ↔ (WereSent (found ++ p ∷ []) emitted → ⊥) }
 {
     arrivals();
 }

@@ -121,7 +121,9 @@ impl<A: Allocator + Copy> LiveEnd<A> {
         requires ordered { IsOrdered (parts_of self.old) }
         requires room { HasRoom (parts_of self.old) }
         requires written { AreWritten (lists_in others.now) }
-        ensures { IfOk result (λ all_sent. HearsPiece all_sent (lists_in others.now) piece.now (parts_of self.old) (parts_of self.new)) }
+        ensures { IfOk result (λ all_sent.
+            HearsPiece all_sent (lists_in others.now) piece.now (parts_of self.old)
+            (parts_of self.new)) }
     {
         line_laws();
         let mut rest = piece;
@@ -143,7 +145,8 @@ impl<A: Allocator + Copy> LiveEnd<A> {
     fn take_all(&mut self, alloc: A, others: &[Vec<u8, A>]) -> Result<bool, AllocError>
         requires ordered { IsOrdered (parts_of self.old) }
         requires written { AreWritten (lists_in others.now) }
-        ensures { IfOk result (λ all_sent. TakesItems all_sent (lists_in others.now) (parts_of self.old) (parts_of self.new)) }
+        ensures { IfOk result (λ all_sent.
+            TakesItems all_sent (lists_in others.now) (parts_of self.old) (parts_of self.new)) }
     {
         loop {
             match self.take_next(alloc, others)? {
@@ -158,7 +161,8 @@ impl<A: Allocator + Copy> LiveEnd<A> {
     fn take_next(&mut self, alloc: A, others: &[Vec<u8, A>]) -> Result<Taking, AllocError>
         requires ordered { IsOrdered (parts_of self.old) }
         requires written { AreWritten (lists_in others.now) }
-        ensures { IfOk result (λ taking. TakesNext taking (lists_in others.now) (parts_of self.old) (parts_of self.new)) }
+        ensures { IfOk result (λ taking.
+            TakesNext taking (lists_in others.now) (parts_of self.old) (parts_of self.new)) }
     {
         line_laws();
         match sight(&mut self.node, others, self.journal.passed) {
@@ -178,7 +182,8 @@ impl<A: Allocator + Copy> LiveEnd<A> {
     /// Takes up the text or the broken packet that is shown.
     fn take_other(&mut self, alloc: A) -> Result<(), AllocError>
         requires { 0 < item_size (node_of self.old.node) }
-        ensures { OnOk result (IsTakenUp (λ took. jotted self.old.journal) (parts_of self.old) (parts_of self.new)) }
+        ensures { OnOk result
+            (IsTakenUp (λ took. jotted self.old.journal) (parts_of self.old) (parts_of self.new)) }
     {
         self.node.take_found()?;
         self.note_call(alloc)?;
@@ -189,7 +194,9 @@ impl<A: Allocator + Copy> LiveEnd<A> {
     fn take_packet(&mut self, alloc: A, packet: &[u8], place: usize) -> Result<(), AllocError>
         requires shown { 0 < item_size (node_of self.old.node) }
         requires place { place < usize.MAX }
-        ensures { OnOk result (IsTakenUp (packet_jotted packet.now place (jotted self.old.journal)) (parts_of self.old) (parts_of self.new)) }
+        ensures { OnOk result
+            (IsTakenUp (packet_jotted packet.now place (jotted self.old.journal))
+            (parts_of self.old) (parts_of self.new)) }
     {
         let took = self.node.take_found()?;
         self.journal.add_found(alloc, packet, place, took)?;

@@ -138,7 +138,8 @@ const TIMEOUTS_BEFORE: u8 = 6;
 impl<A: Allocator + Copy> LastEnd<A> {
     /// Whether it talks and has not counted too many timeouts, and nothing waits at it or on the line from it.
     fn can_settle(&self) -> bool
-        ensures { IsTrue result ↔ EndCanSettle (stands_so self.now.node) (held_at self.now.node) self.now.line }
+        ensures { IsTrue result ↔ EndCanSettle (stands_so self.now.node)
+            (held_at self.now.node) self.now.line }
     {
         let talks = matches!(self.node.phase(), Phase::Talking);
         talks

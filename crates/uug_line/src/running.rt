@@ -64,43 +64,54 @@ pub fn run<A: Allocator + Copy>(
     // In every session each end has taken the first messages that the other has sent.
     ensures front { IfOk result (λ report. AllTookFronts report.told) }
     // Each struck job has an entry of its own in what was stored, with its exact bytes.
-    ensures stored { IfOk result (λ report. (giver : Side) → StruckWereStored (setup_of setup) report.told giver) }
+    ensures stored { IfOk result (λ report. (giver : Side)
+        → StruckWereStored (setup_of setup) report.told giver) }
     // What was struck and stored before the run stays in front.
-    ensures earlier { IfOk result (λ report. (side : Side) → StaysInFront (setup_of setup) report.told side) }
+    ensures earlier { IfOk result (λ report. (side : Side)
+        → StaysInFront (setup_of setup) report.told side) }
     // No end ever had more unacknowledged packets than the other announced.
     ensures window { IfOk result (λ report. AllKeptToWindows (setup_of setup) report.told) }
     // It is what the two ends do, neither of which knows the other's jobs, and what somebody tells who knows both.
-    ensures ends { IfOk result (λ report. report.told ≡ spelled (report_of_ends (setup_of setup) events.now)) }
-    ensures world { IfOk result (λ report. report.told ≡ spelled (report_of_world (setup_of setup) events.now)) }
+    ensures ends { IfOk result (λ report.
+        report.told ≡ spelled (report_of_ends (setup_of setup) events.now)) }
+    ensures world { IfOk result (λ report.
+        report.told ≡ spelled (report_of_world (setup_of setup) events.now)) }
     // So it is the report of just these two ends and events.
     ensures of { IfOk result (λ report. IsRunOf (setup_of setup) events.now report) }
     // The spools of the ends that it lends give and accept what they did when the ends were set up.
     ensures spools { IfOk result (λ report. GiveAsSetUp (setup_of setup) report.spools) }
     // It is fooled exactly where an end has found a packet that was not sent, and names the first event with which one has.
-    ensures fooled { IfOk result (λ report. NamesUnsent (setup_of setup) events.now report.told.verdict) }
+    ensures fooled { IfOk result (λ report.
+        NamesUnsent (setup_of setup) events.now report.told.verdict) }
     // What the laws of a run ask of two ends and events is so.
     ensures types { OnOk result (AreOfTypes (setup_of setup) events.now) }
     // Behind each event the arrivals of an end are the places of the packets that it found in the bytes that came to it in the
     // session, and of no others.
-    ensures heard { OnOk result ((n : ℕ) (side : Side) → HasHeardBehind (setup_of setup) (take n events.now) side) }
+    ensures heard { OnOk result ((n : ℕ) (side : Side)
+        → HasHeardBehind (setup_of setup) (take n events.now) side) }
     // A session that is over was the present one when an event called again.
     ensures past { OnOk result ((number : ℕ) (session : AtBoth EndReportValue)
         → slice_get (run_of_ends (setup_of setup) events.now).past number ≡ Some session
         → WasPresent (setup_of setup) events.now number session) }
     // In every session the arrivals are places of packets that the other end emitted.
-    ensures places { OnOk result (All ArrivalsArePlaces (report_of_ends (setup_of setup) events.now).sessions) }
+    ensures places { OnOk result
+        (All ArrivalsArePlaces (report_of_ends (setup_of setup) events.now).sessions) }
     // On a clean run nothing that is whole is left, and an end on its link has found the whole scan of the bytes that came.
     ensures clean { IfOk result (λ report. report.told.verdict ≡ Clean
-        → (side : Side) → FindsNothingMore (end_at side (run_of_ends (setup_of setup) events.now))) }
+        → (side : Side)
+        → FindsNothingMore (end_at side (run_of_ends (setup_of setup) events.now))) }
     ensures scanned { IfOk result (λ report. report.told.verdict ≡ Clean
         → (side : Side) → HasScannedBehind (setup_of setup) events.now side) }
     // The ends that it lends hold what is left of the bytes that came to them.
-    ensures holds { IfOk result (λ report. HoldWhatIsLeft (run_of_ends (setup_of setup) events.now) report.held) }
+    ensures holds { IfOk result (λ report.
+        HoldWhatIsLeft (run_of_ends (setup_of setup) events.now) report.held) }
     // Each session is a run of the two ends' links, and what occurs in it so many moves of the window machine, packet by
     // packet, with its bounds in both directions.
-    ensures machine { OnOk result (AllRanAsMachine (setup_of setup) (report_of_ends (setup_of setup) events.now)) }
+    ensures machine { OnOk result
+        (AllRanAsMachine (setup_of setup) (report_of_ends (setup_of setup) events.now)) }
     // In the present session the links are those that the ends have then.
-    ensures present { OnOk result (PresentRanAsMachine (setup_of setup) (run_of_ends (setup_of setup) events.now)) }
+    ensures present { OnOk result
+        (PresentRanAsMachine (setup_of setup) (run_of_ends (setup_of setup) events.now)) }
 {
     look_at_setup(&setup, events);
     a_run_is_the_world();
@@ -116,7 +127,8 @@ pub fn run<A: Allocator + Copy>(
 
 impl<A: Allocator + Copy> RunSoFar<A> {
     fn start(alloc: A, setup: Setup<A>) -> Result<Self, AllocError>
-        ensures { IfOk result (λ run. StandsAs (setup_of setup) (first_run by_themselves (setup_of setup)) (run_parts run)) }
+        ensures { IfOk result (λ run.
+            StandsAs (setup_of setup) (first_run by_themselves (setup_of setup)) (run_parts run)) }
     {
         line_laws();
         let Setup { caller, called } = setup;
@@ -132,8 +144,10 @@ impl<A: Allocator + Copy> RunSoFar<A> {
     /// The events, one after the other, up to one at which a packet is found that was not sent.
     fn go_through(&mut self, alloc: A, events: &[Event]) -> Result<LineVerdict, AllocError>
         requires { IsSteady (run_parts self.old) }
-        ensures { IfOk result (λ verdict. (setup : SetupValue) (run : Run Talk) → StandsAs setup run (run_parts self.old)
-            → EndsAs setup (goes_through by_themselves setup 0 events.now run) verdict (run_parts self.new)) }
+        ensures { IfOk result (λ verdict. (setup : SetupValue) (run : Run Talk)
+            → StandsAs setup run (run_parts self.old)
+            → EndsAs setup (goes_through by_themselves setup 0 events.now run) verdict
+            (run_parts self.new)) }
     {
         for (number, event) in events.iter().enumerate() {
             if !self.happens(alloc, *event)? {
@@ -149,7 +163,8 @@ impl<A: Allocator + Copy> RunSoFar<A> {
     /// The event happens. The answer is false where an end has found a packet that was not sent.
     fn happens(&mut self, alloc: A, event: Event) -> Result<bool, AllocError>
         requires { IsSteady (run_parts self.old) }
-        ensures { IfOk result (λ all_sent. Happens event all_sent (run_parts self.old) (run_parts self.new)) }
+        ensures { IfOk result (λ all_sent.
+            Happens event all_sent (run_parts self.old) (run_parts self.new)) }
     {
         match event {
             Event::Pass { side, n } => return self.pass(alloc, side, n as usize),
@@ -166,7 +181,8 @@ impl<A: Allocator + Copy> RunSoFar<A> {
     /// The next bytes come to the side as one piece.
     pub(crate) fn pass(&mut self, alloc: A, side: Side, n: usize) -> Result<bool, AllocError>
         requires { IsSteady (run_parts self.old) }
-        ensures { IfOk result (λ all_sent. Passes side n all_sent (run_parts self.old) (run_parts self.new)) }
+        ensures { IfOk result (λ all_sent.
+            Passes side n all_sent (run_parts self.old) (run_parts self.new)) }
     {
         match side {
             Side::Caller => deliver(alloc, &mut self.caller, &mut self.called, n),
@@ -176,7 +192,8 @@ impl<A: Allocator + Copy> RunSoFar<A> {
 
     /// The next bytes to the side are lost.
     fn lose(&mut self, side: Side, n: usize)
-        ensures { HappensAt (other side) (ChangesLine (drop n)) (run_parts self.old) (run_parts self.new) }
+        ensures { HappensAt (other side) (ChangesLine (drop n)) (run_parts self.old)
+            (run_parts self.new) }
     {
         match side {
             Side::Caller => self.called.line.pass(n),
@@ -186,7 +203,8 @@ impl<A: Allocator + Copy> RunSoFar<A> {
 
     /// The next byte to the side is changed.
     fn flip(&mut self, side: Side, mask: u8)
-        ensures { HappensAt (other side) (ChangesLine (flipped mask)) (run_parts self.old) (run_parts self.new) }
+        ensures { HappensAt (other side) (ChangesLine (flipped mask)) (run_parts self.old)
+            (run_parts self.new) }
     {
         match side {
             Side::Caller => self.called.line.flip(mask),
@@ -196,7 +214,9 @@ impl<A: Allocator + Copy> RunSoFar<A> {
 
     /// A byte is put in front of the next one to the side.
     fn insert(&mut self, side: Side, byte: u8) -> Result<(), AllocError>
-        ensures { OnOk result (HappensAt (other side) (ChangesLine (λ line. byte ∷ line)) (run_parts self.old) (run_parts self.new)) }
+        ensures { OnOk result
+            (HappensAt (other side) (ChangesLine (λ line. byte ∷ line)) (run_parts self.old)
+            (run_parts self.new)) }
     {
         match side {
             Side::Caller => self.called.line.insert(byte),
@@ -207,7 +227,8 @@ impl<A: Allocator + Copy> RunSoFar<A> {
     /// Nothing has come to the side for some time.
     pub(crate) fn time_out(&mut self, alloc: A, side: Side) -> Result<(), AllocError>
         requires { IsSteady (run_parts self.old) }
-        ensures { OnOk result (HappensAt side (IsCalled time_ran_out) (run_parts self.old) (run_parts self.new)) }
+        ensures { OnOk result
+            (HappensAt side (IsCalled time_ran_out) (run_parts self.old) (run_parts self.new)) }
     {
         match side {
             Side::Caller => self.caller.time_out(alloc),
@@ -218,7 +239,8 @@ impl<A: Allocator + Copy> RunSoFar<A> {
     /// The line is gone for the side.
     fn hang_up(&mut self, alloc: A, side: Side) -> Result<(), AllocError>
         requires { IsSteady (run_parts self.old) }
-        ensures { OnOk result (HappensAt side (IsCalled line_lost) (run_parts self.old) (run_parts self.new)) }
+        ensures { OnOk result
+            (HappensAt side (IsCalled line_lost) (run_parts self.old) (run_parts self.new)) }
     {
         match side {
             Side::Caller => self.caller.hang_up(alloc),
@@ -305,7 +327,9 @@ fn start_caller<A: Allocator + Copy>(
     place: Place,
     setup: EndSetup<A>,
 ) -> Result<LiveEnd<A>, AllocError>
-    ensures { IfOk result (λ end. HasBegun (record { side = caller; me = place.me; peer = place.peer }) (announced place.announce)
+    ensures { IfOk result (λ end.
+        HasBegun (record { side = caller; me = place.me; peer = place.peer })
+        (announced place.announce)
         place.number (all_ahead setup.queue) (held_by setup.spool) (parts_of end)) }
 {
     line_laws();
@@ -321,7 +345,9 @@ fn start_called<A: Allocator + Copy>(
     place: Place,
     setup: EndSetup<A>,
 ) -> Result<LiveEnd<A>, AllocError>
-    ensures { IfOk result (λ end. HasBegun (record { side = called; me = place.me; peer = place.peer }) (announced place.announce)
+    ensures { IfOk result (λ end.
+        HasBegun (record { side = called; me = place.me; peer = place.peer })
+        (announced place.announce)
         place.number (all_ahead setup.queue) (held_by setup.spool) (parts_of end)) }
 {
     line_laws();
@@ -343,7 +369,8 @@ fn deliver<A: Allocator + Copy>(
     requires ordered { IsOrdered (parts_of hearer.old) }
     requires room { HasRoom (parts_of hearer.old) }
     requires written { AreWritten (parts_of speaker.old).jottings.packets }
-    ensures heard { IfOk result (λ all_sent. HearsPiece all_sent (parts_of speaker.old).jottings.packets
+    ensures heard { IfOk result (λ all_sent.
+        HearsPiece all_sent (parts_of speaker.old).jottings.packets
         (take n (parts_of speaker.old).line) (parts_of hearer.old) (parts_of hearer.new)) }
     ensures line { OnOk result (parts_of speaker.new ≡ with_line (drop n) (parts_of speaker.old)) }
 {

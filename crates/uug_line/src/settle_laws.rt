@@ -31,7 +31,8 @@ fn clean_laws()
 /// more than six timeouts in a row, rounds lead to where both sessions are done, each end has taken all messages of the
 /// other, and its jobs and its store are those behind the whole conversation.
 pub fn two_ends_finish_on_a_clean_line()
-    ensures { (setup : SetupValue) (events : List Event) → AreOfTypes setup events → MaySettle (world setup events)
+    ensures { (setup : SetupValue) (events : List Event) → AreOfTypes setup events
+        → MaySettle (world setup events)
         → Settles setup events }
 {
     clean_laws();
@@ -41,7 +42,8 @@ pub fn two_ends_finish_on_a_clean_line()
 
 /// The same for the loop that passes the rounds.
 pub(crate) fn rounds_lead_to_the_end()
-    ensures { (setup : SetupValue) (events : List Event) → AreOfTypes setup events → MaySettle (world setup events)
+    ensures { (setup : SetupValue) (events : List Event) → AreOfTypes setup events
+        → MaySettle (world setup events)
         → SettlesFrom setup (length events) (world setup events) }
 {
     clean_laws();

@@ -36,7 +36,8 @@ pub fn settle<A: Allocator + Copy>(alloc: A, report: Report<A>) -> Result<Report
     ensures clean { IfOk result (λ settled. settled.told.verdict ≡ Clean) }
     // Of whatever two ends and events the report was, it is now of these events and those of the rounds behind them; each end
     // has then taken all messages of the other, and has what it has after the whole conversation.
-    ensures world { IfOk result (λ settled. (setup : SetupValue) (events : List Event) → IsRunOf setup events report
+    ensures world { IfOk result (λ settled. (setup : SetupValue) (events : List Event)
+        → IsRunOf setup events report
         → SettlesInto setup events settled) }
 {
     a_run_is_the_world();
@@ -50,7 +51,8 @@ impl<A: Allocator + Copy> Report<A> {
     /// The run whose report it is, as it stands.
     fn into_run(self) -> RunSoFar<A>
         ensures of_a_run { IsOfSomeRun self }
-        ensures same { (parts : RunParts) → whole_report parts self.told.verdict ≡ self → run_parts result ≡ parts }
+        ensures same { (parts : RunParts) → whole_report parts self.told.verdict ≡ self
+            → run_parts result ≡ parts }
     {
         let Report {
             mut sessions,
@@ -72,7 +74,8 @@ impl<A: Allocator + Copy> Report<A> {
 impl<A: Allocator + Copy> LastEnd<A> {
     /// The end in its session, of which this is reported.
     fn goes_on(self, report: EndReport<A>) -> LiveEnd<A>
-        ensures { parts_of result ≡ part_from (end_shown report) (left_of self) (held_by self.node.spool) }
+        ensures { parts_of result
+            ≡ part_from (end_shown report) (left_of self) (held_by self.node.spool) }
     {
         let journal = Journal::from_report(report, self.passed);
         LiveEnd {
@@ -87,7 +90,8 @@ impl<A: Allocator + Copy> RunSoFar<A> {
     /// Passes what is on the line, round by round, until both sessions are over. Both ends have waited too long first.
     pub(crate) fn finish(&mut self, alloc: A) -> Result<(), AllocError>
         requires { CanFinish (run_parts self.old) }
-        ensures { OnOk result ((setup : SetupValue) (events : List Event) → MayFinish setup events (run_parts self.old)
+        ensures { OnOk result ((setup : SetupValue) (events : List Event)
+            → MayFinish setup events (run_parts self.old)
             → IsFinished setup events (run_parts self.new)) }
     {
         a_run_is_the_world();
@@ -108,7 +112,8 @@ impl<A: Allocator + Copy> RunSoFar<A> {
     /// packet that was not sent.
     fn round(&mut self, alloc: A) -> Result<bool, AllocError>
         requires { IsSteady (run_parts self.old) }
-        ensures { IfOk result (λ all_sent. RoundHappens all_sent (run_parts self.old) (run_parts self.new)) }
+        ensures { IfOk result (λ all_sent.
+            RoundHappens all_sent (run_parts self.old) (run_parts self.new)) }
     {
         let to_called = self.caller.line.len();
         if !self.pass(alloc, Side::Called, to_called)? {

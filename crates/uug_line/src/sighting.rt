@@ -35,7 +35,8 @@ pub(crate) fn sight<A: Allocator + Copy>(
     requires { AreWritten (lists_in others.now) }
     ensures found { node_of node.new ≡ searched (node_of node.old) }
     ensures spool { node.new.spool ≡ node.old.spool }
-    ensures room { item_size (node_of node.new) ≡ 0 → length (held_bytes (node_of node.new)) < READER_SIZE }
+    ensures room { item_size (node_of node.new) ≡ 0
+        → length (held_bytes (node_of node.new)) < READER_SIZE }
     ensures next { SightsNext (node_of node.new) (lists_in others.now) passed result }
 {
     packets_are_well_formed();
@@ -67,7 +68,8 @@ fn place_of<A: Allocator>(
 ) -> Option<usize>
     requires writable { IsWritable (shown packet.now) }
     requires written { AreWritten (lists_in others.now) }
-    ensures { MatchOption result (StandsNowhere (canonical (shown packet.now)) (lists_in others.now) passed)
+    ensures { MatchOption result
+        (StandsNowhere (canonical (shown packet.now)) (lists_in others.now) passed)
         (λ place. StandsAt (canonical (shown packet.now)) (lists_in others.now) passed place) }
 {
     for i in passed..others.len() {
@@ -82,7 +84,8 @@ fn stands_at<A: Allocator>(packet: &Packet<'_>, others: &[Vec<u8, A>], i: usize)
     requires within { i < length others.now }
     requires writable { IsWritable (shown packet.now) }
     requires written { AreWritten (lists_in others.now) }
-    ensures { IsTrue result ↔ (slice_get (lists_in others.now) i ≡ Some (canonical (shown packet.now))) }
+    ensures { IsTrue result ↔ (slice_get (lists_in others.now) i
+        ≡ Some (canonical (shown packet.now))) }
 {
     is_written(packet, others[i].as_slice())
 }

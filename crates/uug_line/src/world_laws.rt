@@ -118,16 +118,19 @@ pub fn each_end_has_said_what_it_can()
 pub fn a_run_stops_at_what_was_not_sent()
     // Arrivals are places among the packets that the other end emitted. That they are those of the packets that the end found
     // in the bytes that came to it is the law `an_end_finds_what_came`.
-    ensures places { (setup : SetupValue) (events : List Event) → All ArrivalsArePlaces (report_of_ends setup events).sessions }
+    ensures places { (setup : SetupValue) (events : List Event)
+        → All ArrivalsArePlaces (report_of_ends setup events).sessions }
     // A run that did not stop found no others in the bytes that came.
-    ensures clean { (setup : SetupValue) (events : List Event) → (run_of_ends setup events).verdict ≡ Clean
+    ensures clean { (setup : SetupValue) (events : List Event)
+        → (run_of_ends setup events).verdict ≡ Clean
         → (side : Side) → FindsNothingMore (end_at side (run_of_ends setup events)) }
     // The verdict names the side that has found one, and the first event with which one did.
     ensures fooled { (setup : SetupValue) (events : List Event) (side : Side)
         → ((number : ℕ) × ((run_of_ends setup events).verdict ≡ Fooled number side))
         ↔ FindsUnsent (run_of_ends setup events) side }
     ensures stopped { (setup : SetupValue) (events : List Event) (number : ℕ) (side : Side)
-        → (run_of_ends setup events).verdict ≡ Fooled number side → StoppedAt by_themselves setup events number side }
+        → (run_of_ends setup events).verdict ≡ Fooled number side
+        → StoppedAt by_themselves setup events number side }
 {
     arrivals();
     what_is_found_stays();
@@ -137,16 +140,20 @@ pub fn a_run_stops_at_what_was_not_sent()
 /// events, of which the laws here speak as of any.
 pub fn sessions_that_are_over_stay()
     ensures stay { (setup : SetupValue) (events more : List Event) → StayOver setup events more }
-    ensures were_present { (setup : SetupValue) (events : List Event) (number : ℕ) (session : AtBoth EndReportValue)
-        → slice_get (run_of_ends setup events).past number ≡ Some session → WasPresent setup events number session }
+    ensures were_present { (setup : SetupValue) (events : List Event) (number : ℕ)
+        (session : AtBoth EndReportValue)
+        → slice_get (run_of_ends setup events).past number ≡ Some session
+        → WasPresent setup events number session }
 {}
 
 /// Whatever happens on the line, what comes to an end in a session is bytes, where what the run is given is of bytes, as the
 /// program's types say.
 pub fn what_comes_is_bytes()
-    ensures ends { (setup : SetupValue) (events : List Event) (side : Side) → IsSoundSetup setup → IsSetupOfBytes setup
+    ensures ends { (setup : SetupValue) (events : List Event) (side : Side) → IsSoundSetup setup
+        → IsSetupOfBytes setup
         → AreOfBytes events → AreBytes (at side (came_in by_themselves setup events)) }
-    ensures world { (setup : SetupValue) (events : List Event) (side : Side) → IsSoundSetup setup → IsSetupOfBytes setup
+    ensures world { (setup : SetupValue) (events : List Event) (side : Side) → IsSoundSetup setup
+        → IsSetupOfBytes setup
         → AreOfBytes events → AreBytes (at side (came_in by_numbers setup events)) }
 {
     laws_below();
@@ -170,7 +177,8 @@ fn what_is_found_in_bytes()
         (run_of_ends setup events) side heard }
     ensures world { (setup : SetupValue) (events : List Event) (side : Side)
         → AreBytes (at side (came_in by_numbers setup events))
-        → HasHeardAt by_numbers setup (at side (came_in by_numbers setup events)) (world setup events)
+        → HasHeardAt by_numbers setup (at side (came_in by_numbers setup events))
+        (world setup events)
         side }
 {
     arrivals();
@@ -186,21 +194,25 @@ fn what_is_found_in_bytes()
 /// that have places among those of the other end are the packets among these items, and no others. A session that is over was the
 /// present one behind fewer events.
 pub fn an_end_finds_what_came()
-    ensures heard { (setup : SetupValue) (events : List Event) (side : Side) → IsSoundSetup setup → IsSetupOfBytes setup
+    ensures heard { (setup : SetupValue) (events : List Event) (side : Side) → IsSoundSetup setup
+        → IsSetupOfBytes setup
         → AreOfBytes events
         → HasHeardAt by_themselves setup (at side (came_in by_themselves setup events))
         (run_of_ends setup events) side }
     // Where the run did not stop, an end on its link has found the whole scan of them.
-    ensures scanned { (setup : SetupValue) (events : List Event) (side : Side) → IsSoundSetup setup → IsSetupOfBytes setup
+    ensures scanned { (setup : SetupValue) (events : List Event) (side : Side) → IsSoundSetup setup
+        → IsSetupOfBytes setup
         → AreOfBytes events → (run_of_ends setup events).verdict ≡ Clean
         → (heard : HasHeardAt by_themselves setup (at side (came_in by_themselves setup events))
         (run_of_ends setup events) side)
         → HasScanned by_themselves setup (at side (came_in by_themselves setup events))
         (run_of_ends setup events) side heard }
     // So it is in the world.
-    ensures world { (setup : SetupValue) (events : List Event) (side : Side) → IsSoundSetup setup → IsSetupOfBytes setup
+    ensures world { (setup : SetupValue) (events : List Event) (side : Side) → IsSoundSetup setup
+        → IsSetupOfBytes setup
         → AreOfBytes events
-        → HasHeardAt by_numbers setup (at side (came_in by_numbers setup events)) (world setup events)
+        → HasHeardAt by_numbers setup (at side (came_in by_numbers setup events))
+        (world setup events)
         side }
 {
     what_comes_is_bytes();

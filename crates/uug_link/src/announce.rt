@@ -33,7 +33,8 @@ impl Announce {
     pub fn new(window: u8, size: usize) -> Result<Self, BadAnnounce>
         ensures window { IfOk result (λ a. (announced a).window ≡ window) }
         ensures size { IfOk result (λ a. size_of_code (announced a).size_code ≡ size) }
-        ensures bad_window { IsErrOf result BadAnnounce.BadWindow ↔ ((window < 1) ⊎ (WINDOW_MAX < window)) }
+        ensures bad_window { IsErrOf result BadAnnounce.BadWindow ↔ ((window < 1)
+            ⊎ (WINDOW_MAX < window)) }
         ensures bad_size { IsErrOf result BadAnnounce.BadSize ↔
             (IsWindow window × (IsSize size → ⊥)) }
     {

@@ -38,10 +38,12 @@ pub fn what_a_link_answers()
     ensures answers { (s : State) (e : Event) → MayAnswer (step s e).outcome e }
     // The answer to a packet, a broken one or a timeout tells how the phase moves: Up, GaveUp and Closed say that the
     // link has come up or has ended, and no other answer does.
-    ensures phases { (s : State) (e : Event) → IsComing e → MovesPhase (step s e).outcome s.phase (step s e).state.phase }
+    ensures phases { (s : State) (e : Event) → IsComing e
+        → MovesPhase (step s e).outcome s.phase (step s e).state.phase }
     // How the calls move it.
     ensures begins { (s : State) → IsFresh s → (step s to_begin).state.phase ≡ AwaitsInitA }
-    ensures sends { (s : State) (message : List ℕ) → IsUp s → (step s (to_send message)).state.phase ≡ Up }
+    ensures sends { (s : State) (message : List ℕ) → IsUp s
+        → (step s (to_send message)).state.phase ≡ Up }
     ensures closes { (s : State) → IsUp s → (step s to_close).state.phase ≡ Closing }
     // A link that has ended answers Halted from then on, and emits and changes nothing.
     ensures ended { (s : State) (e : Event) → s.phase ≡ Halted → step s e ≡ answers_halted s }
@@ -49,7 +51,8 @@ pub fn what_a_link_answers()
     ensures firsts { (s : State) (e : Event) → FirstBySend e (step s e).emitted }
     // What this end has announced stays, and on a link that is up so do the size and the window.
     ensures own_stays { (s : State) (e : Event) → (step s e).state.own ≡ s.own }
-    ensures size_stays { (s : State) (e : Event) → IsUp s → (step s e).state.size_code ≡ s.size_code }
+    ensures size_stays { (s : State) (e : Event) → IsUp s
+        → (step s e).state.size_code ≡ s.size_code }
     ensures window_stays { (s : State) (e : Event) → IsUp s → (step s e).state.window ≡ s.window }
 {}
 
@@ -67,11 +70,14 @@ pub fn no_peer_leads_a_link_astray()
     ensures no_number { (s : State) (p : PacketValue) → acknowledgement p ≡ None
         → (step s (packet_found p)).state.unacked ≡ s.unacked }
     // No packet moves the numbers out of their bounds, or changes the number that the next message gets.
-    ensures numbers { (s : State) (p : PacketValue) → HasNumbers s → HasNumbers (step s (packet_found p)).state }
-    ensures next { (s : State) (p : PacketValue) → next_number (step s (packet_found p)).state ≡ next_number s }
+    ensures numbers { (s : State) (p : PacketValue) → HasNumbers s
+        → HasNumbers (step s (packet_found p)).state }
+    ensures next { (s : State) (p : PacketValue)
+        → next_number (step s (packet_found p)).state ≡ next_number s }
     // A link comes up by INITC, with the smaller of that window and of the INITA's before it.
     ensures window { (s : State) (p : PacketValue) → (step s (packet_found p)).outcome ≡ up
-        → (y : ℕ) × (p ≡ control (init_c y)) × IsSmallerOf y s.window (step s (packet_found p)).state.window }
+        → (y : ℕ) × (p ≡ control (init_c y))
+        × IsSmallerOf y s.window (step s (packet_found p)).state.window }
 {}
 
 /// A message goes out in the smallest field that holds it, whatever size the other end has announced: for the first time
@@ -86,9 +92,12 @@ pub fn messages_go_out_in_the_smallest_field()
 pub fn what_a_link_emits_can_be_written()
     // Each announcement of the program is a right one.
     ensures right { (a : Announce) → IsAnnouncement (announced a) }
-    ensures first { (own : Announced) → IsAnnouncement own → IsInRange (caller_state own) × IsInRange (called_state own) }
-    ensures stays { (s : State) (e : Event) → IsInRange s → MayMeet s e → IsInRange (step s e).state }
-    ensures emitted { (s : State) (e : Event) → IsInRange s → MayMeet s e → AreWellFormed (step s e).emitted }
+    ensures first { (own : Announced) → IsAnnouncement own
+        → IsInRange (caller_state own) × IsInRange (called_state own) }
+    ensures stays { (s : State) (e : Event) → IsInRange s → MayMeet s e
+        → IsInRange (step s e).state }
+    ensures emitted { (s : State) (e : Event) → IsInRange s → MayMeet s e
+        → AreWellFormed (step s e).emitted }
 {}
 
 /// What holds after every run of the window machine, of each direction `d` and the opposite one `o`: whatever was sent,
@@ -107,8 +116,10 @@ pub fn the_window_is_safe()
     ensures acks { Always (λ d o. AcksRise d o) }
     // So a data packet with the digit of the expected one is that one, and the digit of an acknowledgement gives the
     // number: as far ahead of what counts as acknowledged as the digits are apart.
-    ensures number_digits { Always (λ d o. EachNumber (λ n. n % 8 ≡ d.taken % 8 → n ≡ d.taken) d.flight) }
-    ensures ack_digits { Always (λ d o. EachAck (λ a. a ≡ o.acked + (a % 8 + 8 - o.acked % 8) % 8) d.flight) }
+    ensures number_digits { Always (λ d o.
+        EachNumber (λ n. n % 8 ≡ d.taken % 8 → n ≡ d.taken) d.flight) }
+    ensures ack_digits { Always (λ d o.
+        EachAck (λ a. a ≡ o.acked + (a % 8 + 8 - o.acked % 8) % 8) d.flight) }
 {}
 
 /// Two links, whatever is lost between them, run as the window machine: with its numbers and acknowledgements on the
@@ -149,13 +160,16 @@ pub fn each_occurrence_is_moves_of_the_machine()
         IsReached far.window near.window m → ReadsBoth ends m →
         (made : List Move) × MovesWith ends o m made }
     // There are no other such moves.
-    ensures alone { (near far : Announced) (ends : Ends) (o : Occurrence) (m : Machine) (made others : List Move) →
+    ensures alone { (near far : Announced) (ends : Ends) (o : Occurrence) (m : Machine)
+        (made others : List Move) →
         IsWindow near.window → IsWindow far.window → IsReached far.window near.window m →
         MovesWith ends o m made → MovesWith ends o m others → made ≡ others }
     // So each run is one of the machine from its start, occurrence by occurrence.
     ensures whole { (near far : Announced) (a b : State) (os : List Occurrence) →
-        IsWindow near.window → IsWindow far.window → IsFirst near a → IsFirst far b → AllMayOccur (first_ends a b) os →
-        (made : List (List Move)) × AllMoveWith (first_ends a b) os (start far.window near.window) made }
+        IsWindow near.window → IsWindow far.window → IsFirst near a → IsFirst far b
+        → AllMayOccur (first_ends a b) os →
+        (made : List (List Move))
+        × AllMoveWith (first_ends a b) os (start far.window near.window) made }
 {
     the_window_is_safe();
     no_peer_leads_a_link_astray();
@@ -184,7 +198,8 @@ pub fn arrivals()
         ((i : ℕ) → passed ≤ i → slice_get emitted i ≢ Some p)
         (λ i. IsPlace p emitted passed i) }
     // An arrival is so many misses and then a hearing, and makes a run longer.
-    ensures happens { (e other : End) (p : PacketValue) (i : ℕ) → IsPlace p other.emitted e.passed i →
+    ensures happens { (e other : End) (p : PacketValue) (i : ℕ)
+        → IsPlace p other.emitted e.passed i →
         AllMayHappen e other (as_happenings p e.passed i)
         × (after_happenings e (as_happenings p e.passed i) ≡ arrived p i e) }
     ensures longer { (near far : Announced) (ends : Ends) (p : PacketValue) (i : ℕ) →
@@ -204,7 +219,8 @@ pub fn what_two_links_emit_arrives()
     // An acknowledgement that arrives at a link that is up counts: the packet behind that one is then the oldest.
     ensures acknowledges { (near far : Announced) (ends : Ends) (p : PacketValue) (place y : ℕ) →
         IsWindow near.window → IsWindow far.window → IsRun near far ends → IsUp ends.near.link →
-        ends.near.passed ≤ place → slice_get ends.far.emitted place ≡ Some p → acknowledgement p ≡ Some y →
+        ends.near.passed ≤ place → slice_get ends.far.emitted place ≡ Some p
+        → acknowledgement p ≡ Some y →
         (step ends.near.link (packet_found p)).state.oldest ≡ (y + 1) % 8 }
 {
     the_window_is_safe();
@@ -216,19 +232,24 @@ pub fn what_two_links_emit_arrives()
 pub fn a_clean_line_brings_all()
     // A packet that arrives, whatever was lost before it, leaves the others on the way; it is taken where it is the expected
     // one, what it acknowledges counts, and data is always answered.
-    ensures hears { (near far : Announced) (ends : Ends) (p : PacketValue) (ps : List PacketValue) (place : ℕ) →
-        IsWindow near.window → IsWindow far.window → IsRun near far ends → IsUp ends.near.link → IsTalk p →
+    ensures hears { (near far : Announced) (ends : Ends) (p : PacketValue) (ps : List PacketValue)
+        (place : ℕ) →
+        IsWindow near.window → IsWindow far.window → IsRun near far ends → IsUp ends.near.link
+        → IsTalk p →
         AreComing ends.far ends.near (p ∷ ps) → IsPlace p ends.far.emitted ends.near.passed place →
         AreComing ends.far (arrived p place ends.near) ps
-        × Hears p ends.near.link (arrived p place ends.near).link (emitted_by ends.near.link (packet_found p)) }
+        × Hears p ends.near.link (arrived p place ends.near).link
+        (emitted_by ends.near.link (packet_found p)) }
     // So where the packets on the way bring and tell all, they do so behind it, in both directions.
     ensures still { (p : PacketValue) (before after : State) (answer : List PacketValue) →
         Hears p before after answer → StillBring p before after answer }
     // A message that is sent is brought by its packet, and a timeout brings again what is outstanding.
     ensures sends { (s : State) (message : List ℕ) → IsUp s → s.expected < 8 →
         Sends s (step s (to_send message)).state (emitted_by s (to_send message)) }
-    ensures repeats { (s : State) → IsUp s → s.oldest < 8 → s.expected < 8 → length s.unacked ≤ WINDOW_MAX →
-        s.timeouts + 1 < TIMEOUTS_MAX → Repeats s (step s timed_out).state (emitted_by s timed_out) }
+    ensures repeats { (s : State) → IsUp s → s.oldest < 8 → s.expected < 8
+        → length s.unacked ≤ WINDOW_MAX →
+        s.timeouts + 1 < TIMEOUTS_MAX
+        → Repeats s (step s timed_out).state (emitted_by s timed_out) }
 {
     the_window_is_safe();
     no_peer_leads_a_link_astray();

@@ -91,7 +91,8 @@ impl Link {
 
     /// Takes up that a broken packet was found, and asks for the expected one unless it has been asked for.
     pub fn on_bad<A: Allocator>(&mut self, out: &mut Outbox<A>) -> Result<Outcome, LinkFault>
-        ensures { Follows (step self.old bad_found) self.old self.new out.old out.new (answered result) }
+        ensures { Follows (step self.old bad_found) self.old self.new out.old out.new
+            (answered result) }
     {
         let reaction = self.status.after_bad();
         self.react(reaction, out)
@@ -100,7 +101,8 @@ impl Link {
     /// Takes up that nothing has come for some time, and emits what may be lost again. The eighth time in a row without
     /// progress ends the link: CLOSE is emitted, and the answer is `GaveUp`.
     pub fn on_timeout<A: Allocator>(&mut self, out: &mut Outbox<A>) -> Result<Outcome, LinkFault>
-        ensures { Follows (step self.old timed_out) self.old self.new out.old out.new (answered result) }
+        ensures { Follows (step self.old timed_out) self.old self.new out.old out.new
+            (answered result) }
     {
         let reaction = self.status.after_timeout();
         self.react(reaction, out)
@@ -122,7 +124,8 @@ impl Link {
     ) -> Result<(), AllocError>
         requires room { HasRoom self.old }
         requires fits { length message.now ≤ size_of_code self.old.size_code }
-        ensures { Follows (step self.old (to_send message.now)) self.old self.new out.old out.new (done result) }
+        ensures { Follows (step self.old (to_send message.now)) self.old self.new out.old out.new
+            (done result) }
     {
         packets_are_well_formed();
         let number = plus(self.status.oldest, self.slots.len());
@@ -158,7 +161,8 @@ impl Link {
 
     /// Whether `on_packet` would answer `Taken` to this packet, if it is not refused memory.
     pub fn takes(&self, packet: &Packet<'_>) -> bool
-        ensures { IsTrue result ↔ ((step self.now (packet_found (shown packet.now))).outcome ≡ taken) }
+        ensures { IsTrue result ↔ ((step self.now (packet_found (shown packet.now))).outcome
+            ≡ taken) }
     {
         match (self.status.phase, packet) {
             (Phase::Up, Packet::Carry { seq, .. }) => *seq == self.status.received.next(),
@@ -238,12 +242,15 @@ impl Link {
         requires keeps { Keeps self.old (effect_of reaction self.old.unacked).state }
         ensures ok { OnOk result (self.new ≡ (effect_of reaction self.old.unacked).state) }
         ensures emitted { OnOk result
-            (out.new.entries ≡ out.old.entries ++ map written (effect_of reaction self.old.unacked).emitted) }
+            (out.new.entries
+            ≡ out.old.entries ++ map written (effect_of reaction self.old.unacked).emitted) }
         ensures unchanged { OnErr result (self.new ≡ self.old) }
         ensures kept { OnErr result (out.new.entries ≡ out.old.entries) }
         ensures spare_kept { OnErr result (out.old.spare ≤ out.new.spare) }
-        ensures memory { length (effect_of reaction self.old.unacked).emitted ≤ out.old.spare → IsOk result }
-        ensures spare { out.old.spare ≤ out.new.spare + length (effect_of reaction self.old.unacked).emitted }
+        ensures memory { length (effect_of reaction self.old.unacked).emitted ≤ out.old.spare
+            → IsOk result }
+        ensures spare { out.old.spare
+            ≤ out.new.spare + length (effect_of reaction self.old.unacked).emitted }
         ensures few { length (effect_of reaction self.old.unacked).emitted ≤ WINDOW_MAX }
     {
         let left = self.slots.len() - reaction.strikes;

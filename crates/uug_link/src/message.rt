@@ -23,7 +23,8 @@ impl Status {
     /// The data packet that carries a message, in the smallest field that holds it.
     fn data_packet<'a>(self, number: Seq, message: &'a [u8]) -> Packet<'a>
         requires { length message.now ≤ MESSAGE_MAX }
-        ensures packet { shown result ≡ data_packet (state_of self []) (number_of number) message.now }
+        ensures packet { shown result
+            ≡ data_packet (state_of self []) (number_of number) message.now }
         ensures writable { IsWritable (shown result) }
     {
         Packet::Carry {
@@ -84,7 +85,8 @@ impl Status {
     /// Emits what goes out. There is room for it.
     pub(crate) fn emit<A: Allocator>(self, emits: Emits, slots: &mut Slots, out: &mut Outbox<A>)
         requires slots { AreSlots (number_of self.oldest) slots.old }
-        requires room { length (emitted_of emits (state_of self (messages_in slots.old))) ≤ out.old.spare }
+        requires room { length (emitted_of emits (state_of self (messages_in slots.old)))
+            ≤ out.old.spare }
         ensures slots { AreSlots (number_of self.oldest) slots.new }
         ensures messages { messages_in slots.new ≡ messages_in slots.old }
         ensures emitted { out.new.entries ≡ out.old.entries
@@ -141,7 +143,8 @@ impl Status {
         ensures slots { AreSlots (number_of self.oldest) slots.new }
         ensures messages { messages_in slots.new ≡ messages_in slots.old }
         ensures emitted { out.new.entries ≡ out.old.entries ++ written (record {
-          packet = data_packet (state_of self []) ((number_of self.oldest + i) % 8) (get_or (messages_in slots.old) i []);
+          packet = data_packet (state_of self []) ((number_of self.oldest + i) % 8)
+              (get_or (messages_in slots.old) i []);
           first = false;
         }) ∷ [] }
         ensures spare { out.old.spare ≤ out.new.spare + 1 }

@@ -24,7 +24,8 @@ impl<A: Allocator> Model for Outbox<A> {
 
     ghost view = { λ o. record {
       entries = entries_from 0 o.marks.items o.bytes.items;
-      spare = spare_of (vec_capacity o.bytes - vec_len o.bytes) (vec_capacity o.marks - vec_len o.marks);
+      spare = spare_of (vec_capacity o.bytes - vec_len o.bytes)
+          (vec_capacity o.marks - vec_len o.marks);
     } };
 
     ghost invariant = { λ o. AreCuts 0 o.marks.items (length o.bytes.items) };
@@ -128,7 +129,8 @@ impl<A: Allocator> Outbox<A> {
     }
 
     fn add(&mut self, kind: EntryKind, bytes: &[u8]) -> Result<(), AllocError>
-        ensures ok { OnOk result (self.new.entries ≡ self.old.entries ++ entry_of kind bytes.now ∷ []) }
+        ensures ok { OnOk result (self.new.entries
+            ≡ self.old.entries ++ entry_of kind bytes.now ∷ []) }
         ensures err { OnErr result (self.new.entries ≡ self.old.entries) }
         ensures kept { OnErr result (self.old.spare ≤ self.new.spare) }
         ensures memory { length bytes.now ≤ PACKET_MAX → 0 < self.old.spare → IsOk result }

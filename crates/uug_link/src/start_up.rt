@@ -17,7 +17,8 @@ impl Status {
     pub(crate) fn after_init_a(self, window: Seq) -> Reaction
         ensures strikes { result.strikes ≡ 0 }
         ensures effect { (ms : List (List ℕ)) →
-            effect_of result ms ≡ on_init_a self.role self.phase (number_of window) (state_of self ms) }
+            effect_of result ms
+            ≡ on_init_a self.role self.phase (number_of window) (state_of self ms) }
     {
         let moved = Status {
             phase: Phase::AwaitsInitB,
@@ -38,7 +39,8 @@ impl Status {
     pub(crate) fn after_init_b(self, size_code: Seq) -> Reaction
         ensures strikes { result.strikes ≡ 0 }
         ensures effect { (ms : List (List ℕ)) →
-            effect_of result ms ≡ on_init_b self.role self.phase (number_of size_code) (state_of self ms) }
+            effect_of result ms
+            ≡ on_init_b self.role self.phase (number_of size_code) (state_of self ms) }
     {
         let moved = Status {
             phase: Phase::AwaitsInitC,
@@ -59,7 +61,8 @@ impl Status {
     pub(crate) fn after_init_c(self, window: Seq) -> Reaction
         ensures strikes { result.strikes ≡ 0 }
         ensures effect { (ms : List (List ℕ)) →
-            effect_of result ms ≡ on_init_c self.role self.phase (number_of window) (state_of self ms) }
+            effect_of result ms
+            ≡ on_init_c self.role self.phase (number_of window) (state_of self ms) }
     {
         let moved = Status {
             phase: Phase::Up,

@@ -58,7 +58,8 @@ impl Status {
     pub(crate) fn after_begin(self) -> Reaction
         requires { IsFresh (state_of self []) }
         ensures strikes { result.strikes ≡ 0 }
-        ensures effect { (ms : List (List ℕ)) → effect_of result ms ≡ step (state_of self ms) to_begin }
+        ensures effect { (ms : List (List ℕ))
+            → effect_of result ms ≡ step (state_of self ms) to_begin }
     {
         let status = Status {
             phase: Phase::AwaitsInitA,
@@ -83,7 +84,8 @@ impl Status {
     /// Takes up that a broken packet was found.
     pub(crate) fn after_bad(self) -> Reaction
         ensures strikes { result.strikes ≡ 0 }
-        ensures effect { (ms : List (List ℕ)) → effect_of result ms ≡ step (state_of self ms) bad_found }
+        ensures effect { (ms : List (List ℕ))
+            → effect_of result ms ≡ step (state_of self ms) bad_found }
     {
         match self.phase {
             Phase::Halted => self.refusing(),
@@ -95,7 +97,8 @@ impl Status {
     /// Takes up that nothing has come for some time.
     pub(crate) fn after_timeout(self) -> Reaction
         ensures strikes { result.strikes ≡ 0 }
-        ensures effect { (ms : List (List ℕ)) → effect_of result ms ≡ step (state_of self ms) timed_out }
+        ensures effect { (ms : List (List ℕ))
+            → effect_of result ms ≡ step (state_of self ms) timed_out }
     {
         if let Phase::Halted = self.phase {
             return self.refusing();
@@ -129,7 +132,8 @@ impl Status {
     pub(crate) fn after_shutdown(self) -> Reaction
         requires { IsUp (state_of self []) }
         ensures strikes { result.strikes ≡ 0 }
-        ensures effect { (ms : List (List ℕ)) → effect_of result ms ≡ step (state_of self ms) to_close }
+        ensures effect { (ms : List (List ℕ))
+            → effect_of result ms ≡ step (state_of self ms) to_close }
     {
         let status = Status {
             phase: Phase::Closing,
@@ -165,7 +169,8 @@ impl Status {
     /// Takes up the other end's CLOSE.
     fn after_close(self) -> Reaction
         ensures strikes { result.strikes ≡ 0 }
-        ensures effect { (ms : List (List ℕ)) → effect_of result ms ≡ on_close self.phase (state_of self ms) }
+        ensures effect { (ms : List (List ℕ))
+            → effect_of result ms ≡ on_close self.phase (state_of self ms) }
     {
         let emits = match self.phase {
             Phase::Closing => Emits::Nothing,
@@ -185,7 +190,8 @@ impl Status {
     /// What goes out again when nothing has come for some time.
     fn repeated(self) -> Emits
         ensures { (ms : List (List ℕ)) →
-            emitted_of result (state_of self ms) ≡ repeated self.role self.phase (state_of self ms) }
+            emitted_of result (state_of self ms)
+            ≡ repeated self.role self.phase (state_of self ms) }
     {
         match (self.role, self.phase) {
             (Role::Caller, Phase::AwaitsInitA) => Emits::Control(Control::InitA(self.own.window)),
@@ -220,7 +226,8 @@ impl Status {
 
     pub(crate) fn emitting(self, control: Control) -> Reaction
         ensures strikes { result.strikes ≡ 0 }
-        ensures effect { (ms : List (List ℕ)) → effect_of result ms ≡ answers (state_of self ms) (shown_control control) nothing }
+        ensures effect { (ms : List (List ℕ))
+            → effect_of result ms ≡ answers (state_of self ms) (shown_control control) nothing }
     {
         Reaction {
             emits: Emits::Control(control),
@@ -243,7 +250,8 @@ impl Status {
     /// The answer of a link that has ended.
     fn refusing(self) -> Reaction
         ensures strikes { result.strikes ≡ 0 }
-        ensures effect { (ms : List (List ℕ)) → effect_of result ms ≡ answers_halted (state_of self ms) }
+        ensures effect { (ms : List (List ℕ))
+            → effect_of result ms ≡ answers_halted (state_of self ms) }
     {
         Reaction {
             reply: Reply::Halted,

@@ -39,7 +39,8 @@ impl Status {
     pub(crate) fn after_data(self, number: Seq, ack: Seq, outstanding: usize) -> Reaction
         ensures strikes { result.strikes ≤ outstanding }
         ensures effect { (ms : List (List ℕ)) → length ms ≡ outstanding →
-            effect_of result ms ≡ on_data self.phase (number_of number) (number_of ack) (state_of self ms) }
+            effect_of result ms
+            ≡ on_data self.phase (number_of number) (number_of ack) (state_of self ms) }
     {
         let Phase::Up = self.phase else {
             return self.ignoring();
@@ -54,7 +55,8 @@ impl Status {
     /// Takes up the number of a data packet, on a link that is up.
     fn after_number(self, number: Seq) -> Reaction
         ensures strikes { result.strikes ≡ 0 }
-        ensures effect { (ms : List (List ℕ)) → effect_of result ms ≡ on_number (number_of number) (state_of self ms) }
+        ensures effect { (ms : List (List ℕ))
+            → effect_of result ms ≡ on_number (number_of number) (state_of self ms) }
     {
         if number == self.received.next() {
             let status = Status {

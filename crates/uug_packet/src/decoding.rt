@@ -40,7 +40,8 @@ pub enum NoPacket {
 
 /// The control packet that a control byte says.
 fn control_of(byte: u8) -> Option<Control>
-    ensures { MatchOption result (control_of byte ≡ None) (λ c. control_of byte ≡ Some (shown_control c)) }
+    ensures { MatchOption result (control_of byte ≡ None) (λ c.
+        control_of byte ≡ Some (shown_control c)) }
 {
     let y = Seq::of_low_bits(byte);
     match byte / 8 {

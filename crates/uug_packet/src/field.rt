@@ -77,7 +77,8 @@ pub fn kind_of(control: u8) -> Option<FieldKind>
 pub fn message_start(packet: &[u8]) -> usize
     requires { HEADER_SIZE < length packet.now }
     ensures start { result ≡ message_start packet.now }
-    ensures lies { (seq ack k : ℕ) (message : List ℕ) → IsSpelling (carry seq ack k message) packet.now →
+    ensures lies { (seq ack k : ℕ) (message : List ℕ)
+        → IsSpelling (carry seq ack k message) packet.now →
         LiesAt message result packet.now }
 {
     match kind_of(packet[CONTROL_PLACE]) {

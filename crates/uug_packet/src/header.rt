@@ -65,7 +65,8 @@ impl Header {
     pub fn at(bytes: &[u8]) -> Self
         requires { HEADER_SIZE ≤ length bytes.now }
         ensures code { result.k ≡ slice_index bytes.now 1 }
-        ensures checksum { result.checksum ≡ slice_index bytes.now 2 + 256 * slice_index bytes.now 3 }
+        ensures checksum { result.checksum
+            ≡ slice_index bytes.now 2 + 256 * slice_index bytes.now 3 }
         ensures control { result.control ≡ slice_index bytes.now 4 }
     {
         Header {
@@ -83,7 +84,8 @@ impl Header {
         ensures code { result.k ≡ self.k }
         ensures control { result.control ≡ 8 * (self.control / 8) + number_of ack }
         ensures checksum { result.checksum ≡
-            checksum_of (bit_xor (bit_xor (checksum_of self.checksum) self.control) result.control) }
+            checksum_of
+            (bit_xor (bit_xor (checksum_of self.checksum) self.control) result.control) }
     {
         let control = 8 * (self.control / 8) + ack.value();
         let check = checksum_of(self.checksum) ^ u16::from(self.control);

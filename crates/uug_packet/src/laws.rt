@@ -33,34 +33,42 @@ pub fn written_is_read()
 
 /// What is read of a packet's bytes with no check is its message.
 pub fn messages_are_read()
-    ensures spelled { (p : PacketValue) (w : List ℕ) → IsSpelling p w → message_in w ≡ message_if_data p }
-    ensures written { (p : PacketValue) → IsWellFormed p → message_in (canonical p) ≡ message_if_data p }
+    ensures spelled { (p : PacketValue) (w : List ℕ) → IsSpelling p w
+        → message_in w ≡ message_if_data p }
+    ensures written { (p : PacketValue) → IsWellFormed p
+        → message_in (canonical p) ≡ message_if_data p }
 {}
 
 /// What is spelled or read is a well-formed packet, and each well-formed one is written and read again.
 pub fn packets_are_well_formed()
     ensures spelled { (p : PacketValue) (w : List ℕ) → IsSpelling p w → IsWellFormed p }
-    ensures decoded { (s : List ℕ) (p : PacketValue) (n : ℕ) → decoded s ≡ Ok (p, n) → IsWellFormed p }
+    ensures decoded { (s : List ℕ) (p : PacketValue) (n : ℕ) → decoded s ≡ Ok (p, n)
+        → IsWellFormed p }
     ensures written { (p : PacketValue) → IsWellFormed p → IsSpelling p (canonical p) }
-    ensures read { (p : PacketValue) → IsWellFormed p → decoded (canonical p) ≡ Ok (p, length (canonical p)) }
+    ensures read { (p : PacketValue) → IsWellFormed p
+        → decoded (canonical p) ≡ Ok (p, length (canonical p)) }
 {}
 
 /// The function of the tests in their order agrees with the spellings, with bytes that wait and with broken ones.
 pub fn decoded_is_spelled()
-    ensures read { (p : PacketValue) (w rest : List ℕ) → IsSpelling p w → decoded (w ++ rest) ≡ Ok (p, length w) }
+    ensures read { (p : PacketValue) (w rest : List ℕ) → IsSpelling p w
+        → decoded (w ++ rest) ≡ Ok (p, length w) }
     ensures spelled { (s : List ℕ) (p : PacketValue) (n : ℕ) → AreBytes s → decoded s ≡ Ok (p, n) →
         IsSpelling p (take n s) × (n ≤ length s) }
     ensures waits { (s : List ℕ) → Waits s → decoded s ≡ Err NoPacket.Short }
     ensures short { (s : List ℕ) → AreBytes s → decoded s ≡ Err NoPacket.Short → Waits s }
-    ensures broken { (s : List ℕ) → AreBytes s → IsBroken s → (e : NoPacket) × (decoded s ≡ Err e) × IsDamage e s }
-    ensures damage { (s : List ℕ) (e : NoPacket) → AreBytes s → decoded s ≡ Err e → IsDamage e s → IsBroken s }
+    ensures broken { (s : List ℕ) → AreBytes s → IsBroken s
+        → (e : NoPacket) × (decoded s ≡ Err e) × IsDamage e s }
+    ensures damage { (s : List ℕ) (e : NoPacket) → AreBytes s → decoded s ≡ Err e → IsDamage e s
+        → IsBroken s }
 {}
 
 /// What is settled by some bytes stays so when more follow: only bytes that wait can still become a packet.
 pub fn waiting_is_undecided()
     // The front of bytes that wait waits, and so does each spelling that is cut.
     ensures shorter { (s t : List ℕ) → Waits (s ++ t) → Waits s }
-    ensures cut { (p : PacketValue) (s t : List ℕ) → IsSpelling p (s ++ t) → 0 < length t → Waits s }
+    ensures cut { (p : PacketValue) (s t : List ℕ) → IsSpelling p (s ++ t) → 0 < length t
+        → Waits s }
     // A packet, or a broken one, doesn't wait, and a broken one stays broken.
     ensures packet { (p : PacketValue) (w t : List ℕ) → IsSpelling p w → Waits (w ++ t) → ⊥ }
     ensures broken { (s : List ℕ) → IsBroken s → Waits s → ⊥ }

@@ -17,7 +17,8 @@ use crate::packet::Packet;
 ///
 /// Taylor UUCP manual, "UUCP 'g' Protocol".
 pub fn message_in(packet: &[u8]) -> Option<&[u8]>
-    ensures spelled { (p : PacketValue) → IsSpelling p packet.now → MatchOption result (message_if_data p ≡ None)
+    ensures spelled { (p : PacketValue) → IsSpelling p packet.now
+        → MatchOption result (message_if_data p ≡ None)
         (λ message. message_if_data p ≡ Some message.now) }
     ensures exact { MatchOption result (message_in packet.now ≡ None)
         (λ message. message_in packet.now ≡ Some message.now) }
@@ -26,7 +27,8 @@ pub fn message_in(packet: &[u8]) -> Option<&[u8]>
 }
 
 fn read_message(packet: &[u8]) -> Option<&[u8]>
-    ensures { MatchOption result (message_in packet.now ≡ None) (λ message. message_in packet.now ≡ Some message.now) }
+    ensures { MatchOption result (message_in packet.now ≡ None) (λ message.
+        message_in packet.now ≡ Some message.now) }
 {
     if packet.len() < HEADER_SIZE + FIELD_MIN {
         return None;

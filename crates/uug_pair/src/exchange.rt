@@ -42,9 +42,11 @@ where
     O: Output,
     A: Allocator + Copy,
     requires { HasRoom (L.unread line.old) }
-    ensures caller_kept { KeepsJobs (S.kept (spool_in caller.old.seat)) (S.kept (spool_in caller.new.seat))
+    ensures caller_kept { KeepsJobs (S.kept (spool_in caller.old.seat))
+        (S.kept (spool_in caller.new.seat))
         (seated caller.old.seat) (seated caller.new.seat) }
-    ensures called_kept { KeepsJobs (T.kept (spool_in called.old.seat)) (T.kept (spool_in called.new.seat))
+    ensures called_kept { KeepsJobs (T.kept (spool_in called.old.seat))
+        (T.kept (spool_in called.new.seat))
         (seated called.old.seat) (seated called.new.seat) }
     ensures caller_over { IsEnded (seated caller.new.seat).engine.stage }
     ensures called_over { IsEnded (seated called.new.seat).engine.stage }
@@ -54,21 +56,29 @@ where
     ensures called_jobs { IsWhole (jobs_text (pending (jobs_of_end (seated called.new.seat))))
         (K.text called.old.jobs) (K.text called.new.jobs) }
     ensures caller_ok { OnOk result (J.text caller.new.jobs
-        ≡ holding (jobs_text (pending (jobs_of_end (seated caller.new.seat)))) (J.text caller.old.jobs)) }
+        ≡ holding (jobs_text (pending (jobs_of_end (seated caller.new.seat))))
+        (J.text caller.old.jobs)) }
     ensures called_ok { OnOk result (K.text called.new.jobs
-        ≡ holding (jobs_text (pending (jobs_of_end (seated called.new.seat)))) (K.text called.old.jobs)) }
-    ensures report { OnOk result (Appends (report_text (seated caller.new.seat) (seated called.new.seat))
+        ≡ holding (jobs_text (pending (jobs_of_end (seated called.new.seat))))
+        (K.text called.old.jobs)) }
+    ensures report { OnOk result
+        (Appends (report_text (seated caller.new.seat) (seated called.new.seat))
         (O.written output.old) (O.written output.new)) }
     ensures status { IfOk result (λ status. status
-        ≡ status_of_phases (phase_of_end (seated caller.new.seat)) (phase_of_end (seated called.new.seat))) }
+        ≡ status_of_phases (phase_of_end (seated caller.new.seat))
+        (phase_of_end (seated called.new.seat))) }
     // Where the line or a file has failed, that is answered, whatever fails later but memory.
     ensures line_calm { IfWritten result (L.fault_count line.new ≡ L.fault_count line.old) }
-    ensures caller_calm { UnlessDevice result (J.fault_count caller.new.jobs ≡ J.fault_count caller.old.jobs) }
-    ensures called_calm { UnlessDevice result (K.fault_count called.new.jobs ≡ K.fault_count called.old.jobs) }
-    ensures device { result ≡ Err ToolFault.Device → HasFailed u64.MAX (L.fault_count line.old) (L.fault_count line.new)
+    ensures caller_calm { UnlessDevice result (J.fault_count caller.new.jobs
+        ≡ J.fault_count caller.old.jobs) }
+    ensures called_calm { UnlessDevice result (K.fault_count called.new.jobs
+        ≡ K.fault_count called.old.jobs) }
+    ensures device { result ≡ Err ToolFault.Device
+        → HasFailed u64.MAX (L.fault_count line.old) (L.fault_count line.new)
         ⊎ (HasFailed u64.MAX (J.fault_count caller.old.jobs) (J.fault_count caller.new.jobs)
         ⊎ HasFailed u64.MAX (K.fault_count called.old.jobs) (K.fault_count called.new.jobs)) }
-    ensures write { result ≡ Err ToolFault.Write → CountsFault (O.fault_count output.old) (O.fault_count output.new) }
+    ensures write { result ≡ Err ToolFault.Write
+        → CountsFault (O.fault_count output.old) (O.fault_count output.new) }
     ensures no_other { IfErr result IsPairFault }
 {
     match run_turns(&mut caller.seat, &mut called.seat, line, noise, limit) {

@@ -21,10 +21,12 @@ pub trait Folder {
     /// Puts a whole file in the folder under this name, in the place of one that had it. After a fault there is none
     /// of this file under its name.
     fn put(&mut self, name: &Name, bytes: &[u8]) -> Result<(), FolderFailed>
-        ensures ok { OnOk result (placed self.new ≡ also_placed (placed_file name.now bytes.now) (placed self.old)) }
+        ensures ok { OnOk result (placed self.new
+            ≡ also_placed (placed_file name.now bytes.now) (placed self.old)) }
         ensures stands { OnOk result (fault_count self.new ≡ fault_count self.old) }
         ensures err { OnErr result (placed self.new ≡ placed self.old) }
-        ensures fault { OnErr result (HasFailed u64.MAX (fault_count self.old) (fault_count self.new)) }
+        ensures fault { OnErr result
+            (HasFailed u64.MAX (fault_count self.old) (fault_count self.new)) }
         ensures grows { fault_count self.old ≤ fault_count self.new };
 
     /// How many faults the device had, up to the greatest number that fits.

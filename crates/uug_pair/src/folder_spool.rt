@@ -29,10 +29,12 @@ impl<F: Folder, A: Allocator> Model for FolderSpool<F, A> {
 
     ghost Value = { FolderFiles F A };
 
-    ghost view = { λ s. record { files = s.files.items; stored = s.stored.items; folder = s.folder } };
+    ghost view = { λ s.
+        record { files = s.files.items; stored = s.stored.items; folder = s.folder } };
 
     // What was kept is what was put in the folder.
-    ghost invariant = { λ s. EndsWith (F.placed s.folder) (map placed_of (map kept_of s.stored.items)) };
+    ghost invariant = { λ s.
+        EndsWith (F.placed s.folder) (map placed_of (map kept_of s.stored.items)) };
 }
 
 impl<F: Folder, A: Allocator + Copy> FolderSpool<F, A> {
@@ -51,7 +53,8 @@ impl<F: Folder, A: Allocator + Copy> FolderSpool<F, A> {
     /// The folder. Where it tells what was put in it, the files that the spool has kept are the last of these.
     pub fn folder(&self) -> &F
         ensures folder { result.now ≡ self.now.folder }
-        ensures placed { EndsWith (F.placed result.now) (map placed_of (map kept_of self.now.stored)) }
+        ensures placed { EndsWith (F.placed result.now)
+            (map placed_of (map kept_of self.now.stored)) }
     {
         &self.folder
     }
@@ -131,7 +134,8 @@ fn push_stored<A: Allocator>(
 )
     requires mode { mode ≤ MODE_MAX }
     requires room { vec_len stored.old < vec_capacity stored.old }
-    ensures { map kept_of stored.new.items ≡ map kept_of stored.old.items ++ kept_file name mode bytes.items ∷ [] }
+    ensures { map kept_of stored.new.items
+        ≡ map kept_of stored.old.items ++ kept_file name mode bytes.items ∷ [] }
 {
     stored.push_reserved(Stored { name, mode, bytes });
 }

@@ -58,7 +58,8 @@ fn add_job<A: Allocator>(queue: &mut Queue<A>, number: usize, job: Job) -> Resul
     requires fresh { queue.old ≡ at_start queue.old.ahead [] [] }
     ensures fresh { OnOk result (queue.new ≡ at_start queue.new.ahead [] []) }
     ensures ok { OnOk result (with_line (one_job job) queue.old.ahead ≡ Some queue.new.ahead) }
-    ensures fault { IfErr result (λ fault. RefusesLine number fault (with_line (one_job job) queue.old.ahead)) }
+    ensures fault { IfErr result (λ fault.
+        RefusesLine number fault (with_line (one_job job) queue.old.ahead)) }
 {
     match queue.add(job) {
         Ok(()) => Ok(()),
@@ -72,7 +73,8 @@ fn add_line<A: Allocator>(queue: &mut Queue<A>, number: usize, line: &[u8]) -> R
     requires fresh { queue.old ≡ at_start queue.old.ahead [] [] }
     ensures fresh { OnOk result (queue.new ≡ at_start queue.new.ahead [] []) }
     ensures ok { OnOk result (line_added line.now queue.old.ahead ≡ Some queue.new.ahead) }
-    ensures fault { IfErr result (λ fault. RefusesLine number fault (line_added line.now queue.old.ahead)) }
+    ensures fault { IfErr result (λ fault.
+        RefusesLine number fault (line_added line.now queue.old.ahead)) }
 {
     if line.len() > LINE_MAX {
         return Err(JobsFault::Bad(number));
@@ -123,7 +125,8 @@ fn add_words<A: Allocator>(
     user: &Name,
 ) -> Result<(), AllocError>
     ensures { OnOk result (string_bytes text.new
-        ≡ string_bytes text.old ++ ended (joined (first.now ∷ source.now ∷ target.now ∷ user.now ∷ []))) }
+        ≡ string_bytes text.old
+        ++ ended (joined (first.now ∷ source.now ∷ target.now ∷ user.now ∷ []))) }
 {
     let source = source.as_str();
     let target = target.as_str();

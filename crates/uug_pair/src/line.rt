@@ -31,7 +31,8 @@ pub trait Line {
         ensures count { IfOk result (λ n. unread self.new to ≡ unread self.old to + n) }
         ensures other { OnOk result (unread self.new (other to) ≡ unread self.old (other to)) }
         ensures calm { OnOk result (fault_count self.new ≡ fault_count self.old) }
-        ensures fault { OnErr result (HasFailed u64.MAX (fault_count self.old) (fault_count self.new)) }
+        ensures fault { OnErr result
+            (HasFailed u64.MAX (fault_count self.old) (fault_count self.new)) }
         ensures grows { fault_count self.old ≤ fault_count self.new };
 
     /// Reads bytes that are on their way to the end on this side to the front of `buffer`, at least one, and says how
@@ -43,7 +44,8 @@ pub trait Line {
         ensures count { IfOk result (λ n. unread self.new at + n ≡ unread self.old at) }
         ensures other { OnOk result (unread self.new (other at) ≡ unread self.old (other at)) }
         ensures calm { OnOk result (fault_count self.new ≡ fault_count self.old) }
-        ensures fault { OnErr result (HasFailed u64.MAX (fault_count self.old) (fault_count self.new)) }
+        ensures fault { OnErr result
+            (HasFailed u64.MAX (fault_count self.old) (fault_count self.new)) }
         ensures grows { fault_count self.old ≤ fault_count self.new };
 
     /// How many bytes are on their way to the end on this side.

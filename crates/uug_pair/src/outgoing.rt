@@ -15,8 +15,10 @@ pub(crate) fn add_outgoing<A: Allocator + Copy>(
     noise: &mut Noise,
 ) -> Result<(), AllocError>
     ensures bytes { OnOk result (outgoing.new.items ≡ outgoing.old.items
-        ++ outgoing_from noise.old.drop_every noise.old.flip_every noise.old.count outbox.now.entries) }
-    ensures count { OnOk result (noise.new.count ≡ count_behind noise.old.count outbox.now.entries) }
+        ++ outgoing_from noise.old.drop_every noise.old.flip_every noise.old.count
+        outbox.now.entries) }
+    ensures count { OnOk result (noise.new.count
+        ≡ count_behind noise.old.count outbox.now.entries) }
     ensures drop_every { noise.new.drop_every ≡ noise.old.drop_every }
     ensures flip_every { noise.new.flip_every ≡ noise.old.flip_every }
 {
@@ -33,7 +35,8 @@ fn add_entry<A: Allocator>(
     noise: &mut Noise,
 ) -> Result<(), AllocError>
     ensures bytes { OnOk result (outgoing.new.items ≡ outgoing.old.items
-        ++ outgoing_of_entry noise.old.drop_every noise.old.flip_every noise.old.count (shown_entry entry.entry)) }
+        ++ outgoing_of_entry noise.old.drop_every noise.old.flip_every noise.old.count
+        (shown_entry entry.entry)) }
     ensures count { noise.new.count ≡ count_with noise.old.count (shown_entry entry.entry) }
     ensures drop_every { noise.new.drop_every ≡ noise.old.drop_every }
     ensures flip_every { noise.new.flip_every ≡ noise.old.flip_every }

@@ -53,16 +53,25 @@ impl<A: Allocator + Copy> PairTexts<A> {
         called: &mut K,
         output: &mut O,
     ) -> Result<(), ToolFault>
-        ensures caller { IsWhole (string_bytes self.now.caller_jobs) (J.text caller.old) (J.text caller.new) }
-        ensures called { IsWhole (string_bytes self.now.called_jobs) (K.text called.old) (K.text called.new) }
-        ensures caller_ok { OnOk result (J.text caller.new ≡ holding (string_bytes self.now.caller_jobs) (J.text caller.old)) }
-        ensures called_ok { OnOk result (K.text called.new ≡ holding (string_bytes self.now.called_jobs) (K.text called.old)) }
-        ensures report { OnOk result (Appends (string_bytes self.now.report) (O.written output.old) (O.written output.new)) }
-        ensures caller_calm { UnlessDevice result (J.fault_count caller.new ≡ J.fault_count caller.old) }
-        ensures called_calm { UnlessDevice result (K.fault_count called.new ≡ K.fault_count called.old) }
-        ensures device { result ≡ Err ToolFault.Device → HasFailed u64.MAX (J.fault_count caller.old) (J.fault_count caller.new)
+        ensures caller { IsWhole (string_bytes self.now.caller_jobs) (J.text caller.old)
+            (J.text caller.new) }
+        ensures called { IsWhole (string_bytes self.now.called_jobs) (K.text called.old)
+            (K.text called.new) }
+        ensures caller_ok { OnOk result (J.text caller.new
+            ≡ holding (string_bytes self.now.caller_jobs) (J.text caller.old)) }
+        ensures called_ok { OnOk result (K.text called.new
+            ≡ holding (string_bytes self.now.called_jobs) (K.text called.old)) }
+        ensures report { OnOk result
+            (Appends (string_bytes self.now.report) (O.written output.old) (O.written output.new)) }
+        ensures caller_calm { UnlessDevice result (J.fault_count caller.new
+            ≡ J.fault_count caller.old) }
+        ensures called_calm { UnlessDevice result (K.fault_count called.new
+            ≡ K.fault_count called.old) }
+        ensures device { result ≡ Err ToolFault.Device
+            → HasFailed u64.MAX (J.fault_count caller.old) (J.fault_count caller.new)
             ⊎ HasFailed u64.MAX (K.fault_count called.old) (K.fault_count called.new) }
-        ensures write { result ≡ Err ToolFault.Write → CountsFault (O.fault_count output.old) (O.fault_count output.new) }
+        ensures write { result ≡ Err ToolFault.Write
+            → CountsFault (O.fault_count output.old) (O.fault_count output.new) }
         ensures no_other { IfErr result IsPairFault }
     {
         let caller_written = caller.replace(self.caller_jobs.as_bytes());
@@ -80,7 +89,8 @@ fn report<S: Spool, T: Spool, A: Allocator + Copy>(
     caller: &Node<S, A>,
     called: &Node<T, A>,
 ) -> Result<String<A>, AllocError>
-    ensures { IfOk result (λ text. string_bytes text ≡ report_text (node_of caller.now) (node_of called.now)) }
+    ensures { IfOk result (λ text.
+        string_bytes text ≡ report_text (node_of caller.now) (node_of called.now)) }
 {
     let mut text = String::new(alloc);
     add_state(

@@ -17,7 +17,8 @@ pub fn add_state<A: Allocator, B: Allocator + Copy, C: Allocator>(
     phase: Phase,
     queue: &Queue<C>,
 ) -> Result<(), AllocError>
-    ensures ok { OnOk result (string_bytes text.new ≡ string_bytes text.old ++ state_line side phase queue.now) }
+    ensures ok { OnOk result (string_bytes text.new
+        ≡ string_bytes text.old ++ state_line side phase queue.now) }
     ensures err { OnErr result (string_bytes text.new ≡ string_bytes text.old) }
 {
     let side = side_word(side);
@@ -37,7 +38,8 @@ fn add_failed_line<A: Allocator>(
     side: Side,
     job: &Job,
 ) -> Result<(), AllocError>
-    ensures { OnOk result (string_bytes text.new ≡ string_bytes text.old ++ failed_line side job.now) }
+    ensures { OnOk result (string_bytes text.new
+        ≡ string_bytes text.old ++ failed_line side job.now) }
 {
     let side = side_word(side);
     write!(text, "{side} failed ")?;
@@ -62,7 +64,8 @@ pub fn add_failed<A: Allocator, B: Allocator + Copy, C: Allocator>(
     side: Side,
     queue: &Queue<C>,
 ) -> Result<(), AllocError>
-    ensures ok { OnOk result (string_bytes text.new ≡ string_bytes text.old ++ failed_lines side queue.now.failed) }
+    ensures ok { OnOk result (string_bytes text.new
+        ≡ string_bytes text.old ++ failed_lines side queue.now.failed) }
     ensures err { OnErr result (string_bytes text.new ≡ string_bytes text.old) }
 {
     let lines = failed_text(alloc, side, queue.failed())?;

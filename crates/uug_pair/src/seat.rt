@@ -24,7 +24,8 @@ impl<S: Spool + Drop, A: Allocator + Copy> Seat<S, A> {
     pub fn new(alloc: A, node: Node<S, A>, noise: &mut Noise) -> Result<Self, AllocError>
         ensures jobs { IfOk result (λ seat. KeepsJobs (S.kept node.spool) (S.kept (spool_in seat))
             (node_of node) (seated seat)) }
-        ensures sends { IfOk result (λ seat. SendsOut noise.old noise.new [] (to_write seat) (node_of node) (seated seat)) }
+        ensures sends { IfOk result (λ seat.
+            SendsOut noise.old noise.new [] (to_write seat) (node_of node) (seated seat)) }
         ensures spool { IfOk result (λ seat. spool_in seat ≡ node.spool) }
     {
         calls_keep();
@@ -57,10 +58,15 @@ impl<S: Spool + Drop, A: Allocator + Copy> Seat<S, A> {
     pub fn arrive(&mut self, piece: &[u8], noise: &mut Noise) -> Result<(), AllocError>
         ensures jobs { KeepsJobs (S.kept (spool_in self.old)) (S.kept (spool_in self.new))
             (seated self.old) (seated self.new) }
-        ensures number { OnOk result (KeepsNumber (seated self.old).engine (seated self.new).engine) }
-        ensures hears { OnOk result (Hears (S.holdings (spool_in self.old)) (S.kept (spool_in self.old)) (S.kept (spool_in self.new))
-            (HasFailed u64.MAX (S.faults (spool_in self.old)) (S.faults (spool_in self.new))) piece.now
-            noise.old noise.new (to_write self.old) (to_write self.new) (seated self.old) (seated self.new)) }
+        ensures number { OnOk result
+            (KeepsNumber (seated self.old).engine (seated self.new).engine) }
+        ensures hears { OnOk result
+            (Hears (S.holdings (spool_in self.old)) (S.kept (spool_in self.old))
+            (S.kept (spool_in self.new))
+            (HasFailed u64.MAX (S.faults (spool_in self.old)) (S.faults (spool_in self.new)))
+            piece.now
+            noise.old noise.new (to_write self.old) (to_write self.new) (seated self.old)
+            (seated self.new)) }
     {
         calls_keep();
         a_number_stands_as_the_session_does();
@@ -74,10 +80,12 @@ impl<S: Spool + Drop, A: Allocator + Copy> Seat<S, A> {
     pub fn time_out(&mut self, noise: &mut Noise) -> Result<(), AllocError>
         ensures jobs { KeepsJobs (S.kept (spool_in self.old)) (S.kept (spool_in self.new))
             (seated self.old) (seated self.new) }
-        ensures waits { OnOk result (Waits noise.old noise.new (to_write self.old) (to_write self.new)
+        ensures waits { OnOk result
+            (Waits noise.old noise.new (to_write self.old) (to_write self.new)
             (seated self.old) (seated self.new)) }
         ensures late { OnOk result (IsLate (seated self.old) (seated self.new)) }
-        ensures number { OnOk result (KeepsNumber (seated self.old).engine (seated self.new).engine) }
+        ensures number { OnOk result
+            (KeepsNumber (seated self.old).engine (seated self.new).engine) }
         ensures spool { spool_in self.new ≡ spool_in self.old }
     {
         calls_keep();
@@ -119,7 +127,8 @@ impl<S: Spool + Drop, A: Allocator + Copy> Seat<S, A> {
 
     /// What the node has emitted is to be written behind the rest, as far as it is not lost.
     fn note_emitted(&mut self, noise: &mut Noise) -> Result<(), AllocError>
-        ensures sends { OnOk result (SendsOut noise.old noise.new (to_write self.old) (to_write self.new)
+        ensures sends { OnOk result
+            (SendsOut noise.old noise.new (to_write self.old) (to_write self.new)
             (seated self.old) (seated self.new)) }
         ensures talking { (seated self.new).engine.talking ≡ (seated self.old).engine.talking }
         ensures spool { spool_in self.new ≡ spool_in self.old }

@@ -24,7 +24,8 @@ pub struct SystemFolder<'a, R: Files, A: Allocator> {
 impl<'a, R: Files, A: Allocator + Copy> SystemFolder<'a, R, A> {
     /// The folder of an end whose own folder is `dir`. All memory for its calls is taken here.
     pub fn new(alloc: A, rt: &'a R, dir: &str) -> Result<Self, AllocError>
-        ensures { IfOk result (λ folder. ⟦<SystemFolder<'a, R, A> as Folder>⟧.fault_count folder ≡ 0) }
+        ensures { IfOk result (λ folder.
+            ⟦<SystemFolder<'a, R, A> as Folder>⟧.fault_count folder ≡ 0) }
     {
         let front = format!(in alloc; "{dir}/got/")?;
         let part = format!(in alloc; "{dir}/got/.part")?;

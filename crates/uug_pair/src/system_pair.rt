@@ -53,9 +53,11 @@ pub fn pair_run<A: Allocator + Copy, R: Files + Net + Alloc + Clone + Drop, O: O
     flip_every: Option<u32>,
     output: &mut O,
 ) -> Result<u8, ToolFault>
-    ensures usage { (result ≡ Err ToolFault.Usage) ↔ ((is_in_range drop_every && is_in_range flip_every) ≡ false) }
+    ensures usage { (result ≡ Err ToolFault.Usage) ↔
+        ((is_in_range drop_every && is_in_range flip_every) ≡ false) }
     ensures status { IfOk result (λ status. status ≤ 1) }
-    ensures write { result ≡ Err ToolFault.Write → CountsFault (O.fault_count output.old) (O.fault_count output.new) }
+    ensures write { result ≡ Err ToolFault.Write
+        → CountsFault (O.fault_count output.old) (O.fault_count output.new) }
     ensures no_other { IfErr result IsRunFault }
 {
     let Some(mut noise) = Noise::new(drop_every, flip_every) else {

@@ -17,7 +17,8 @@ pub trait TextFile {
         ensures ok { OnOk result (text self.new ≡ holding bytes.now (text self.old)) }
         ensures stands { OnOk result (fault_count self.new ≡ fault_count self.old) }
         ensures err { OnErr result (text self.new ≡ text self.old) }
-        ensures fault { OnErr result (HasFailed u64.MAX (fault_count self.old) (fault_count self.new)) }
+        ensures fault { OnErr result
+            (HasFailed u64.MAX (fault_count self.old) (fault_count self.new)) }
         ensures grows { fault_count self.old ≤ fault_count self.new };
 
     /// How many faults the device had, up to the greatest number that fits.

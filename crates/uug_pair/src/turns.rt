@@ -32,7 +32,8 @@ pub fn run_turns<S: Spool + Drop, T: Spool + Drop, L: Line, A: Allocator + Copy>
     ensures caller_over { IsEnded (seated caller.new).engine.stage }
     ensures called_over { IsEnded (seated called.new).engine.stage }
     ensures calm { UnlessLineFailed result (L.fault_count line.new ≡ L.fault_count line.old) }
-    ensures fault { result ≡ Err TurnFault.Line → HasFailed u64.MAX (L.fault_count line.old) (L.fault_count line.new) }
+    ensures fault { result ≡ Err TurnFault.Line
+        → HasFailed u64.MAX (L.fault_count line.old) (L.fault_count line.new) }
     ensures grows { L.fault_count line.old ≤ L.fault_count line.new }
 {
     calls_keep();
@@ -56,7 +57,8 @@ fn take_turns<S: Spool + Drop, T: Spool + Drop, L: Line, A: Allocator + Copy>(
     ensures called_jobs { KeepsJobs (T.kept (spool_in called.old)) (T.kept (spool_in called.new))
         (seated called.old) (seated called.new) }
     ensures calm { UnlessLineFailed result (L.fault_count line.new ≡ L.fault_count line.old) }
-    ensures fault { result ≡ Err TurnFault.Line → HasFailed u64.MAX (L.fault_count line.old) (L.fault_count line.new) }
+    ensures fault { result ≡ Err TurnFault.Line
+        → HasFailed u64.MAX (L.fault_count line.old) (L.fault_count line.new) }
     ensures grows { L.fault_count line.old ≤ L.fault_count line.new }
 {
     calls_keep();
@@ -90,7 +92,8 @@ fn take_turn<S: Spool + Drop, T: Spool + Drop, L: Line, A: Allocator + Copy>(
         → OnOk result (IsLate (seated called.old) (seated called.new)) }
     ensures room { OnOk result (HasRoom (L.unread line.new)) }
     ensures calm { UnlessLineFailed result (L.fault_count line.new ≡ L.fault_count line.old) }
-    ensures fault { result ≡ Err TurnFault.Line → HasFailed u64.MAX (L.fault_count line.old) (L.fault_count line.new) }
+    ensures fault { result ≡ Err TurnFault.Line
+        → HasFailed u64.MAX (L.fault_count line.old) (L.fault_count line.new) }
     ensures grows { L.fault_count line.old ≤ L.fault_count line.new }
 {
     calls_keep();
@@ -127,7 +130,8 @@ fn move_end<S: Spool + Drop, L: Line, A: Allocator + Copy>(
         (seated seat.old) (seated seat.new) }
     ensures room { OnOk result (HasRoom (L.unread line.new)) }
     ensures calm { UnlessLineFailed result (L.fault_count line.new ≡ L.fault_count line.old) }
-    ensures fault { result ≡ Err TurnFault.Line → HasFailed u64.MAX (L.fault_count line.old) (L.fault_count line.new) }
+    ensures fault { result ≡ Err TurnFault.Line
+        → HasFailed u64.MAX (L.fault_count line.old) (L.fault_count line.new) }
     ensures grows { L.fault_count line.old ≤ L.fault_count line.new }
 {
     calls_keep();
@@ -151,7 +155,8 @@ fn write_some<S: Spool + Drop, L: Line, A: Allocator + Copy>(
     ensures spool { spool_in seat.new ≡ spool_in seat.old }
     ensures room { OnOk result (HasRoom (L.unread line.new)) }
     ensures calm { UnlessLineFailed result (L.fault_count line.new ≡ L.fault_count line.old) }
-    ensures fault { result ≡ Err TurnFault.Line → HasFailed u64.MAX (L.fault_count line.old) (L.fault_count line.new) }
+    ensures fault { result ≡ Err TurnFault.Line
+        → HasFailed u64.MAX (L.fault_count line.old) (L.fault_count line.new) }
     ensures grows { L.fault_count line.old ≤ L.fault_count line.new }
 {
     let outgoing = seat.outgoing();
@@ -179,7 +184,8 @@ fn take_unread<S: Spool + Drop, L: Line, A: Allocator + Copy>(
     ensures room { OnOk result (HasRoom (L.unread line.new)) }
     ensures all { OnOk result (L.unread line.new at ≡ 0) }
     ensures calm { UnlessLineFailed result (L.fault_count line.new ≡ L.fault_count line.old) }
-    ensures fault { result ≡ Err TurnFault.Line → HasFailed u64.MAX (L.fault_count line.old) (L.fault_count line.new) }
+    ensures fault { result ≡ Err TurnFault.Line
+        → HasFailed u64.MAX (L.fault_count line.old) (L.fault_count line.new) }
     ensures grows { L.fault_count line.old ≤ L.fault_count line.new }
 {
     calls_keep();

@@ -35,7 +35,8 @@ impl<T: Read + Write> WireLine<T> {
 }
 
 impl<T: Read + Write> Line for WireLine<T> {
-    ghost unread = { λ line side. at side (record { at_caller = line.to_caller; at_called = line.to_called }) };
+    ghost unread = { λ line side.
+        at side (record { at_caller = line.to_caller; at_called = line.to_called }) };
 
     ghost fault_count = { λ line. line.faults };
 

@@ -20,7 +20,8 @@ use uug_tool::{Input, Output, PIECE_SIZE, READ_LIMIT, ToolFault, write_all};
 /// What the report settles to.
 fn settled<A: Allocator + Copy>(alloc: A, report: Report<A>) -> Result<Played<A>, RunFault>
     requires { CanSettle report }
-    ensures { IfOk result (λ last. (setup : SetupValue) (events : List Event) → IsRunOf setup events report
+    ensures { IfOk result (λ last. (setup : SetupValue) (events : List Event)
+        → IsRunOf setup events report
         → IsBehind setup events (string_bytes last.text) last.status) }
 {
     let report = settle(alloc, report)?;

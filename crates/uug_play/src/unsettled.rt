@@ -95,7 +95,8 @@ pub(crate) fn add_unsettled<A: Allocator>(
     text: &mut String<A>,
     why: Unsettled,
 ) -> Result<(), AllocError>
-    ensures { IfOk result (λ _. string_bytes text.new ≡ string_bytes text.old ++ unsettled_line why) }
+    ensures { IfOk result (λ _.
+        string_bytes text.new ≡ string_bytes text.old ++ unsettled_line why) }
 {
     text.push_str(unsettled_words(why))?;
     text.push('\n')?;

@@ -23,7 +23,8 @@ pub fn limits()
 
 /// Each stream of bytes is cut in one way: into these parts and this rest, and no others.
 pub fn one_cut()
-    ensures some { (s : List ℕ) → AreBytes s → (parts : List Part) × (rest : List ℕ) × IsCut s parts rest }
+    ensures some { (s : List ℕ) → AreBytes s
+        → (parts : List Part) × (rest : List ℕ) × IsCut s parts rest }
     ensures only { (s rest other : List ℕ) (parts others : List Part) →
         IsCut s parts rest → IsCut s others other → (parts ≡ others) × (rest ≡ other) }
 {
@@ -32,7 +33,8 @@ pub fn one_cut()
 
 /// Each stream of bytes has one scan: these items and this rest, and no others.
 pub fn one_scan()
-    ensures some { (s : List ℕ) → AreBytes s → (items : List Item) × (rest : List ℕ) × IsScan s items rest }
+    ensures some { (s : List ℕ) → AreBytes s
+        → (items : List Item) × (rest : List ℕ) × IsScan s items rest }
     ensures only { (s rest other : List ℕ) (items others : List Item) →
         IsScan s items rest → IsScan s others other → (items ≡ others) × (rest ≡ other) }
 {
@@ -64,24 +66,29 @@ pub fn scan_from_the_first()
 /// was found. It is found as well where more bytes follow. Each item takes at least a byte.
 pub fn found_in_steps()
     ensures none { (s : List ℕ) → Finds s [] s }
-    ensures item { (s : List ℕ) (item : Item) (n : ℕ) → StandsFirst item n s → Finds s (item ∷ []) (drop n s) }
+    ensures item { (s : List ℕ) (item : Item) (n : ℕ) → StandsFirst item n s
+        → Finds s (item ∷ []) (drop n s) }
     ensures more { (s middle others : List ℕ) (items more : List Item) →
         Finds s items middle → Finds middle more others → Finds s (items ++ more) others }
-    ensures behind { (s others t : List ℕ) (items : List Item) → Finds s items others → Finds (s ++ t) items (others ++ t) }
-    ensures fewer { (s others : List ℕ) (items : List Item) → Finds s items others → length others + length items ≤ length s }
+    ensures behind { (s others t : List ℕ) (items : List Item) → Finds s items others
+        → Finds (s ++ t) items (others ++ t) }
+    ensures fewer { (s others : List ℕ) (items : List Item) → Finds s items others
+        → length others + length items ≤ length s }
 {
     packet_laws();
 }
 
 /// The items of two lists of parts, one behind the other, are those of the one and then those of the other.
 pub fn items_joined()
-    ensures { (parts more : List Part) → items_of (parts ++ more) ≡ items_of parts ++ items_of more }
+    ensures { (parts more : List Part)
+        → items_of (parts ++ more) ≡ items_of parts ++ items_of more }
 {}
 
 /// What stands first still does with more bytes behind it, and is found again: a further search passes over nothing,
 /// finds the same item, and doesn't find nothing.
 pub fn found_again()
-    ensures first { (s t : List ℕ) (item : Item) (n : ℕ) → StandsFirst item n s → StandsFirst item n (s ++ t) }
+    ensures first { (s t : List ℕ) (item : Item) (n : ℕ) → StandsFirst item n s
+        → StandsFirst item n (s ++ t) }
     ensures same { (s t others : List ℕ) (item other : Item) (n m : ℕ) →
         StandsFirst item n s → PassesNoise (s ++ t) others → StandsFirst other m others →
         (others ≡ s ++ t) × (other ≡ item) × (m ≡ n) }
@@ -94,15 +101,18 @@ pub fn found_again()
 /// The search as a function gives just what stands first behind noise, or the rest that waits there.
 pub fn search_finds_the_first()
     ensures item { (s others : List ℕ) (item : Item) (n : ℕ) → AreBytes s →
-        (search_of s ≡ standing item n others) ↔ (PassesNoise s others × StandsFirst item n others) }
-    ensures rest { (s rest : List ℕ) → AreBytes s → (search_of s ≡ waiting rest) ↔ (PassesNoise s rest × Waits rest) }
+        (search_of s ≡ standing item n others) ↔ (PassesNoise s others
+        × StandsFirst item n others) }
+    ensures rest { (s rest : List ℕ) → AreBytes s
+        → (search_of s ≡ waiting rest) ↔ (PassesNoise s rest × Waits rest) }
 {
     packet_laws();
 }
 
 /// What the search finds as a packet is a well-formed one, whatever the stream.
 pub fn found_packets_are_well_formed()
-    ensures { (s others : List ℕ) (p : PacketValue) (n : ℕ) → search_of s ≡ standing (found p) n others → IsWellFormed p }
+    ensures { (s others : List ℕ) (p : PacketValue) (n : ℕ)
+        → search_of s ≡ standing (found p) n others → IsWellFormed p }
 {
     packets_are_well_formed();
 }
@@ -113,7 +123,8 @@ pub fn dropped_are_first()
     ensures finds { (calls : List Call) (now : Reading) →
         Make calls fresh now → Finds (all_accepted calls) (all_dropped calls) now.bytes }
     ensures scan { (calls : List Call) (now : Reading) (items : List Item) (rest : List ℕ) →
-        AreBytes (all_accepted calls) → Make calls fresh now → IsScan (all_accepted calls) items rest →
+        AreBytes (all_accepted calls) → Make calls fresh now
+        → IsScan (all_accepted calls) items rest →
         (later : List Item) × IsScan now.bytes later rest × (items ≡ all_dropped calls ++ later) }
 {
     packet_laws();

@@ -85,7 +85,8 @@ impl<A: Allocator> Reader<A> {
 
     /// The item shown, which stands first among the bytes held.
     pub fn showing(&self) -> Option<Found<'_>>
-        ensures { MatchOption result (self.now.shown_size ≡ 0) (λ found. Shows (item_of found) self.now) }
+        ensures { MatchOption result (self.now.shown_size ≡ 0) (λ found.
+            Shows (item_of found) self.now) }
     {
         let standing = self.shown?;
         Some(show(self.beside.as_slice(), standing.place))

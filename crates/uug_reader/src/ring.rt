@@ -64,7 +64,8 @@ fn search_ring<A: Allocator>(ring: &HeapCircularBuffer<u8, A>, beside: &mut Besi
     requires { length ring.now.items ≤ PACKET_MAX }
     ensures within { result.passed ≤ length ring.now.items }
     ensures passes { PassesNoise ring.now.items (drop result.passed ring.now.items) }
-    ensures stands { StandsBeside result.first beside.new.items (drop result.passed ring.now.items) }
+    ensures stands { StandsBeside result.first beside.new.items
+        (drop result.passed ring.now.items) }
 {
     let (front, back) = ring.as_slices();
     search_pieces(front, back, beside)
@@ -74,8 +75,10 @@ fn search_ring<A: Allocator>(ring: &HeapCircularBuffer<u8, A>, beside: &mut Besi
 fn search_pieces(front: &[u8], back: &[u8], beside: &mut Beside) -> Search
     requires { length front.now + length back.now ≤ PACKET_MAX }
     ensures within { result.passed ≤ length (front.now ++ back.now) }
-    ensures passes { PassesNoise (front.now ++ back.now) (drop result.passed (front.now ++ back.now)) }
-    ensures stands { StandsBeside result.first beside.new.items (drop result.passed (front.now ++ back.now)) }
+    ensures passes { PassesNoise (front.now ++ back.now)
+        (drop result.passed (front.now ++ back.now)) }
+    ensures stands { StandsBeside result.first beside.new.items
+        (drop result.passed (front.now ++ back.now)) }
 {
     packet_laws();
     let search = search_in(front);
@@ -97,8 +100,10 @@ fn search_pieces(front: &[u8], back: &[u8], beside: &mut Beside) -> Search
 fn search_joined(front: &[u8], back: &[u8], beside: &mut Beside) -> Search
     requires { length front.now + length back.now ≤ PACKET_MAX }
     ensures within { result.passed ≤ length (front.now ++ back.now) }
-    ensures passes { PassesNoise (front.now ++ back.now) (drop result.passed (front.now ++ back.now)) }
-    ensures stands { StandsBeside result.first beside.new.items (drop result.passed (front.now ++ back.now)) }
+    ensures passes { PassesNoise (front.now ++ back.now)
+        (drop result.passed (front.now ++ back.now)) }
+    ensures stands { StandsBeside result.first beside.new.items
+        (drop result.passed (front.now ++ back.now)) }
 {
     beside.clear();
     append(front, beside);

@@ -77,7 +77,8 @@ fn add_wrong<A: Allocator>(
     word: &[u8],
 ) -> Result<(), AllocError>
     ensures { OnOk result (string_bytes text.new
-        ≡ string_bytes text.old ++ noun field ++ told word.now ++ codes " is not " ++ wanted field) }
+        ≡ string_bytes text.old ++ noun field ++ told word.now ++ codes " is not "
+        ++ wanted field) }
 {
     text.push_str(noun(field))?;
     add_word(text, word)?;

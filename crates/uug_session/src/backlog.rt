@@ -20,7 +20,8 @@ impl<A: Allocator> Model for Backlog<A> {
 
     ghost Value = { Waiting };
 
-    ghost view = { λ b. record { jobs = drop b.gone b.jobs.items; room = vec_capacity b.jobs - vec_len b.jobs } };
+    ghost view = { λ b.
+        record { jobs = drop b.gone b.jobs.items; room = vec_capacity b.jobs - vec_len b.jobs } };
 
     ghost invariant = { λ b. b.gone ≤ vec_len b.jobs };
 }

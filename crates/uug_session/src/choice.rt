@@ -69,7 +69,8 @@ fn offer<S: Spool>(job: &Job, spool: &S) -> Option<Order>
 /// answer, if there is one.
 pub(crate) fn choose<A: Allocator, S: Spool>(queue: &mut Queue<A>, spool: &S) -> Option<Order>
     ensures next { result ≡ (choice (S.holdings spool.now) queue.old.ahead).next }
-    ensures lists { queue.new ≡ moved (choice (S.holdings spool.now) queue.old.ahead).failing queue.old }
+    ensures lists { queue.new
+        ≡ moved (choice (S.holdings spool.now) queue.old.ahead).failing queue.old }
 {
     while let Some(job) = queue.first() {
         if let Some(order) = offer(job, spool) {

@@ -21,15 +21,19 @@ ghost use Rattle.uug_talk.specs.declared.order.Order.TheVariants.{HangUp};
 /// No job is offered twice: each end asks for each of its jobs that can be offered, in their order, and then hangs up; a
 /// called end with no such job is never asked to.
 pub fn each_job_is_offered_once()
-    ensures caller { (a b : Party) → commands_of caller (conversation a b) ≡ offered a.holdings a.jobs ++ HangUp ∷ [] }
-    ensures called { (a b : Party) → commands_of called (conversation a b) ≡ until_hang_up (offered b.holdings b.jobs) }
+    ensures caller { (a b : Party)
+        → commands_of caller (conversation a b) ≡ offered a.holdings a.jobs ++ HangUp ∷ [] }
+    ensures called { (a b : Party)
+        → commands_of called (conversation a b) ≡ until_hang_up (offered b.holdings b.jobs) }
     // what a master chooses next is the first of it
-    ensures next { (h : Holdings) (jobs : List Job) → (choice h jobs).next ≡ first_of (offered h jobs) }
+    ensures next { (h : Holdings) (jobs : List Job)
+        → (choice h jobs).next ≡ first_of (offered h jobs) }
 {}
 
 /// The roles are exchanged, by HN, exactly where the called end has a job to offer; in the end both agree to hang up.
 pub fn roles_are_exchanged_for_a_job()
-    ensures { (a b : Party) → hang_up_answers (conversation a b) ≡ hanging_up (offered b.holdings b.jobs) }
+    ensures { (a b : Party)
+        → hang_up_answers (conversation a b) ≡ hanging_up (offered b.holdings b.jobs) }
 {}
 
 /// The caller speaks first. Then the two take turns, but that a file follows its RY, and a command the same end's CY,
@@ -49,18 +53,21 @@ pub fn entries_are_asked_for()
 /// they were given.
 pub fn jobs_are_in_one_list()
     // whatever the other end says
-    ensures always { (me : Side) (p : Party) (taken : List (List ℕ)) → let l = (progress_after me p taken).state.lists in
+    ensures always { (me : Side) (p : Party) (taken : List (List ℕ))
+        → let l = (progress_after me p taken).state.lists in
         AreShared p.jobs (pending l) l.struck l.failed }
     // and in a conversation
     ensures told { (me : Side) (a b : Party) (k : ℕ) → let jobs = (party me a b).jobs in
         let l = lists_after me a b k in AreShared jobs (pending l) l.struck l.failed }
     // so what holds of all jobs, as that their names are names, holds of all jobs of each list
-    ensures names { (jobs pending struck failed : List Job) → AreShared jobs pending struck failed → All HasNames jobs
+    ensures names { (jobs pending struck failed : List Job) → AreShared jobs pending struck failed
+        → All HasNames jobs
         → All HasNames pending × All HasNames struck × All HasNames failed }
 {}
 
 /// What the two ends say is bytes, where the names of their jobs are names and their files hold bytes.
 pub fn messages_are_bytes()
-    ensures { (me : Side) (a b : Party) → All HasNames a.jobs → All HasNames b.jobs → HoldsBytes a.holdings
+    ensures { (me : Side) (a b : Party) → All HasNames a.jobs → All HasNames b.jobs
+        → HoldsBytes a.holdings
         → HoldsBytes b.holdings → All AreBytes (own_messages (conversation_view me a b)) }
 {}

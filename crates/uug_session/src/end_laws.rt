@@ -29,13 +29,15 @@ pub fn earlier_jobs_change_nothing()
     ensures opening { (side : Side) (h : Holdings) (l : Lists) (struck failed : List Job)
         → opening side h (behind struck failed l) ≡ reply_behind struck failed (opening side h l) }
     ensures step { (h : Holdings) (s : State) (message : List ℕ) (struck failed : List Job)
-        → step h (state_behind struck failed s) message ≡ reply_behind struck failed (step h s message) }
+        → step h (state_behind struck failed s) message
+        ≡ reply_behind struck failed (step h s message) }
 {}
 
 /// No message that an end says is longer than the size that the other end announced.
 pub fn own_messages_fit()
     ensures { (me : Side) (a b : Party)
-        → All (λ message. length message ≤ (party me a b).size) (own_messages (conversation_view me a b)) }
+        → All (λ message.
+        length message ≤ (party me a b).size) (own_messages (conversation_view me a b)) }
 {
     messages_fit();
 }
@@ -47,10 +49,12 @@ pub fn what_an_end_emits_can_be_written()
         → IsAnnouncement own
         → IsEndInRange id.side (begins_session id own number talk).state
         × All CanBeWritten (begins_session id own number talk).emitted }
-    ensures stays { (side : Side) (h : Holdings) (id : Identity) (event : EndEvent) (e : EndState Talk)
+    ensures stays { (side : Side) (h : Holdings) (id : Identity) (event : EndEvent)
+        (e : EndState Talk)
         → IsEndInRange id.side e → MayFind event
         → IsEndInRange id.side (end_step (end_keeper side h) id event e).state }
-    ensures emitted { (side : Side) (h : Holdings) (id : Identity) (event : EndEvent) (e : EndState Talk)
+    ensures emitted { (side : Side) (h : Holdings) (id : Identity) (event : EndEvent)
+        (e : EndState Talk)
         → IsEndInRange id.side e → MayFind event
         → All CanBeWritten (end_step (end_keeper side h) id event e).emitted }
 {
@@ -63,10 +67,12 @@ pub fn what_an_end_emits_can_be_written()
 pub fn a_session_ends_with_its_link<C>()
     ensures first { (id : Identity) (own : Announced) (number : Option ℕ) (c : C)
         → EndsWithItsLink (begins_session id own number c).state }
-    ensures stays { (k : Keeper C) (id : Identity) (event : EndEvent) (e : EndState C) → EndsWithItsLink e
+    ensures stays { (k : Keeper C) (id : Identity) (event : EndEvent) (e : EndState C)
+        → EndsWithItsLink e
         → EndsWithItsLink (end_step k id event e).state }
     // So an end that is starting has a link that has not come up yet.
-    ensures starting { (e : EndState C) → EndsWithItsLink e → phase_at e.stage e.link.phase ≡ Starting
+    ensures starting { (e : EndState C) → EndsWithItsLink e
+        → phase_at e.stage e.link.phase ≡ Starting
         → IsStarting e.link.phase }
 {
     what_a_link_answers();

@@ -513,7 +513,8 @@ impl<A: Allocator + Copy> Engine<A> {
 
     /// How many timeouts have passed in a row without progress at an end that talks; at no other any is counted.
     pub(crate) fn timeouts(&self) -> u8
-        ensures count { result ≡ timeouts_in (phase_at self.now.stage self.now.link.phase) self.now.link.timeouts }
+        ensures count { result ≡ timeouts_in
+            (phase_at self.now.stage self.now.link.phase) self.now.link.timeouts }
         ensures most { result ≤ TIMEOUTS_MAX }
     {
         match self.phase() {

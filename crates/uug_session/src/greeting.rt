@@ -133,7 +133,8 @@ impl Greeting {
         out: &mut Outbox<A>,
     ) -> Result<Led, AllocError>
         ensures greeted { IfOk result (λ led. led.greeted
-            ≡ (called_name_came place.now.me place.now.peer place.now.number self text.now).greeted) }
+            ≡ (called_name_came place.now.me place.now.peer place.now.number self
+            text.now).greeted) }
         ensures rises { IfOk result (λ led. led.rises
             ≡ (called_name_came place.now.me place.now.peer place.now.number self text.now).rises) }
         ensures says { Says (called_name_came place.now.me place.now.peer

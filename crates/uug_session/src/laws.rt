@@ -25,7 +25,8 @@ pub fn limits()
 /// more it is as if the spool had no such file.
 pub fn what_may_be_given()
     ensures given { (h : Holdings) (name : List ℕ) (file : File)
-        → (to_give h name ≡ Some file) ↔ ((h.file name ≡ Some file) × (length file.bytes ≤ FILE_MAX)) }
+        → (to_give h name ≡ Some file) ↔ ((h.file name ≡ Some file)
+        × (length file.bytes ≤ FILE_MAX)) }
     ensures too_large { (h : Holdings) (name : List ℕ) (file : File) → h.file name ≡ Some file
         → FILE_MAX < length file.bytes → to_give h name ≡ None }
 {}
@@ -38,7 +39,8 @@ pub fn what_is_too_long_fits_no_turn()
 
 /// Every text of a conversation may be cut into messages, and is read as what was said; no file is too large.
 pub fn said_is_read_back()
-    ensures { (a b : Party) → IsSound a → IsSound b → EachTurn (λ t. IsReadBack t.said) (conversation a b) }
+    ensures { (a b : Party) → IsSound a → IsSound b
+        → EachTurn (λ t. IsReadBack t.said) (conversation a b) }
 {
     written_orders_are_read();
     written_answers_are_read();
@@ -48,7 +50,8 @@ pub fn said_is_read_back()
 /// One end, which doesn't know the other's jobs or holdings, given the first messages that the other says in their
 /// conversation, stands where the conversation says: for both ends, every two parties, and every number of messages.
 pub fn an_end_follows_the_conversation()
-    ensures { (a b : Party) → IsSound a → IsSound b → (me : Side) (k : ℕ) → IsAt me a b k (progress_at me a b k) }
+    ensures { (a b : Party) → IsSound a → IsSound b → (me : Side) (k : ℕ)
+        → IsAt me a b k (progress_at me a b k) }
 {
     said_is_read_back();
     gathering_goes_on();
@@ -61,7 +64,8 @@ pub fn an_end_follows_the_conversation()
 /// conversation says, and two numbers tell it.
 pub fn two_ends_are_told_by_four_numbers()
     ensures { (a b : Party) → IsSound a → IsSound b → (two : Two) → Reached a b two
-        → IsTold caller a b two.caller_end two.called_end × IsTold called a b two.called_end two.caller_end }
+        → IsTold caller a b two.caller_end two.called_end
+        × IsTold called a b two.called_end two.caller_end }
 {
     an_end_follows_the_conversation();
 }

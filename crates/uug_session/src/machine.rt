@@ -61,7 +61,8 @@ fn on_order<A: Allocator, S: Spool>(
     spool: &S,
     order: &Result<Order, BadText>,
 ) -> Reaction
-    ensures reply { on_order (S.holdings spool.now) order.now queue.old ≡ reply_of (S.holdings spool.now) queue.new result [] }
+    ensures reply { on_order (S.holdings spool.now) order.now queue.old
+        ≡ reply_of (S.holdings spool.now) queue.new result [] }
     ensures mode { IfOk order.now (λ o. HasMode o) → HasModeInRange result.awaits }
 {
     match order {
@@ -113,7 +114,8 @@ fn on_hang_up(next: Option<Order>) -> Reaction
 }
 
 fn on_given_file_done(answer: Result<Answer, BadText>) -> Reaction
-    ensures reply { (h : Holdings) (l : Lists) → on_given_file_done answer l ≡ reply_of h l result [] }
+    ensures reply { (h : Holdings) (l : Lists)
+        → on_given_file_done answer l ≡ reply_of h l result [] }
     ensures mode { HasModeInRange result.awaits }
 {
     match answer {
@@ -254,7 +256,8 @@ fn on_request_answer<A: Allocator, S: Spool>(
 
 // Where the roles are exchanged, this end is the slave then.
 fn on_hang_up_answer(answer: Result<Answer, BadText>) -> Reaction
-    ensures reply { (h : Holdings) (l : Lists) → on_hang_up_answer answer l ≡ reply_of h l result [] }
+    ensures reply { (h : Holdings) (l : Lists)
+        → on_hang_up_answer answer l ≡ reply_of h l result [] }
     ensures mode { HasModeInRange result.awaits }
 {
     match answer {

@@ -40,7 +40,10 @@ impl<A: Allocator + Copy> MemorySpool<A> {
     pub fn add_file(&mut self, name: Name, mode: u16, bytes: &[u8]) -> Result<(), AllocError>
         requires { mode ≤ MODE_MAX }
         ensures ok { OnOk result (held_by self.new ≡
-            record (held_by self.old) { files = (held_by self.old).files ++ kept_file name mode bytes.now ∷ [] }) }
+            record (held_by self.old) {
+              files = (held_by self.old).files
+                  ++ kept_file name mode bytes.now ∷ [];
+            }) }
         ensures err { OnErr result (held_by self.new ≡ held_by self.old) }
     {
         push_file(&mut self.files, self.alloc, name, mode, bytes)

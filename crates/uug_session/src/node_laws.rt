@@ -40,11 +40,15 @@ pub fn jobs_stay_together()
         → OnlyMoves e.talking.machine.lists (effect_of h kept event e).state.keeper.machine.lists }
     ensures moved { (before after : Lists) → OnlyMoves before after → HaveSameJobs before after }
     // So it is with all that is found in bytes that come, in whatever pieces.
-    ensures goes_on { (h : Holdings) (kept kept_after : List Kept) (most faults later : ℕ) (bytes : List ℕ)
-        (before after : NodeState) → GoesOn h kept kept_after (HasFailed most faults later) bytes before after
+    ensures goes_on { (h : Holdings) (kept kept_after : List Kept) (most faults later : ℕ)
+        (bytes : List ℕ)
+        (before after : NodeState)
+        → GoesOn h kept kept_after (HasFailed most faults later) bytes before after
         → HaveSameJobs before.engine.talking.machine.lists after.engine.talking.machine.lists }
-    ensures taken { (h : Holdings) (kept kept_after : List Kept) (most faults later : ℕ) (bytes : List ℕ)
-        (before after : NodeState) → TakesAll h kept kept_after (HasFailed most faults later) bytes before after
+    ensures taken { (h : Holdings) (kept kept_after : List Kept) (most faults later : ℕ)
+        (bytes : List ℕ)
+        (before after : NodeState)
+        → TakesAll h kept kept_after (HasFailed most faults later) bytes before after
         → HaveSameJobs before.engine.talking.machine.lists after.engine.talking.machine.lists }
     // The next session begins with the same ones.
     ensures again { (l : Lists) → all_jobs (all_ahead l) ≡ all_jobs l }
@@ -55,19 +59,26 @@ pub fn jobs_stay_together()
 pub fn struck_requests_were_kept()
     // Each event that happens to an end.
     ensures event { (h : Holdings) (kept : List Kept) (event : EndEvent) (e : EngineState)
-        → KeepsWhatItAskedFor e.talking.machine.lists.struck (effect_of h kept event e).state.keeper.machine.lists.struck
+        → KeepsWhatItAskedFor e.talking.machine.lists.struck
+        (effect_of h kept event e).state.keeper.machine.lists.struck
         kept (effect_of h kept event e).state.keeper.kept }
     // All that is found in bytes that come, in whatever pieces.
-    ensures goes_on { (h : Holdings) (kept kept_after : List Kept) (most faults later : ℕ) (bytes : List ℕ)
-        (before after : NodeState) → GoesOn h kept kept_after (HasFailed most faults later) bytes before after
+    ensures goes_on { (h : Holdings) (kept kept_after : List Kept) (most faults later : ℕ)
+        (bytes : List ℕ)
+        (before after : NodeState)
+        → GoesOn h kept kept_after (HasFailed most faults later) bytes before after
         → KeepsWhatItAskedFor (struck_jobs before) (struck_jobs after) kept kept_after }
-    ensures taken { (h : Holdings) (kept kept_after : List Kept) (most faults later : ℕ) (bytes : List ℕ)
-        (before after : NodeState) → TakesAll h kept kept_after (HasFailed most faults later) bytes before after
+    ensures taken { (h : Holdings) (kept kept_after : List Kept) (most faults later : ℕ)
+        (bytes : List ℕ)
+        (before after : NodeState)
+        → TakesAll h kept kept_after (HasFailed most faults later) bytes before after
         → KeepsWhatItAskedFor (struck_jobs before) (struck_jobs after) kept kept_after }
     // So it is from one call to the next: where nothing is struck and nothing kept, and where one call follows another.
-    ensures same { (struck struck_after : List Job) (kept kept_after : List Kept) → struck_after ≡ struck → kept_after ≡ kept
+    ensures same { (struck struck_after : List Job) (kept kept_after : List Kept)
+        → struck_after ≡ struck → kept_after ≡ kept
         → KeepsWhatItAskedFor struck struck_after kept kept_after }
-    ensures later { (struck struck_then struck_after : List Job) (kept kept_then kept_after : List Kept)
+    ensures later { (struck struck_then struck_after : List Job)
+        (kept kept_then kept_after : List Kept)
         → KeepsWhatItAskedFor struck struck_then kept kept_then
         → KeepsWhatItAskedFor struck_then struck_after kept_then kept_after
         → KeepsWhatItAskedFor struck struck_after kept kept_after }

@@ -36,7 +36,8 @@ impl<A: Allocator> Model for Outgoing<A> {
       room = vec_capacity o.sayings - vec_len o.sayings;
     } };
 
-    ghost invariant = { λ o. (o.said ≤ vec_len o.sayings) × All IsSayable (drop o.said o.sayings.items)
+    ghost invariant = { λ o. (o.said ≤ vec_len o.sayings)
+        × All IsSayable (drop o.said o.sayings.items)
         × IsWithin (drop o.said o.sayings.items) o.offset };
 }
 

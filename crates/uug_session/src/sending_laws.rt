@@ -29,7 +29,9 @@ pub fn an_end_closes_where_all_is_over<C>()
 
 /// A node sends while there is room: what its calls say of a step (`Does`), whether it takes up an item or has waited too long, is such an event.
 pub fn a_node_sends_while_there_is_room()
-    ensures { (h : Holdings) (kept kept_after : List Kept) (event : EndEvent) (before after : EngineState)
-        → after.link.window ≤ WINDOW_MAX → Does (effect_of h kept event before) (end_of h kept_after after) before after
+    ensures { (h : Holdings) (kept kept_after : List Kept) (event : EndEvent)
+        (before after : EngineState)
+        → after.link.window ≤ WINDOW_MAX
+        → Does (effect_of h kept event before) (end_of h kept_after after) before after
         → NodeHasSaidWhatItCan h kept before → NodeHasSaidWhatItCan h kept_after after }
 {}

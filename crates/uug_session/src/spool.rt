@@ -51,9 +51,11 @@ pub trait Spool {
     fn keep(&mut self, name: &Name, mode: u16, bytes: &[u8]) -> Result<(), KeepFault>
         requires { mode ≤ MODE_MAX }
         ensures holdings { holdings self.new ≡ holdings self.old }
-        ensures ok { OnOk result (kept self.new ≡ kept self.old ++ kept_file name.now mode bytes.now ∷ []) }
+        ensures ok { OnOk result (kept self.new
+            ≡ kept self.old ++ kept_file name.now mode bytes.now ∷ []) }
         ensures err { OnErr result (kept self.new ≡ kept self.old) }
-        ensures refused { (result ≡ Err KeepFault.Refused) ↔ ((holdings self.old).immovable name.now ≡ true) }
+        ensures refused { (result ≡ Err KeepFault.Refused) ↔ ((holdings self.old).immovable name.now
+            ≡ true) }
         ensures stands { result ≢ Err KeepFault.Device → faults self.new ≡ faults self.old }
         ensures device { result ≡ Err KeepFault.Device
             → (faults self.old < faults self.new) ⊎ (faults self.old ≡ u64.MAX) }

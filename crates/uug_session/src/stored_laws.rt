@@ -13,11 +13,13 @@ ghost use Rattle.uug_session.specs.View.{conversation_view, floor, kept_after, l
 pub fn struck_jobs_have_own_entries()
     ensures called_store { (a b : Party) (j k : ℕ)
         → j ≤ floor k (conversation_view called a b) → k ≤ floor j (conversation_view caller a b)
-        → OwnEntries a.holdings a.jobs (lists_after caller a b j).struck (lists_after called a b k).struck
+        → OwnEntries a.holdings a.jobs (lists_after caller a b j).struck
+        (lists_after called a b k).struck
         (kept_after k (conversation_view called a b)) }
     ensures caller_store { (a b : Party) (j k : ℕ)
         → j ≤ floor k (conversation_view called a b) → k ≤ floor j (conversation_view caller a b)
-        → OwnEntries b.holdings b.jobs (lists_after called a b k).struck (lists_after caller a b j).struck
+        → OwnEntries b.holdings b.jobs (lists_after called a b k).struck
+        (lists_after caller a b j).struck
         (kept_after j (conversation_view caller a b)) }
 {}
 
@@ -29,7 +31,8 @@ pub fn own_entries_have_places()
 
 /// Own entries of several sessions, each with jobs of its own to do, are own entries of all of them.
 pub fn own_entries_of_sessions()
-    ensures joined { (h : Holdings) (jobs later_jobs givers receivers later_givers later_receivers : List Job)
+    ensures joined { (h : Holdings)
+        (jobs later_jobs givers receivers later_givers later_receivers : List Job)
         (entries later_entries : List Kept)
         → OwnEntries h jobs givers receivers entries
         → OwnEntries h later_jobs later_givers later_receivers later_entries

@@ -26,15 +26,18 @@ pub(crate) fn hearing_laws()
 pub fn text_search_finds_the_first()
     ensures stands { (stream text others : List ℕ) → search_text stream ≡ text_stands text others
         → FindsText stream text others }
-    ensures waits { (stream rest : List ℕ) → search_text stream ≡ text_waits rest → FindsNone stream rest }
-    ensures too_long { (stream : List ℕ) → search_text stream ≡ text_too_long → texts_of stream ≡ no_text TooLong }
+    ensures waits { (stream rest : List ℕ) → search_text stream ≡ text_waits rest
+        → FindsNone stream rest }
+    ensures too_long { (stream : List ℕ) → search_text stream ≡ text_too_long
+        → texts_of stream ≡ no_text TooLong }
 
     // Each is found where it is there.
     ensures some { (front text behind : List ℕ) → IsFirstText front text
         → (others : List ℕ) × (search_text (front ++ behind) ≡ text_stands text others) }
     ensures none { (stream : List ℕ) → texts_of stream ≡ no_text (Rest stream)
         → (rest : List ℕ) × (search_text stream ≡ text_waits rest) }
-    ensures long { (stream : List ℕ) → texts_of stream ≡ no_text TooLong → search_text stream ≡ text_too_long }
+    ensures long { (stream : List ℕ) → texts_of stream ≡ no_text TooLong
+        → search_text stream ≡ text_too_long }
 {
     hearing_laws();
 }
@@ -44,11 +47,15 @@ pub fn text_search_finds_the_first()
 /// text are held. Where a search then finds a text too long, there are no others.
 pub fn taken_texts_are_first()
     ensures texts { (calls : List TextCall) (now : TextsHeld) → Make calls nothing_held now
-        → ReadsAs (texts_of (all_accepted calls)) (with_texts (all_dropped calls) (texts_of now.bytes)) }
+        → ReadsAs (texts_of (all_accepted calls))
+        (with_texts (all_dropped calls) (texts_of now.bytes)) }
     ensures stand { (calls : List TextCall) (now : TextsHeld) → Make calls nothing_held now
-        → (passed : List ℕ) × StandBefore (all_dropped calls) (passed ++ now.bytes) (all_accepted calls) }
-    ensures behind { (calls : List TextCall) (text : List ℕ) (old now : TextsHeld) → Make calls nothing_held old
-        → Makes (dropped text) old now → StandBefore (all_dropped calls ++ text ∷ []) now.bytes (all_accepted calls) }
+        → (passed : List ℕ)
+        × StandBefore (all_dropped calls) (passed ++ now.bytes) (all_accepted calls) }
+    ensures behind { (calls : List TextCall) (text : List ℕ) (old now : TextsHeld)
+        → Make calls nothing_held old
+        → Makes (dropped text) old now
+        → StandBefore (all_dropped calls ++ text ∷ []) now.bytes (all_accepted calls) }
     ensures too_long { (calls : List TextCall) (now : TextsHeld) → Make calls nothing_held now
         → search_text now.bytes ≡ text_too_long
         → texts_of (all_accepted calls) ≡ record { texts = all_dropped calls; end = TooLong } }
@@ -62,16 +69,20 @@ pub fn texts_are_taken_in_order()
     ensures begins { Taken [] [] [] }
     ensures more { (texts : List (List ℕ)) (accepted held more : List ℕ) → Taken texts accepted held
         → Taken texts (accepted ++ more) (held ++ more) }
-    ensures stands { (texts : List (List ℕ)) (accepted held text others : List ℕ) → Taken texts accepted held
+    ensures stands { (texts : List (List ℕ)) (accepted held text others : List ℕ)
+        → Taken texts accepted held
         → search_text held ≡ text_stands text others
         → StandBefore (texts ++ text ∷ []) (drop (size_of_text text) others) accepted }
     // Right behind a text nothing was passed over.
-    ensures behind { (texts : List (List ℕ)) (accepted held : List ℕ) → StandBefore texts held accepted
+    ensures behind { (texts : List (List ℕ)) (accepted held : List ℕ)
+        → StandBefore texts held accepted
         → Taken texts accepted held }
-    ensures waits { (texts : List (List ℕ)) (accepted held rest : List ℕ) → Taken texts accepted held
+    ensures waits { (texts : List (List ℕ)) (accepted held rest : List ℕ)
+        → Taken texts accepted held
         → search_text held ≡ text_waits rest → Taken texts accepted rest }
     ensures too_long { (texts : List (List ℕ)) (accepted held : List ℕ) → Taken texts accepted held
-        → search_text held ≡ text_too_long → texts_of accepted ≡ record { texts = texts; end = TooLong } }
+        → search_text held ≡ text_too_long
+        → texts_of accepted ≡ record { texts = texts; end = TooLong } }
     // The texts that were taken are the first of all bytes, and those of what is held are the others.
     ensures first { (texts : List (List ℕ)) (accepted held : List ℕ) → Taken texts accepted held
         → ReadsAs (texts_of accepted) (with_texts texts (texts_of held)) }

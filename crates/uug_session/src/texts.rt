@@ -66,9 +66,11 @@ impl<A: Allocator> Texts<A> {
     /// until it is dropped. Where there is none, at least one byte fits. After `TextTooLong` nothing is held.
     pub(crate) fn search(&mut self) -> Result<bool, TextTooLong>
         ensures exact { self.new ≡ after_text_search (search_text self.old.bytes) }
-        ensures outcome { MatchResult result (λ found. search_text self.old.bytes ≡ search_left found self.new)
+        ensures outcome { MatchResult result (λ found.
+            search_text self.old.bytes ≡ search_left found self.new)
             (λ _. search_text self.old.bytes ≡ text_too_long) }
-        ensures shows { IfOk result (λ found. found ≡ true → ShowsText (shown_text self.new) self.new) }
+        ensures shows { IfOk result (λ found. found ≡ true
+            → ShowsText (shown_text self.new) self.new) }
         ensures room { IfOk result (λ found. found ≡ false → length self.new.bytes < READER_SIZE) }
     {
         let Ok(found) = search_in(self.bytes.as_slice()) else {
@@ -82,7 +84,8 @@ impl<A: Allocator> Texts<A> {
 
     /// The text shown, without its start byte and its end byte.
     pub(crate) fn showing(&self) -> Option<&[u8]>
-        ensures shows { MatchOption result (self.now.shown_size ≡ 0) (λ text. ShowsText text.now self.now) }
+        ensures shows { MatchOption result (self.now.shown_size ≡ 0) (λ text.
+            ShowsText text.now self.now) }
         ensures exact { IfSome result (λ text. text.now ≡ shown_text self.now) }
     {
         let len = self.shown?;
@@ -130,10 +133,13 @@ impl<A: Allocator> Texts<A> {
 fn search_in(bytes: &[u8]) -> Result<Search, TextTooLong>
     ensures within { IfOk result (λ search. search.passed ≤ length bytes.now) }
     ensures exact { MatchResult result
-        (λ search. search_text bytes.now ≡ search_left (is_some search.shown) (held_as (drop search.passed bytes.now) search.shown))
+        (λ search.
+        search_text bytes.now
+        ≡ search_left (is_some search.shown) (held_as (drop search.passed bytes.now) search.shown))
         (λ _. search_text bytes.now ≡ text_too_long) }
     ensures shows { IfOk result (λ search. ShowsFirst (drop search.passed bytes.now) search.shown) }
-    ensures room { IfOk result (λ search. IsNone search.shown → length bytes.now - search.passed < READER_SIZE) }
+    ensures room { IfOk result (λ search. IsNone search.shown
+        → length bytes.now - search.passed < READER_SIZE) }
 {
     let mut hail = Hail::new();
     let (used, is_whole) = hail.push(bytes)?;

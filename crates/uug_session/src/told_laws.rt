@@ -17,9 +17,11 @@ use crate::end_laws::earlier_jobs_change_nothing;
 /// What an end keeps of a conversation moves as the end does, whatever it has brought from earlier sessions.
 pub fn an_end_keeps_what_it_brought()
     ensures opens { (me : Side) (p : Party) (struck failed : List Job) (kept : List Kept)
-        → opened_with me p.holdings p.size (unopened (behind struck failed (at_start p.jobs [] [])) kept)
+        → opened_with me p.holdings p.size
+        (unopened (behind struck failed (at_start p.jobs [] [])) kept)
         ≡ talk_behind struck failed kept p.size (first_talker me p) }
-    ensures takes { (p : Party) (t : Talker) (message : List ℕ) (struck failed : List Job) (kept : List Kept)
+    ensures takes { (p : Party) (t : Talker) (message : List ℕ) (struck failed : List Job)
+        (kept : List Kept)
         → taking p.holdings message (talk_behind struck failed kept p.size t)
         ≡ talk_behind struck failed kept p.size (after_act (takes message) p t) }
     ensures sends { (p : Party) (t : Talker) (struck failed : List Job) (kept : List Kept)
@@ -32,19 +34,27 @@ pub fn an_end_keeps_what_it_brought()
 /// An end of a conversation is told by two numbers: how many messages it has sent and taken say what it says next, whether
 /// all is over, and whether HY was sent or taken; and what it has taken fitted its turn.
 pub fn an_end_is_told_by_two_numbers()
-    ensures next { (me : Side) (a b : Party) (own others : Talker) (struck failed : List Job) (kept : List Kept)
+    ensures next { (me : Side) (a b : Party) (own others : Talker) (struck failed : List Job)
+        (kept : List Kept)
         → IsTold me a b own others
-        → (end_keeper me (party me a b).holdings).next (talk_behind struck failed kept (party me a b).size own)
+        → (end_keeper me (party me a b).holdings).next
+        (talk_behind struck failed kept (party me a b).size own)
         ≡ (count_keeper (conversation_view me a b)).next (count_of_talker own) }
-    ensures over { (me : Side) (a b : Party) (own others : Talker) (struck failed : List Job) (kept : List Kept)
+    ensures over { (me : Side) (a b : Party) (own others : Talker) (struck failed : List Job)
+        (kept : List Kept)
         → IsTold me a b own others
-        → (end_keeper me (party me a b).holdings).is_over (talk_behind struck failed kept (party me a b).size own)
+        → (end_keeper me (party me a b).holdings).is_over
+        (talk_behind struck failed kept (party me a b).size own)
         ≡ (count_keeper (conversation_view me a b)).is_over (count_of_talker own) }
-    ensures parted { (me : Side) (a b : Party) (own others : Talker) (struck failed : List Job) (kept : List Kept)
+    ensures parted { (me : Side) (a b : Party) (own others : Talker) (struck failed : List Job)
+        (kept : List Kept)
         → IsTold me a b own others
-        → (end_keeper me (party me a b).holdings).has_parted (talk_behind struck failed kept (party me a b).size own)
+        → (end_keeper me (party me a b).holdings).has_parted
+        (talk_behind struck failed kept (party me a b).size own)
         ≡ (count_keeper (conversation_view me a b)).has_parted (count_of_talker own) }
-    ensures not_bad { (me : Side) (a b : Party) (own others : Talker) (struck failed : List Job) (kept : List Kept)
+    ensures not_bad { (me : Side) (a b : Party) (own others : Talker) (struck failed : List Job)
+        (kept : List Kept)
         → IsTold me a b own others
-        → (end_keeper me (party me a b).holdings).is_bad (talk_behind struck failed kept (party me a b).size own) ≡ false }
+        → (end_keeper me (party me a b).holdings).is_bad
+        (talk_behind struck failed kept (party me a b).size own) ≡ false }
 {}

@@ -24,9 +24,11 @@ pub(crate) enum FileFault {
 fn keep<S: Spool>(spool: &mut S, name: &Name, mode: u16, bytes: &[u8]) -> Result<bool, FileFault>
     requires { mode ≤ MODE_MAX }
     ensures holdings { S.holdings spool.new ≡ S.holdings spool.old }
-    ensures immovable { IfOk result (λ immovable. (S.holdings spool.old).immovable name.now ≡ immovable) }
+    ensures immovable { IfOk result (λ immovable.
+        (S.holdings spool.old).immovable name.now ≡ immovable) }
     ensures kept { IfOk result (λ immovable.
-        S.kept spool.new ≡ S.kept spool.old ++ kept_unless immovable (kept_file name.now mode bytes.now)) }
+        S.kept spool.new
+        ≡ S.kept spool.old ++ kept_unless immovable (kept_file name.now mode bytes.now)) }
     ensures err { OnErr result (S.kept spool.new ≡ S.kept spool.old) }
     ensures only { OnErr result ((S.holdings spool.old).immovable name.now ≡ false) }
     ensures stands { result ≢ Err FileFault.Device → S.faults spool.new ≡ S.faults spool.old }
@@ -51,10 +53,12 @@ fn keep_awaited<A: Allocator, S: Spool>(
 ) -> Result<Option<bool>, FileFault>
     requires { HasModeInRange awaits.now }
     ensures holdings { S.holdings spool.new ≡ S.holdings spool.old }
-    ensures kept { IfOk result (λ immovable. IsKept (S.holdings spool.old) (file_awaited awaits.now queue.now.ahead) bytes.now
+    ensures kept { IfOk result (λ immovable.
+        IsKept (S.holdings spool.old) (file_awaited awaits.now queue.now.ahead) bytes.now
         immovable (S.kept spool.old) (S.kept spool.new)) }
     ensures err { OnErr result (S.kept spool.new ≡ S.kept spool.old) }
-    ensures only { OnErr result (IsMovable (S.holdings spool.old) (file_awaited awaits.now queue.now.ahead)) }
+    ensures only { OnErr result
+        (IsMovable (S.holdings spool.old) (file_awaited awaits.now queue.now.ahead)) }
     ensures stands { result ≢ Err FileFault.Device → S.faults spool.new ≡ S.faults spool.old }
     ensures device { result ≡ Err FileFault.Device
         → (S.faults spool.old < S.faults spool.new) ⊎ (S.faults spool.old ≡ u64.MAX) }
@@ -111,7 +115,8 @@ pub(crate) fn on_file<A: Allocator, S: Spool>(
     requires { HasModeInRange awaits }
     ensures holdings { S.holdings spool.new ≡ S.holdings spool.old }
     ensures reply { IfOk result (λ r. on_file (S.holdings spool.old) awaits bytes.now queue.old
-        ≡ reply_of (S.holdings spool.old) queue.new r (on_file (S.holdings spool.old) awaits bytes.now queue.old).keeps) }
+        ≡ reply_of (S.holdings spool.old) queue.new r
+        (on_file (S.holdings spool.old) awaits bytes.now queue.old).keeps) }
     ensures mode { IfOk result (λ r. HasModeInRange r.awaits) }
     ensures sayable { IfOk result (λ r. All IsSayable (sayings_of r.says)) }
     ensures kept { OnOk result (S.kept spool.new
@@ -119,7 +124,8 @@ pub(crate) fn on_file<A: Allocator, S: Spool>(
     ensures jobs_stay { OnErr result (queue.new ≡ queue.old) }
     ensures none_kept { OnErr result (S.kept spool.new ≡ S.kept spool.old) }
     // The spool was asked only where a file is awaited that can be put in its place.
-    ensures only { OnErr result (IsMovable (S.holdings spool.old) (file_awaited awaits queue.old.ahead)) }
+    ensures only { OnErr result
+        (IsMovable (S.holdings spool.old) (file_awaited awaits queue.old.ahead)) }
     ensures stands { result ≢ Err FileFault.Device → S.faults spool.new ≡ S.faults spool.old }
     ensures device { result ≡ Err FileFault.Device
         → (S.faults spool.old < S.faults spool.new) ⊎ (S.faults spool.old ≡ u64.MAX) }

@@ -99,8 +99,10 @@ impl Chunks<'_> {
     /// Puts the next message into `message`, in the place of what that held, and says whether there was one. Where there
     /// is none, `message` stays. `next` makes a new message of `MESSAGE_MAX` bytes each time; this makes none.
     pub fn next_into(&mut self, message: &mut Message) -> bool
-        ensures some { OnTrue result (messages_left self.old ≡ message.new.items ∷ messages_left self.new) }
-        ensures none { OnFalse result ((messages_left self.old ≡ []) × (messages_left self.new ≡ [])) }
+        ensures some { OnTrue result (messages_left self.old
+            ≡ message.new.items ∷ messages_left self.new) }
+        ensures none { OnFalse result ((messages_left self.old ≡ [])
+            × (messages_left self.new ≡ [])) }
         ensures stays { OnFalse result (message.new ≡ message.old) }
     {
         match self.ending {

@@ -91,10 +91,13 @@ impl<A: Allocator> Gather<A> {
     pub fn push(&mut self, message: &[u8]) -> Result<Progress, BadText>
         requires { self.old.whole ≡ false }
         ensures ok { OnOk result (self.new ≡ with_message self.old message.now) }
-        ensures whole { IfOk result (λ progress. (progress ≡ Progress.Whole) ↔ IsTrue self.new.whole) }
+        ensures whole { IfOk result (λ progress.
+            (progress ≡ Progress.Whole) ↔ IsTrue self.new.whole) }
         ensures too_long { IsErrOf result BadText.TooLong
-            ↔ (limit_of self.old.kind < length self.old.bytes + length (part_of self.old.kind message.now)) }
-        ensures refusals { IfErr result (λ fault. (fault ≡ BadText.TooLong) ⊎ (fault ≡ BadText.Memory)) }
+            ↔ (limit_of self.old.kind
+            < length self.old.bytes + length (part_of self.old.kind message.now)) }
+        ensures refusals { IfErr result (λ fault. (fault ≡ BadText.TooLong)
+            ⊎ (fault ≡ BadText.Memory)) }
 
         // Memory is asked for a file's message alone, and for no empty one.
         ensures memory { IsErrOf result BadText.Memory
@@ -102,7 +105,8 @@ impl<A: Allocator> Gather<A> {
         ensures err { OnErr result (self.new ≡ self.old) }
 
         // What is held is what the messages that were taken say together.
-        ensures joined { OnOk result ((messages : List (List ℕ)) → self.old ≡ gathered self.old.kind messages
+        ensures joined { OnOk result ((messages : List (List ℕ))
+            → self.old ≡ gathered self.old.kind messages
             → self.new ≡ gathered self.old.kind (messages ++ message.now ∷ [])) }
     {
         self.add(message)
@@ -111,10 +115,13 @@ impl<A: Allocator> Gather<A> {
     fn add(&mut self, message: &[u8]) -> Result<Progress, BadText>
         requires { self.old.whole ≡ false }
         ensures ok { OnOk result (self.new ≡ with_message self.old message.now) }
-        ensures whole { IfOk result (λ progress. (progress ≡ Progress.Whole) ↔ IsTrue self.new.whole) }
+        ensures whole { IfOk result (λ progress.
+            (progress ≡ Progress.Whole) ↔ IsTrue self.new.whole) }
         ensures too_long { IsErrOf result BadText.TooLong
-            ↔ (limit_of self.old.kind < length self.old.bytes + length (part_of self.old.kind message.now)) }
-        ensures refusals { IfErr result (λ fault. (fault ≡ BadText.TooLong) ⊎ (fault ≡ BadText.Memory)) }
+            ↔ (limit_of self.old.kind
+            < length self.old.bytes + length (part_of self.old.kind message.now)) }
+        ensures refusals { IfErr result (λ fault. (fault ≡ BadText.TooLong)
+            ⊎ (fault ≡ BadText.Memory)) }
         ensures memory { IsErrOf result BadText.Memory
             → (self.old.kind ≡ OfFile) × (message.now ≢ []) }
         ensures err { OnErr result (self.new ≡ self.old) }
@@ -130,7 +137,8 @@ impl<A: Allocator> Gather<A> {
 
 fn push_text(text: &mut ArrayVec<u8, COMMAND_MAX>, message: &[u8]) -> Result<Progress, BadText>
     ensures ok { OnOk result (text.new.items ≡ text.old.items ++ text_part message.now) }
-    ensures whole { IfOk result (λ progress. (progress ≡ Progress.Whole) ↔ IsTrue (list_any is_zero message.now)) }
+    ensures whole { IfOk result (λ progress.
+        (progress ≡ Progress.Whole) ↔ IsTrue (list_any is_zero message.now)) }
     ensures too_long { IsErrOf result BadText.TooLong
         ↔ (COMMAND_MAX < length text.old.items + length (text_part message.now)) }
     ensures refusal { IfErr result (λ fault. fault ≡ BadText.TooLong) }
@@ -149,10 +157,12 @@ fn push_text(text: &mut ArrayVec<u8, COMMAND_MAX>, message: &[u8]) -> Result<Pro
 
 fn push_bytes<A: Allocator>(bytes: &mut Vec<u8, A>, message: &[u8]) -> Result<Progress, BadText>
     ensures ok { OnOk result (bytes.new.items ≡ bytes.old.items ++ message.now) }
-    ensures whole { IfOk result (λ progress. (progress ≡ Progress.Whole) ↔ (length message.now ≡ 0)) }
+    ensures whole { IfOk result (λ progress.
+        (progress ≡ Progress.Whole) ↔ (length message.now ≡ 0)) }
     ensures too_long { IsErrOf result BadText.TooLong
         ↔ (FILE_MAX < length bytes.old.items + length message.now) }
-    ensures refusals { IfErr result (λ fault. (fault ≡ BadText.TooLong) ⊎ (fault ≡ BadText.Memory)) }
+    ensures refusals { IfErr result (λ fault. (fault ≡ BadText.TooLong)
+        ⊎ (fault ≡ BadText.Memory)) }
     ensures memory { IsErrOf result BadText.Memory → 0 < length message.now }
     ensures err { OnErr result (bytes.new.items ≡ bytes.old.items) }
 {

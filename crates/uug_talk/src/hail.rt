@@ -104,7 +104,8 @@ impl Hail {
         ensures err { OnErr result (self.new ≡ Passing) }
 
         // The same as a function of what was heard and the piece.
-        ensures exact { MatchResult result (λ found. hear self.old piece.now ≡ Some (found.0, self.new))
+        ensures exact { MatchResult result (λ found.
+            hear self.old piece.now ≡ Some (found.0, self.new))
             (λ _. hear self.old piece.now ≡ None) }
     {
         let used = self.listen(piece)?;

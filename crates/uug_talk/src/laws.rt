@@ -32,7 +32,8 @@ pub fn limits()
 
 /// What is written of a command is read as the command.
 pub fn written_orders_are_read()
-    ensures { (order : Order) → HasNames order → HasMode order → order_of (order_text order) ≡ Ok order }
+    ensures { (order : Order) → HasNames order → HasMode order
+        → order_of (order_text order) ≡ Ok order }
 {}
 
 /// What is written of an answer is read as the answer.
@@ -42,7 +43,8 @@ pub fn written_answers_are_read()
 
 /// What is written of a command and of an answer may be cut into messages.
 pub fn written_texts_are_commands()
-    ensures order { (order : Order) → HasNames order → HasMode order → IsCommandText (order_text order) }
+    ensures order { (order : Order) → HasNames order → HasMode order
+        → IsCommandText (order_text order) }
     ensures answer { (answer : Answer) → IsWritten answer → IsCommandText (answer_text answer) }
 {}
 
@@ -52,10 +54,12 @@ pub fn command_goes_on()
     ensures more { (size offset : ℕ) (text : List ℕ) → 0 < size → offset + size ≤ length text
         → command_messages size (drop offset text)
         ≡ take size (drop offset text) ∷ command_messages size (drop (offset + size) text) }
-    ensures last { (size offset : ℕ) (text : List ℕ) → offset ≤ length text → length text < offset + size
+    ensures last { (size offset : ℕ) (text : List ℕ) → offset ≤ length text
+        → length text < offset + size
         → command_messages size (drop offset text)
         ≡ (drop offset text ++ replicate (offset + size - length text) 0) ∷ [] }
-    ensures left { (offset : ℕ) (text : List ℕ) → IsCommandText text → IsCommandText (drop offset text) }
+    ensures left { (offset : ℕ) (text : List ℕ) → IsCommandText text
+        → IsCommandText (drop offset text) }
 {}
 
 /// The messages of a file from an offset on are the message there, then those from behind it, up to the
@@ -78,7 +82,8 @@ pub fn messages_fit()
 
 /// What messages say together, with one message more, where they are not whole before it.
 pub fn gathering_goes_on()
-    ensures { (kind : Kind) (messages : List (List ℕ)) (message : List ℕ) → (gathered kind messages).whole ≡ false
+    ensures { (kind : Kind) (messages : List (List ℕ)) (message : List ℕ)
+        → (gathered kind messages).whole ≡ false
         → gathered kind (messages ++ message ∷ []) ≡ with_message (gathered kind messages) message }
 {}
 
@@ -110,21 +115,25 @@ pub fn one_first_text()
 /// Each stream has its texts in exactly one way: those that a function gives.
 pub fn one_reading_of_texts()
     ensures some { (stream : List ℕ) → HasTexts stream (texts_of stream) }
-    ensures only { (stream : List ℕ) (found : StreamTexts) → HasTexts stream found → found ≡ texts_of stream }
+    ensures only { (stream : List ℕ) (found : StreamTexts) → HasTexts stream found
+        → found ≡ texts_of stream }
 {}
 
 /// The texts of a stream do not depend on the pieces in which it comes: what more brings are the texts of
 /// the rest with it behind. Where one is too long, more brings none.
 pub fn texts_in_pieces()
-    ensures rest { (stream more : List ℕ) (texts : List (List ℕ)) (rest : List ℕ) (found : StreamTexts)
-        → HasTexts stream (record { texts = texts; end = Rest rest }) → HasTexts (rest ++ more) found
+    ensures rest { (stream more : List ℕ) (texts : List (List ℕ)) (rest : List ℕ)
+        (found : StreamTexts)
+        → HasTexts stream (record { texts = texts; end = Rest rest })
+        → HasTexts (rest ++ more) found
         → HasTexts (stream ++ more) (record { texts = texts ++ found.texts; end = found.end }) }
     ensures too_long { (stream more : List ℕ) (texts : List (List ℕ))
         → HasTexts stream (record { texts = texts; end = TooLong })
         → HasTexts (stream ++ more) (record { texts = texts; end = TooLong }) }
 
     // The same as a function.
-    ensures continued { (stream more : List ℕ) → texts_of (stream ++ more) ≡ continued (texts_of stream) more }
+    ensures continued { (stream more : List ℕ)
+        → texts_of (stream ++ more) ≡ continued (texts_of stream) more }
 {}
 
 /// What is heard of a piece with more behind it: what is heard of the piece, and then of what is behind.
@@ -144,7 +153,8 @@ pub fn hearing_in_pieces()
 pub fn hearing_says_what_came()
     ensures holds { (heard next : Heard) (before piece : List ℕ) (used : ℕ) → Holds heard before
         → hear heard piece ≡ Some (used, next) → Holds next (before ++ take used piece) }
-    ensures used { (heard next : Heard) (piece : List ℕ) (used : ℕ) → hear heard piece ≡ Some (used, next)
+    ensures used { (heard next : Heard) (piece : List ℕ) (used : ℕ)
+        → hear heard piece ≡ Some (used, next)
         → (used ≤ length piece) × (is_whole next ≡ false → used ≡ length piece) }
 {}
 
@@ -163,12 +173,16 @@ pub fn hearing_finds_the_texts()
 /// Whatever calls a `Hail` had since it was made, with a `clear` behind each whole text alone: the texts that
 /// it showed are those of all bytes that it used.
 pub fn shown_are_the_texts()
-    ensures rest { (calls : List HailCall) (heard : Heard) → Lead Passing calls heard → is_whole heard ≡ false
-        → (rest : List ℕ) × HasTexts (all_used calls) (record { texts = all_shown calls; end = Rest rest })
+    ensures rest { (calls : List HailCall) (heard : Heard) → Lead Passing calls heard
+        → is_whole heard ≡ false
+        → (rest : List ℕ)
+        × HasTexts (all_used calls) (record { texts = all_shown calls; end = Rest rest })
         × Holds heard rest }
     ensures whole { (calls : List HailCall) (text : List ℕ) → Lead Passing calls (Whole text)
-        → HasTexts (all_used calls) (record { texts = all_shown calls ++ text ∷ []; end = Rest [] }) }
-    ensures too_long { (calls : List HailCall) (heard : Heard) (piece : List ℕ) → Lead Passing calls heard
+        → HasTexts (all_used calls)
+        (record { texts = all_shown calls ++ text ∷ []; end = Rest [] }) }
+    ensures too_long { (calls : List HailCall) (heard : Heard) (piece : List ℕ)
+        → Lead Passing calls heard
         → FindsTooLong heard piece
         → HasTexts (all_used calls ++ piece) (record { texts = all_shown calls; end = TooLong }) }
 {}
@@ -176,6 +190,7 @@ pub fn shown_are_the_texts()
 /// Hearing with a `clear` behind each whole text comes to an end: the bytes left, and one more where a text is
 /// whole, fall.
 pub fn hearing_comes_to_an_end()
-    ensures { (heard next : Heard) (bytes : List ℕ) (used : ℕ) → hear heard bytes ≡ Some (used, next)
+    ensures { (heard next : Heard) (bytes : List ℕ) (used : ℕ)
+        → hear heard bytes ≡ Some (used, next)
         → is_whole next ≡ true → left_to_hear Passing (drop used bytes) < left_to_hear heard bytes }
 {}

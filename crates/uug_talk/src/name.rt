@@ -28,7 +28,8 @@ impl Model for Name {
     ghost invariant = { λ n. (n.len ≤ NAME_MAX) × (length n.bytes ≡ NAME_MAX)
         × (drop n.len n.bytes ≡ replicate (NAME_MAX - n.len) 0) × IsName (take n.len n.bytes) };
 
-    ghost inverse = { λ s. record { bytes = s ++ replicate (NAME_MAX - length s) 0; len = length s } };
+    ghost inverse = { λ s.
+        record { bytes = s ++ replicate (NAME_MAX - length s) 0; len = length s } };
 
     ghost inverse_ok = { λ n h i. record {
       bytes = name_padded_back n.len n.bytes h.0 h.1 h.2 i;

@@ -11,7 +11,8 @@ use uug_reader::Found;
 /// Appends the line of a control packet.
 fn add_control_line<A: Allocator>(lines: &mut String<A>, control: Control) -> Result<(), AllocError>
     ensures { OnOk result
-        (string_bytes lines.new ≡ string_bytes lines.old ++ ended (control_text (shown_control control))) }
+        (string_bytes lines.new
+        ≡ string_bytes lines.old ++ ended (control_text (shown_control control))) }
 {
     match control {
         Control::Close => lines.push_str("CLOSE\n"),

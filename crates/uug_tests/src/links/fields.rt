@@ -40,7 +40,10 @@ fn assert_goes_out(rt: &impl Abort, alloc: Global, link: &mut Link, field: Field
         assert_same(rt, make(call, link, &mut out), NOTHING);
         let bytes = out.bytes();
         assert_same(rt, (out.len(), bytes.len()), (1, size));
-        assert_so(rt, bytes.starts_with(&front) && bytes.iter().skip(8).all(|b| *b == 0));
+        assert_so(
+            rt,
+            bytes.starts_with(&front) && bytes.iter().skip(8).all(|b| *b == 0),
+        );
     }
 }
 
