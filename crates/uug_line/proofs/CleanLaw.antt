@@ -51,6 +51,7 @@ settles_of setup events s =
       rounds = rounds;
       are = s.are;
       few = s.few;
+      within = omega (arith, s.few);
       settled = subst (λ (run : Run Count). IsSettled by_numbers setup run)
           (sym (goes_on by_numbers setup 0 events (events_of rounds) (first_run by_numbers setup)
           ∙ ap (λ (n : ℕ). goes_through by_numbers setup n (events_of rounds) (world setup events)) (omega arith))) s.settled;

@@ -1,7 +1,7 @@
 -- How two ends come to the end of what they have to say on a line that has become clean: round by round, in each of which all
 -- that stands on it passes to the called end and then to the caller, or, where nothing does, each has waited too long (this
 -- project's profile).
-use Rattle.std.specs.Prelude.{◌≡◌, ℕ, suc, ◌+◌, ◌-◌, ◌<◌, ◌≤◌, List, [], ◌∷◌, ◌++◌, length, ⊤}
+use Rattle.std.specs.Prelude.{◌≡◌, ℕ, suc, ◌+◌, ◌-◌, ◌*◌, ◌<◌, ◌≤◌, List, [], ◌∷◌, ◌++◌, length, ⊤}
 use Rattle.uug_link.specs.State.{IsUp}
 use Rattle.uug_session.specs.declared.end.End.TheVariants.{Done}
 use Rattle.uug_session.specs.Count.{Count}
@@ -125,11 +125,13 @@ left_at setup run side = length (all_to setup run side) - length (end_at side ru
 abbrev pub left : {C : Type 0} → SetupValue → Run C → ℕ
 left setup run = left_at setup run Caller + left_at setup run Called
 
--- From the world of these events on rounds lead to the end: hardly more of them than messages were left.
+-- From the world of these events on rounds lead to the end: at most four more than messages were left, and so at most four for
+-- each message and 32.
 pub record Settles (setup : SetupValue) (events : List Event) : Type 0 where
   pub rounds : List Round
   pub are : AreRounds by_numbers setup (length events) rounds (world setup events)
   pub few : length rounds ≤ left setup (world setup events) + 4
+  pub within : length rounds ≤ 4 * left setup (world setup events) + 32
   pub settled : IsSettled by_numbers setup (world setup (events ++ events_of rounds))
 
 -- The same for the program's own loop, from a run on whose next event has this number: behind the first two rounds each
