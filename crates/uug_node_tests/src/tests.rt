@@ -4,6 +4,7 @@
 //! definitions state wrongly: above each test stands which.
 
 mod answers;
+mod assertions;
 mod faulty;
 mod greetings;
 mod hostile;
@@ -13,11 +14,11 @@ mod script;
 mod sessions;
 mod wide_peers;
 
+use crate::tests::assertions::{assert_same, assert_so};
 use std::alloc::Allocator;
 use std::process::Abort;
 use std::test::Fail;
 use uug_link::Announce;
-use uug_refusal::{assert_same, assert_so};
 use uug_session::{End, Job, MemorySpool, Node, NotMade, Phase, Place, Queue, Spool, Stored};
 use uug_talk::Name;
 

@@ -1,12 +1,13 @@
 //! Jobs as a text, and what is printed of an end. What this catches beyond the clauses: a rule that is wrong in the
 //! definition, and a call that answers that memory ran out where none was refused, or that cannot be made again.
 
+use crate::assertions::{assert_same, assert_same_at, assert_so, assert_so_at};
 use std::alloc::{AllocError, Global};
 use std::process::Abort;
 use std::test::Fail;
 use uug_line::Side;
 use uug_pair::{JobsFault, add_failed, add_state, read_jobs, write_jobs};
-use uug_refusal::{Refusing, assert_same, assert_same_at, assert_so, assert_so_at};
+use uug_refusal::Refusing;
 use uug_session::{Job, Phase, Queue};
 use uug_talk::Name;
 

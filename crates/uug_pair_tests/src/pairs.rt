@@ -2,6 +2,7 @@
 //! What no clause says: whatever fails, a job that is gone from the jobs of its end has its file in the folder of the end
 //! that takes it, or is printed as failed.
 
+use crate::assertions::{assert_same, assert_same_at, assert_so, assert_so_at};
 use crate::ends::{Call, End, Ends, Heap, NO_FAULT, Plan};
 use crate::memory_folder::MemoryFolder;
 use crate::memory_line::MemoryLine;
@@ -11,7 +12,7 @@ use std::process::Abort;
 use std::test::Fail;
 use uug_line::Side;
 use uug_pair::{Folder, Line, Noise, TextFile, pair_over};
-use uug_refusal::{Refusing, assert_same, assert_same_at, assert_so, assert_so_at};
+use uug_refusal::Refusing;
 use uug_tool::{Output, ToolFault};
 
 /// More turns than two ends take in any of these tests.

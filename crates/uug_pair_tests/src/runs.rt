@@ -1,6 +1,7 @@
 //! Two ends over a socket and folders of the system. What no clause says: what comes into the folders, and that a hostile
 //! folder does no harm.
 
+use crate::assertions::{assert_same, assert_same_at, assert_so, assert_so_at};
 use crate::short_output::ShortOutput;
 use std::alloc::{AllocError, Allocator, Global};
 use std::net::Net;
@@ -11,7 +12,7 @@ use std::rt::Runtime;
 use std::test::Fail;
 use std::{env, fs, io, process};
 use uug_pair::pair_run;
-use uug_refusal::{Refusing, assert_same, assert_same_at, assert_so, assert_so_at};
+use uug_refusal::Refusing;
 use uug_tool::ToolFault;
 
 /// What there is before a run, beside the folder `a/send`. `a` and `b` are the folders of the two ends.

@@ -1,9 +1,9 @@
 //! A line over streams that are at their end.
 
+use crate::assertions::assert_same;
 use std::io;
 use uug_line::Side;
 use uug_pair::{Line, LineFailed, WireLine};
-use uug_refusal::assert_same;
 
 // a line that takes the end of a stream for a read of nothing
 #[test]

@@ -1,12 +1,13 @@
 //! What no clause says of a detailed scan: streams from outside with their listings, that lines go out before the next read,
 //! faults and the limit in mid-stream, and want of memory.
 
+use crate::assertions::{assert_same, assert_same_at, assert_so_at};
 use crate::streams::{SlowInput, SlowOutput};
 use std::alloc::Global;
 use std::process::Abort;
 use std::test::Fail;
 use uug_detail::{scan_detailed, scan_detailed_within};
-use uug_refusal::{Refusing, assert_same, assert_same_at, assert_so_at};
+use uug_refusal::Refusing;
 use uug_tool::{Input, MemoryInput, MemoryOutput, Output, ToolFault, WriteFailed};
 
 /// A stream: its first bytes, the byte that fills it up and to how many, and the bytes behind; and its detailed listing.

@@ -1,9 +1,9 @@
 //! Remarks on bad scripts. What this catches beyond the clauses: a text that is wrong in the definition, and a call that
 //! gives up where it need not.
 
+use crate::assertions::{assert_same, assert_so};
 use std::process::Abort;
 use std::test::Fail;
-use uug_refusal::{assert_same, assert_so};
 use uug_remark::play_remarked;
 use uug_tool::{MemoryInput, MemoryOutput, ToolFault};
 

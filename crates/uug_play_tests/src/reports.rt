@@ -1,9 +1,10 @@
 //! Texts of reports from outside, and one without memory.
 
+use crate::assertions::{assert_same, assert_so};
 use std::alloc::{Allocator, Global};
 use std::test::Fail;
 use uug_line::{LineVerdict, Side};
-use uug_refusal::{Refusing, assert_same, assert_so};
+use uug_refusal::Refusing;
 use uug_script::{EndNumbers, SessionNumbers, ShownEnd, ShownReport, add_report};
 use uug_session::{End, MemorySpool, Phase, Spool, Stored};
 use uug_talk::Name;

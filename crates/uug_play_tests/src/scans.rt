@@ -1,12 +1,13 @@
 //! What no clause says of a scan: streams from outside with their listings, that lines go out before the next read, faults
 //! and the limit in mid-stream, and want of memory.
 
+use crate::assertions::{assert_same, assert_same_at, assert_so_at};
 use crate::streams::{SlowInput, SlowOutput};
 use std::alloc::Global;
 use std::fmt::Display;
 use std::process::Abort;
 use std::test::Fail;
-use uug_refusal::{Refusing, assert_same, assert_same_at, assert_so_at};
+use uug_refusal::Refusing;
 use uug_tool::{
     Input, MemoryInput, MemoryOutput, Output, ReadFailed, ToolFault, WriteFailed, scan_stream,
     scan_within,

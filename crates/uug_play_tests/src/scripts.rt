@@ -1,11 +1,12 @@
 //! Scripts from outside. What this catches beyond the clauses: a rule that is wrong in the definition, and a reader that
 //! answers want of memory where none was refused.
 
+use crate::assertions::{assert_same, assert_so, assert_so_at};
 use std::alloc::Global;
 use std::process::Abort;
 use std::test::Fail;
 use uug_line::{Event, Side};
-use uug_refusal::{Refusing, assert_same, assert_so, assert_so_at};
+use uug_refusal::Refusing;
 use uug_script::{ScriptFault, read_script};
 use uug_session::{Job, Spool, Verdict};
 use uug_talk::Name;

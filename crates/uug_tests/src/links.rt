@@ -7,13 +7,14 @@ mod fields;
 mod outboxes;
 mod runs;
 
+use crate::assertions::{assert_same, assert_so};
 use crate::packets::number;
 use std::alloc::{Allocator, Global};
 use std::process::Abort;
 use std::test::Fail;
 use uug_link::{Announce, Entry, Link, LinkFault, Outbox, Outcome};
 use uug_packet::{Control, Packet, decode};
-use uug_refusal::{Refusing, assert_same, assert_so};
+use uug_refusal::Refusing;
 
 /// A packet, as a table writes it.
 #[derive(Clone, Copy)]

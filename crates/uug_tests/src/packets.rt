@@ -1,5 +1,6 @@
 //! The calls of `uug_packet`: each once, and the texts of its refusals.
 
+use crate::assertions::{assert_same, assert_so};
 use arrayvec::ArrayVec;
 use std::alloc::AllocError;
 use std::process::Abort;
@@ -7,7 +8,6 @@ use uug_packet::{
     Control, NoPacket, Packet, Seq, check, control_packet, decode, encode, field_code, field_size,
     is_written, message_in, message_start, re_ack,
 };
-use uug_refusal::{assert_same, assert_so};
 
 /// The number of a packet: all that are written here are below eight.
 pub fn number(value: u8) -> Seq {

@@ -1,11 +1,12 @@
 //! What no clause says of a reader: that it does its work on bytes from outside, and want of memory.
 
+use crate::assertions::{assert_same, assert_same_at, assert_so};
 use crate::packets::number;
 use std::alloc::{AllocError, Allocator};
 use std::process::Abort;
 use uug_packet::{Control, Packet};
 use uug_reader::{Found, READER_SIZE, Reader};
-use uug_refusal::{Refusing, assert_same, assert_same_at, assert_so};
+use uug_refusal::Refusing;
 
 /// Two bytes of noise, INITA 3, and the front of RR 1.
 const FRONT: [u8; 10] = [0x10, 0x11, 0x10, 0x09, 0x6f, 0xaa, 0x3b, 0xf7, 0x10, 0x09];

@@ -1,10 +1,11 @@
 //! The allocator that refuses: which request it refuses, that it can be made again, and that blocks go back. No clause
 //! says so.
 
+use crate::assertions::{assert_same, assert_so};
 use linked_list_allocator::LocalHeap;
 use std::alloc::Global;
 use std::test::Fail;
-use uug_refusal::{Refusing, assert_same, assert_so};
+use uug_refusal::Refusing;
 
 /// Asks four times for a block: which requests are refused, how many came, and whether one was refused.
 fn ask_four_times(heap: &Refusing<Global>) -> ([bool; 4], u64, bool) {

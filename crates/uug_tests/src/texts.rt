@@ -1,10 +1,11 @@
 //! The texts of a session, each call once with ample memory: no clause says that a file finds its memory. What is read,
 //! written and heard is computed by the theorems of `uug_talk` on worked texts.
 
+use crate::assertions::{assert_same, assert_so, assert_so_at};
 use std::alloc::{Allocator, Global};
 use std::process::Abort;
 use std::test::Fail;
-use uug_refusal::{Refusing, assert_same, assert_so, assert_so_at};
+use uug_refusal::Refusing;
 use uug_talk::{
     Answer, BadText, Chunks, Gather, Hail, Name, Order, Progress, caller_number, is_command_text,
     is_hail_text, read_answer, read_number, read_order, write_answer, write_call, write_hail,

@@ -5,10 +5,10 @@ use super::script::Act::{CallAgain, Hear};
 use super::script::Wire::{InitA, Text};
 use super::script::{Row, SILENCE, follow};
 use super::{MemoryNode, NO_WORK, Side, make, place, stock};
+use crate::tests::assertions::assert_same;
 use std::alloc::Global;
 use std::process::Abort;
 use std::test::Fail;
-use uug_refusal::assert_same;
 use uug_session::{End, Phase};
 
 /// An end, the number that it keeps, what it hears and says, how far it is then, and its number.

@@ -2,12 +2,12 @@
 
 use super::line::{Hand, Line};
 use super::{Given, Left, MemoryNode, Side, assert_lists, end};
+use crate::tests::assertions::assert_same;
 use arrayvec::ArrayVec;
 use std::alloc::{Allocator, Global};
 use std::process::Abort;
 use std::test::Fail;
 use uug_packet::{Control, FIELD_CODE_MAX, Packet, Seq, encode, field_size};
-use uug_refusal::assert_same;
 use uug_session::{Node, Phase, Spool};
 
 /// What goes over the line.

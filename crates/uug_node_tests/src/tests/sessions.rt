@@ -5,10 +5,11 @@ use super::{
     Given, Left, MemoryNode, NO_WORK, NOTHING, SEND, SENDER, Side, Task, assert_ended, make, place,
     stock,
 };
+use crate::tests::assertions::{assert_same, assert_so};
 use std::alloc::{Allocator, Global};
 use std::process::Abort;
 use std::test::Fail;
-use uug_refusal::{Refusing, assert_same, assert_so};
+use uug_refusal::Refusing;
 use uug_session::{End, NotMade};
 
 type HeapNode<'a> = MemoryNode<&'a Refusing<Global>>;

@@ -1,12 +1,12 @@
 //! Inputs that give little at a time, and streams that fail.
 
 use super::{BROKEN_OFF, SENT_TWICE};
+use crate::assertions::{assert_same, assert_same_at};
 use crate::streams::{SlowInput, SlowOutput};
 use std::alloc::Global;
 use std::process::Abort;
 use std::test::Fail;
 use uug_play::{play_stream, play_within, read_whole};
-use uug_refusal::{assert_same, assert_same_at};
 use uug_tool::{Input, MemoryInput, MemoryOutput, Output, ToolFault, WriteFailed};
 
 /// An input of the script that fails after so many reads.

@@ -1,10 +1,10 @@
 //! How the ends stand that a report lends. What this catches beyond the clauses: a wrong definition of where an end stands,
 //! and a run that always answers want of memory.
 
+use crate::assertions::assert_same_at;
 use std::alloc::Global;
 use std::test::Fail;
 use uug_line::{Report, run};
-use uug_refusal::assert_same_at;
 use uug_script::read_script;
 use uug_session::{End, MemorySpool, Node, Phase};
 

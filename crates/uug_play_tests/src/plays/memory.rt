@@ -1,12 +1,13 @@
 //! Each request for memory refused in turn.
 
 use super::{NUMBERED, SENT_NUMBERED};
+use crate::assertions::{assert_same, assert_same_at, assert_so_at};
 use std::alloc::Global;
 use std::process::Abort;
 use std::test::Fail;
 use uug_line::{RunFault, run};
 use uug_play::play_stream;
-use uug_refusal::{Refusing, assert_same, assert_same_at, assert_so_at};
+use uug_refusal::Refusing;
 use uug_script::read_script;
 use uug_tool::{MemoryInput, MemoryOutput, ToolFault};
 

@@ -1,11 +1,11 @@
 //! What an end may count on over any line, checked on reports of noisy lines.
 ghost use Rattle.std.specs.Prelude.{◌<◌};
 
+use crate::assertions::assert_so_at;
 use std::alloc::Global;
 use std::process::Abort;
 use std::test::Fail;
 use uug_line::{EndReport, Event, Report, Side, run, settle};
-use uug_refusal::assert_so_at;
 use uug_script::read_script;
 use uug_session::{FileView, Job, MemorySpool, Node, Spool, Stored};
 use uug_talk::Name;

@@ -2,9 +2,9 @@
 //! that always answers want of memory.
 
 use super::{BROKEN_OFF, SENT_TWICE};
+use crate::assertions::assert_same;
 use std::test::Fail;
 use uug_play::play_stream;
-use uug_refusal::assert_same;
 use uug_tool::{MemoryInput, MemoryOutput, ToolFault};
 
 /// The report of a session in which the caller sends an empty file.

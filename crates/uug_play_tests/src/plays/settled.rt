@@ -1,12 +1,13 @@
 //! Runs that come to their end on a line that has become clean. What this catches beyond the clauses: a wrong definition of a
 //! round, and a `settle` that always returns out of memory.
 
+use crate::assertions::{assert_same, assert_same_at, assert_so_at};
 use std::alloc::Global;
 use std::process::Abort;
 use std::test::Fail;
 use uug_line::{EndReport, Report, RunFault, Side, run, settle};
 use uug_play::{Unsettled, play_settled, why_unsettled};
-use uug_refusal::{Refusing, assert_same, assert_same_at, assert_so_at};
+use uug_refusal::Refusing;
 use uug_script::read_script;
 use uug_session::{End, Phase};
 use uug_tool::{MemoryInput, MemoryOutput, ToolFault};

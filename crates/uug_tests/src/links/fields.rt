@@ -1,11 +1,11 @@
 //! The fields in which messages go out, byte by byte, where the other end has announced the greatest size.
 
 use super::{Call, NOTHING, Row, Wire, announce, follow, make};
+use crate::assertions::{assert_same, assert_so};
 use std::alloc::Global;
 use std::process::Abort;
 use std::test::Fail;
 use uug_link::{Link, Outbox, Outcome};
-use uug_refusal::{assert_same, assert_so};
 
 /// A called end comes up.
 const COMES_UP: &[Row<'static>] = &[

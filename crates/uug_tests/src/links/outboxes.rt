@@ -1,11 +1,12 @@
 //! What an outbox has room for. How it is refused memory stands beside the other calls that take some.
 
 use super::{Wire, announce, is_packet};
+use crate::assertions::{assert_same, assert_so};
 use std::alloc::Global;
 use std::process::Abort;
 use std::test::Fail;
 use uug_link::{Announce, Entry, Link, Outbox};
-use uug_refusal::{Refusing, assert_same, assert_so};
+use uug_refusal::Refusing;
 
 /// A text and a packet, with no memory.
 fn fill(rt: &impl Abort, own: Announce, out: &mut Outbox<&Refusing<Global>>) {

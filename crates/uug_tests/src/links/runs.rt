@@ -1,11 +1,12 @@
 //! Links from their first packet to their end.
 
 use super::{Answer, Call, NOTHING, Row, SILENCE, Wire, announce, assert_holds, follow};
+use crate::assertions::{assert_same, assert_so};
 use std::alloc::{AllocError, Global};
 use std::process::Abort;
 use std::test::Fail;
 use uug_link::{Announce, BadAnnounce, Link, LinkFault, Outbox, Outcome};
-use uug_refusal::{Refusing, assert_same, assert_so};
+use uug_refusal::Refusing;
 
 const UP: Answer = Ok(Outcome::Up);
 

@@ -2,11 +2,11 @@
 //! beyond the clauses: an end that always answers want of memory.
 
 use super::place;
+use crate::assertions::assert_same;
 use std::alloc::{AllocError, Allocator, Global};
 use std::process::Abort;
 use std::test::Fail;
 use uug_link::Outbox;
-use uug_refusal::assert_same;
 use uug_session::{End, Greeted, Greeting, Place};
 use uug_talk::Hail;
 

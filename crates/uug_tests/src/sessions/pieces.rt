@@ -1,8 +1,8 @@
 //! A whole end that takes a whole piece.
 
 use super::place;
+use crate::assertions::assert_same;
 use std::test::Fail;
-use uug_refusal::assert_same;
 use uug_session::{MemorySpool, Node, Queue};
 
 #[test]

@@ -1,10 +1,10 @@
 //! A queue and a spool in memory. What this catches beyond the clauses: a call that always answers want of memory.
 
 use super::{name, send_job};
+use crate::assertions::{assert_same, assert_so};
 use std::alloc::{AllocError, Global};
 use std::process::Abort;
 use std::test::Fail;
-use uug_refusal::{assert_same, assert_so};
 use uug_session::{
     FileView, JOBS_MAX, KeepFault, MemorySpool, Queue, QueueFault, Spool, Stored, Verdict,
 };

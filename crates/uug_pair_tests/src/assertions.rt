@@ -1,5 +1,5 @@
-//! Assertions that a test calls. What is called is proved once, here, and so at far less cost than `assert_eq!` in each
-//! test, which lends both values, compares them, and has their texts at hand.
+//! Assertions that tests call. What is called is proved once, here, and so at far less cost than `assert_eq!` in each test,
+//! which lends both values, compares them, and has their texts at hand.
 ghost use Rattle.std.specs.Prelude.{IsTrue};
 
 use std::fmt::{Debug, Display};
