@@ -10,6 +10,7 @@ use std::process::Abort;
 use std::test::Fail;
 use uug_call::{CallEnd, call_over, number_at_start, number_line, read_number_text};
 use uug_line::Side;
+use uug_refusal::assert_same;
 use uug_session::MemorySpool;
 use uug_tool::{MemoryOutput, ToolFault};
 
@@ -166,13 +167,11 @@ fn make_call(rt: &impl Abort, alloc: Global, call: &Call<'_>) -> Result<(), Fail
         &mut Nobody,
         &mut output,
     );
-    assert_eq!(rt; answer, left.answer);
-    assert_eq!(rt;
-        (end.jobs.text(), end.number.text()),
-        (left.jobs, left.number)
-    );
-    assert_eq!(rt; output.bytes(), left.report);
-    assert_eq!(rt; line.other().node().number(), left.other);
+    assert_same(rt, answer, left.answer);
+    assert_same(rt, end.jobs.text(), left.jobs);
+    assert_same(rt, end.number.text(), left.number);
+    assert_same(rt, output.bytes(), left.report);
+    assert_same(rt, line.other().node().number(), left.other);
     Ok(())
 }
 
@@ -187,11 +186,11 @@ fn calls_keep_their_number(rt: HostRuntime) -> Result<(), Fail> {
 #[test]
 fn reads_the_number_of_a_file(rt: HostRuntime) {
     for (text, number) in TEXTS {
-        assert_eq!(rt; read_number_text(text), number, "in {text:?}");
+        assert_same(&rt, read_number_text(text), number);
         let at_start = number_at_start(Some(text), true);
-        assert_eq!(rt; at_start, number.map(Some).ok_or(ToolFault::Number));
+        assert_same(&rt, at_start, number.map(Some).ok_or(ToolFault::Number));
     }
-    assert_eq!(rt; number_line(70).as_slice(), b"70\n".as_slice());
-    assert_eq!(rt; number_at_start(None, true), Ok(Some(0)));
-    assert_eq!(rt; number_at_start(None, false), Ok(None));
+    assert_same(&rt, number_line(70).as_slice(), b"70\n".as_slice());
+    assert_same(&rt, number_at_start(None, true), Ok(Some(0)));
+    assert_same(&rt, number_at_start(None, false), Ok(None));
 }

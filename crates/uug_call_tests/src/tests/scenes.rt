@@ -5,6 +5,7 @@ use std::alloc::Global;
 use std::process::Abort;
 use std::test::Fail;
 use uug_pair::TurnFault;
+use uug_refusal::{assert_same, assert_so};
 use uug_session::{End, Phase};
 
 /// More bytes, or calls, than any of these sessions has.
@@ -101,7 +102,7 @@ const SCENES: &[(&[u8], Manner, u64, Left)] = &[
 fn sessions_end_as_they_should(rt: HostRuntime) -> Result<(), Fail> {
     let alloc = rt.alloc();
     for (bytes, manner, most, expected) in SCENES {
-        assert_eq!(rt; play(alloc, bytes, *manner, *most)?, *expected);
+        assert_same(&rt, play(alloc, bytes, *manner, *most)?, *expected);
     }
     Ok(())
 }
@@ -115,14 +116,14 @@ fn assert_failing(rt: &impl Abort, alloc: Global, fails_at: usize) -> Result<(),
         fails_at,
     };
     let left = play(alloc, LONG, manner, AMPLE)?;
-    assert_eq!(rt; left.answer, Err(TurnFault::Line));
-    assert_eq!(rt; left.pending.saturating_add(left.struck), 1);
-    assert!(rt; left.struck <= left.kept);
+    assert_same(rt, left.answer, Err(TurnFault::Line));
+    assert_same(rt, left.pending.saturating_add(left.struck), 1);
+    assert_so(rt, left.struck <= left.kept);
     let is_over = match left.phase {
         Phase::Ended(End::Done | End::HungUp) => true,
         _ => false,
     };
-    assert!(rt; is_over);
+    assert_so(rt, is_over);
     Ok(())
 }
 
