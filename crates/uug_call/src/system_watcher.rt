@@ -75,10 +75,10 @@ impl<R: Eprint + Clock, A: Allocator + Copy> Watcher for SystemWatcher<'_, R, A>
     }
 
     fn is_over(&mut self, standing: Standing) {
+        self.stands(standing);
         let Some(observer) = &self.observer else {
             return;
         };
-        self.voice.say_standing(standing);
         self.voice
             .say_counts("wrote", self.written, observer.counts(Way::Out));
         self.voice

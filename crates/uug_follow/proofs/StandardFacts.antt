@@ -1,5 +1,6 @@
 -- What is counted of a few packets, so that a wrong definition does not check.
 use Rattle.std.proofs.Common.{◌≡◌, ℕ, List, [], ◌∷◌, codes, Some, None, refl}
+use Rattle.std.specs.Fmt.{digits}
 use Rattle.uug_packet.specs.Packet.{rj, rr, srj, control, carry}
 use Rattle.uug_reader.specs.Cut.{Item, found, bad}
 use Rattle.uug_follow.specs.Lines.{counts_line, news_line, progress_line}
@@ -58,4 +59,5 @@ record AreLines : Type 0 where
   all : counts_line (codes "wrote") 1234 (of 1 2 3 4).counts ≡ codes "uucpair: wrote 1234 bytes rejects 2 repeats 3 damaged 4\n"
 
 lines : AreLines
+unfolding digits
 lines = record { begins = refl; ends = refl; goes_on = refl; all = refl }
