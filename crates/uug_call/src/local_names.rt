@@ -91,7 +91,8 @@ impl<F: Folder, A: Allocator + Copy> Spool for LocalNames<F, A> {
         self.files.faults()
     }
 
-    ghost modes = { λ s. local_modes (folder_holdings (map kept_of s.files.files)) (modes_in_range s.files.files) };
+    ghost modes = { λ s. local_modes (folder_holdings (map kept_of s.files.files))
+        (modes_in_range s.files.files) };
 }
 
 /// The name in the folder of a file that a real system names, if there is one.

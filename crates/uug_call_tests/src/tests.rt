@@ -2,6 +2,7 @@
 //! over, and when a fault is answered; these tests say how the session ends and what is done then, and that calls succeed
 //! while there is memory. Above each table stands what it is of.
 
+mod assertions;
 mod follow;
 mod memory_text;
 mod numbers;

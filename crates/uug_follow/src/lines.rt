@@ -72,7 +72,8 @@ fn end_line<A: Allocator + Copy>(
     outcome: Outcome,
     bytes: u64,
 ) -> Result<String<A>, AllocError>
-    ensures { IfOk result (λ line. string_bytes line ≡ end_line seconds took job.now outcome bytes) }
+    ensures { IfOk result (λ line. string_bytes line
+        ≡ end_line seconds took job.now outcome bytes) }
 {
     let words = job_words(alloc, seconds, job)?;
     let ended = outcome_words(alloc, took, outcome, bytes)?;

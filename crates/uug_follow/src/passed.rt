@@ -44,7 +44,8 @@ impl Passed {
     /// This has passed. The message of the next data packet is given.
     pub(crate) fn take<'a>(&mut self, found: Found<'a>) -> Option<&'a [u8]>
         ensures passed { self.new ≡ passed_after self.old (item_of found.entry) }
-        ensures message { MatchOption result (next_message self.old.next (item_of found.entry) ≡ None)
+        ensures message { MatchOption result
+            (next_message self.old.next (item_of found.entry) ≡ None)
             (λ message. next_message self.old.next (item_of found.entry) ≡ Some message.now) }
     {
         match found {

@@ -1,12 +1,12 @@
 //! What is told to somebody who sees the messages of two ends. The clauses say what is counted; these rows say what is told
 //! of jobs.
 
+use crate::tests::assertions::assert_same_at;
 use arrayvec::ArrayVec;
 use std::alloc::Global;
 use std::test::Fail;
 use uug_follow::{Journal, News, Observer, Outcome, Way};
 use uug_packet::{PACKET_MAX, Packet, Seq, encode};
-use uug_refusal::assert_same_at;
 
 /// How many jobs began, and how they ended, with all bytes of their files.
 #[derive(Clone, Copy, Debug, PartialEq, Eq)]

@@ -5,12 +5,12 @@ use super::memory_text::MemoryText;
 use super::scenes::{AMPLE, CLEAN};
 use super::scripted_line::ScriptedLine;
 use super::{MemorySeat, Nobody, called, caller, noise};
+use crate::tests::assertions::{assert_same, assert_same_at};
 use std::alloc::Global;
 use std::process::Abort;
 use std::test::Fail;
 use uug_call::{CallEnd, call_over, number_at_start, number_line, read_number_text};
 use uug_line::Side;
-use uug_refusal::assert_same;
 use uug_session::MemorySpool;
 use uug_tool::{MemoryOutput, ToolFault};
 
@@ -185,8 +185,8 @@ fn calls_keep_their_number(rt: HostRuntime) -> Result<(), Fail> {
 
 #[test]
 fn reads_the_number_of_a_file(rt: HostRuntime) {
-    for (text, number) in TEXTS {
-        assert_same(&rt, read_number_text(text), number);
+    for (place, (text, number)) in TEXTS.into_iter().enumerate() {
+        assert_same_at(&rt, read_number_text(text), number, place);
         let at_start = number_at_start(Some(text), true);
         assert_same(&rt, at_start, number.map(Some).ok_or(ToolFault::Number));
     }

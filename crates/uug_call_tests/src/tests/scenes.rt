@@ -1,11 +1,11 @@
 //! Sessions of a caller with one job, at lines of many manners.
 
 use super::{Left, Manner, Other, play};
+use crate::tests::assertions::{assert_same, assert_same_at, assert_so};
 use std::alloc::Global;
 use std::process::Abort;
 use std::test::Fail;
 use uug_pair::TurnFault;
-use uug_refusal::{assert_same, assert_so};
 use uug_session::{End, Phase};
 
 /// More bytes, or calls, than any of these sessions has.
@@ -101,8 +101,8 @@ const SCENES: &[(&[u8], Manner, u64, Left)] = &[
 #[test]
 fn sessions_end_as_they_should(rt: HostRuntime) -> Result<(), Fail> {
     let alloc = rt.alloc();
-    for (bytes, manner, most, expected) in SCENES {
-        assert_same(&rt, play(alloc, bytes, *manner, *most)?, *expected);
+    for (place, (bytes, manner, most, expected)) in SCENES.iter().enumerate() {
+        assert_same_at(&rt, play(alloc, bytes, *manner, *most)?, *expected, place);
     }
     Ok(())
 }
