@@ -346,6 +346,14 @@ wait "$answerer" || true
 holds "what the end that was called says" "$work/answered" "called done pending 0 struck 0 failed 0$line_feed"
 holds "the file that was sent by a call" "$b/got/y" ""
 holds "no job left after a call" "$a/jobs" ""
+folders "send ~/x y u"
+answer_in_the_background
+row "a call that is followed" 0 "uucpair: 0 s: " "caller done pending 0 struck 1 failed 0$line_feed" \
+    call "unix:$socket" "$a" --me a --peer b -v </dev/null
+wait "$answerer" || true
+helps "the job that begins" " s: send ~/x y"
+helps "how it ends" " s: send ~/x y: done 0 bytes in "
+helps "what was lost" " bytes rejects 0 repeats 0 damaged 0"
 folders "send x /etc/y u"
 answer_in_the_background
 row "a call with a path for a target" 0 "" \

@@ -26,6 +26,15 @@ use uug_play::{play_settled, play_stream};
 use uug_remark::play_remarked;
 use uug_tool::{Output, ToolFault, scan_stream, write_all};
 
+/// Which of the program's streams are terminals.
+#[derive(Clone, Copy, Debug, PartialEq, Eq)]
+pub struct Terminals {
+    /// Standard input.
+    pub input: bool,
+    /// Standard error.
+    pub errors: bool,
+}
+
 /// Prints the name of the program and its version.
 fn show_version<O: Output>(alloc: Global, output: &mut O) -> Result<u8, ToolFault>
     ensures status { IfOk result (λ status. status ≡ 0) }
@@ -221,6 +230,7 @@ fn end_of(
 fn do_task<R, I, O>(
     rt: &R,
     task: Task<'_>,
+    terminals: Terminals,
     input: &mut I,
     output: &mut O,
     remark: &mut String,
@@ -256,21 +266,21 @@ where
             output,
         ),
         Task::Call(call) => {
-            let mut watcher = SystemWatcher::new(rt, call.is_loud);
+            let mut watcher = SystemWatcher::new(alloc, rt, call.is_loud, terminals.errors)?;
             call_run(alloc, rt, &call, &mut watcher, output)
         }
     }
 }
 
 /// Says that standard input is read, where somebody sits before it.
-fn greet(rt: &impl Eprint, task: Task<'_>, at_terminal: bool) {
+fn greet(rt: &impl Eprint, task: Task<'_>, terminals: Terminals) {
     match task {
         Task::Scan(None)
         | Task::ScanVerbose(None)
         | Task::Play(None)
         | Task::PlayVerbose(None)
         | Task::PlaySettled(None)
-            if at_terminal => {
+            if terminals.input && terminals.errors => {
             let _ = eprint!(rt; "uucpair: reading standard input, up to Ctrl-D\n");
         }
         _ => (),
@@ -282,7 +292,7 @@ fn greet(rt: &impl Eprint, task: Task<'_>, at_terminal: bool) {
 pub fn perform<R, S, I, O>(
     rt: &R,
     words: &[S],
-    at_terminal: bool,
+    terminals: Terminals,
     input: &mut I,
     output: &mut O,
 ) -> Result<u8, Stop>
@@ -295,14 +305,14 @@ where
         (O.written output.old) (O.written output.new)) result }
 {
     let task = task_of(rt.alloc(), words)?;
-    greet(rt, task, at_terminal);
+    greet(rt, task, terminals);
     let mut remark = String::new(rt.alloc());
-    let answer = do_task(rt, task, input, output, &mut remark);
+    let answer = do_task(rt, task, terminals, input, output, &mut remark);
     end_of(rt.alloc(), task, answer, remark)
 }
 
 /// Does what the program's own command line asks for, on standard input and output.
-pub fn run<R>(rt: &R, at_terminal: bool) -> Result<u8, Stop>
+pub fn run<R>(rt: &R, terminals: Terminals) -> Result<u8, Stop>
 where
     R: Env + Input + Print + Eprint + Clock + Files<File = File> + Net + AllocGlobal + Clone + Drop,
 {
@@ -314,7 +324,7 @@ where
         .collect(rt.alloc())?;
     let mut input = SystemInput::new(rt.reader());
     let mut output = SystemOutput::new(io::writer(rt));
-    perform(rt, &words, at_terminal, &mut input, &mut output)
+    perform(rt, &words, terminals, &mut input, &mut output)
 }
 
 /// Says on standard error why the program ends before its task is done, where that can be said, and gives the
