@@ -213,6 +213,9 @@ pub fn add_reasons<A: Allocator + Copy, B: Allocator>(
     ensures { OnOk result (string_bytes text.new ≡ string_bytes text.old
         ++ reasons_text report.now.told (holdings_in report.now.spools)) }
 {
-    add_end(text, Side::Caller, report.caller(), report.called())?;
-    add_end(text, Side::Called, report.called(), report.caller())
+    let caller = report.caller();
+    let called = report.called();
+    add_end(text, Side::Caller, caller, called)?;
+    add_end(text, Side::Called, called, caller)?;
+    Ok(())
 }
