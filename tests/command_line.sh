@@ -186,6 +186,32 @@ called stored y 0644 -
 verdict clean
 '
 
+# A job whose file is missing, one that asks for what the other end lacks, and two that stay.
+undone='caller a 2 32
+called b 2 32
+file caller x 0644 -
+later called y
+send caller z y u
+send caller x y u
+request caller x y u
+flow 20
+call
+'
+undone_report='session 1
+caller sent 4 taken 3 most 1 done
+called sent 3 taken 4 most 1 done
+session 2
+caller sent 0 taken 0 most 0 hail
+called sent 0 taken 0 most 0 hail
+caller pending 1 struck 0 failed 2
+called pending 0 struck 0 failed 0
+verdict clean
+'
+undone_reasons='send caller z y u: no such file
+request caller x y u: no such file at the other end
+send caller x y u: put off: the other end takes it later
+'
+
 # The called end keeps a number, and the caller tells another one.
 misnumbered='caller a 2 32
 called b 2 32
@@ -221,6 +247,8 @@ row "what is wrong with a bad script" 2 "uucpair: bad script at line 2${line_fee
 row "what is wrong with a window" 2 "uucpair: bad script at line 1${line_feed}uucpair: window 8 is not 1 to 7$line_feed" "" \
     play --verbose < <(printf 'caller a 8 32\n')
 row "nothing wrong with a script" 0 "" "$idle_report" play -v < <(printf '%s' "$idle")
+row "why jobs are not done" 1 "$undone_reasons" "$undone_report" play -v < <(printf '%s' "$undone")
+row "the same without that" 1 "" "$undone_report" play < <(printf '%s' "$undone")
 row "a play whose caller tells another number" 1 "" "$misnumbered_report" play < <(printf '%s' "$misnumbered")
 row "a number that is too great" 2 "uucpair: bad script at line 1${line_feed}uucpair: number 4294967296 is not 0 to 4294967295$line_feed" "" \
     play -v < <(printf 'number caller 4294967296\n')

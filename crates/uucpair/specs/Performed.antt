@@ -7,7 +7,7 @@ use Rattle.uug_tool.specs.Streams.{Appends, ReadsAll}
 use Rattle.uug_tool.specs.declared.fault.ToolFault.{ToolFault}
 use Rattle.uug_tool.specs.declared.fault.ToolFault.TheVariants as faults
 use Rattle.uug_detail.specs.Detailed.{AppendsDetailed}
-use Rattle.uug_play.specs.Played.{AppendsReport, BeforeReport, IsFirstBad, IsPlayFault, OnceRead}
+use Rattle.uug_play.specs.Played.{AppendsReport, AppendsVerbosely, BeforeReport, IsFirstBad, IsPlayFault, OnceRead}
 use Rattle.uug_play.specs.Settled.{AppendsSettled}
 use Rattle.uug_remark.specs.Remarks.{remark_text, wrong_at}
 use Rattle.uucpair.specs.declared.command_line.Task.{Task}
@@ -79,9 +79,12 @@ pub record PlaysFile (s : Streams) (answer : Result ℕ ToolFault) : Type 0 wher
   pub nothing_written : BeforeReport answer (StaysUnwritten s)
   pub no_other : IfErr answer IsPlayFault
 
--- `play -v`: the same, and where the script is bad the remark is what is wrong with its first bad line
-pub record PlaysRemarked (s : Streams) (remark : List ℕ) (answer : Result ℕ ToolFault) : Type 0 where
+-- `play -v`: the same, and the remark is why the jobs that are not done are not, or of a bad script what is wrong with its
+-- first bad line
+pub record PlaysVerbosely (s : Streams) (remark : List ℕ) (answer : Result ℕ ToolFault) : Type 0 where
   pub plays : Plays s answer
+  pub reasons : IfOk answer (λ status. IfSome s.to_come
+      (λ script. AppendsVerbosely script remark status s.before s.after))
   pub remarks : (line : ℕ) → answer ≡ Err (faults.Script line) → IfSome s.to_come (λ script. remark ≡ remark_text (wrong_at line script))
 
 -- `play --settle`: the same, and what the run settles to was written too, or which condition of that fails
@@ -100,7 +103,7 @@ Does (ScanVerbose None) s remark answer = ScansVerbose s answer
 Does (ScanVerbose (Some path)) s remark answer = ScansFile s answer
 Does (Play None) s remark answer = Plays s answer
 Does (Play (Some path)) s remark answer = PlaysFile s answer
-Does (PlayVerbose None) s remark answer = PlaysRemarked s remark answer
+Does (PlayVerbose None) s remark answer = PlaysVerbosely s remark answer
 Does (PlayVerbose (Some path)) s remark answer = PlaysFile s answer
 Does (PlaySettled None) s remark answer = PlaysSettled s answer
 Does (PlaySettled (Some path)) s remark answer = PlaysFile s answer

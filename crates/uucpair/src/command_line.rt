@@ -24,7 +24,7 @@ pub enum Task<'a> {
     ScanVerbose(Option<&'a str>),
     /// The report of the script in a file, or on standard input, to standard output.
     Play(Option<&'a str>),
-    /// The same; and where the script is bad, it is said what is wrong.
+    /// The same; and it is said why jobs are not done, or where the script is bad, what is wrong.
     PlayVerbose(Option<&'a str>),
     /// The report of the script, and what the run settles to or why it doesn't.
     PlaySettled(Option<&'a str>),
@@ -105,7 +105,7 @@ fn play_command<'a>(alloc: Global) -> Result<Command<'a>, AllocError> {
                 .short('v')
                 .long("verbose")
                 .action(ArgAction::SetTrue)
-                .help("Says what is wrong with a bad script"),
+                .help("Says why jobs are not done, and what is wrong with a bad script"),
         )?
         .arg(
             Arg::new(alloc, "settle")

@@ -55,6 +55,8 @@ pub const PLAY: &str =
   flow N                   N times all bytes arrive, first at the called end
 Empty lines and lines that begin with # are skipped.
 
+With -v a line on standard error says of each job that is not done why, behind the
+report, and of a bad script what is wrong with its line.
 With --settle the run goes on after the script, on a line that loses nothing more,
 and a second report follows the first: the status is of that. It may where no end was
 fooled, both ends are talking, neither has timed out more than 6 times in a row, and

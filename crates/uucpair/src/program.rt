@@ -125,7 +125,7 @@ fn play_file<R: Files, O: Output>(
     play_stream(alloc, &mut file, output)
 }
 
-/// Plays the script in a file, with a remark where it is bad.
+/// Plays the script in a file, with a remark on its jobs, or where it is bad.
 fn play_file_remarked<R: Files, O: Output>(
     alloc: Global,
     rt: &R,
@@ -287,6 +287,13 @@ fn greet(rt: &impl Eprint, task: Task<'_>, terminals: Terminals) {
     }
 }
 
+/// Says what is remarked of a task that was done.
+fn tell(rt: &impl Eprint, answer: Result<u8, ToolFault>, remark: &str) {
+    if answer.is_ok() && !remark.is_empty() {
+        let _ = eprint!(rt; "{remark}");
+    }
+}
+
 /// Does what the words of a command line ask for, the name of the program first, and gives the program's status.
 /// Somebody who sits before standard input is told where it is read.
 pub fn perform<R, S, I, O>(
@@ -308,6 +315,7 @@ where
     greet(rt, task, terminals);
     let mut remark = String::new(rt.alloc());
     let answer = do_task(rt, task, terminals, input, output, &mut remark);
+    tell(rt, answer, remark.as_str());
     end_of(rt.alloc(), task, answer, remark)
 }
 

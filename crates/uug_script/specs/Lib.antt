@@ -1,5 +1,6 @@
 pub mod Fields
 pub mod IsScript
+pub mod JobWords
 pub mod LineSays
 pub mod Lines
 pub mod Meaning
