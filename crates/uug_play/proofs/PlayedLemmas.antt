@@ -6,7 +6,7 @@ use Rattle.uug_line.specs.Belongings.{Belongings}
 use Rattle.uug_line.specs.Sides.{AtBoth}
 use Rattle.uug_line.specs.declared.side.Side.TheVariants.{Caller, Called}
 use Rattle.uug_session.specs.Holdings.{Holdings}
-use Rattle.uug_session.specs.MemoryHoldings.{MemoryHoldings, holdings_of}
+use Rattle.uug_session.specs.MemoryHoldings.{holdings_of}
 use Rattle.uug_line.specs.OfSomeRun.{IsRunOf}
 use Rattle.uug_line.specs.Told.{SpelledEnd, SpelledReport}
 use Rattle.uug_line.specs.Spelled.{spelled}

@@ -1,5 +1,5 @@
 -- The words that are written of a job say it.
-use Rattle.std.proofs.Common.{◌≡◌, Some, None, refl}
+use Rattle.std.proofs.Common.{Some, None, refl}
 use Rattle.uug_line.specs.declared.side.Side.{Side}
 use Rattle.uug_session.specs.declared.job.Job.{Job}
 use Rattle.uug_session.specs.declared.job.Job.TheVariants.{Send, Request}
