@@ -171,6 +171,12 @@ fn end_command<'a>(
             SECONDS,
         ))?
         .arg(
+            Arg::new(alloc, "no-quiet")
+                .long("no-quiet")
+                .action(ArgAction::SetTrue)
+                .help("Answers each data packet that comes out of order"),
+        )?
+        .arg(
             Arg::new(alloc, "number")
                 .long("number")
                 .action(ArgAction::SetTrue)
@@ -241,6 +247,7 @@ fn end_task<'a>(side: Side, matches: &ArgMatches<'a>) -> CallTask<'a> {
         window: matches.get_one::<u32>("window").unwrap_or(0),
         size: matches.get_one::<u32>("size").unwrap_or(0),
         seconds: matches.get_one::<u32>("timeout").unwrap_or(0),
+        is_quiet: !matches.get_flag("no-quiet"),
         is_numbered: matches.get_flag("number"),
         is_loud: matches.get_flag("verbose"),
     }

@@ -45,6 +45,8 @@ pub const PLAY: &str =
   immovable SIDE NAME      or can't put it in its place
   number SIDE N            the number of the end's conversations (0 to 4294967295);
                            a called end that has one lets in only the same
+  quiet SIDE               the end is quiet on repeats: it does not answer each data
+                           packet that comes out of order
   pass SIDE N              the next N bytes on the way to the side arrive
   drop SIDE N              they are lost
   flip SIDE HH             the bits HH of the next byte are inverted
@@ -57,8 +59,8 @@ Empty lines and lines that begin with # are skipped.
 
 With --settle the run goes on after the script, on a line that loses nothing more,
 and a second report follows the first: the status is of that. It may where no end was
-fooled, both ends are talking, neither has timed out more than 6 times in a row, and
-nothing waits at an end or on the line; else a line says what is not so.
+fooled, both ends are talking, neither is quiet on repeats or has timed out more than 6
+times in a row, and nothing waits at an end or on the line; else a line says what is not so.
 
 Status: 0 the last session is done at both ends, 1 it is not, 2 bad usage or a bad
 script, 3 a device fault, 4 out of memory, 5 the line fooled an end

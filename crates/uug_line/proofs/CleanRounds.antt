@@ -126,7 +126,7 @@ module _ (law : CleanLaws) (setup : SetupValue) (brought : AtBoth Belongings) (B
   -- ---- where both talk
 
   stays_known : (there back : Certainty) (far : State) → StaysKnown (Knows there back far)
-  stays_known there back far p a b ps qs answer h k = knows_on there back far a b p ps qs answer h k
+  stays_known there back far p a b ps qs answer plain h k = knows_on there back far a b p ps qs answer plain h k
 
   abbrev pub PassesOpen : (there : Certainty) (x y z : LineEnd Count) → Type 0
   PassesOpen there x y z =
@@ -228,7 +228,7 @@ module _ (law : CleanLaws) (setup : SetupValue) (brought : AtBoth Belongings) (B
       }
 
       h : HeardAll setup brought B side Anything far y (written last) (control close ∷ [])
-      h = heard_all law setup brought B base side Anything (λ p a b ps qs answer h k. tt) last far y (control close ∷ []) []
+      h = heard_all law setup brought B base side Anything (λ p a b ps qs answer plain h k. tt) last far y (control close ∷ []) []
           (far_empty x y is) open_to
 
       far_base : B (other side) far h.then

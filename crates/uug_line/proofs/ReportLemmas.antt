@@ -1,5 +1,5 @@
 -- What a report shows of the program's run, and the run that goes on from a report.
-use Rattle.std.proofs.Common.{◌≡◌, ℕ, ◌<◌, ◌≤◌, List, [], ◌∷◌, ◌++◌, All, length, length-append, map, take, drop, get_or, refl, ap, ap₂, sym, subst, ◌∙◌, arith}
+use Rattle.std.proofs.Common.{◌≡◌, ℕ, ◌<◌, ◌≤◌, Bool, false, List, [], ◌∷◌, ◌++◌, All, length, length-append, map, take, drop, get_or, refl, ap, ap₂, sym, subst, ◌∙◌, arith}
 use Rattle.std.proofs.lemmas.List.{map-append}
 use Rattle.std.proofs.lemmas.List.Elements.{All-append, All-cons, All-nil}
 use Rattle.std.proofs.Math.Seq.{drop-append_seam, take-append_seam}
@@ -116,6 +116,7 @@ end_may run side now held line now_is held_is line_is can =
     record {
       on_link = on.on_link;
       is_up = on.is_up;
+      plain = on.plain;
       timeouts = on.timeouts;
       holds_none = sym held_is ∙ on.holds_none;
       empty = sym line_is ∙ on.empty;
@@ -127,6 +128,7 @@ end_can run side now held line now_is held_is line_is may =
     subst (λ (n : EndNow). EndCanSettle n held line) (sym now_is) (record {
       on_link = may.on_link;
       is_up = may.is_up;
+      plain = may.plain;
       timeouts = may.timeouts;
       holds_none = held_is ∙ may.holds_none;
       empty = line_is ∙ may.empty;
@@ -270,17 +272,18 @@ empty_so [] none = refl
 empty_so (b ∷ bs) none = absurd (omega (arith, none))
 
 -- what is read of the end is so
-pub end_settles : (now : EndNow) (held line : List ℕ) (phase : Phase) (timeouts waiting left : ℕ) →
-    phase ≡ phase_at now.stage now.link.phase →
+pub end_settles : (now : EndNow) (held line : List ℕ) (phase : Phase) (quiet : Bool) (timeouts waiting left : ℕ) →
+    phase ≡ phase_at now.stage now.link.phase → quiet ≡ now.link.own.quiet →
     timeouts ≡ timeouts_in (phase_at now.stage now.link.phase) now.link.timeouts → waiting ≡ length held → left ≡ length line →
-    phase ≡ phases.Talking → timeouts ≤ 6 → waiting ≡ 0 → left ≡ 0 → EndCanSettle now held line
-end_settles now held line phase timeouts waiting left phase_is timeouts_is waiting_is left_is talks few none empty =
+    phase ≡ phases.Talking → quiet ≡ false → timeouts ≤ 6 → waiting ≡ 0 → left ≡ 0 → EndCanSettle now held line
+end_settles now held line phase quiet timeouts waiting left phase_is quiet_is timeouts_is waiting_is left_is talks plain few none empty =
     let on = talks_so now.stage now.link.phase (sym phase_is ∙ talks) in
     let counted_as : timeouts ≡ now.link.timeouts =
     timeouts_is ∙ ap (λ (p : Phase). timeouts_in p now.link.timeouts) (sym phase_is ∙ talks) in
     record {
       on_link = on.0;
       is_up = on.1;
+      plain = sym quiet_is ∙ plain;
       timeouts = subst (λ (n : ℕ). n ≤ 6) counted_as few;
       holds_none = empty_so held (sym waiting_is ∙ none);
       empty = empty_so line (sym left_is ∙ empty);
@@ -290,20 +293,22 @@ talks_at : (stage : Stage) (p : LinkPhase) → stage ≡ linked → p ≡ link_p
 talks_at stage p on up = ap (λ (s : Stage). phase_at s p) on ∙ ap phase_of_link up
 
 -- and is read so
-pub record ReadsSettled (phase : Phase) (timeouts waiting left : ℕ) : Type 0 where
+pub record ReadsSettled (phase : Phase) (quiet : Bool) (timeouts waiting left : ℕ) : Type 0 where
   pub talks : phase ≡ phases.Talking
+  pub plain : quiet ≡ false
   pub few : timeouts ≤ 6
   pub none : waiting ≡ 0
   pub empty : left ≡ 0
 
-pub end_reads : (now : EndNow) (held line : List ℕ) (phase : Phase) (timeouts waiting left : ℕ) →
-    phase ≡ phase_at now.stage now.link.phase →
+pub end_reads : (now : EndNow) (held line : List ℕ) (phase : Phase) (quiet : Bool) (timeouts waiting left : ℕ) →
+    phase ≡ phase_at now.stage now.link.phase → quiet ≡ now.link.own.quiet →
     timeouts ≡ timeouts_in (phase_at now.stage now.link.phase) now.link.timeouts → waiting ≡ length held → left ≡ length line →
-    EndCanSettle now held line → ReadsSettled phase timeouts waiting left
-end_reads now held line phase timeouts waiting left phase_is timeouts_is waiting_is left_is can =
+    EndCanSettle now held line → ReadsSettled phase quiet timeouts waiting left
+end_reads now held line phase quiet timeouts waiting left phase_is quiet_is timeouts_is waiting_is left_is can =
     let talks = talks_at now.stage now.link.phase can.on_link can.is_up in
     record {
       talks = phase_is ∙ talks;
+      plain = quiet_is ∙ can.plain;
       few = subst (λ (n : ℕ). n ≤ 6) (sym (timeouts_is ∙ ap (λ (p : Phase). timeouts_in p now.link.timeouts) talks)) can.timeouts;
       none = waiting_is ∙ ap length can.holds_none;
       empty = left_is ∙ ap length can.empty;

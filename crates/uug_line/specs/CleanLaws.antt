@@ -29,6 +29,7 @@ pub record CleanLaws : Type 0 where
   pub counted : AlwaysOfTwo (λ e other announced. AreCounted e other announced.window)
   pub unacked : AlwaysOfTwo (λ e other announced. length e.link.unacked ≤ announced.window)
   pub window : AlwaysOfTwo (λ e other announced. KnowsWindow e.link.phase → e.link.window ≡ announced.window)
+  pub own : AlwaysOfTwo (λ e other announced. other.link.own ≡ announced)
   pub passed : AlwaysOfTwo (λ e other announced. e.passed ≤ length other.emitted)
   pub written : AlwaysEmits CanBeWritten
   pub phases : (s : State) (e : Event) → IsComing e → MovesPhase (step s e).outcome s.phase (step s e).state.phase

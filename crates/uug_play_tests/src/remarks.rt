@@ -8,7 +8,7 @@ use uug_remark::play_remarked;
 use uug_tool::{MemoryInput, MemoryOutput, ToolFault};
 
 /// Third lines behind two that set up the ends, and what is wrong with them.
-const REMARKS: [(&[u8], &str); 21] = [
+const REMARKS: [(&[u8], &str); 23] = [
     (b"caller a 8 32", "window 8 is not 1 to 7"),
     (b"caller a 0 32", "window 0 is not 1 to 7"),
     (
@@ -17,7 +17,7 @@ const REMARKS: [(&[u8], &str); 21] = [
     ),
     (
         b"caller a 2 32",
-        "the end is set up or numbered already, or has 1024 jobs",
+        "the end is set up, numbered or quiet already, or has 1024 jobs",
     ),
     (b"caller a 2", "packet size is missing"),
     (b"caller a 2 32 x", "unexpected word x"),
@@ -34,6 +34,8 @@ const REMARKS: [(&[u8], &str); 21] = [
         b"number called 4294967296",
         "number 4294967296 is not 0 to 4294967295",
     ),
+    (b"quiet", "side is missing"),
+    (b"quiet caller 1", "unexpected word 1"),
     (b"flow 100001", "number 100001 is not 0 to 100000"),
     (b"flip caller 0g", "byte 0g is not 2 hexadecimal digits"),
     (

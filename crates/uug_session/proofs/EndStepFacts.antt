@@ -17,7 +17,7 @@ use Rattle.uug_session.proofs.FactParties.{Exception, no_exception, fixed, holdi
 -- ---- an end that stands so, and what comes
 
 abbrev pub announced : Announced
-announced = record { window = 2; size_code = 0 }
+announced = record { window = 2; size_code = 0; quiet = false }
 
 -- it has sent one message, which is acknowledged, and taken none
 abbrev pub link_of : Side → State

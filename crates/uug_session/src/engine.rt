@@ -523,6 +523,13 @@ impl<A: Allocator + Copy> Engine<A> {
         }
     }
 
+    /// Whether it is quiet on repeats.
+    pub(crate) fn is_quiet(&self) -> bool
+        ensures { result ≡ self.now.link.own.quiet }
+    {
+        self.link.is_quiet()
+    }
+
     /// What was emitted and not yet cleared.
     pub(crate) fn outbox(&self) -> &Outbox<A>
         ensures { result.now ≡ self.now.outbox }

@@ -265,6 +265,13 @@ impl<S: Spool, A: Allocator + Copy> Node<S, A> {
         self.engine.timeouts()
     }
 
+    /// Whether it is quiet on repeats.
+    pub fn is_quiet(&self) -> bool
+        ensures { result ≡ (node_of self.now).engine.link.own.quiet }
+    {
+        self.engine.is_quiet()
+    }
+
     /// What was emitted and not yet cleared.
     pub fn outbox(&self) -> &Outbox<A>
         ensures { result.now ≡ (node_of self.now).engine.outbox }

@@ -5,6 +5,7 @@
 
 mod fields;
 mod outboxes;
+mod repeats;
 mod runs;
 
 use crate::packets::number;

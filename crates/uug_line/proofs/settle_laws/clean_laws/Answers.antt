@@ -18,6 +18,7 @@ returns c =
       counted = c.what_two_links_emit_arrives.ensures.counted;
       unacked = c.two_links_run_as_the_machine.ensures.unacked;
       window = c.two_links_run_as_the_machine.ensures.window;
+      own = c.two_links_run_as_the_machine.ensures.own;
       passed = passed;
       written = c.what_two_links_emit_arrives.ensures.written;
       phases = c.what_a_link_answers.ensures.phases;
