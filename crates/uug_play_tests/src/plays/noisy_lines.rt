@@ -284,7 +284,9 @@ fn finishes_list(rt: &(impl Abort + AllocGlobal), list: u32) -> Result<bool, Fai
     let quiet = quiet_in_list(list);
     let events = events_up_to_silence(rt.alloc(), list)?;
     let report = report_with(rt.alloc(), list, quiet, events.as_slice())?;
-    if report.verdict() != LineVerdict::Clean || !talks(report.caller()) || !talks(report.called())
+    if report.verdict() != LineVerdict::Clean
+        || !talks(report.caller())
+        || !talks(report.called())
     {
         return Ok(false);
     }
