@@ -1,5 +1,5 @@
 -- A link that is not quiet on repeats: its step, by whether a reject has gone out.
-use Rattle.std.proofs.Common.{◌≡◌, ℕ, pred, Bool, true, false, if◌then◌else◌, nat_lt, None, refl, ap, ◌∙◌}
+use Rattle.std.proofs.Common.{◌≡◌, ℕ, pred, ◌+◌, ◌%◌, Bool, false, if◌then◌else◌, nat_lt, None, refl, ap, ◌∙◌}
 use Rattle.uug_link.specs.State.{State, IsPlain, is_halted}
 use Rattle.uug_link.specs.Step.{Effect, Event, to_begin, packet_found, bad_found, timed_out, to_send, to_close, step, acknowledged, answers, answers_halted, has_told, ignored, is_enough, is_expected, last_received, nothing, on_bad, on_data, on_number, on_other, on_repeat, rejecting, taken, told_behind}
 use Rattle.uug_link.specs.Plain.{plain_number, plain_data, plain_bad, plain_step}

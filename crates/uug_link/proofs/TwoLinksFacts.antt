@@ -1,5 +1,5 @@
 -- A run of two links that was worked out by hand, from the start to the close: a wrong rule does not check.
-use Rattle.std.proofs.Common.{◌≡◌, List, [], ◌∷◌, Some, refl, arith}
+use Rattle.std.proofs.Common.{false, ◌≡◌, List, [], ◌∷◌, Some, refl, arith}
 use Rattle.uug_link.specs.Arrivals.{place_of}
 use Rattle.uug_link.specs.State.{caller_state, called_state, IsUp}
 use Rattle.uug_link.specs.Step.{to_begin, to_send, to_close}

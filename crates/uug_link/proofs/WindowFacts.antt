@@ -18,7 +18,7 @@ abbrev out : Bool → (number ack : ℕ) → List ℕ → Emission
 out first number ack message = record { packet = carry number ack 1 message; first = first }
 
 -- a data packet comes, with an empty message
-abbrev data_found : (number ack : ℕ) → Event
+abbrev pub data_found : (number ack : ℕ) → Event
 data_found number ack = packet_found (carry number ack 1 [])
 
 abbrev sends : List ℕ → List Event
