@@ -9,3 +9,11 @@ wait_for() {
     done
     echo "  $1 was not made"
 }
+
+# start_relay LISTEN CONNECT: loses, doubles and damages every 50th packet on the way
+start_relay() {
+    python3 "$root/interop/relay.py" "$1" "$2" "${EVERY:-50}" "${SECONDS_MAX:-1800}" >"$work/relay.out" 2>&1 &
+    relay=$!
+    started+=("$relay")
+    wait_for "$1"
+}

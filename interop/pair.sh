@@ -3,8 +3,9 @@
 # over TCP, and over a pair of pseudo-terminals, which Debian's package socat makes (apt-get install socat). Run by hand:
 #     interop/pair.sh [PROGRAM]
 # PROGRAM is crates/uucpair/out/uucpair where none is named. SIZES has the sizes of the files, and TERMS_LIST the packet
-# sizes and windows, as 64:7, that are tried. Then both ends keep a number of their conversations, and a stranger calls. Its
-# last line is the number of lines and calls at which all went well.
+# sizes and windows, as 64:7, that are tried. A further session goes through relay.py, which loses, doubles and damages
+# every 50th packet, and one over a good line then has to finish what it left. Then both ends keep a number of their
+# conversations, and a stranger calls. Its last line is the number of lines and calls at which all went well.
 set -u
 root=$(cd "$(dirname "$0")/.." && pwd)
 . "$root/interop/common.sh"
@@ -26,7 +27,7 @@ fill() {
         head -c "$size" /dev/urandom >"$dir/send/$side-s$size"
         head -c "$size" /dev/urandom >"$dir/send/$side-r$size"
         echo "send $side-s$size $side-s$size u" >>"$dir/jobs"
-        echo "request $other-r$size ~/$other-r$size u" >>"$dir/jobs"
+        echo "request ~/$other-r$size ~/$other-r$size u" >>"$dir/jobs"
     done
 }
 
@@ -82,6 +83,56 @@ meet() {
     [ "$called" = "$status" ] && [ "$answered" = "$status" ] && [ "$kept" = "$numbers" ] && good=$((good + 1))
 }
 
+# none_is_wrong FROM TO: each file of FROM is whole in TO, or not there and its job pending at one of the two
+none_is_wrong() {
+    local file name bad=0
+    for file in "$1"/send/*; do
+        name=$(basename "$file")
+        if [ -e "$2/got/$name" ]; then
+            cmp -s "$file" "$2/got/$name" || { echo "  $name is wrong"; bad=1; }
+        else
+            grep -q " \(~/\)\?$name " "$1/jobs" "$2/jobs" || { echo "  $name and its job are gone"; bad=1; }
+        fi
+    done
+    return $bad
+}
+
+# run_noisy SIZE WINDOW: the same through the relay, and then what is left over a good line
+run_noisy() {
+    local size=$1 window=$2 answerer called answered bad=0
+    rm -rf "$work/a" "$work/b"
+    fill "$work/a" a b
+    fill "$work/b" b a
+    timeout 400 "$program" answer "unix:$work/far" "$work/b" --me b --peer a --size "$size" --window "$window" --timeout 1 >"$work/b.out" 2>"$work/b.err" &
+    answerer=$!
+    started+=("$answerer")
+    wait_for "$work/far"
+    start_relay "$work/near" "$work/far"
+    timeout 400 "$program" call "unix:$work/near" "$work/a" --me a --peer b --size "$size" --window "$window" --timeout 1 >"$work/a.out" 2>"$work/a.err"
+    called=$?
+    wait "$answerer"
+    answered=$?
+    wait "$relay"
+    echo "a bad line, size $size, window $window: call $called, answer $answered; $(head -1 "$work/a.out"); $(head -1 "$work/b.out"); $(cat "$work/relay.out")"
+    none_is_wrong "$work/a" "$work/b" || bad=1
+    none_is_wrong "$work/b" "$work/a" || bad=1
+    [ "$called" -lt 124 ] && [ "$answered" -lt 124 ] || bad=1
+    again "$size" "$window" || bad=1
+    [ "$bad" = 1 ] || good=$((good + 1))
+}
+
+# again SIZE WINDOW: what is left moves over a good line
+again() {
+    local answerer
+    "$program" answer "unix:$work/line" "$work/b" --me b --peer a --size "$1" --window "$2" --timeout 5 >/dev/null 2>&1 &
+    answerer=$!
+    started+=("$answerer")
+    wait_for "$work/line"
+    "$program" call "unix:$work/line" "$work/a" --me a --peer b --size "$1" --window "$2" --timeout 5 >/dev/null 2>&1
+    wait "$answerer"
+    [ ! -s "$work/a/jobs" ] && [ ! -s "$work/b/jobs" ] && same_files "$work/a" "$work/b" && same_files "$work/b" "$work/a"
+}
+
 good=0
 all=0
 for pair in $terms; do
@@ -94,7 +145,8 @@ for pair in $terms; do
     started+=($!)
     sleep 1
     run "pseudo-terminals" "$work/tty_b" "$work/tty_a" "$1" "$2"
-    all=$((all + 3))
+    run_noisy "$1" "$2"
+    all=$((all + 4))
 done
 rm -rf "$work/a" "$work/b"
 mkdir -p "$work/a/got" "$work/b/got" "$work/stranger/got"

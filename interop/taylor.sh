@@ -4,7 +4,9 @@
 # uucp. Run by hand:
 #     interop/taylor.sh [PROGRAM]
 # PROGRAM is crates/uucpair/out/uucpair where none is named. SIZES has the sizes of the files, and TERMS_LIST the packet
-# sizes and windows, as 64:7, that are tried. Its last line is the number of sessions in which all went well.
+# sizes and windows, as 64:7, that are tried, and NOISY_LIST those of the sessions through relay.py, which loses, doubles
+# and damages every 50th packet: as the program is, quiet on repeats, where all files have to come, and with --no-quiet,
+# where Taylor may give up. Its last line is the number of sessions in which all went well.
 set -u
 root=$(cd "$(dirname "$0")/.." && pwd)
 . "$root/interop/common.sh"
@@ -71,7 +73,7 @@ END
         echo "send o-s$size ~/o-s$size u" >>"$work/ours/jobs"
         echo "request ~/t-r$size t-r$size u" >>"$work/ours/jobs"
         as_uucp uucp -I "$work/taylor/config" -r "$work/taylor/pub/t-s$size" "ours!~/t-s$size"
-        as_uucp uucp -I "$work/taylor/config" -r -W "ours!o-r$size" "$work/taylor/pub/o-r$size"
+        as_uucp uucp -I "$work/taylor/config" -r "ours!~/o-r$size" "$work/taylor/pub/o-r$size"
     done
 }
 
@@ -125,12 +127,89 @@ taylor_calls() {
     judge "Taylor calls, size $1, window $2" "$status"
 }
 
+# check_file FROM TO NAME: whole, or not there and its job pending at one of the two
+check_file() {
+    local name=$3
+    if [ -e "$2" ]; then
+        cmp -s "$1" "$2" && { whole=$((whole + 1)); return; }
+        echo "  $name is wrong"
+        bad=1
+    elif grep -q "[ /]$name " "$work/ours/jobs" || grep -q "/$name " "$work/waiting"; then
+        pending=$((pending + 1))
+    else
+        echo "  $name and its job are gone"
+        bad=1
+    fi
+}
+
+# judge_noisy NAME STATUS [--no-quiet]: no file is wrong, and none is gone with its job; without the option all are whole
+judge_noisy() {
+    local size bad=0 whole=0 pending=0
+    as_uucp uustat -I "$work/taylor/config" -a >"$work/waiting"
+    for size in $sizes; do
+        check_file "$work/ours/send/o-s$size" "$work/taylor/pub/o-s$size" "o-s$size"
+        check_file "$work/ours/send/o-r$size" "$work/taylor/pub/o-r$size" "o-r$size"
+        check_file "$work/taylor/pub/t-s$size" "$work/ours/got/t-s$size" "t-s$size"
+        check_file "$work/taylor/pub/t-r$size" "$work/ours/got/t-r$size" "t-r$size"
+    done
+    [ "$2" -lt 124 ] || bad=1
+    if [ $# = 2 ]; then
+        [ "$2" = 0 ] && [ "$pending" = 0 ] && grep -q "Call complete" "$work/taylor/log/Log" || bad=1
+    fi
+    echo "$1${3:+, $3}: status $2; $(head -1 "$work/out"); $whole whole, $pending pending; $(cat "$work/relay.out")"
+    grep -i "error\|complete\|too many" "$work/taylor/log/Log" | tail -n 2
+    [ "$bad" = 1 ] || good=$((good + 1))
+}
+
+# we_call_noisy SIZE WINDOW [--no-quiet]
+we_call_noisy() {
+    local status
+    set_up "$1" "$2"
+    rm -f "$work/line" "$work/far" "$work"/taylor/pub/o-*
+    (cd / && exec socat "UNIX-LISTEN:$work/far,mode=666" \
+        "EXEC:runuser -u uucp -- /usr/sbin/uucico -I $work/taylor/config") &
+    started+=($!)
+    wait_for "$work/far"
+    start_relay "$work/line" "$work/far"
+    timeout 2000 "$program" call "unix:$work/line" "$work/ours" --me ours --peer taylor --size "$1" --window "$2" "${@:3}" \
+        >"$work/out" 2>"$work/err"
+    status=$?
+    wait "$relay"
+    sleep 1
+    judge_noisy "we call over a bad line, size $1, window $2" "$status" "${@:3}"
+}
+
+# taylor_calls_noisy SIZE WINDOW [--no-quiet]
+taylor_calls_noisy() {
+    local status answerer
+    set_up "$1" "$2"
+    rm -f "$work"/taylor/pub/o-*
+    timeout 2000 "$program" answer "unix:$work/far" "$work/ours" --me ours --peer taylor --size "$1" --window "$2" "${@:3}" \
+        >"$work/out" 2>"$work/err" &
+    answerer=$!
+    started+=("$answerer")
+    wait_for "$work/far"
+    start_relay "$work/line" "$work/far"
+    (cd / && timeout 2000 runuser -u uucp -- /usr/sbin/uucico -I "$work/taylor/config" -f -s ours)
+    wait "$answerer"
+    status=$?
+    wait "$relay"
+    judge_noisy "Taylor calls over a bad line, size $1, window $2" "$status" "${@:3}"
+}
+
 good=0
 all=0
 for pair in $terms; do
     we_call "${pair%:*}" "${pair#*:}"
     taylor_calls "${pair%:*}" "${pair#*:}"
     all=$((all + 2))
+done
+for pair in ${NOISY_LIST-64:7 1024:1 1024:3 1024:7}; do
+    for option in "" --no-quiet; do
+        we_call_noisy "${pair%:*}" "${pair#*:}" $option
+        taylor_calls_noisy "${pair%:*}" "${pair#*:}" $option
+        all=$((all + 2))
+    done
 done
 echo "$good of $all sessions"
 [ "$good" = "$all" ]

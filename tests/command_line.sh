@@ -186,6 +186,32 @@ called stored y 0644 -
 verdict clean
 '
 
+# A job whose file is missing, one that asks for what the other end lacks, and two that stay.
+undone='caller a 2 32
+called b 2 32
+file caller x 0644 -
+later called y
+send caller z y u
+send caller x y u
+request caller x y u
+flow 20
+call
+'
+undone_report='session 1
+caller sent 4 taken 3 most 1 done
+called sent 3 taken 4 most 1 done
+session 2
+caller sent 0 taken 0 most 0 hail
+called sent 0 taken 0 most 0 hail
+caller pending 1 struck 0 failed 2
+called pending 0 struck 0 failed 0
+verdict clean
+'
+undone_reasons='send caller z y u: no such file
+request caller x y u: no such file at the other end
+send caller x y u: put off: the other end takes it later
+'
+
 # The called end keeps a number, and the caller tells another one.
 misnumbered='caller a 2 32
 called b 2 32
@@ -221,6 +247,8 @@ row "what is wrong with a bad script" 2 "uucpair: bad script at line 2${line_fee
 row "what is wrong with a window" 2 "uucpair: bad script at line 1${line_feed}uucpair: window 8 is not 1 to 7$line_feed" "" \
     play --verbose < <(printf 'caller a 8 32\n')
 row "nothing wrong with a script" 0 "" "$idle_report" play -v < <(printf '%s' "$idle")
+row "why jobs are not done" 1 "$undone_reasons" "$undone_report" play -v < <(printf '%s' "$undone")
+row "the same without that" 1 "" "$undone_report" play < <(printf '%s' "$undone")
 row "a play whose caller tells another number" 1 "" "$misnumbered_report" play < <(printf '%s' "$misnumbered")
 row "a number that is too great" 2 "uucpair: bad script at line 1${line_feed}uucpair: number 4294967296 is not 0 to 4294967295$line_feed" "" \
     play -v < <(printf 'number caller 4294967296\n')
@@ -228,7 +256,19 @@ row "a play that settles" 0 "" "$lost_report" play --settle < <(printf '%s' "$lo
 row "a play of what is done" 0 "" "${idle_report}not settled: caller is not talking$line_feed" play --settle < <(printf '%s' "$idle")
 row "a play that fools an end, and does not settle" 5 "" "${fooled_report}not settled: the line fooled an end$line_feed" \
     play --settle < <(printf '%s' "$fooled")
+row "a play with an end that is quiet on repeats does not settle" 1 "" \
+    "$(head -n 6 <<<"$lost_report")${line_feed}not settled: caller is quiet on repeats$line_feed" \
+    play --settle < <(printf '%squiet caller\n' "$lost")
+row "an end that is quiet twice" 2 "uucpair: bad script at line 2$line_feed" "" \
+    play < <(printf 'quiet caller\nquiet caller\n')
 row "a bad script that does not settle" 2 "uucpair: bad script at line 2$line_feed" "" play --settle < <(printf '\ncall me\n')
+row "a ladder that ends at once" 1 "" "${silent_report}session 1${line_feed}event  caller                                               called${line_feed}start           ...---------------------------------------- TEXT Shere=b$line_feed" \
+    play --ladder < <(printf 'caller a 2 32\ncalled b 2 32\n')
+row "a script that is too much for a ladder" 2 "uucpair: bad usage${line_feed}uucpair: a ladder has at most 1000 events, and a picture 1000000 rungs$line_feed" "" \
+    play --svg < <(printf 'caller a 2 32\ncalled b 2 32\nflow 501\n')
+row "a bad script that is not drawn" 2 "uucpair: bad script at line 2$line_feed" "" play --ladder < <(printf '\ncall me\n')
+row "a ladder and a picture at once" 2 "error: " "" play --ladder --svg </dev/null
+row "a ladder that settles" 2 "error: " "" play --ladder --settle </dev/null
 row "two options that exclude each other" 2 "error: " "" play --settle -v </dev/null
 
 row "no tool" 2 "error: " "" </dev/null
@@ -346,6 +386,19 @@ wait "$answerer" || true
 holds "what the end that was called says" "$work/answered" "called done pending 0 struck 0 failed 0$line_feed"
 holds "the file that was sent by a call" "$b/got/y" ""
 holds "no job left after a call" "$a/jobs" ""
+folders "send x y u"
+answer_in_the_background --no-quiet
+row "a call that answers each repeat" 0 "" "caller done pending 0 struck 1 failed 0$line_feed" \
+    call "unix:$socket" "$a" --me a --peer b --no-quiet </dev/null
+wait "$answerer" || true
+folders "send ~/x y u"
+answer_in_the_background
+row "a call that is followed" 0 "uucpair: 0 s: " "caller done pending 0 struck 1 failed 0$line_feed" \
+    call "unix:$socket" "$a" --me a --peer b -v </dev/null
+wait "$answerer" || true
+helps "the job that begins" " s: send ~/x y"
+helps "how it ends" " s: send ~/x y: done 0 bytes in "
+helps "what was lost" " bytes rejects 0 repeats 0 damaged 0"
 folders "send x /etc/y u"
 answer_in_the_background
 row "a call with a path for a target" 0 "" \

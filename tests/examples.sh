@@ -1,10 +1,10 @@
 #!/usr/bin/env bash
-# Plays each script in `examples` and lists each stream in detail, and compares the report or the listing, to the last byte,
-# and the status with what is expected.
+# Plays each script in `examples`, draws those that have a ladder, and lists each stream in detail, and compares the report,
+# the ladder or the listing, to the last byte, and the status with what is expected.
 #
 #     tests/examples.sh [PROGRAM]
 #
-# PROGRAM is run as `PROGRAM play` and `PROGRAM scan -v`; without it `uucpair` is, which is proved and built first where that
+# PROGRAM is run as `PROGRAM play`, `PROGRAM play --ladder` and `PROGRAM scan -v`; without it `uucpair` is, which is proved and built first where that
 # is needed. Says how many examples passed, and ends with status 1 where one did not, or where a script has no report, a
 # report no script, a stream no listing or a listing no stream.
 set -eu
@@ -33,6 +33,16 @@ check() {
     [ -f "$script" ] && [ -f "$report" ] || { echo "a script or a report is missing"; return; }
     "$program" play <"$script" >"$work/printed" 2>"$work/said" || status=$?
     cmp -s "$report" "$work/printed" || diff "$report" "$work/printed" || true
+    expected=$(expected_status "$report")
+    [ "$status" -eq "$expected" ] || echo "status $status, not $expected: $(cat "$work/said")"
+}
+
+# check_ladder NAME: draws the example of this name, and says what is wrong with it: the report comes first, then the ladder.
+check_ladder() {
+    local script=$root/examples/$1.script report=$root/examples/$1.report ladder=$root/examples/$1.ladder status=0 expected
+    [ -f "$script" ] && [ -f "$report" ] || { echo "a script or a report is missing"; return; }
+    "$program" play --ladder <"$script" >"$work/printed" 2>"$work/said" || status=$?
+    cat "$report" "$ladder" | diff - "$work/printed" || true
     expected=$(expected_status "$report")
     [ "$status" -eq "$expected" ] || echo "status $status, not $expected: $(cat "$work/said")"
 }
@@ -66,6 +76,9 @@ if [ -z "$program" ]; then
 fi
 for name in $(ls "$root/examples" | sed -n 's/\.\(script\|report\)$//p' | sort -u); do
     count "$name" "$(check "$name")"
+done
+for name in $(ls "$root/examples" | sed -n 's/\.ladder$//p'); do
+    count "$name.ladder" "$(check_ladder "$name")"
 done
 for name in $(ls "$root/examples" | sed -n 's/\.\(bytes\|listing\)$//p' | sort -u); do
     count "$name" "$(check_stream "$name")"

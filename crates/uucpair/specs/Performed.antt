@@ -7,11 +7,13 @@ use Rattle.uug_tool.specs.Streams.{Appends, ReadsAll}
 use Rattle.uug_tool.specs.declared.fault.ToolFault.{ToolFault}
 use Rattle.uug_tool.specs.declared.fault.ToolFault.TheVariants as faults
 use Rattle.uug_detail.specs.Detailed.{AppendsDetailed}
-use Rattle.uug_play.specs.Played.{AppendsReport, BeforeReport, IsFirstBad, IsPlayFault, OnceRead}
+use Rattle.uug_play.specs.Played.{AppendsReport, AppendsVerbosely, BeforeReport, IsFirstBad, IsPlayFault, OnceRead}
 use Rattle.uug_play.specs.Settled.{AppendsSettled}
+use Rattle.uug_ladder.specs.declared.play.Drawn.{Drawn}
+use Rattle.uug_ladder.specs.Played.{AppendsShown, BeforeWriting, IsDrawingFault, IsTooMuch}
 use Rattle.uug_remark.specs.Remarks.{remark_text, wrong_at}
 use Rattle.uucpair.specs.declared.command_line.Task.{Task}
-use Rattle.uucpair.specs.declared.command_line.Task.TheVariants.{Version, Scan, ScanVerbose, Play, PlayVerbose, PlaySettled, Pair, Call}
+use Rattle.uucpair.specs.declared.command_line.Task.TheVariants.{Version, Scan, ScanVerbose, Play, PlayVerbose, PlaySettled, PlayDrawn, Pair, Call}
 use Rattle.uucpair.specs.declared.stop.Stop.{Stop}
 use Rattle.uucpair.specs.declared.stop.Stop.TheVariants.{Fault, Remarked, File, CommandLine}
 use Rattle.uucpair.specs.Stop.{EndsSo}
@@ -79,9 +81,12 @@ pub record PlaysFile (s : Streams) (answer : Result ℕ ToolFault) : Type 0 wher
   pub nothing_written : BeforeReport answer (StaysUnwritten s)
   pub no_other : IfErr answer IsPlayFault
 
--- `play -v`: the same, and where the script is bad the remark is what is wrong with its first bad line
-pub record PlaysRemarked (s : Streams) (remark : List ℕ) (answer : Result ℕ ToolFault) : Type 0 where
+-- `play -v`: the same, and the remark is why the jobs that are not done are not, or of a bad script what is wrong with its
+-- first bad line
+pub record PlaysVerbosely (s : Streams) (remark : List ℕ) (answer : Result ℕ ToolFault) : Type 0 where
   pub plays : Plays s answer
+  pub reasons : IfOk answer (λ status. IfSome s.to_come
+      (λ script. AppendsVerbosely script remark status s.before s.after))
   pub remarks : (line : ℕ) → answer ≡ Err (faults.Script line) → IfSome s.to_come (λ script. remark ≡ remark_text (wrong_at line script))
 
 -- `play --settle`: the same, and what the run settles to was written too, or which condition of that fails
@@ -92,6 +97,22 @@ pub record PlaysSettled (s : Streams) (answer : Result ℕ ToolFault) : Type 0 w
   pub bad : (line : ℕ) → answer ≡ Err (faults.Script line) → IfSome s.to_come (λ script. IsFirstBad script line)
   pub nothing_written : BeforeReport answer (StaysUnwritten s)
 
+-- `play --ladder` and `play --svg`: the whole input was read as a script, and the report and the ladder, or the picture,
+-- written; nothing was written of a script that is bad or too much
+pub record PlaysDrawn (how : Drawn) (s : Streams) (answer : Result ℕ ToolFault) : Type 0 where
+  pub reads : OnceRead answer (ReadsAll s.to_come s.left)
+  pub writes : IfOk answer (λ status. IfSome s.to_come
+      (λ script. AppendsShown how script status s.before s.after))
+  pub bad : (line : ℕ) → answer ≡ Err (faults.Script line) → IfSome s.to_come (λ script. IsFirstBad script line)
+  pub much : answer ≡ Err faults.Usage → IfSome s.to_come IsTooMuch
+  pub nothing_written : BeforeWriting answer (StaysUnwritten s)
+
+-- of a file
+pub record PlaysFileDrawn (s : Streams) (answer : Result ℕ ToolFault) : Type 0 where
+  pub unread : StaysUnread s
+  pub nothing_written : BeforeWriting answer (StaysUnwritten s)
+  pub no_other : IfErr answer IsDrawingFault
+
 abbrev pub Does : Task → Streams → (remark : List ℕ) → Result ℕ ToolFault → Type 0
 Does Version s remark answer = ShowsVersion s answer
 Does (Scan None) s remark answer = Scans s answer
@@ -100,10 +121,12 @@ Does (ScanVerbose None) s remark answer = ScansVerbose s answer
 Does (ScanVerbose (Some path)) s remark answer = ScansFile s answer
 Does (Play None) s remark answer = Plays s answer
 Does (Play (Some path)) s remark answer = PlaysFile s answer
-Does (PlayVerbose None) s remark answer = PlaysRemarked s remark answer
+Does (PlayVerbose None) s remark answer = PlaysVerbosely s remark answer
 Does (PlayVerbose (Some path)) s remark answer = PlaysFile s answer
 Does (PlaySettled None) s remark answer = PlaysSettled s answer
 Does (PlaySettled (Some path)) s remark answer = PlaysFile s answer
+Does (PlayDrawn how None) s remark answer = PlaysDrawn how s answer
+Does (PlayDrawn how (Some path)) s remark answer = PlaysFileDrawn s answer
 Does (Pair pair) s remark answer = Pairs s answer
 Does (Call call) s remark answer = Pairs s answer
 

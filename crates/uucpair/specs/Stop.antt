@@ -1,10 +1,10 @@
 -- How the program ends (this project's profile).
-use Rattle.std.specs.Prelude.{◌≡◌, ℕ, List, None, Some, Result, Ok, Err, IsErrAnd, string_bytes}
+use Rattle.std.specs.Prelude.{◌≡◌, ℕ, List, codes, None, Some, Result, Ok, Err, IsErrAnd, string_bytes}
 use Rattle.uug_tool.specs.Fault.{status_of}
 use Rattle.uug_tool.specs.declared.fault.ToolFault.{ToolFault}
 use Rattle.uug_tool.specs.declared.fault.ToolFault.TheVariants.{Memory, Read, Script, Usage}
 use Rattle.uucpair.specs.declared.command_line.Task.{Task}
-use Rattle.uucpair.specs.declared.command_line.Task.TheVariants.{Scan, ScanVerbose, Play, PlayVerbose, PlaySettled}
+use Rattle.uucpair.specs.declared.command_line.Task.TheVariants.{Scan, ScanVerbose, Play, PlayVerbose, PlaySettled, PlayDrawn}
 use Rattle.uucpair.specs.declared.stop.Stop.{Stop}
 use Rattle.uucpair.specs.declared.stop.Stop.TheVariants.{Fault, Remarked, File, CommandLine}
 
@@ -45,6 +45,24 @@ abbrev pub StopsOnScriptFile : (path : List ℕ) → ToolFault → (remark : Lis
 StopsOnScriptFile path Read remark stop = NamesFile path stop
 StopsOnScriptFile path fault remark stop = StopsOnScript fault remark stop
 
+-- a script that is too much for a ladder has that remark, unless there was no memory for it
+abbrev pub too_much : List ℕ
+too_much = codes "a ladder has at most 1000 events, and a picture 1000000 rungs"
+
+abbrev pub SaysTooMuch : Stop → Type 0
+SaysTooMuch (Fault fault) = fault ≡ Memory
+SaysTooMuch (Remarked fault remark) = HasRemark Usage too_much (Remarked fault remark)
+SaysTooMuch (File name) = ⊥
+SaysTooMuch (CommandLine error) = ⊥
+
+abbrev pub StopsOnDrawing : ToolFault → Stop → Type 0
+StopsOnDrawing Usage stop = SaysTooMuch stop
+StopsOnDrawing fault stop = stop ≡ Fault fault
+
+abbrev pub StopsOnDrawingFile : (path : List ℕ) → ToolFault → Stop → Type 0
+StopsOnDrawingFile path Read stop = NamesFile path stop
+StopsOnDrawingFile path fault stop = StopsOnDrawing fault stop
+
 abbrev pub StopsAs : Task → ToolFault → (remark : List ℕ) → Stop → Type 0
 StopsAs (Scan (Some path)) fault remark stop = StopsOnFile path.now fault stop
 StopsAs (ScanVerbose (Some path)) fault remark stop = StopsOnFile path.now fault stop
@@ -52,6 +70,8 @@ StopsAs (Play (Some path)) fault remark stop = StopsOnFile path.now fault stop
 StopsAs (PlaySettled (Some path)) fault remark stop = StopsOnFile path.now fault stop
 StopsAs (PlayVerbose None) fault remark stop = StopsOnScript fault remark stop
 StopsAs (PlayVerbose (Some path)) fault remark stop = StopsOnScriptFile path.now fault remark stop
+StopsAs (PlayDrawn how None) fault remark stop = StopsOnDrawing fault stop
+StopsAs (PlayDrawn how (Some path)) fault remark stop = StopsOnDrawingFile path.now fault stop
 StopsAs task fault remark stop = stop ≡ Fault fault
 
 -- how the program ends after a task that answered this, with this remark

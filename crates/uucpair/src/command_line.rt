@@ -4,6 +4,7 @@ use clap::{Arg, ArgAction, ArgMatches, Command, Error, value_parser};
 use std::alloc::{AllocError, Global};
 use std::convert::AsStr;
 use uug_call::CallTask;
+use uug_ladder::Drawn;
 use uug_line::Side;
 
 /// The window, the packet size and the seconds of an end that is told none.
@@ -24,10 +25,12 @@ pub enum Task<'a> {
     ScanVerbose(Option<&'a str>),
     /// The report of the script in a file, or on standard input, to standard output.
     Play(Option<&'a str>),
-    /// The same; and where the script is bad, it is said what is wrong.
+    /// The same; and it is said why jobs are not done, or where the script is bad, what is wrong.
     PlayVerbose(Option<&'a str>),
     /// The report of the script, and what the run settles to or why it doesn't.
     PlaySettled(Option<&'a str>),
+    /// The report of the script and a picture of its sessions behind it, or the picture alone.
+    PlayDrawn(Drawn, Option<&'a str>),
     /// Two ends over two folders, and a socket between them.
     Pair(PairTask<'a>),
     /// One end over a folder, and the line to the other one.
@@ -82,13 +85,10 @@ fn scan_command<'a>(alloc: Global) -> Result<Command<'a>, AllocError> {
             alloc,
             "The file of the bytes; without it standard input is read",
         ))?
-        .arg(
-            Arg::new(alloc, "verbose")
-                .short('v')
-                .long("verbose")
-                .action(ArgAction::SetTrue)
-                .help("Says where each packet stands, and lists texts, noise and what is damaged"),
-        )
+        .arg(verbose(
+            alloc,
+            "Says where each packet stands, and lists texts, noise and what is damaged",
+        ))
 }
 
 /// The tool that plays a script.
@@ -100,20 +100,34 @@ fn play_command<'a>(alloc: Global) -> Result<Command<'a>, AllocError> {
             alloc,
             "The file of the script; without it standard input is read",
         ))?
-        .arg(
-            Arg::new(alloc, "verbose")
-                .short('v')
-                .long("verbose")
-                .action(ArgAction::SetTrue)
-                .help("Says what is wrong with a bad script"),
-        )?
-        .arg(
-            Arg::new(alloc, "settle")
-                .long("settle")
-                .action(ArgAction::SetTrue)
-                .conflicts_with("verbose")?
-                .help("Goes on to the end on a clean line, where it may, and reports that too"),
+        .arg(verbose(
+            alloc,
+            "Says why jobs are not done, and what is wrong with a bad script",
+        ))?
+        .arg(flag(
+            alloc,
+            "settle",
+            "Goes on to the end on a clean line, where it may, and reports that too",
         )
+        .conflicts_with("verbose")?)?
+        .arg(picture(
+            alloc,
+            "ladder",
+            "Draws behind the report what each end sent and what came of it",
+        )?)?
+        .arg(picture(
+            alloc,
+            "svg",
+            "Writes that as a picture instead of the report, an SVG file",
+        )?
+        .conflicts_with("ladder")?)
+}
+
+/// An option that asks for a picture.
+fn picture<'a>(alloc: Global, name: &'a str, help: &'a str) -> Result<Arg<'a>, AllocError> {
+    flag(alloc, name, help)
+        .conflicts_with("verbose")?
+        .conflicts_with("settle")
 }
 
 /// The tool that moves files.
@@ -149,40 +163,23 @@ fn end_command<'a>(
         .arg(path(alloc, "DIR", "The folder of this end"))?
         .arg(named(alloc, "me", "NAME", "The name of this end").required(true))?
         .arg(named(alloc, "peer", "NAME", "The name of the other end").required(true))?
-        .arg(number(
+        .arg(number(alloc, "window", "W", help::WINDOW, WINDOW))?
+        .arg(number(alloc, "size", "S", help::SIZE, SIZE))?
+        .arg(number(alloc, "timeout", "SECONDS", help::TIMEOUT, SECONDS))?
+        .arg(flag(
             alloc,
-            "window",
-            "W",
-            "The window that the other end is to use, 1 to 7",
-            WINDOW,
+            "no-quiet",
+            "Answers each data packet that comes out of order",
         ))?
-        .arg(number(
+        .arg(flag(
             alloc,
-            "size",
-            "S",
-            "The packet size that the other end is to use, 32 to 4096",
-            SIZE,
+            "number",
+            "Keeps the number of its conversations in DIR, from 0 on",
         ))?
-        .arg(number(
+        .arg(verbose(
             alloc,
-            "timeout",
-            "SECONDS",
-            "How long the line waits, 1 to 600",
-            SECONDS,
-        ))?
-        .arg(
-            Arg::new(alloc, "number")
-                .long("number")
-                .action(ArgAction::SetTrue)
-                .help("Keeps the number of its conversations in DIR, from 0 on"),
-        )?
-        .arg(
-            Arg::new(alloc, "verbose")
-                .short('v')
-                .long("verbose")
-                .action(ArgAction::SetTrue)
-                .help("Says on standard error how this end stands"),
-        )
+            "Says on standard error how each job goes, and what was lost on the line",
+        ))
 }
 
 /// The file that is read, where there is one.
@@ -196,6 +193,19 @@ fn path<'a>(alloc: Global, name: &'a str, help: &'a str) -> Arg<'a> {
         .required(true)
         .action(ArgAction::Set)
         .help(help)
+}
+
+/// An option that is there or not.
+fn flag<'a>(alloc: Global, name: &'a str, help: &'a str) -> Arg<'a> {
+    Arg::new(alloc, name)
+        .long(name)
+        .action(ArgAction::SetTrue)
+        .help(help)
+}
+
+/// The option that asks to say more.
+fn verbose<'a>(alloc: Global, help: &'a str) -> Arg<'a> {
+    flag(alloc, "verbose", help).short('v')
 }
 
 /// An option with a number.
@@ -241,6 +251,7 @@ fn end_task<'a>(side: Side, matches: &ArgMatches<'a>) -> CallTask<'a> {
         window: matches.get_one::<u32>("window").unwrap_or(0),
         size: matches.get_one::<u32>("size").unwrap_or(0),
         seconds: matches.get_one::<u32>("timeout").unwrap_or(0),
+        is_quiet: !matches.get_flag("no-quiet"),
         is_numbered: matches.get_flag("number"),
         is_loud: matches.get_flag("verbose"),
     }
@@ -275,6 +286,12 @@ pub fn task_of<'a, S: AsStr>(alloc: Global, words: &'a [S]) -> Result<Task<'a>, 
         }
         Some(("play", matches)) if matches.get_flag("settle") => {
             Ok(Task::PlaySettled(matches.get_str("FILE")))
+        }
+        Some(("play", matches)) if matches.get_flag("ladder") => {
+            Ok(Task::PlayDrawn(Drawn::AsText, matches.get_str("FILE")))
+        }
+        Some(("play", matches)) if matches.get_flag("svg") => {
+            Ok(Task::PlayDrawn(Drawn::AsPicture, matches.get_str("FILE")))
         }
         Some(("play", matches)) => Ok(Task::Play(matches.get_str("FILE"))),
         Some(("pair", matches)) => Ok(Task::Pair(pair_task(matches))),

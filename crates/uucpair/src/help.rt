@@ -1,4 +1,4 @@
-//! What stands below the usage in the help of each tool.
+//! What the help of each tool says: what stands below its usage, and what its options with a number are.
 
 pub const SCAN: &str = "A line for each packet, and a last one:
   INITA N, INITC N  the greatest window that the other end is to use
@@ -45,6 +45,8 @@ pub const PLAY: &str =
   immovable SIDE NAME      or can't put it in its place
   number SIDE N            the number of the end's conversations (0 to 4294967295);
                            a called end that has one lets in only the same
+  quiet SIDE               the end is quiet on repeats: it does not answer each data
+                           packet that comes out of order
   pass SIDE N              the next N bytes on the way to the side arrive
   drop SIDE N              they are lost
   flip SIDE HH             the bits HH of the next byte are inverted
@@ -55,10 +57,16 @@ pub const PLAY: &str =
   flow N                   N times all bytes arrive, first at the called end
 Empty lines and lines that begin with # are skipped.
 
+With -v a line on standard error says of each job that is not done why, behind the
+report, and of a bad script what is wrong with its line.
 With --settle the run goes on after the script, on a line that loses nothing more,
 and a second report follows the first: the status is of that. It may where no end was
-fooled, both ends are talking, neither has timed out more than 6 times in a row, and
-nothing waits at an end or on the line; else a line says what is not so.
+fooled, both ends are talking, neither is quiet on repeats or has timed out more than 6
+times in a row, and nothing waits at an end or on the line; else a line says what is not so.
+With --ladder a picture of each session follows the report: a line for each packet
+or text in the order in which it was sent, with the number of its event, and an arrow
+to the other end, which ends in x where it was lost or damaged. With --svg that is
+written as an SVG file, without the report. The script may have 1000 events.
 
 Status: 0 the last session is done at both ends, 1 it is not, 2 bad usage or a bad
 script, 3 a device fault, 4 out of memory, 5 the line fooled an end
@@ -112,3 +120,9 @@ Example:
 prints
   caller done pending 0 struck 1 failed 0
 and b/got/y is the file.";
+
+pub const WINDOW: &str = "The window that the other end is to use, 1 to 7";
+
+pub const SIZE: &str = "The packet size that the other end is to use, 32 to 4096";
+
+pub const TIMEOUT: &str = "How long the line waits, 1 to 600";

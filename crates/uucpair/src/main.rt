@@ -8,15 +8,18 @@ mod stop;
 mod system_input;
 mod system_output;
 
+use program::Terminals;
 use std::io::IsTerminal;
 use std::process::ExitCode;
 
-/// Whether somebody sits before standard input, and sees what is said on standard error.
-fn is_at_terminal(rt: &HostRuntime) -> bool {
-    rt.stdin().is_terminal() && rt.stderr().is_terminal()
+fn terminals(rt: &HostRuntime) -> Terminals {
+    Terminals {
+        input: rt.stdin().is_terminal(),
+        errors: rt.stderr().is_terminal(),
+    }
 }
 
 fn main(rt: HostRuntime) -> ExitCode {
-    let at_terminal = is_at_terminal(&rt);
-    ExitCode::from(program::end(&rt, program::run(&rt, at_terminal)))
+    let terminals = terminals(&rt);
+    ExitCode::from(program::end(&rt, program::run(&rt, terminals)))
 }

@@ -2,11 +2,12 @@
 ghost use Rattle.std.specs.Prelude.{◌≡◌, IfErr, IfOk, MatchResult, OnOk, string_bytes};
 ghost use Rattle.uug_tool.specs.declared.fault.ToolFault.TheVariants.{Read as read};
 ghost use Rattle.std.specs.Io.KnownBytes.{Keeps};
+ghost use Rattle.uug_ladder.specs.Played.{BeforeWriting, IsDrawingFault};
 ghost use Rattle.uug_play.specs.Played.{BeforeReport, IsPlayFault};
 ghost use Rattle.uug_tool.specs.Scan.{IsScanFault};
 ghost use Rattle.uug_tool.specs.Streams.{Appends};
 ghost use Rattle.uucpair.specs.Performed.{Does, Performs, Scans, ScansVerbose, streams, version_line};
-ghost use Rattle.uucpair.specs.Stop.{EndsSo, NamesFile, StopsAs, StopsOnFile, StopsOnScript, StopsOnScriptFile, status_of_stop};
+ghost use Rattle.uucpair.specs.Stop.{EndsSo, NamesFile, SaysTooMuch, StopsAs, StopsOnDrawing, StopsOnDrawingFile, StopsOnFile, StopsOnScript, StopsOnScriptFile, status_of_stop};
 
 use crate::command_line::{Task, VERSION, task_of};
 use crate::stop::Stop;
@@ -21,10 +22,23 @@ use std::time::Clock;
 use std::{env, io};
 use uug_call::{SystemWatcher, call_run};
 use uug_detail::scan_detailed;
+use uug_ladder::{Drawn, play_ladder};
 use uug_pair::pair_run;
 use uug_play::{play_settled, play_stream};
 use uug_remark::play_remarked;
 use uug_tool::{Output, ToolFault, scan_stream, write_all};
+
+/// What is remarked of a script that is too much for a ladder.
+const TOO_MUCH: &str = "a ladder has at most 1000 events, and a picture 1000000 rungs";
+
+/// Which of the program's streams are terminals.
+#[derive(Clone, Copy, Debug, PartialEq, Eq)]
+pub struct Terminals {
+    /// Standard input.
+    pub input: bool,
+    /// Standard error.
+    pub errors: bool,
+}
 
 /// Prints the name of the program and its version.
 fn show_version<O: Output>(alloc: Global, output: &mut O) -> Result<u8, ToolFault>
@@ -116,7 +130,7 @@ fn play_file<R: Files, O: Output>(
     play_stream(alloc, &mut file, output)
 }
 
-/// Plays the script in a file, with a remark where it is bad.
+/// Plays the script in a file, with a remark on its jobs, or where it is bad.
 fn play_file_remarked<R: Files, O: Output>(
     alloc: Global,
     rt: &R,
@@ -145,6 +159,52 @@ fn play_file_settled<R: Files, O: Output>(
 {
     let mut file = open(rt, path)?;
     play_settled(alloc, &mut file, output)
+}
+
+/// Plays the script in a file, and draws its ladder.
+fn play_file_drawn<R: Files, O: Output>(
+    alloc: Global,
+    rt: &R,
+    path: &str,
+    output: &mut O,
+    how: Drawn,
+) -> Result<u8, ToolFault>
+    ensures nothing_written { BeforeWriting result
+        (Keeps (O.written output.old) (O.written output.new)) }
+    ensures no_other { IfErr result IsDrawingFault }
+{
+    let mut file = open(rt, path)?;
+    play_ladder(alloc, &mut file, output, how)
+}
+
+/// That a script is too much for a ladder, where there is memory to say so.
+fn says_too_much(alloc: Global) -> Stop
+    ensures { SaysTooMuch result }
+{
+    match String::from_str(alloc, TOO_MUCH) {
+        Ok(remark) => Stop::Remarked(ToolFault::Usage, remark),
+        Err(_) => Stop::Fault(ToolFault::Memory),
+    }
+}
+
+/// Why a script was not drawn.
+fn stop_of_drawing(alloc: Global, fault: ToolFault) -> Stop
+    ensures { StopsOnDrawing fault result }
+{
+    match fault {
+        ToolFault::Usage => says_too_much(alloc),
+        fault => Stop::Fault(fault),
+    }
+}
+
+/// The same of the script in the file of this name.
+fn stop_of_drawing_file(alloc: Global, path: &str, fault: ToolFault) -> Stop
+    ensures { StopsOnDrawingFile path.now fault result }
+{
+    match fault {
+        ToolFault::Read => names_file(alloc, path),
+        fault => stop_of_drawing(alloc, fault),
+    }
 }
 
 /// That the file of this name can't be read, where there is memory to say so.
@@ -197,6 +257,8 @@ fn stop_of(alloc: Global, task: Task<'_>, fault: ToolFault, remark: String) -> S
         | Task::Play(Some(path))
         | Task::PlaySettled(Some(path)) => stop_of_file(alloc, path, fault),
         Task::PlayVerbose(None) => stop_of_script(fault, remark),
+        Task::PlayDrawn(_, None) => stop_of_drawing(alloc, fault),
+        Task::PlayDrawn(_, Some(path)) => stop_of_drawing_file(alloc, path, fault),
         Task::PlayVerbose(Some(path)) => stop_of_script_file(alloc, path, fault, remark),
         _ => Stop::Fault(fault),
     }
@@ -221,6 +283,7 @@ fn end_of(
 fn do_task<R, I, O>(
     rt: &R,
     task: Task<'_>,
+    terminals: Terminals,
     input: &mut I,
     output: &mut O,
     remark: &mut String,
@@ -245,6 +308,8 @@ where
         Task::PlayVerbose(Some(path)) => play_file_remarked(alloc, rt, path, output, remark),
         Task::PlaySettled(None) => play_settled(alloc, input, output),
         Task::PlaySettled(Some(path)) => play_file_settled(alloc, rt, path, output),
+        Task::PlayDrawn(how, None) => play_ladder(alloc, input, output, how),
+        Task::PlayDrawn(how, Some(path)) => play_file_drawn(alloc, rt, path, output, how),
         Task::Pair(pair) => pair_run(
             alloc,
             rt,
@@ -256,24 +321,32 @@ where
             output,
         ),
         Task::Call(call) => {
-            let mut watcher = SystemWatcher::new(rt, call.is_loud);
+            let mut watcher = SystemWatcher::new(alloc, rt, call.is_loud, terminals.errors)?;
             call_run(alloc, rt, &call, &mut watcher, output)
         }
     }
 }
 
 /// Says that standard input is read, where somebody sits before it.
-fn greet(rt: &impl Eprint, task: Task<'_>, at_terminal: bool) {
+fn greet(rt: &impl Eprint, task: Task<'_>, terminals: Terminals) {
     match task {
         Task::Scan(None)
         | Task::ScanVerbose(None)
         | Task::Play(None)
         | Task::PlayVerbose(None)
         | Task::PlaySettled(None)
-            if at_terminal => {
+        | Task::PlayDrawn(_, None)
+            if terminals.input && terminals.errors => {
             let _ = eprint!(rt; "uucpair: reading standard input, up to Ctrl-D\n");
         }
         _ => (),
+    }
+}
+
+/// Says what is remarked of a task that was done.
+fn tell(rt: &impl Eprint, answer: Result<u8, ToolFault>, remark: &str) {
+    if answer.is_ok() && !remark.is_empty() {
+        let _ = eprint!(rt; "{remark}");
     }
 }
 
@@ -282,7 +355,7 @@ fn greet(rt: &impl Eprint, task: Task<'_>, at_terminal: bool) {
 pub fn perform<R, S, I, O>(
     rt: &R,
     words: &[S],
-    at_terminal: bool,
+    terminals: Terminals,
     input: &mut I,
     output: &mut O,
 ) -> Result<u8, Stop>
@@ -295,14 +368,15 @@ where
         (O.written output.old) (O.written output.new)) result }
 {
     let task = task_of(rt.alloc(), words)?;
-    greet(rt, task, at_terminal);
+    greet(rt, task, terminals);
     let mut remark = String::new(rt.alloc());
-    let answer = do_task(rt, task, input, output, &mut remark);
+    let answer = do_task(rt, task, terminals, input, output, &mut remark);
+    tell(rt, answer, remark.as_str());
     end_of(rt.alloc(), task, answer, remark)
 }
 
 /// Does what the program's own command line asks for, on standard input and output.
-pub fn run<R>(rt: &R, at_terminal: bool) -> Result<u8, Stop>
+pub fn run<R>(rt: &R, terminals: Terminals) -> Result<u8, Stop>
 where
     R: Env + Input + Print + Eprint + Clock + Files<File = File> + Net + AllocGlobal + Clone + Drop,
 {
@@ -314,7 +388,7 @@ where
         .collect(rt.alloc())?;
     let mut input = SystemInput::new(rt.reader());
     let mut output = SystemOutput::new(io::writer(rt));
-    perform(rt, &words, at_terminal, &mut input, &mut output)
+    perform(rt, &words, terminals, &mut input, &mut output)
 }
 
 /// Says on standard error why the program ends before its task is done, where that can be said, and gives the

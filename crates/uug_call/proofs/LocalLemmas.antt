@@ -1,11 +1,12 @@
--- One file more, under the name under which it came.
-use Rattle.std.proofs.Common.{◌≡◌, ℕ, List, [], ◌∷◌, ◌++◌, length, map, ap, refl, sym, subst, ◌∙◌, arith}
+-- A file that is given, and one file more, under the name under which it came.
+use Rattle.std.proofs.Common.{◌≡◌, ℕ, List, [], ◌∷◌, ◌++◌, length, map, Option, Some, ap, refl, sym, subst, ◌∙◌, arith}
 use Rattle.std.proofs.lemmas.List.{length-map}
 use Rattle.uug_pair.specs.FolderFiles.{FolderFiles}
-use Rattle.uug_session.specs.Holdings.{Kept, kept_file}
-use Rattle.uug_session.specs.MemoryHoldings.{kept_of}
+use Rattle.uug_pair.specs.Folders.{folder_holdings}
+use Rattle.uug_conversation.specs.Holdings.{File, Kept, kept_file}
+use Rattle.uug_conversation.specs.MemoryHoldings.{kept_of}
 use Rattle.uug_call.specs.LocalFiles.{LocalFiles}
-use Rattle.uug_call.specs.LocalNames.{kept_here, renamed}
+use Rattle.uug_call.specs.LocalNames.{file_by, kept_here, local_source, renamed}
 
 one_more : (names : List (List ℕ)) (files : List Kept) (name : List ℕ) (file : Kept) → length names ≡ length files
     → renamed (names ++ name ∷ []) (files ++ file ∷ []) ≡ renamed names files ++ kept_file name file.mode file.bytes ∷ []
@@ -25,3 +26,11 @@ kept_more files files_after names names_after now name local mode bytes view sam
     subst (λ (s : LocalFiles _ _). renamed names_after (map kept_of files_after.stored) ≡ kept_here s ++ kept_file name mode bytes ∷ []) view
     (ap (λ (n : List (List ℕ)). renamed n (map kept_of files_after.stored)) named
     ∙ ap (λ (k : List Kept). renamed (names ++ name ∷ []) k) kept ∙ whole)
+
+pub fetched : {F A : Type 0} (files : FolderFiles F A) (names : List (List ℕ)) (now : LocalFiles F A) (shown : Option File)
+    (source : Option (List ℕ)) (local name : List ℕ) → record { files = files; names = names } ≡ now
+    → shown ≡ (folder_holdings (map kept_of files.files)).file local → source ≡ Some local → source ≡ local_source name
+    → shown ≡ file_by (folder_holdings (map kept_of now.files.files)) (local_source name)
+fetched files names now shown source local name view is some from =
+    subst (λ (s : LocalFiles _ _). shown ≡ file_by (folder_holdings (map kept_of s.files.files)) (local_source name)) view
+    (is ∙ ap (λ (o : Option (List ℕ)). file_by (folder_holdings (map kept_of files.files)) o) (sym some ∙ from))

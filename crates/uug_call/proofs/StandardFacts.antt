@@ -1,8 +1,9 @@
 -- Names whose place in a folder is known, so that a wrong definition does not check.
-use Rattle.std.proofs.Common.{◌≡◌, ℕ, List, [], codes, Some, None, refl}
+use Rattle.std.proofs.Common.{◌≡◌, ℕ, List, [], ◌∷◌, codes, Option, Some, None, refl}
 use Rattle.uug_pair.specs.Folders.{folder_holdings}
-use Rattle.uug_session.specs.declared.verdict.Verdict.{Verdict}
-use Rattle.uug_session.specs.declared.verdict.Verdict.TheVariants.{Yes, Never}
+use Rattle.uug_conversation.specs.Holdings.{File, Holdings, kept_file}
+use Rattle.uug_conversation.specs.declared.verdict.Verdict.{Verdict}
+use Rattle.uug_conversation.specs.declared.verdict.Verdict.TheVariants.{Yes, Never}
 use Rattle.uug_call.specs.LocalNames.{local_holdings, local_name}
 
 record AreLocal : Type 0 where
@@ -15,6 +16,33 @@ record AreLocal : Type 0 where
 
 local : AreLocal
 local = record { plain = refl; public = refl; root = refl; tilde = refl; public_alone = refl; root_alone = refl }
+
+abbrev source : List ℕ → Option File
+source name = (local_holdings (folder_holdings (kept_file (codes "y") 420 (codes "hi") ∷ []))).file name
+
+abbrev hi : Option File
+hi = Some (record { mode = 420; bytes = codes "hi" })
+
+record AreGiven : Type 0 where
+  plain : source (codes "y") ≡ hi
+  public : source (codes "~/y") ≡ hi
+  root : source (codes "/y") ≡ hi
+  other : source (codes "~/x") ≡ None
+  nameless : source (codes "~/") ≡ None
+
+given : AreGiven
+given = record { plain = refl; public = refl; root = refl; other = refl; nameless = refl }
+
+-- whatever the folder has
+record LeadOut (h : Holdings) : Type 0 where
+  up : (local_holdings h).file (codes "../x") ≡ None
+  deep : (local_holdings h).file (codes "/etc/x") ≡ None
+  public_deep : (local_holdings h).file (codes "~/a/x") ≡ None
+  home : (local_holdings h).file (codes "~user/x") ≡ None
+  twice : (local_holdings h).file (codes "//x") ≡ None
+
+lead_out : (h : Holdings) → LeadOut h
+lead_out h = record { up = refl; deep = refl; public_deep = refl; home = refl; twice = refl }
 
 abbrev verdict : List ℕ → Verdict
 verdict name = (local_holdings (folder_holdings [])).verdict name

@@ -1,7 +1,7 @@
 -- What is heard at the line of one end, and what it does to the end (this project's profile).
 use Rattle.std.specs.Io.KnownBytes.{Consumes, IsAtEnd, Keeps}
-use Rattle.std.specs.Prelude.{◌≡◌, ◌<◌, ◌≤◌, ℕ, List, Option, Result, Ok, Err, take, ⊤}
-use Rattle.uug_session.specs.Holdings.{Holdings, Kept}
+use Rattle.std.specs.Prelude.{◌≡◌, ◌<◌, ◌≤◌, ℕ, List, [], Option, Result, Ok, Err, take, ⊤}
+use Rattle.uug_conversation.specs.Holdings.{Holdings, Kept}
 use Rattle.uug_session.specs.Node.{NodeState}
 use Rattle.uug_pair.specs.Seats.{Hears, Waits}
 use Rattle.uug_pair.specs.declared.noise.Noise.{Noise}
@@ -15,6 +15,12 @@ abbrev pub IsWithin : (room : ℕ) → Heard → Type 0
 IsWithin room (Bytes n) = (0 < n) × (n ≤ room)
 IsWithin room Silence = ⊤
 IsWithin room End = ⊤
+
+-- the bytes, which stand at the front of the buffer
+abbrev pub heard_bytes : Heard → (buffer : List ℕ) → List ℕ
+heard_bytes (Bytes n) buffer = take n buffer
+heard_bytes Silence buffer = []
+heard_bytes End buffer = []
 
 -- What a stream gave, where its bytes are known: the first of them, or none, and it is at its end only where that is said.
 abbrev pub IsGiven : (to_come left : Option (List ℕ)) → (buffer : List ℕ) → Heard → Type 0

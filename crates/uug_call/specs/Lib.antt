@@ -1,4 +1,5 @@
 pub mod Calling
+pub mod Code
 pub mod Hearing
 pub mod LineNames
 pub mod LocalFiles

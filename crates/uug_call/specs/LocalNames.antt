@@ -1,10 +1,10 @@
 -- Under which name a folder keeps a file that a real system names (this project's profile).
 use Rattle.std.specs.Prelude.{ℕ, Bool, true, List, [], ◌∷◌, drop, codes, nat_eq, Option, Some, None, map, if◌then◌else◌}
-use Rattle.std.specs.List.{starts_with}
-use Rattle.uug_session.specs.Holdings.{Holdings, Kept, kept_file}
-use Rattle.uug_session.specs.MemoryHoldings.{kept_of}
-use Rattle.uug_session.specs.declared.verdict.Verdict.{Verdict}
-use Rattle.uug_session.specs.declared.verdict.Verdict.TheVariants.{Never}
+use Rattle.std.specs.List.{list_any, starts_with}
+use Rattle.uug_conversation.specs.Holdings.{File, Holdings, Kept, kept_file}
+use Rattle.uug_conversation.specs.MemoryHoldings.{kept_of}
+use Rattle.uug_conversation.specs.declared.verdict.Verdict.{Verdict}
+use Rattle.uug_conversation.specs.declared.verdict.Verdict.TheVariants.{Never}
 use Rattle.uug_script.specs.Fields.{name_of}
 use Rattle.uug_pair.specs.Folders.{folder_holdings}
 use Rattle.uug_call.specs.LocalFiles.{LocalFiles}
@@ -19,6 +19,19 @@ behind_root name =
 abbrev pub local_name : List ℕ → Option (List ℕ)
 local_name name = name_of (behind_root name)
 
+-- A name with a slash left in it leads out of the folder.
+abbrev pub in_folder : Option (List ℕ) → Option (List ℕ)
+in_folder None = None
+in_folder (Some name) = if list_any (λ b. nat_eq b 47) name then None else Some name
+
+-- the name in the folder of a file that is asked for
+abbrev pub local_source : List ℕ → Option (List ℕ)
+local_source name = in_folder (local_name name)
+
+abbrev pub file_by : Holdings → Option (List ℕ) → Option File
+file_by h None = None
+file_by h (Some name) = h.file name
+
 abbrev pub verdict_by : Holdings → Option (List ℕ) → Verdict
 verdict_by h None = Never
 verdict_by h (Some name) = h.verdict name
@@ -27,10 +40,11 @@ abbrev pub immovable_by : Holdings → Option (List ℕ) → Bool
 immovable_by h None = true
 immovable_by h (Some name) = h.immovable name
 
--- A file is taken as the folder takes its name there; so none whose name there has a slash left, or a dot in front.
+-- A file is given and taken as the folder gives and takes its name there; so none whose name there has a slash left, and
+-- none is taken that has a dot in front.
 abbrev pub local_holdings : Holdings → Holdings
 local_holdings h = record {
-  file = h.file;
+  file = λ name. file_by h (local_source name);
   verdict = λ name. verdict_by h (local_name name);
   immovable = λ name. immovable_by h (local_name name);
 }

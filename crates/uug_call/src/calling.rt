@@ -1,7 +1,7 @@
 //! One end at its line, from its first turn to the report.
 ghost use Rattle.std.specs.Prelude.{◌≡◌, ◌≤◌, ◌⊎◌, IfErr, IfOk, OnOk};
 ghost use Rattle.uug_session.specs.Engine.{HasFailed, IsEnded};
-ghost use Rattle.uug_session.specs.Jobs.{pending};
+ghost use Rattle.uug_conversation.specs.Jobs.{pending};
 ghost use Rattle.uug_session.specs.NumberStanding.{KeepsNumber};
 ghost use Rattle.uug_tool.specs.Streams.{Appends, CountsFault};
 ghost use Rattle.uug_pair.specs.Folders.{holding};

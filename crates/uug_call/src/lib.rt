@@ -16,6 +16,7 @@ mod stream_line;
 mod system_call;
 mod system_watcher;
 mod talking;
+mod voice;
 mod watcher;
 
 pub use call_end::CallEnd;

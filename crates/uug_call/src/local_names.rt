@@ -1,7 +1,10 @@
-ghost use Rattle.std.specs.Prelude.{◌≡◌, ◌<◌, ◌++◌, [], ◌∷◌, MatchOption, vec_len, vec_capacity};
+ghost use Rattle.std.specs.Prelude.{◌≡◌, ◌<◌, ◌++◌, [], ◌∷◌, MatchOption, Some, map, vec_len, vec_capacity};
 ghost use Rattle.uug_pair.specs.Folders.{folder_holdings};
-ghost use Rattle.uug_session.specs.StoredModes.{modes_in_range};
-ghost use Rattle.uug_call.specs.LocalNames.{behind_root, holdings_here, kept_here, local_name};
+ghost use Rattle.uug_conversation.specs.MemoryHoldings.{kept_of};
+ghost use Rattle.uug_conversation.specs.Code.StoredModes.{modes_in_range};
+ghost use Rattle.uug_call.specs.Code.LocalModes.{local_modes};
+ghost use Rattle.uug_call.specs.LocalNames.{behind_root, holdings_here, in_folder, kept_here};
+ghost use Rattle.uug_call.specs.LocalNames.{local_name, local_source};
 
 use std::alloc::Allocator;
 use std::marker::Model;
@@ -10,7 +13,7 @@ use uug_session::{FileView, KeepFault, Spool, Verdict};
 use uug_talk::Name;
 
 /// The spool over a folder, for another end that names files as real systems do: `~/x` and `/x` are `x` in the folder,
-/// and no other path is taken. A clause sees the files in the folder, and the names under which those that were kept
+/// and no other path is taken or given. A clause sees the files in the folder, and the names under which those that were kept
 /// came.
 #[derive(Drop)]
 pub struct LocalNames<F: Folder, A: Allocator> {
@@ -65,7 +68,7 @@ impl<F: Folder, A: Allocator + Copy> Spool for LocalNames<F, A> {
     }
 
     fn fetch(&self, name: &Name) -> Option<FileView<'_>> {
-        self.files.fetch(name)
+        self.files.fetch(&local_source(name)?)
     }
 
     fn keep(&mut self, name: &Name, mode: u16, bytes: &[u8]) -> Result<(), KeepFault> {
@@ -88,7 +91,8 @@ impl<F: Folder, A: Allocator + Copy> Spool for LocalNames<F, A> {
         self.files.faults()
     }
 
-    ghost modes = { λ s. modes_in_range s.files.files };
+    ghost modes = { λ s. local_modes (folder_holdings (map kept_of s.files.files))
+        (modes_in_range s.files.files) };
 }
 
 /// The name in the folder of a file that a real system names, if there is one.
@@ -96,6 +100,23 @@ fn local_name(name: &Name) -> Option<Name>
     ensures { result ≡ local_name name.now }
 {
     Name::new(behind_root(name.as_bytes())).ok()
+}
+
+/// The name in the folder of a file that a real system asks for, if there is one. None leads out of the folder.
+fn local_source(name: &Name) -> Option<Name>
+    ensures { result ≡ local_source name.now }
+{
+    in_folder(local_name(name)?)
+}
+
+/// The name, where it has no slash in it.
+fn in_folder(name: Name) -> Option<Name>
+    ensures { result ≡ in_folder (Some name) }
+{
+    if name.as_bytes().contains(&b'/') {
+        return None;
+    }
+    Some(name)
 }
 
 /// A name without what says that it is in the public folder or the root of a system.

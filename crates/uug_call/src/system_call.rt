@@ -51,6 +51,8 @@ pub struct CallTask<'a> {
     pub size: u32,
     /// For so many seconds the line waits.
     pub seconds: u32,
+    /// Whether it is quiet on repeats.
+    pub is_quiet: bool,
     /// Whether it begins to keep a number of its conversations, where it keeps none yet.
     pub is_numbered: bool,
     /// Whether it says on standard error how the end stands.
@@ -79,12 +81,13 @@ fn read_terms<'a>(task: &CallTask<'a>) -> Option<Terms<'a>> {
         return None;
     }
     let window = u8::try_from(task.window).ok()?;
+    let announce = Announce::new(window, task.size as usize).ok()?;
     Some(Terms {
         line: read_line_name(task.line)?,
         place: Place {
             me: Name::new(task.me.as_bytes()).ok()?,
             peer: Name::new(task.peer.as_bytes()).ok()?,
-            announce: Announce::new(window, task.size as usize).ok()?,
+            announce: announce.with_quiet(task.is_quiet),
             number: None,
         },
         patience: Duration::from_secs(u64::from(task.seconds)),

@@ -1,83 +1,88 @@
 //! What a person follows on standard error.
 
 use crate::heard::Heard;
+use crate::voice::Voice;
 use crate::watcher::{Standing, Watcher};
-use std::time::{Clock, Instant};
-use uug_script::phase_word;
+use std::alloc::{AllocError, Allocator};
+use std::time::Clock;
+use uug_follow::{Observer, Way};
+use uug_session::Phase;
 
-/// Says on standard error how an end stands, each time that changes, if it is to say anything.
+/// Says on standard error what becomes of a session: its phases, the jobs of both ends, and what was lost.
 #[derive(Drop)]
-pub struct SystemWatcher<'a, R> {
-    rt: &'a R,
-    is_loud: bool,
-    last: Option<Standing>,
-    /// How many bytes were read and written, and how often nothing came, up to the greatest numbers.
-    read: u64,
+pub struct SystemWatcher<'a, R, A: Allocator> {
+    /// Nobody looks where nothing is to be said.
+    observer: Option<Observer<A>>,
+    voice: Voice<'a, R, A>,
+    /// What was said of the session last.
+    phase: Option<Phase>,
+    /// How many bytes were written and read, and how often nothing came, up to the greatest numbers.
     written: u64,
+    read: u64,
     silences: u64,
-    /// When it was made, where the clock says so.
-    since: Option<Instant>,
 }
 
-impl<'a, R: Eprint + Clock> SystemWatcher<'a, R> {
-    pub fn new(rt: &'a R, is_loud: bool) -> Self {
-        SystemWatcher {
-            rt,
-            is_loud,
-            last: None,
-            read: 0,
-            written: 0,
-            silences: 0,
-            since: Instant::now(rt).ok(),
-        }
-    }
-
-    /// So many seconds have passed, where the clock says so.
-    fn seconds(&self) -> u64 {
-        let Some(since) = self.since else {
-            return 0;
+impl<'a, R: Eprint + Clock, A: Allocator + Copy> SystemWatcher<'a, R, A> {
+    /// A watcher that says something, or nothing. At a terminal it shows how far a long file has come.
+    pub fn new(alloc: A, rt: &'a R, is_loud: bool, at_terminal: bool) -> Result<Self, AllocError> {
+        let observer = if is_loud {
+            Some(Observer::new(alloc)?)
+        } else {
+            None
         };
-        match since.elapsed(self.rt) {
-            Ok(elapsed) => elapsed.as_secs(),
-            Err(_) => 0,
-        }
+        Ok(SystemWatcher {
+            observer,
+            voice: Voice::new(alloc, rt, at_terminal),
+            phase: None,
+            written: 0,
+            read: 0,
+            silences: 0,
+        })
     }
 
-    /// Says how the end stands. Where that can't be said it is left out.
-    fn say(&self, standing: Standing) {
-        let phase = phase_word(standing.phase);
-        let Standing {
-            pending,
-            struck,
-            failed,
-            ..
-        } = standing;
-        let (read, written, silences, seconds) = (
-            self.read,
-            self.written,
-            self.silences,
-            self.seconds(),
-        );
-        let _ = eprintln!(self.rt;
-            "uucpair: {phase} pending {pending} struck {struck} failed {failed}; {seconds} s, {written} bytes written, {read} read, {silences} timeouts"
-        );
+    /// These bytes go over the line.
+    fn see(&mut self, way: Way, piece: &[u8]) {
+        let Some(observer) = &mut self.observer else {
+            return;
+        };
+        observer.see(way, piece, &mut self.voice);
+        if let Some((job, bytes)) = observer.job() {
+            self.voice.show_progress(&job, bytes);
+        }
     }
 }
 
-impl<R: Eprint + Clock> Watcher for SystemWatcher<'_, R> {
-    fn writes(&mut self, count: usize) {
-        self.written = self.written.saturating_add(count as u64);
+impl<R: Eprint + Clock, A: Allocator + Copy> Watcher for SystemWatcher<'_, R, A> {
+    fn writes(&mut self, piece: &[u8]) {
+        self.written = self.written.saturating_add(piece.len() as u64);
+        self.see(Way::Out, piece);
     }
 
-    fn heard(&mut self, heard: Heard, standing: Standing) {
+    fn heard(&mut self, heard: Heard, piece: &[u8]) {
         match heard {
             Heard::Bytes(count) => self.read = self.read.saturating_add(count as u64),
             Heard::Silence => self.silences = self.silences.saturating_add(1),
             Heard::End => {}
         }
-        if self.is_loud && self.last != Some(standing) {
-            self.say(standing);
+        self.see(Way::In, piece);
+    }
+
+    fn stands(&mut self, standing: Standing) {
+        if self.observer.is_some() && self.phase != Some(standing.phase) {
+            self.voice.say_standing(standing);
         }
-        self.last = Some(standing);
+        self.phase = Some(standing.phase);
+    }
+
+    fn is_over(&mut self, standing: Standing) {
+        self.stands(standing);
+        let Some(observer) = &self.observer else {
+            return;
+        };
+        self.voice
+            .say_counts("wrote", self.written, observer.counts(Way::Out));
+        self.voice
+            .say_counts("read", self.read, observer.counts(Way::In));
+        self.voice.say_silences(self.silences);
     }
 }

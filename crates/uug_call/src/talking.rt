@@ -4,7 +4,7 @@ ghost use Rattle.uug_session.specs.Engine.{HasFailed, IsEnded};
 ghost use Rattle.uug_session.specs.NumberStanding.{KeepsNumber};
 ghost use Rattle.uug_pair.specs.Seats.{seated, spool_in, to_write, KeepsJobs};
 ghost use Rattle.uug_pair.specs.Turns.{UnlessLineFailed};
-ghost use Rattle.uug_call.specs.Hearing.{IsWithin, TakesHeard, UnlessRefused};
+ghost use Rattle.uug_call.specs.Hearing.{IsWithin, TakesHeard, UnlessRefused, heard_bytes};
 
 use crate::end_line::EndLine;
 use crate::heard::Heard;
@@ -37,6 +37,7 @@ pub fn talk<S: Spool + Drop, L: EndLine, W: Watcher, A: Allocator + Copy>(
     calls_keep();
     let result = take_turns(seat, line, noise, most, watcher);
     seat.hang_up();
+    watcher.is_over(standing(seat));
     result
 }
 
@@ -62,15 +63,16 @@ fn take_turns<S: Spool + Drop, L: EndLine, W: Watcher, A: Allocator + Copy>(
     let mut buffer = [0; UNREAD_MAX];
     let mut patience = Patience::new(most);
     while patience.lasts() {
-        watcher.writes(seat.outgoing().len());
+        watcher.writes(seat.outgoing());
         write_all(seat, line)?;
         if seat.has_ended() {
             return Ok(());
         }
         let heard = line.read(&mut buffer)?;
+        watcher.heard(heard, piece_of(heard, &buffer));
         take_heard(seat, heard, &buffer, noise)?;
         patience.spend(heard);
-        watcher.heard(heard, standing(seat));
+        watcher.stands(standing(seat));
     }
     Ok(())
 }
@@ -120,6 +122,17 @@ fn take_heard<S: Spool + Drop, A: Allocator + Copy>(
         Heard::Bytes(count) => seat.arrive(&buffer[..count], noise),
         Heard::Silence => seat.time_out(noise),
         Heard::End => Ok(()),
+    }
+}
+
+/// The bytes that were heard.
+fn piece_of(heard: Heard, buffer: &[u8]) -> &[u8]
+    requires { IsWithin (length buffer.now) heard }
+    ensures { result.now ≡ heard_bytes heard buffer.now }
+{
+    match heard {
+        Heard::Bytes(count) => &buffer[..count],
+        Heard::Silence | Heard::End => &[],
     }
 }
 

@@ -14,11 +14,18 @@ pub struct Standing {
     pub failed: usize,
 }
 
-/// Looks on while an end is at its line. It changes nothing.
+/// Looks on while an end is at its line. It is only shown things, and answers nothing, so it changes nothing of the
+/// session: what `talk` promises holds with every watcher.
 pub trait Watcher {
-    /// The end is about to write so many bytes.
-    fn writes(&mut self, count: usize);
+    /// The end is about to write these bytes.
+    fn writes(&mut self, piece: &[u8]);
 
-    /// The end has heard this, and then stands so.
-    fn heard(&mut self, heard: Heard, standing: Standing);
+    /// The end has heard this, and these are its bytes.
+    fn heard(&mut self, heard: Heard, piece: &[u8]);
+
+    /// The end now stands so.
+    fn stands(&mut self, standing: Standing);
+
+    /// The session is over, and the end stands so.
+    fn is_over(&mut self, standing: Standing);
 }

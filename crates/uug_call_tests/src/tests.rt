@@ -2,6 +2,8 @@
 //! over, and when a fault is answered; these tests say how the session ends and what is done then, and that calls succeed
 //! while there is memory. Above each table stands what it is of.
 
+mod assertions;
+mod follow;
 mod memory_text;
 mod numbers;
 mod scenes;
@@ -46,9 +48,13 @@ struct Manner {
 struct Nobody;
 
 impl Watcher for Nobody {
-    fn writes(&mut self, _count: usize) {}
+    fn writes(&mut self, _piece: &[u8]) {}
 
-    fn heard(&mut self, _heard: Heard, _standing: Standing) {}
+    fn heard(&mut self, _heard: Heard, _piece: &[u8]) {}
+
+    fn stands(&mut self, _standing: Standing) {}
+
+    fn is_over(&mut self, _standing: Standing) {}
 }
 
 fn name(text: &[u8]) -> Result<Name, Fail> {

@@ -12,7 +12,7 @@ use Rattle.uug_talk.specs.Texts.{Heard, Passing, Open, Whole, is_whole}
 use Rattle.uug_tool.specs.Listing.{line_of, lines_of, rest_line, IsListing}
 use Rattle.uug_detail.specs.Told.{What, of_packet, of_text, of_noise, of_rest, control_bad_checksum, Entry, Told, begin, noise_entries, puts, hears, heard_with, text_size, broken_as, passes, tells, told_of, entries_of}
 use Rattle.uug_detail.specs.Detailed.{plain_words, line_of_words, plain_lines, Adjoin, IsDetailed, entry_lines}
-use Rattle.uug_detail.specs.Noise.{heard_size, tells_byte}
+use Rattle.uug_detail.specs.Code.Noise.{heard_size, tells_byte}
 
 -- ---- the plain lines
 

@@ -3,14 +3,14 @@ use Rattle.std.proofs.Common.{◌≡◌, ℕ, ◌+◌, ◌*◌, ◌≤◌, List,
 use Rattle.std.specs.Prelude.{⊤}
 use Rattle.std.proofs.lemmas.List.{append-nil}
 use Rattle.uug_packet.specs.Waits.{Waits}
-use Rattle.uug_reader.specs.PacketLaws.{PacketLaws}
+use Rattle.uug_reader.specs.Code.PacketLaws.{PacketLaws}
 use Rattle.uug_tool.specs.Streams.{Appends, Moves}
 use Rattle.uug_tool.specs.declared.scan.TheConstants.{PIECE_SIZE}
 use Rattle.uug_tool.proofs.StreamLemmas.{Appends-join}
 use Rattle.uug_detail.specs.declared.noise.Noise.{Noise}
 use Rattle.uug_detail.specs.Told.{Told, begin, of_rest, puts, told_of}
 use Rattle.uug_detail.specs.Detailed.{IsDetailed, AppendsDetailed, entry_lines}
-use Rattle.uug_detail.specs.Noise.{AddsParts, Holds, Tells, end_of, noise_at, told_by}
+use Rattle.uug_detail.specs.Code.Noise.{AddsParts, Holds, Tells, end_of, noise_at, told_by}
 use Rattle.uug_detail.proofs.ToldLemmas.{AddsParts-none, AddsParts-join, AddsParts-append, entry_lines-append, behind, puts-behind, told_by-behind}
 
 -- After some reads of an input that tells its bytes: those that are held and those still to come are what the parts

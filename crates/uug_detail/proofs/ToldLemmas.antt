@@ -10,14 +10,14 @@ use Rattle.uug_packet.specs.Waits.{IsDamage}
 use Rattle.uug_packet.specs.declared.decoding.NoPacket.{NoPacket}
 use Rattle.uug_packet.specs.declared.decoding.NoPacket.TheVariants as refusals
 use Rattle.uug_reader.specs.Cut.{found, Part, packet, broken, noise, CutsOff}
-use Rattle.uug_reader.specs.PacketLaws.{PacketLaws}
+use Rattle.uug_reader.specs.Code.PacketLaws.{PacketLaws}
 use Rattle.uug_reader.proofs.CutLemmas.{CutsOff-append, CutsOff-join, some_spelled}
 use Rattle.uug_reader.proofs.OneCut.{AreBytes-drop, refused_noise}
 use Rattle.uug_talk.specs.Texts.{Heard, Passing, Open, Whole}
 use Rattle.uug_tool.specs.Listing.{HasSize}
 use Rattle.uug_detail.specs.Told.{What, of_packet, of_text, control_bad_checksum, text_size, Entry, Told, puts, hears, heard_with, broken_as, passes, tells, part_size, told_of}
 use Rattle.uug_detail.specs.Detailed.{entry_line, entry_lines}
-use Rattle.uug_detail.specs.Noise.{told_by, Tells, IsSized, IsFront, front_size, tells_byte, tells_front, AddsParts}
+use Rattle.uug_detail.specs.Code.Noise.{told_by, Tells, IsSized, IsFront, front_size, tells_byte, tells_front, AddsParts}
 use Rattle.uug_detail.specs.declared.noise.Noise.{Noise}
 use Rattle.uug_detail.specs.declared.front.Damage.TheVariants as damages
 use Rattle.uug_detail.specs.declared.front.Front.{Front}

@@ -1,3 +1,3 @@
 pub mod Told
 pub mod Detailed
-pub mod Noise
+pub mod Code

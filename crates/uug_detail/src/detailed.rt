@@ -5,7 +5,7 @@ ghost use Rattle.uug_tool.specs.declared.scan.TheConstants.{PIECE_SIZE, READ_LIM
 ghost use Rattle.uug_tool.specs.Scan.{IsScanFault};
 ghost use Rattle.uug_tool.specs.Streams.{CountsFault, ReadsAll};
 ghost use Rattle.uug_detail.specs.Detailed.{AppendsDetailed};
-ghost use Rattle.uug_detail.specs.Noise.{AddsParts, HasPlaces, Holds, end_of};
+ghost use Rattle.uug_detail.specs.Code.Noise.{AddsParts, HasPlaces, Holds, end_of};
 
 use crate::noise::{Noise, noise_from};
 use crate::packet_laws::packet_laws;

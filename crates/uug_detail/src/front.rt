@@ -3,7 +3,7 @@ ghost use Rattle.std.specs.Prelude.{◌≡◌, ◌↔◌, ◌++◌, IsTrue, Matc
 ghost use Rattle.uug_packet.specs.declared.header.TheConstants.{CONTROL_K};
 ghost use Rattle.uug_packet.specs.Decoded.{decoded};
 ghost use Rattle.uug_detail.specs.Detailed.{added_words, plain_words, words_or_none};
-ghost use Rattle.uug_detail.specs.Noise.{IsFront, what_of};
+ghost use Rattle.uug_detail.specs.Code.Noise.{IsFront, what_of};
 
 use uug_packet::{CONTROL_K, NoPacket, Packet, decode};
 

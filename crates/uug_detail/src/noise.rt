@@ -1,7 +1,7 @@
 ghost use Rattle.std.specs.Prelude.{◌≡◌, ◌+◌, ◌≤◌, ◌++◌, OnOk, IfOk, false, string_bytes};
 ghost use Rattle.uug_talk.specs.Texts.{is_whole};
 ghost use Rattle.uug_detail.specs.Detailed.{entry_lines};
-ghost use Rattle.uug_detail.specs.Noise.{Holds, HasPlaces, Tells, end_of, heard_size, noise_at, tells_byte};
+ghost use Rattle.uug_detail.specs.Code.Noise.{Holds, HasPlaces, Tells, end_of, heard_size, noise_at, tells_byte};
 ghost use Rattle.uug_detail.specs.Told.{heard_with, hears, noise_entries};
 
 use crate::lines::{add_noise, add_text};

@@ -4,7 +4,7 @@ ghost use Rattle.uug_packet.specs.Packet.{shown};
 ghost use Rattle.uug_packet.specs.Waits.{Waits};
 ghost use Rattle.uug_reader.specs.Cut.{found};
 ghost use Rattle.uug_tool.specs.Listing.{HasSize};
-ghost use Rattle.uug_detail.specs.Noise.{AddsParts, HasPlaces, Holds, IsSized, Tells, end_of, front_size, tells_front, what_of};
+ghost use Rattle.uug_detail.specs.Code.Noise.{AddsParts, HasPlaces, Holds, IsSized, Tells, end_of, front_size, tells_front, what_of};
 ghost use Rattle.uug_detail.specs.Told.{of_packet, of_rest, puts};
 
 use crate::front::{Damage, Front, front_of};

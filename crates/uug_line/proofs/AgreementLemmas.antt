@@ -1,17 +1,17 @@
 -- Two numbers tell an end that is joined to another, and it stays so.
 use Rattle.std.proofs.Common.{◌≡◌, inl, inr, ℕ, false, List, length, refl, sym, subst}
-use Rattle.uug_session.specs.Count.{count_keeper}
-use Rattle.uug_session.specs.Holdings.{Holdings}
-use Rattle.uug_session.specs.Talk.{Talk, end_keeper, unopened}
+use Rattle.uug_conversation.specs.Count.{count_keeper}
+use Rattle.uug_conversation.specs.Holdings.{Holdings}
+use Rattle.uug_conversation.specs.Talk.{Talk, end_keeper, unopened}
 use Rattle.uug_session.specs.TwoEnds.{Talker}
-use Rattle.uug_session.specs.Turns.{Side as SessionSide}
-use Rattle.uug_session.specs.View.{Seen}
+use Rattle.uug_conversation.specs.Turns.{Side as SessionSide}
+use Rattle.uug_conversation.specs.View.{Seen}
 use Rattle.uug_line.specs.declared.side.Side.{Side}
 use Rattle.uug_line.specs.Belongings.{Belongings, SetupValue, party}
 use Rattle.uug_line.specs.Sides.{AtBoth, at, session_side}
 use Rattle.uug_line.proofs.Invariant.{IsInvariant}
 use Rattle.uug_line.proofs.Joining.{IsSoundSession, IsTalk, Joined, Moment}
-use Rattle.uug_line.specs.LowerLaws.{Laws}
+use Rattle.uug_line.specs.Code.LowerLaws.{Laws}
 use Rattle.uug_line.proofs.MoveLemmas.{StandsThere, joined_begins, joined_closes, joined_finds_bad, joined_hears, joined_sends, joined_times_out}
 use Rattle.uug_line.proofs.TalkLemmas.{Agrees, agrees_at, seen_at, talk_at, talker_at, told_at}
 

@@ -8,15 +8,15 @@ use Rattle.uug_link.specs.Terms.{size_of_code}
 use Rattle.uug_link.specs.TwoLinks.{taken_by}
 use Rattle.uug_packet.specs.Packet.{PacketValue, control, carry}
 use Rattle.uug_session.specs.declared.end.End.TheVariants as ends
-use Rattle.uug_session.specs.Count.{Count, count_keeper}
+use Rattle.uug_conversation.specs.Count.{Count, count_keeper}
 use Rattle.uug_session.specs.EndStep.{EndEffect, Identity, bad_came, behind_link, late, late_link, message_of, packet_came, talks_by}
-use Rattle.uug_session.specs.Holdings.{Holdings}
-use Rattle.uug_session.specs.Talk.{Talk, end_keeper}
-use Rattle.uug_session.specs.Turns.{Side}
-use Rattle.uug_session.specs.View.{Seen}
+use Rattle.uug_conversation.specs.Holdings.{Holdings}
+use Rattle.uug_conversation.specs.Talk.{Talk, end_keeper}
+use Rattle.uug_conversation.specs.Turns.{Side}
+use Rattle.uug_conversation.specs.View.{Seen}
 use Rattle.uug_line.proofs.Invariant.{DoesAlike, IsInvariant, answer_to, found, heard_by, moved}
 use Rattle.uug_line.proofs.Joining.{Moment}
-use Rattle.uug_line.specs.LowerLaws.{Laws}
+use Rattle.uug_line.specs.Code.LowerLaws.{Laws}
 use Rattle.uug_line.proofs.MomentLemmas.{count, count_silent, none_sent}
 use Rattle.uug_line.proofs.SpeakLemmas.{ends_alike, goes_on_alike, stays_alike}
 

@@ -5,7 +5,7 @@ use Rattle.std.proofs.lemmas.Bool.{cases_lt}
 use Rattle.std.proofs.lemmas.List.{append_assoc}
 use Rattle.uug_link.specs.Arrivals.{IsPlace, place_of}
 use Rattle.uug_link.specs.OnTheWay.{AreComing}
-use Rattle.uug_link.specs.State.{IsUp}
+use Rattle.uug_link.specs.State.{IsPlain, IsUp}
 use Rattle.uug_link.specs.Step.{Emission, only}
 use Rattle.uug_link.specs.Terms.{IsWindow}
 use Rattle.uug_link.specs.TwoLinks.{End, IsRun, packets_of}
@@ -13,13 +13,13 @@ use Rattle.uug_packet.specs.Packet.{PacketValue, close, control}
 use Rattle.uug_packet.specs.Spelling.{canonical}
 use Rattle.uug_packet.specs.WellFormed.{IsWellFormed}
 use Rattle.uug_session.specs.Arriving.{Taker, holds, takes_all, takes_if, takes_up}
-use Rattle.uug_session.specs.Count.{Count, count_keeper}
+use Rattle.uug_conversation.specs.Count.{Count, count_keeper}
 use Rattle.uug_session.specs.EndStep.{EndEffect, Stage, end_step, linked, message_of, packet_found_whole, packets, time_ran_out}
 use Rattle.uug_session.specs.Finding.{Finding, finding}
-use Rattle.uug_session.specs.View.{Seen, floor}
+use Rattle.uug_conversation.specs.View.{Seen, floor}
 use Rattle.uug_line.specs.declared.side.Side.{Side}
 use Rattle.uug_line.specs.Belongings.{Belongings, SetupValue}
-use Rattle.uug_line.specs.CleanLaws.{CleanLaws}
+use Rattle.uug_line.specs.Code.CleanLaws.{CleanLaws}
 use Rattle.uug_line.specs.LineEnd.{LineEnd, Log, Player, bytes_in, does, found_at, messages_sent, packets_in, took}
 use Rattle.uug_line.specs.Run.{parties}
 use Rattle.uug_line.specs.RunKeeper.{view_at}
@@ -84,6 +84,7 @@ pub record Base (setup : SetupValue) (brought : AtBoth Belongings) (B : Side →
   pub waits : (side : Side) (x y : LineEnd Count) → B side x y →
       B side (does (count_player setup brought side) time_ran_out x) y
   pub window : (side : Side) → IsWindow (at side setup).own.window
+  pub plain : (side : Side) (x y : LineEnd Count) → B side x y → IsPlain x.state.link
   pub run : (side : Side) (x y : LineEnd Count) → B side x y →
       IsRun (at side setup).own (at (other side) setup).own (record { near = as_end x; far = as_end y })
   pub formed : (side : Side) (x y : LineEnd Count) → B side x y → All IsWellFormed x.log.packets

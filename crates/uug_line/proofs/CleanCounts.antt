@@ -6,19 +6,19 @@ use Rattle.std.proofs.lemmas.Option.{slice_get_cases, none-some}
 use Rattle.uug_link.specs.Counts.{AreCounted}
 use Rattle.uug_link.specs.OnTheWay.{BringAll, TellAll}
 use Rattle.uug_link.specs.State.{KnowsWindow, State, IsUp}
-use Rattle.uug_session.specs.Count.{Count, all_sent, all_taken, count_keeper, message_before}
+use Rattle.uug_conversation.specs.Count.{Count, all_sent, all_taken, count_keeper, message_before}
 use Rattle.uug_session.specs.EndStep.{Stage, has_room, is_up}
-use Rattle.uug_session.specs.Holdings.{Kept}
-use Rattle.uug_session.specs.Keeper.{Keeper}
-use Rattle.uug_session.specs.Jobs.{Move}
-use Rattle.uug_session.specs.Messages.{Message, conversation_messages}
+use Rattle.uug_conversation.specs.Holdings.{Kept}
+use Rattle.uug_conversation.specs.Keeper.{Keeper}
+use Rattle.uug_conversation.specs.Jobs.{Move}
+use Rattle.uug_conversation.specs.Messages.{Message, conversation_messages}
 use Rattle.uug_session.specs.Sending.{GoesOnAt, SaidAt}
-use Rattle.uug_session.specs.Turns.{Side as SessionSide, caller, called}
-use Rattle.uug_session.specs.View.{Seen, floor, others_messages, own_messages, says, hears, seen as seen_as, view}
+use Rattle.uug_conversation.specs.Turns.{Side as SessionSide, caller, called}
+use Rattle.uug_conversation.specs.View.{Seen, floor, others_messages, own_messages, says, hears, seen as seen_as, view}
 use Rattle.uug_line.specs.declared.side.Side.{Side}
 use Rattle.uug_line.specs.declared.side.Side.TheVariants.{Caller, Called}
 use Rattle.uug_line.specs.Belongings.{Belongings, SetupValue, party}
-use Rattle.uug_line.specs.CleanLaws.{CleanLaws}
+use Rattle.uug_line.specs.Code.CleanLaws.{CleanLaws}
 use Rattle.uug_line.specs.LineEnd.{LineEnd}
 use Rattle.uug_line.specs.Sides.{other, AtBoth, at}
 use Rattle.uug_line.proofs.CleanBase.{Base, as_end, seen}
@@ -119,15 +119,15 @@ pub record OverAt (v : List Seen) (c : Count) : Type 0 where
   pub sent : length (own_messages v) ≤ c.sent
   pub taken : length (others_messages v) ≤ c.taken
 
-parts_of_over : (opened sent took : Bool) → (opened && (sent && took)) ≡ true → (opened ≡ true) × (sent ≡ true) × (took ≡ true)
-parts_of_over true true true is = (refl, refl, refl)
-parts_of_over true true false is = absurd cc
-parts_of_over true false took is = absurd cc
-parts_of_over false sent took is = absurd cc
+live_end_value_over : (opened sent took : Bool) → (opened && (sent && took)) ≡ true → (opened ≡ true) × (sent ≡ true) × (took ≡ true)
+live_end_value_over true true true is = (refl, refl, refl)
+live_end_value_over true true false is = absurd cc
+live_end_value_over true false took is = absurd cc
+live_end_value_over false sent took is = absurd cc
 
 pub over_at : (v : List Seen) (c : Count) → (count_keeper v).is_over c ≡ true → OverAt v c
 over_at v c is =
-    let parts = parts_of_over c.opened (all_sent v c) (all_taken v c) is in
+    let parts = live_end_value_over c.opened (all_sent v c) (all_taken v c) is in
     record {
       opened = parts.0;
       sent = grind (arith, nat_tests, parts.1);

@@ -10,7 +10,7 @@ use Rattle.uug_packet.specs.WellFormed.{IsWellFormed}
 use Rattle.uug_reader.specs.Search.{search_by, search_of}
 use Rattle.uug_session.specs.EndStep.{linked}
 use Rattle.uug_session.specs.Finding.{FindingLaws, finding, finds_packet, found_with, item_finding}
-use Rattle.uug_line.specs.LineLaws.{ReadsWritten}
+use Rattle.uug_line.specs.Code.LineLaws.{ReadsWritten}
 
 abbrev HasBytes : List ℕ → Type 0
 HasBytes [] = ⊥

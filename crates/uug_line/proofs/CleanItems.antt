@@ -5,19 +5,19 @@ use Rattle.std.proofs.lemmas.List.{append_assoc}
 use Rattle.std.proofs.lemmas.List.Elements.{All-append, All-head, All-tail}
 use Rattle.uug_link.specs.declared.phase.Phase.TheVariants.{Closing}
 use Rattle.uug_link.specs.OnTheWay.{AreComing, BringAll, Hears, IsTalk}
-use Rattle.uug_link.specs.State.{State, IsUp}
+use Rattle.uug_link.specs.State.{IsPlain, State, IsUp}
 use Rattle.uug_link.specs.Step.{moved, only, packet_found}
 use Rattle.uug_link.specs.TwoLinks.{packets_of}
 use Rattle.uug_link.proofs.OnTheWayLemmas.{still_brings}
 use Rattle.uug_packet.specs.Packet.{PacketValue, close, control}
 use Rattle.uug_packet.specs.Spelling.{canonical}
 use Rattle.uug_packet.specs.WellFormed.{IsWellFormed}
-use Rattle.uug_session.specs.Count.{Count, count_keeper}
+use Rattle.uug_conversation.specs.Count.{Count, count_keeper}
 use Rattle.uug_session.specs.EndStep.{EndEffect, EndState, Emitted, end_step, linked, message_of, packet_found_whole}
-use Rattle.uug_session.specs.View.{Seen}
+use Rattle.uug_conversation.specs.View.{Seen}
 use Rattle.uug_line.specs.declared.side.Side.{Side}
 use Rattle.uug_line.specs.Belongings.{Belongings, SetupValue}
-use Rattle.uug_line.specs.CleanLaws.{CleanLaws}
+use Rattle.uug_line.specs.Code.CleanLaws.{CleanLaws}
 use Rattle.uug_line.specs.LineEnd.{LineEnd, bytes_in, found_at, packets_in, took}
 use Rattle.uug_line.specs.Sides.{other, AtBoth, at}
 use Rattle.uug_line.specs.Taking.{packet_taken_up, with_packet}
@@ -52,10 +52,10 @@ pub record Open (K : State → List PacketValue → List PacketValue → Type 0)
   pub back : Back x y qs
   pub knows : K y.state.link ps qs
 
--- what is known stays so with each packet that is heard
+-- what is known stays so with each packet that is heard, by an end that is not quiet on repeats
 abbrev pub StaysKnown : (State → List PacketValue → List PacketValue → Type 0) → Type 0
-StaysKnown K = (p : PacketValue) (a b : State) (ps qs answer : List PacketValue) → Hears p a b answer → K a (p ∷ ps) qs →
-    K b ps (qs ++ answer)
+StaysKnown K = (p : PacketValue) (a b : State) (ps qs answer : List PacketValue) → IsPlain a → Hears p a b answer →
+    K a (p ∷ ps) qs → K b ps (qs ++ answer)
 
 -- ---- an end that has closed where all is said and taken: CLOSE is its last packet
 
@@ -128,10 +128,10 @@ module _ (law : CleanLaws) (setup : SetupValue) (brought : AtBoth Belongings) (B
 
   open_then : (K : State → List PacketValue → List PacketValue → Type 0) → StaysKnown K →
       (x y : LineEnd Count) (p : PacketValue) (ps behind qs : List PacketValue) (place : ℕ) (eff : EndEffect Count) →
-      Open K x y (p ∷ ps) behind qs → AreComing (as_end x) (as_end (with_packet p place y eff)) (ps ++ behind) →
-      TalksOn p y.state.link eff →
+      IsPlain y.state.link → Open K x y (p ∷ ps) behind qs →
+      AreComing (as_end x) (as_end (with_packet p place y eff)) (ps ++ behind) → TalksOn p y.state.link eff →
       (answer : List PacketValue) × Open K x (with_packet p place y eff) ps behind (qs ++ answer)
-  open_then K stays x y p ps behind qs place eff o coming on =
+  open_then K stays x y p ps behind qs place eff plain o coming on =
       let h = on.hears in
       let answer = packets_of on.emissions in (
         answer,
@@ -149,15 +149,15 @@ module _ (law : CleanLaws) (setup : SetupValue) (brought : AtBoth Belongings) (B
                 (ap packets_in on.emitted ∙ packets_written on.emissions)) o.back.coming;
             talk = All-append IsTalk qs answer o.back.talk h.answers.talk;
           };
-          knows = stays p y.state.link eff.state.link ps qs answer h o.knows;
+          knows = stays p y.state.link eff.state.link ps qs answer plain h o.knows;
         },
       )
 
   shut_then : (K : State → List PacketValue → List PacketValue → Type 0) → StaysKnown K →
       (x y : LineEnd Count) (p : PacketValue) (ps behind qs : List PacketValue) (place : ℕ) (eff : EndEffect Count) →
-      Open K x y (p ∷ ps) behind qs → ClosesThen (seen setup brought side) p y.state.link eff →
+      IsPlain y.state.link → Open K x y (p ∷ ps) behind qs → ClosesThen (seen setup brought side) p y.state.link eff →
       ShutsWith (seen setup brought side) K x (with_packet p place y eff)
-  shut_then K stays x y p ps behind qs place eff o shut =
+  shut_then K stays x y p ps behind qs place eff plain o shut =
       let h = shut.hears in
       let answer = packets_of shut.emissions in
       let last = qs ++ answer in
@@ -181,17 +181,20 @@ module _ (law : CleanLaws) (setup : SetupValue) (brought : AtBoth Belongings) (B
           talk = All-append IsTalk qs answer o.back.talk h.answers.talk;
         };
         ps = ps;
-        knows = stays p y.state.link shut.before ps qs answer h o.knows;
+        knows = stays p y.state.link shut.before ps qs answer plain h o.knows;
       }
 
   how_then : (K : State → List PacketValue → List PacketValue → Type 0) → StaysKnown K →
       (x y : LineEnd Count) (p : PacketValue) (ps behind qs : List PacketValue) (place : ℕ) (eff : EndEffect Count) →
-      Open K x y (p ∷ ps) behind qs → AreComing (as_end x) (as_end (with_packet p place y eff)) (ps ++ behind) →
+      IsPlain y.state.link → Open K x y (p ∷ ps) behind qs →
+      AreComing (as_end x) (as_end (with_packet p place y eff)) (ps ++ behind) →
       TalksOrCloses (seen setup brought side) p y.state.link eff →
       ((answer : List PacketValue) × Open K x (with_packet p place y eff) ps behind (qs ++ answer))
       ⊎ ShutsWith (seen setup brought side) K x (with_packet p place y eff)
-  how_then K stays x y p ps behind qs place eff o coming (inl on) = inl (open_then K stays x y p ps behind qs place eff o coming on)
-  how_then K stays x y p ps behind qs place eff o coming (inr shut) = inr (shut_then K stays x y p ps behind qs place eff o shut)
+  how_then K stays x y p ps behind qs place eff plain o coming (inl on) =
+      inl (open_then K stays x y p ps behind qs place eff plain o coming on)
+  how_then K stays x y p ps behind qs place eff plain o coming (inr shut) =
+      inr (shut_then K stays x y p ps behind qs place eff plain o shut)
 
   pub heard : (K : State → List PacketValue → List PacketValue → Type 0) → StaysKnown K →
       (x y : LineEnd Count) (p : PacketValue) (ps behind qs : List PacketValue) → B side y x → Open K x y (p ∷ ps) behind qs →
@@ -212,7 +215,7 @@ module _ (law : CleanLaws) (setup : SetupValue) (brought : AtBoth Belongings) (B
         came = came_so law setup brought B base side x y p at_place.place o.talks.stage
             (formed_there x y p (ps ++ behind) is o.there.coming) at_place.there is;
         coming = coming;
-        how = how_then K stays x y p ps behind qs at_place.place eff o coming
+        how = how_then K stays x y p ps behind qs at_place.place eff (base.plain side y x is) o coming
             (talks_or_closes (seen setup brought side) player.identity p y.state o.talks.stage o.talks.is_up
             (expected_low x y is) (law.phases y.state.link (packet_found p) tt) hears);
       }

@@ -1,33 +1,34 @@
 -- A clean line finishes: from every world that may settle rounds lead to the end.
-use Rattle.std.proofs.Common.{◌≡◌, ℕ, ◌+◌, ◌≤◌, Bool, true, List, [], ◌∷◌, Option, length, refl, ap, ap₂, sym, subst, ◌∙◌, arith}
+use Rattle.std.proofs.Common.{◌≡◌, ℕ, ◌+◌, ◌≤◌, Bool, true, false, List, [], ◌∷◌, Option, length, refl, ap, ap₂, sym, subst, ◌∙◌, arith}
 use Rattle.std.proofs.lemmas.List.{take_all}
+use Rattle.uug_link.specs.Announced.{Announced}
 use Rattle.uug_link.specs.InRange.{IsAnnouncement}
 use Rattle.uug_session.specs.declared.end.End.TheVariants as ends
-use Rattle.uug_session.specs.Count.{Count, count_keeper}
+use Rattle.uug_conversation.specs.Count.{Count, count_keeper}
 use Rattle.uug_session.specs.EndStep.{ended}
-use Rattle.uug_session.specs.Party.{Party}
-use Rattle.uug_session.specs.Talk.{Talk}
-use Rattle.uug_session.specs.View.{others_messages}
+use Rattle.uug_conversation.specs.Party.{Party}
+use Rattle.uug_conversation.specs.Talk.{Talk}
+use Rattle.uug_conversation.specs.View.{others_messages}
 use Rattle.uug_line.specs.declared.event.Event.{Event}
 use Rattle.uug_line.specs.declared.side.Side.{Side}
 use Rattle.uug_line.specs.declared.side.Side.TheVariants.{Caller, Called}
 use Rattle.uug_line.specs.declared.verdict.LineVerdict.{LineVerdict}
 use Rattle.uug_line.specs.declared.verdict.LineVerdict.TheVariants.{Clean}
 use Rattle.uug_line.specs.Belongings.{Belongings, SetupValue}
-use Rattle.uug_line.specs.CleanLaws.{CleanLaws}
+use Rattle.uug_line.specs.Code.CleanLaws.{CleanLaws}
 use Rattle.uug_line.specs.LineEnd.{LineEnd}
-use Rattle.uug_line.specs.LowerLaws.{Laws}
+use Rattle.uug_line.specs.Code.LowerLaws.{Laws}
 use Rattle.uug_line.specs.OfBytes.{AreOfTypes}
 use Rattle.uug_line.specs.Run.{Run, first_run, goes_through, parties}
 use Rattle.uug_line.specs.RunKeeper.{by_numbers, has_after, has_by}
-use Rattle.uug_line.specs.SessionLaws.{SessionLaws}
+use Rattle.uug_line.specs.Code.SessionLaws.{SessionLaws}
 use Rattle.uug_line.specs.Settle.{AreRounds, EndIsSettled, IsSettled, MaySettle, Round, Settles, SettlesFrom, events_of, late, left, passing}
 use Rattle.uug_line.specs.Sides.{AtBoth, at}
 use Rattle.uug_line.specs.Told.{EndReportValue}
 use Rattle.uug_line.specs.World.{counted, counted_end, run_of_ends, world}
 use Rattle.uug_line.proofs.CleanBase.{Base, seen}
 use Rattle.uug_line.proofs.CleanCounts.{over_at}
-use Rattle.uug_line.proofs.CleanPairs.{IsPair, base_of_pairs, pair, taken_first}
+use Rattle.uug_line.proofs.CleanPairs.{IsPair, base_of_pairs, pair, pair_own, pair_turned, taken_first}
 use Rattle.uug_line.proofs.CleanRounds.{DonePair}
 use Rattle.uug_line.proofs.CleanRuns.{run_with, settling}
 use Rattle.uug_line.proofs.CleanSteps.{taken_within}
@@ -64,9 +65,10 @@ settles_by setup events s = refl
 
 module _ (law : Laws) (clean : CleanLaws) (sessions : SessionLaws) (setup : SetupValue) where
   module _ (brought : AtBoth Belongings) (sound : IsSoundSession setup brought)
-      (announces : (side : Side) → IsAnnouncement (at side setup).own) where
+      (announces : (side : Side) → IsAnnouncement (at side setup).own)
+      (plain : (side : Side) → (at side setup).own.quiet ≡ false) where
     abbrev base : Base setup brought (IsPair setup brought)
-    base = base_of_pairs law clean setup brought sound announces
+    base = base_of_pairs law clean setup brought sound announces plain
 
     -- each of the other's messages is taken
     record TakesAll (side : Side) (x : LineEnd Count) : Type 0 where
@@ -164,10 +166,30 @@ module _ (law : Laws) (clean : CleanLaws) (sessions : SessionLaws) (setup : Setu
   settles_run number run stands announces may =
       let same = run_is run may.clean (may.ends Caller).holds_none (may.ends Called).holds_none in
       subst (λ (r : Run Count). SettlesFrom setup number r) same
-      (settles_pair run.brought stands.sound announces number run.past (counted_end run.ends.at_caller.end)
+      (settles_pair run.brought stands.sound announces plain number run.past (counted_end run.ends.at_caller.end)
       (counted_end run.ends.at_called.end)
       (pair Caller run.ends.at_caller.end run.ends.at_called.end stands.joined)
       (subst (λ (r : Run Count). MaySettle r) (sym same) may))
+    where
+      near : LineEnd Count
+      near = counted_end run.ends.at_caller.end
+
+      far : LineEnd Count
+      far = counted_end run.ends.at_called.end
+
+      joined : IsPair setup run.brought Caller near far
+      joined = pair Caller run.ends.at_caller.end run.ends.at_called.end stands.joined
+
+      turned : IsPair setup run.brought Called far near
+      turned = pair_turned law clean setup run.brought stands.sound announces Caller near far joined
+
+      plain : (side : Side) → (at side setup).own.quiet ≡ false
+      plain Caller =
+          sym (ap (λ (a : Announced). a.quiet) (pair_own law clean setup run.brought stands.sound announces Caller near far joined))
+          ∙ (may.ends Caller).plain
+      plain Called =
+          sym (ap (λ (a : Announced). a.quiet) (pair_own law clean setup run.brought stands.sound announces Called far near turned))
+          ∙ (may.ends Called).plain
 
   announcements : (events : List Event) → AreOfTypes setup events → (side : Side) → IsAnnouncement (at side setup).own
   announcements events types side =

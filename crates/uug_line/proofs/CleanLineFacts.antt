@@ -6,7 +6,7 @@ use Rattle.uug_packet.specs.Checksum.{check}
 use Rattle.uug_packet.specs.Decoded.{header_at, decoded}
 use Rattle.uug_packet.specs.Packet.{close, rr, init_c, init_b, init_a, control, carry}
 use Rattle.uug_session.specs.declared.end.End.TheVariants.{Done}
-use Rattle.uug_session.specs.MemoryHoldings.{no_holdings}
+use Rattle.uug_conversation.specs.MemoryHoldings.{no_holdings}
 use Rattle.uug_line.specs.declared.verdict.LineVerdict.TheVariants.{Clean}
 use Rattle.uug_line.specs.LineEnd.{Log}
 use Rattle.uug_session.specs.declared.phase.Phase.TheVariants.{Ended}

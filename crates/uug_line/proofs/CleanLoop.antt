@@ -2,9 +2,9 @@
 use Rattle.std.proofs.Common.{◌≡◌, ℕ, suc, ◌+◌, ◌-◌, ◌<◌, ◌≤◌, Bool, true, false, List, [], ◌∷◌, ◌++◌, length, append_assoc, refl, ap, ap₂, sym, subst, ◌∙◌, arith}
 use Rattle.std.proofs.lemmas.List.{append-nil, length-append}
 use Rattle.uug_session.specs.Arriving.{Hearer}
-use Rattle.uug_session.specs.Count.{Count}
+use Rattle.uug_conversation.specs.Count.{Count}
 use Rattle.uug_session.specs.EndStep.{time_ran_out}
-use Rattle.uug_session.specs.Talk.{Talk}
+use Rattle.uug_conversation.specs.Talk.{Talk}
 use Rattle.uug_line.specs.declared.event.Event.{Event}
 use Rattle.uug_line.specs.declared.event.Event.TheVariants.{Pass, Timeout}
 use Rattle.uug_line.specs.declared.side.Side.TheVariants.{Caller, Called}
@@ -14,9 +14,9 @@ use Rattle.uug_line.specs.LineEnd.{LineEnd}
 use Rattle.uug_line.specs.Live.{IsCalled}
 use Rattle.uug_line.specs.Run.{Run, after_event, end_at}
 use Rattle.uug_line.specs.RunKeeper.{by_numbers, by_themselves}
-use Rattle.uug_line.specs.RunParts.{Happens, HappensAt, Passes, RunParts, StandsAs, hearing_side}
+use Rattle.uug_line.specs.RunValue.{Happens, HappensAt, Passes, RunValue, StandsAs, hearing_side}
 use Rattle.uug_line.specs.Settle.{AllBringOn, AreRounds, IsOver, PassesClean, Round, Settles, SettlesFrom, behind_two, events_of, late, line_from, one_if_over, passing, run_weight}
-use Rattle.uug_line.specs.Settling.{AreOver, IsFinished, MayFinish, RoundHappens, goes, parts_weight, stops}
+use Rattle.uug_line.specs.Code.Settling.{AreOver, IsFinished, MayFinish, RoundHappens, goes, parts_weight, stops}
 use Rattle.uug_line.specs.World.{counted, run_of_ends, world}
 use Rattle.uug_line.proofs.CleanLaw.{settles_by, settles_of}
 use Rattle.uug_line.proofs.PastLemmas.{next_event}
@@ -27,7 +27,7 @@ abbrev pub and_two : List Event → (first second : Event) → List Event
 and_two events first second = (events ++ first ∷ []) ++ second ∷ []
 
 -- The run of some events stands so; the rounds that are left lead it to the end.
-pub record Nearing (setup : SetupValue) (events : List Event) (now : RunParts) : Type 0 where
+pub record Nearing (setup : SetupValue) (events : List Event) (now : RunValue) : Type 0 where
   pub settles : Settles setup events
   pub so_far : List Event
   pub rest : List Round
@@ -37,25 +37,25 @@ pub record Nearing (setup : SetupValue) (events : List Event) (now : RunParts) :
   pub bring_on : AllBringOn by_numbers setup (length so_far) rest (world setup so_far)
 
 -- two events have happened behind others
-pub record Behind (setup : SetupValue) (so_far : List Event) (first second : Event) (new : RunParts) : Type 0 where
+pub record Behind (setup : SetupValue) (so_far : List Event) (first second : Event) (new : RunValue) : Type 0 where
   pub stands : StandsAs setup (run_of_ends setup (and_two so_far first second)) new
   pub number : length (and_two so_far first second) ≡ suc (suc (length so_far))
   pub leads : world setup (and_two so_far first second)
       ≡ behind_two by_numbers setup (length so_far) first second (world setup so_far)
 
 -- a round has
-pub record Rounded (setup : SetupValue) (so_far : List Event) (n m : ℕ) (all_sent : Bool) (new : RunParts) : Type 0 where
+pub record Rounded (setup : SetupValue) (so_far : List Event) (n m : ℕ) (all_sent : Bool) (new : RunValue) : Type 0 where
   pub clean : all_sent ≡ true
   pub behind : Behind setup so_far (Pass Called n) (Pass Caller m) new
 
 -- and the run has come on
-pub record Nearer (setup : SetupValue) (events : List Event) (all_sent : Bool) (old new : RunParts) : Type 0 where
+pub record Nearer (setup : SetupValue) (events : List Event) (all_sent : Bool) (old new : RunValue) : Type 0 where
   pub clean : all_sent ≡ true
   pub near : Nearing setup events new
   pub heavier : parts_weight old < parts_weight new
 
 -- the first rounds have happened
-pub record Nears (setup : SetupValue) (events : List Event) (all_sent : Bool) (new : RunParts) : Type 0 where
+pub record Nears (setup : SetupValue) (events : List Event) (all_sent : Bool) (new : RunValue) : Type 0 where
   pub clean : all_sent ≡ true
   pub near : Nearing setup events new
 
@@ -67,25 +67,25 @@ one_more : (events : List Event) (event : Event) → length (events ++ event ∷
 one_more events event = omega (arith, length-append events (event ∷ []))
 
 module _ (setup : SetupValue) (is_world : (events : List Event) → counted (run_of_ends setup events) ≡ world setup events) where
-  abbrev IsAt : List Event → RunParts → Type 0
+  abbrev IsAt : List Event → RunValue → Type 0
   IsAt events r = StandsAs setup (run_of_ends setup events) r
 
   -- ---- the world, as the program's run stands
 
-  world_clean : (events : List Event) (r : RunParts) → IsAt events r → (world setup events).verdict ≡ Clean
+  world_clean : (events : List Event) (r : RunValue) → IsAt events r → (world setup events).verdict ≡ Clean
   world_clean events r stands = ap (λ (run : Run Count). run.verdict) (sym (is_world events)) ∙ stands.clean
 
-  caller_line : (events : List Event) (r : RunParts) → IsAt events r → line_from Caller (world setup events) ≡ r.caller.line
+  caller_line : (events : List Event) (r : RunValue) → IsAt events r → line_from Caller (world setup events) ≡ r.caller.line
   caller_line events r stands =
       ap (λ (run : Run Count). line_from Caller run) (sym (is_world events))
       ∙ ap (λ (h : Hearer (LineEnd Talk)). h.end.line) stands.caller
 
-  called_line : (events : List Event) (r : RunParts) → IsAt events r → line_from Called (world setup events) ≡ r.called.line
+  called_line : (events : List Event) (r : RunValue) → IsAt events r → line_from Called (world setup events) ≡ r.called.line
   called_line events r stands =
       ap (λ (run : Run Count). line_from Called run) (sym (is_world events))
       ∙ ap (λ (h : Hearer (LineEnd Talk)). h.end.line) stands.called
 
-  world_over : (events : List Event) (r : RunParts) → IsAt events r → AreOver r → IsOver (world setup events)
+  world_over : (events : List Event) (r : RunValue) → IsAt events r → AreOver r → IsOver (world setup events)
   world_over events r stands over = (
     ap (λ (run : Run Count). (end_at Caller run).end.state.stage) (sym (is_world events))
         ∙ ap (λ (h : Hearer (LineEnd Talk)). h.end.state.stage) stands.caller ∙ over.0,
@@ -93,7 +93,7 @@ module _ (setup : SetupValue) (is_world : (events : List Event) → counted (run
         ∙ ap (λ (h : Hearer (LineEnd Talk)). h.end.state.stage) stands.called ∙ over.1,
   )
 
-  parts_over : (events : List Event) (r : RunParts) → IsAt events r → IsOver (world setup events) → AreOver r
+  parts_over : (events : List Event) (r : RunValue) → IsAt events r → IsOver (world setup events) → AreOver r
   parts_over events r stands over = (
     sym (ap (λ (run : Run Count). (end_at Caller run).end.state.stage) (sym (is_world events))
         ∙ ap (λ (h : Hearer (LineEnd Talk)). h.end.state.stage) stands.caller) ∙ over.0,
@@ -101,7 +101,7 @@ module _ (setup : SetupValue) (is_world : (events : List Event) → counted (run
         ∙ ap (λ (h : Hearer (LineEnd Talk)). h.end.state.stage) stands.called) ∙ over.1,
   )
 
-  weight_is : (events : List Event) (r : RunParts) → IsAt events r → run_weight (world setup events) ≡ parts_weight r
+  weight_is : (events : List Event) (r : RunValue) → IsAt events r → run_weight (world setup events) ≡ parts_weight r
   weight_is events r stands =
       let weight : (a b : Hearer (LineEnd Talk)) → ℕ = λ a b.
       (length a.end.log.taken + length b.end.log.taken) + (length a.end.log.sent + length b.end.log.sent)
@@ -110,14 +110,14 @@ module _ (setup : SetupValue) (is_world : (events : List Event) → counted (run
 
   -- ---- an event behind others
 
-  pushed : (events : List Event) (event : Event) (old new : RunParts) → IsAt events old → Happens event true old new →
+  pushed : (events : List Event) (event : Event) (old new : RunValue) → IsAt events old → Happens event true old new →
       IsAt (events ++ event ∷ []) new
   pushed events event old new stands happens =
       subst (λ (run : Run Talk). StandsAs setup run new) (sym (next_event by_themselves setup events event stands.clean))
       (happens_clean event (length events) setup (run_of_ends setup events) old new stands happens)
 
   -- where the world is clean no packet is found that was not sent
-  not_fooled : (events : List Event) (event : Event) (old new : RunParts) → IsAt events old → Happens event false old new →
+  not_fooled : (events : List Event) (event : Event) (old new : RunValue) → IsAt events old → Happens event false old new →
       (after_event by_numbers setup (length events) event (world setup events)).verdict ≡ Clean → ⊥
   not_fooled events event old new stands happens clean =
       let ends = happens_fooled event (length events) setup (run_of_ends setup events) old new stands happens in
@@ -132,7 +132,7 @@ module _ (setup : SetupValue) (is_world : (events : List Event) → counted (run
       absurd cc
 
   -- two events
-  both_pushed : (events : List Event) (first second : Event) (old middle new : RunParts) → IsAt events old →
+  both_pushed : (events : List Event) (first second : Event) (old middle new : RunValue) → IsAt events old →
       Happens first true old middle → Happens second true middle new → Behind setup events first second new
   both_pushed events first second old middle new stands one two =
       let then = events ++ first ∷ [] in
@@ -147,7 +147,7 @@ module _ (setup : SetupValue) (is_world : (events : List Event) → counted (run
       }
 
   -- what is said of the world from there on
-  carried : (F : ℕ → Run Count → Type 0) (so_far : List Event) (first second : Event) (new : RunParts) →
+  carried : (F : ℕ → Run Count → Type 0) (so_far : List Event) (first second : Event) (new : RunValue) →
       Behind setup so_far first second new →
       F (suc (suc (length so_far))) (behind_two by_numbers setup (length so_far) first second (world setup so_far)) →
       F (length (and_two so_far first second)) (world setup (and_two so_far first second))
@@ -157,7 +157,7 @@ module _ (setup : SetupValue) (is_world : (events : List Event) → counted (run
 
   -- ---- a round
 
-  second_pass : (so_far : List Event) (n m : ℕ) (all_sent : Bool) (old middle new : RunParts) → IsAt so_far old →
+  second_pass : (so_far : List Event) (n m : ℕ) (all_sent : Bool) (old middle new : RunValue) → IsAt so_far old →
       Passes Called n true old middle → Passes Caller m all_sent middle new →
       PassesClean by_numbers setup (length so_far) n m (world setup so_far) → Rounded setup so_far n m all_sent new
   second_pass so_far n m true old middle new stands one two clean =
@@ -173,7 +173,7 @@ module _ (setup : SetupValue) (is_world : (events : List Event) → counted (run
       (one_more so_far (Pass Called n))
       ∙ clean.1))
 
-  round_passes : (so_far : List Event) (n m : ℕ) (all_sent : Bool) (old new : RunParts) → IsAt so_far old →
+  round_passes : (so_far : List Event) (n m : ℕ) (all_sent : Bool) (old new : RunValue) → IsAt so_far old →
       RoundHappens all_sent old new → n ≡ length (line_from Caller (world setup so_far)) →
       m ≡ length (line_from Called (after_event by_numbers setup (length so_far) (Pass Called n) (world setup so_far))) →
       PassesClean by_numbers setup (length so_far) n m (world setup so_far) → Rounded setup so_far n m all_sent new
@@ -195,7 +195,7 @@ module _ (setup : SetupValue) (is_world : (events : List Event) → counted (run
 
   -- ---- to the end
 
-  pub begins_so : (events : List Event) (all_sent : Bool) (old one two new : RunParts) → MayFinish setup events old →
+  pub begins_so : (events : List Event) (all_sent : Bool) (old one two new : RunValue) → MayFinish setup events old →
       SettlesFrom setup (length events) (world setup events) → HappensAt Caller (IsCalled time_ran_out) old one →
       HappensAt Called (IsCalled time_ran_out) one two → RoundHappens all_sent two new → Nears setup events all_sent new
   begins_so events all_sent old one two new may s caller_late called_late round =
@@ -232,7 +232,7 @@ module _ (setup : SetupValue) (is_world : (events : List Event) → counted (run
       }
 
   goes_by : (events : List Event) (settles : Settles setup events) (so_far : List Event) (rest : List Round) (all_sent : Bool)
-      (old new : RunParts) → events ++ events_of settles.rounds ≡ so_far ++ events_of rest → IsAt so_far old →
+      (old new : RunValue) → events ++ events_of settles.rounds ≡ so_far ++ events_of rest → IsAt so_far old →
       AreRounds by_numbers setup (length so_far) rest (world setup so_far) →
       AllBringOn by_numbers setup (length so_far) rest (world setup so_far) → (AreOver old → ⊥) → RoundHappens all_sent old new →
       Nearer setup events all_sent old new
@@ -265,12 +265,12 @@ module _ (setup : SetupValue) (is_world : (events : List Event) → counted (run
         );
       }
 
-  pub goes_nearer : (events : List Event) (all_sent : Bool) (old new : RunParts) → Nearing setup events old →
+  pub goes_nearer : (events : List Event) (all_sent : Bool) (old new : RunValue) → Nearing setup events old →
       (AreOver old → ⊥) → RoundHappens all_sent old new → Nearer setup events all_sent old new
   goes_nearer events all_sent old new near not_over round =
       goes_by events near.settles near.so_far near.rest all_sent old new near.same near.stands near.are near.bring_on not_over round
 
-  finished_by : (events : List Event) (settles : Settles setup events) (so_far : List Event) (rest : List Round) (now : RunParts) →
+  finished_by : (events : List Event) (settles : Settles setup events) (so_far : List Event) (rest : List Round) (now : RunValue) →
       events ++ events_of settles.rounds ≡ so_far ++ events_of rest → IsAt so_far now →
       AreRounds by_numbers setup (length so_far) rest (world setup so_far) → AreOver now → IsFinished setup events now
   finished_by events settles so_far [] now same stands are over = record {
@@ -281,5 +281,5 @@ module _ (setup : SetupValue) (is_world : (events : List Event) → counted (run
   finished_by events settles so_far (passing n m ∷ rest) now same stands are over =
       absurd (are.0 (world_over so_far now stands over))
 
-  pub is_finished : (events : List Event) (now : RunParts) → Nearing setup events now → AreOver now → IsFinished setup events now
+  pub is_finished : (events : List Event) (now : RunValue) → Nearing setup events now → AreOver now → IsFinished setup events now
   is_finished events now near over = finished_by events near.settles near.so_far near.rest now near.same near.stands near.are over

@@ -1,23 +1,24 @@
 -- The two ends of a session in a run, told by numbers: what a clean line needs to know of them holds.
-use Rattle.std.proofs.Common.{◌≡◌, inl, inr, ℕ, ◌≤◌, true, All, List, length, take, Some, refl, sym, subst, ◌∙◌}
+use Rattle.std.proofs.Common.{◌≡◌, inl, inr, ℕ, ◌≤◌, true, false, All, List, length, take, Some, refl, ap, sym, subst, ◌∙◌}
+use Rattle.uug_link.specs.Announced.{Announced}
 use Rattle.uug_link.specs.Arrivals.{place_of}
 use Rattle.uug_link.specs.InRange.{IsAnnouncement}
 use Rattle.uug_link.specs.State.{State, IsUp}
 use Rattle.uug_link.specs.TwoLinks.{IsRun}
 use Rattle.uug_packet.specs.Packet.{PacketValue}
 use Rattle.uug_packet.specs.WellFormed.{IsWellFormed}
-use Rattle.uug_session.specs.Count.{Count, count_keeper}
+use Rattle.uug_conversation.specs.Count.{Count, count_keeper}
 use Rattle.uug_session.specs.EndStep.{Stage, hailing, linked, ended, time_ran_out}
 use Rattle.uug_session.specs.Sending.{GoesOnAt, SaidAt}
-use Rattle.uug_session.specs.Talk.{Talk, end_keeper}
+use Rattle.uug_conversation.specs.Talk.{Talk, end_keeper}
 use Rattle.uug_session.specs.TwoEnds.{Two}
-use Rattle.uug_session.specs.View.{floor, others_messages}
+use Rattle.uug_conversation.specs.View.{floor, others_messages}
 use Rattle.uug_line.specs.declared.side.Side.{Side}
 use Rattle.uug_line.specs.declared.side.Side.TheVariants.{Caller, Called}
 use Rattle.uug_line.specs.Belongings.{Belongings, SetupValue}
-use Rattle.uug_line.specs.CleanLaws.{CleanLaws}
+use Rattle.uug_line.specs.Code.CleanLaws.{CleanLaws}
 use Rattle.uug_line.specs.LineEnd.{LineEnd, does}
-use Rattle.uug_line.specs.LowerLaws.{Laws}
+use Rattle.uug_line.specs.Code.LowerLaws.{Laws}
 use Rattle.uug_line.specs.Sides.{other, AtBoth, at, session_side}
 use Rattle.uug_line.specs.Speaking.{HasSpoken}
 use Rattle.uug_line.specs.Taking.{packet_taken_up}
@@ -80,7 +81,7 @@ module _ (law : Laws) (clean : CleanLaws) (setup : SetupValue) (brought : AtBoth
   all_steps : Steps setup brought
   all_steps = steps law setup brought sound
 
-  pair_turned : (side : Side) (x y : LineEnd Count) → Pair side x y → Pair (other side) y x
+  pub pair_turned : (side : Side) (x y : LineEnd Count) → Pair side x y → Pair (other side) y x
   pair_turned side x y (pair s e f joined) = pair (other s) f e (all_steps.turned s e f joined)
 
   pair_turned_back : (side : Side) (x y : LineEnd Count) → Pair (other side) x y → Pair side y x
@@ -136,14 +137,21 @@ module _ (law : Laws) (clean : CleanLaws) (setup : SetupValue) (brought : AtBoth
             (same.over (moment_of e) joined.joined) joined.near_spoken.goes_on;
       }
 
-  pub base_of_pairs : Base setup brought (IsPair setup brought)
-  base_of_pairs = record {
+  -- an end is set to what it was set up with
+  pub pair_own : (side : Side) (x y : LineEnd Count) → Pair side x y → x.state.link.own ≡ (at side setup).own
+  pair_own side x y is =
+      (clean.own (at side setup).own (at (other side) setup).own (record { near = as_end x; far = as_end y })
+      (sound.window side) (sound.window (other side)) (pair_run side x y is)).1
+
+  pub base_of_pairs : ((side : Side) → (at side setup).own.quiet ≡ false) → Base setup brought (IsPair setup brought)
+  base_of_pairs plain = record {
     turned = pair_turned;
     turned_back = pair_turned_back;
     relined = pair_relined;
     hears = pair_hears;
     waits = pair_waits;
     window = sound.window;
+    plain = λ side x y is. ap (λ (a : Announced). a.quiet) (pair_own side x y is) ∙ plain side;
     run = pair_run;
     formed = pair_formed;
     opened = pair_opened;

@@ -8,14 +8,14 @@ use Rattle.uug_packet.specs.Packet.{PacketValue, close, control}
 use Rattle.uug_packet.specs.Spelling.{canonical}
 use Rattle.uug_session.specs.declared.end.End.TheVariants as ends
 use Rattle.uug_session.specs.Arriving.{all_taken, held_in, holds, takes_all, takes_up}
-use Rattle.uug_session.specs.Count.{Count, count_keeper}
+use Rattle.uug_conversation.specs.Count.{Count, count_keeper}
 use Rattle.uug_session.specs.EndStep.{EndState, Stage, end_step, ended, final_text, linked, message_of, packet_found_whole}
 use Rattle.uug_session.specs.Finding.{finding}
 use Rattle.uug_session.specs.Says.{written_text}
-use Rattle.uug_session.specs.View.{Seen}
+use Rattle.uug_conversation.specs.View.{Seen}
 use Rattle.uug_line.specs.declared.side.Side.{Side}
 use Rattle.uug_line.specs.Belongings.{Belongings, SetupValue, identity}
-use Rattle.uug_line.specs.CleanLaws.{CleanLaws}
+use Rattle.uug_line.specs.Code.CleanLaws.{CleanLaws}
 use Rattle.uug_line.specs.LineEnd.{LineEnd}
 use Rattle.uug_line.specs.Sides.{AtBoth}
 use Rattle.uug_line.specs.Taking.{packet_taken_up, with_packet}

@@ -9,12 +9,12 @@ use Rattle.uug_link.specs.Step.{next_number}
 use Rattle.uug_packet.specs.Packet.{PacketValue, close, control, carry}
 use Rattle.uug_packet.specs.Spelling.{canonical}
 use Rattle.uug_session.specs.declared.end.End.TheVariants as ends
-use Rattle.uug_session.specs.Count.{Count, count_keeper}
+use Rattle.uug_conversation.specs.Count.{Count, count_keeper}
 use Rattle.uug_session.specs.EndStep.{EndState, ended, linked}
-use Rattle.uug_session.specs.View.{Seen}
+use Rattle.uug_conversation.specs.View.{Seen}
 use Rattle.uug_line.specs.declared.side.Side.{Side}
 use Rattle.uug_line.specs.Belongings.{Belongings, SetupValue}
-use Rattle.uug_line.specs.CleanLaws.{CleanLaws}
+use Rattle.uug_line.specs.Code.CleanLaws.{CleanLaws}
 use Rattle.uug_line.specs.LineEnd.{LineEnd}
 use Rattle.uug_line.specs.Sides.{other, AtBoth}
 use Rattle.uug_line.proofs.CleanBase.{Base, as_end, came_on, seen, with_line, written, written-append}
@@ -126,7 +126,7 @@ module _ (law : CleanLaws) (setup : SetupValue) (brought : AtBoth Belongings) (B
   -- ---- where both talk
 
   stays_known : (there back : Certainty) (far : State) → StaysKnown (Knows there back far)
-  stays_known there back far p a b ps qs answer h k = knows_on there back far a b p ps qs answer h k
+  stays_known there back far p a b ps qs answer plain h k = knows_on there back far a b p ps qs answer plain h k
 
   abbrev pub PassesOpen : (there : Certainty) (x y z : LineEnd Count) → Type 0
   PassesOpen there x y z =
@@ -228,7 +228,7 @@ module _ (law : CleanLaws) (setup : SetupValue) (brought : AtBoth Belongings) (B
       }
 
       h : HeardAll setup brought B side Anything far y (written last) (control close ∷ [])
-      h = heard_all law setup brought B base side Anything (λ p a b ps qs answer h k. tt) last far y (control close ∷ []) []
+      h = heard_all law setup brought B base side Anything (λ p a b ps qs answer plain h k. tt) last far y (control close ∷ []) []
           (far_empty x y is) open_to
 
       far_base : B (other side) far h.then

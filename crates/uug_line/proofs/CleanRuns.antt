@@ -5,16 +5,16 @@ use Rattle.std.proofs.Math.Seq.{drop-length}
 use Rattle.uug_packet.specs.Packet.{PacketValue}
 use Rattle.uug_session.specs.declared.end.End.TheVariants as ends
 use Rattle.uug_session.specs.Arriving.{Came, held_in, holds, takes_all}
-use Rattle.uug_session.specs.Count.{Count}
+use Rattle.uug_conversation.specs.Count.{Count}
 use Rattle.uug_session.specs.EndStep.{EndState, Stage, ended, hailing, linked, time_ran_out}
-use Rattle.uug_session.specs.View.{others_messages}
+use Rattle.uug_conversation.specs.View.{others_messages}
 use Rattle.uug_line.specs.declared.event.Event.{Event}
 use Rattle.uug_line.specs.declared.event.Event.TheVariants.{Pass, Timeout}
 use Rattle.uug_line.specs.declared.side.Side.{Side}
 use Rattle.uug_line.specs.declared.side.Side.TheVariants.{Caller, Called}
 use Rattle.uug_line.specs.declared.verdict.LineVerdict.TheVariants.{Clean}
 use Rattle.uug_line.specs.Belongings.{Belongings, SetupValue}
-use Rattle.uug_line.specs.CleanLaws.{CleanLaws}
+use Rattle.uug_line.specs.Code.CleanLaws.{CleanLaws}
 use Rattle.uug_line.specs.LineEnd.{LineEnd, does}
 use Rattle.uug_line.specs.Run.{Run, after_event, after_hearing, goes_through}
 use Rattle.uug_line.specs.RunKeeper.{by_numbers}

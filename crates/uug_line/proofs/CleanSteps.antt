@@ -1,14 +1,14 @@
 -- What a round does to two ends where nothing is lost: messages are taken with it until both sessions are done.
 use Rattle.std.proofs.Common.{◌≡◌, ◌⊎◌, inl, inr, ℕ, ◌+◌, ◌<◌, ◌≤◌, List, [], length, ap, sym, subst, ◌∙◌, arith}
 use Rattle.std.proofs.lemmas.Bool.{cases_lt}
-use Rattle.uug_session.specs.Count.{Count}
+use Rattle.uug_conversation.specs.Count.{Count}
 use Rattle.uug_session.specs.EndStep.{EndState}
-use Rattle.uug_session.specs.View.{Seen, others_messages, own_messages}
+use Rattle.uug_conversation.specs.View.{Seen, others_messages, own_messages}
 use Rattle.uug_packet.specs.Packet.{PacketValue}
 use Rattle.uug_line.specs.declared.side.Side.{Side}
 use Rattle.uug_line.specs.declared.side.Side.TheVariants.{Caller, Called}
 use Rattle.uug_line.specs.Belongings.{Belongings, SetupValue}
-use Rattle.uug_line.specs.CleanLaws.{CleanLaws}
+use Rattle.uug_line.specs.Code.CleanLaws.{CleanLaws}
 use Rattle.uug_line.specs.LineEnd.{LineEnd}
 use Rattle.uug_line.specs.Sides.{other, AtBoth}
 use Rattle.uug_line.proofs.CleanBase.{Base, seen, with_line}

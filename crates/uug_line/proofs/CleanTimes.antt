@@ -5,11 +5,11 @@ use Rattle.uug_link.specs.OnTheWay.{AreComing, BringAll, Repeats, TellAll, TellO
 use Rattle.uug_link.specs.Step.{next_number, timed_out}
 use Rattle.uug_link.specs.TwoLinks.{packets_of}
 use Rattle.uug_packet.specs.Packet.{PacketValue, carry, control}
-use Rattle.uug_session.specs.Count.{Count}
+use Rattle.uug_conversation.specs.Count.{Count}
 use Rattle.uug_session.specs.EndStep.{end_step, time_ran_out}
 use Rattle.uug_line.specs.declared.side.Side.{Side}
 use Rattle.uug_line.specs.Belongings.{Belongings, SetupValue}
-use Rattle.uug_line.specs.CleanLaws.{CleanLaws}
+use Rattle.uug_line.specs.Code.CleanLaws.{CleanLaws}
 use Rattle.uug_line.specs.LineEnd.{LineEnd, bytes_in, does, packets_in}
 use Rattle.uug_line.specs.Sides.{other, AtBoth, at}
 use Rattle.uug_line.proofs.CleanBase.{Base, as_end, bytes_written, packets_written, seen, written}

@@ -2,7 +2,7 @@
 use Rattle.std.proofs.Common.{◌≡◌, ◌⊎◌, inl, inr, ℕ, List, [], ◌∷◌, ◌++◌, refl, ap, sym, ◌∙◌}
 use Rattle.std.proofs.lemmas.List.Elements.{All-nil, All-append}
 use Rattle.uug_link.specs.OnTheWay.{IsTalk, IsData, expected_behind, oldest_behind, TellOldest, BringAll, TellAll, Answers, Hears, Sends, StillBring}
-use Rattle.uug_link.specs.State.{State, IsUp}
+use Rattle.uug_link.specs.State.{State, IsPlain, IsUp}
 use Rattle.uug_link.specs.Step.{Emission, next_number}
 use Rattle.uug_link.specs.TwoLinks.{packets_of}
 use Rattle.uug_link.proofs.OnTheWayLemmas.{expected_behind-append, oldest_behind-append, still_brings}
@@ -72,7 +72,7 @@ hears_on p a b c qs more first later = record {
   expected = later.expected ∙ first.expected;
   oldest = later.oldest ∙ first.oldest;
   answers = answers_behind a b c qs more first.answers later.answers;
-  answered = λ is. told_behind qs more b.expected c.expected (first.answered is) later.answers.tells;
+  answered = λ plain is. told_behind qs more b.expected c.expected (first.answered plain is) later.answers.tells;
 }
 
 -- ---- what is sure of a way
@@ -109,22 +109,22 @@ tells_on sure p far a b ps qs answer still told = still.tells far ps told
 tells_on unsure p far a b ps qs answer still (inl told) = inl (still.tells far ps told)
 tells_on unsure p far a b ps qs answer still (inr has) = inr (data_before qs answer has)
 
-tells_back_on : (t : Certainty) (p : PacketValue) (far a b : State) (ps qs answer : List PacketValue) → Hears p a b answer →
+tells_back_on : (t : Certainty) (p : PacketValue) (far a b : State) (ps qs answer : List PacketValue) → IsPlain a → Hears p a b answer →
     StillBring p a b answer → IsTold t a far qs (p ∷ ps) → IsTold t b far (qs ++ answer) ps
-tells_back_on sure p far a b ps qs answer h still told = still.tells_back far qs told
-tells_back_on unsure p far a b ps qs answer h still (inl told) = inl (still.tells_back far qs told)
-tells_back_on unsure p far a b ps qs answer h still (inr (inl is)) =
-    inl (oldest_behind-append qs answer far.oldest ∙ h.answered is (oldest_behind qs far.oldest))
-tells_back_on unsure p far a b ps qs answer h still (inr (inr has)) = inr has
+tells_back_on sure p far a b ps qs answer plain h still told = still.tells_back far qs told
+tells_back_on unsure p far a b ps qs answer plain h still (inl told) = inl (still.tells_back far qs told)
+tells_back_on unsure p far a b ps qs answer plain h still (inr (inl is)) =
+    inl (oldest_behind-append qs answer far.oldest ∙ h.answered plain is (oldest_behind qs far.oldest))
+tells_back_on unsure p far a b ps qs answer plain h still (inr (inr has)) = inr has
 
 pub knows_on : (there back : Certainty) (far a b : State) (p : PacketValue) (ps qs answer : List PacketValue) →
-    Hears p a b answer → Knows there back far a (p ∷ ps) qs → Knows there back far b ps (qs ++ answer)
-knows_on there back far a b p ps qs answer h k =
+    IsPlain a → Hears p a b answer → Knows there back far a (p ∷ ps) qs → Knows there back far b ps (qs ++ answer)
+knows_on there back far a b p ps qs answer plain h k =
     let still = still_brings p a b answer h in
     record {
       tells = tells_on there p far a b ps qs answer still k.tells;
       brings_back = still.brings_back far qs k.brings_back;
-      tells_back = tells_back_on back p far a b ps qs answer h still k.tells_back;
+      tells_back = tells_back_on back p far a b ps qs answer plain h still k.tells_back;
     }
 
 -- behind the last of them the way back is sure

@@ -16,21 +16,21 @@ use Rattle.uug_session.specs.declared.end.End.TheVariants as ends
 use Rattle.uug_session.specs.declared.greeting.Greeted.TheVariants.{GoesOn}
 use Rattle.uug_session.specs.declared.greeting.Greeting.{Greeting}
 use Rattle.uug_session.specs.Greeting.{fails}
-use Rattle.uug_session.specs.Holdings.{Holdings, Kept}
-use Rattle.uug_session.specs.MemoryHoldings.{MemoryHoldings, holdings_of}
+use Rattle.uug_conversation.specs.Holdings.{Holdings, Kept}
+use Rattle.uug_conversation.specs.MemoryHoldings.{MemoryHoldings, holdings_of}
 use Rattle.uug_session.specs.InRange.{CanBeWritten}
-use Rattle.uug_session.specs.Jobs.{Lists}
-use Rattle.uug_session.specs.Keeper.{Keeper}
+use Rattle.uug_conversation.specs.Jobs.{Lists}
+use Rattle.uug_conversation.specs.Keeper.{Keeper}
 use Rattle.uug_session.specs.Node.{NodeState, bytes_at, effect_of, held_bytes}
 use Rattle.uug_session.specs.Sessions.{HoldsNothing}
 use Rattle.uug_reader.specs.Reading.{Reading}
-use Rattle.uug_session.specs.Talk.{Talk, unopened}
+use Rattle.uug_conversation.specs.Talk.{Talk, unopened}
 use Rattle.uug_session.specs.TextsHeld.{TextsHeld}
-use Rattle.uug_session.specs.Talking.{talking_has_parted}
-use Rattle.uug_line.specs.Jottings.{Jottings, log_of}
+use Rattle.uug_conversation.specs.Talking.{talking_has_parted}
+use Rattle.uug_line.specs.JournalValue.{JournalValue, log_of}
 use Rattle.uug_line.specs.LineEnd.{LineEnd, after_call, called_with, holding, nothing_done}
-use Rattle.uug_line.specs.Live.{AreWritten, BeginsAgain, HasBegun, HasRoom, HoldsOn, IsCalled, IsNoted, IsOrdered, Parts, hearer_of, line_end_of, player_of, state_of}
-use Rattle.uug_line.specs.LineLaws.{CallsAreSteps, LineLaws, ReadsWritten, StaysInRange}
+use Rattle.uug_line.specs.Live.{AreWritten, BeginsAgain, HasBegun, HasRoom, HoldsOn, IsCalled, IsNoted, IsOrdered, LiveEndValue, hearer_of, line_end_of, player_of, state_of}
+use Rattle.uug_line.specs.Code.LineLaws.{CallsAreSteps, LineLaws, ReadsWritten, StaysInRange}
 use Rattle.uug_line.proofs.SpokenLemmas.{Calls, does_so, steps_so}
 
 -- ---- the bytes held
@@ -65,56 +65,56 @@ held_late number k id (ended how) s c n = refl
 -- ---- a call that uses no bytes
 
 -- it forgets them where it has ended
-pub called_is : (event : EndEvent) (e : EndEffect Talk) (old called new : Parts)
+pub called_is : (event : EndEvent) (e : EndEffect Talk) (old called new : LiveEndValue)
     → e ≡ end_step (player_of old).keeper (player_of old).identity event (state_of old)
-    → Calls e old called new → called.jottings ≡ old.jottings → called.line ≡ old.line
+    → Calls e old called new → called.journal ≡ old.journal → called.line ≡ old.line
     → held_bytes new.node ≡ held_in e.state.stage (held_bytes old.node)
     → hearer_of new ≡ called_with (player_of old) event (hearer_of old)
-called_is event e old called new is calls jottings line held =
+called_is event e old called new is calls journal line held =
     let by_held : List ℕ → Hearer (LineEnd Talk) = λ x. record { held = x; end = line_end_of new } in
     let by_end : LineEnd Talk → Hearer (LineEnd Talk) = λ x. record { held = held_in e.state.stage (held_bytes old.node); end = x } in
-    let by_jottings : Jottings → Hearer (LineEnd Talk) =
+    let by_journal : JournalValue → Hearer (LineEnd Talk) =
     λ x. holding (held_bytes old.node) (after_call (log_of x) called.line e) in
-    let by_line : List ℕ → Hearer (LineEnd Talk) = λ x. holding (held_bytes old.node) (after_call (log_of old.jottings) x e) in
+    let by_line : List ℕ → Hearer (LineEnd Talk) = λ x. holding (held_bytes old.node) (after_call (log_of old.journal) x e) in
     let by_effect : EndEffect Talk → Hearer (LineEnd Talk) =
-    λ x. holding (held_bytes old.node) (after_call (log_of old.jottings) old.line x) in
-    ap by_held held ∙ ap by_end calls.end ∙ ap by_jottings jottings ∙ ap by_line line ∙ ap by_effect is
+    λ x. holding (held_bytes old.node) (after_call (log_of old.journal) old.line x) in
+    ap by_held held ∙ ap by_end calls.end ∙ ap by_journal journal ∙ ap by_line line ∙ ap by_effect is
 
 room_kept : (stage : Stage) (bytes : List ℕ) → length bytes < READER_SIZE → length (held_in stage bytes) < READER_SIZE
 room_kept (hailing g) bytes room = room
 room_kept linked bytes room = room
 room_kept (ended how) bytes room = omega arith
 
-calls_so : (event : EndEvent) (old called new : Parts) (e : EndEffect Talk)
+calls_so : (event : EndEvent) (old called new : LiveEndValue) (e : EndEffect Talk)
     → e ≡ end_step (player_of old).keeper (player_of old).identity event (state_of old)
-    → HasRoom old → Calls e old called new → called.jottings ≡ old.jottings → called.line ≡ old.line
+    → HasRoom old → Calls e old called new → called.journal ≡ old.journal → called.line ≡ old.line
     → held_bytes new.node ≡ held_in e.state.stage (held_bytes old.node)
     → IsCalled event old new
-calls_so event old called new e is room calls jottings line held = record {
-  hearer = called_is event e old called new is calls jottings line held;
+calls_so event old called new e is room calls journal line held = record {
+  hearer = called_is event e old called new is calls journal line held;
   ordered = calls.ordered;
   room = subst (λ (bytes : List ℕ). length bytes < READER_SIZE) (sym held) (room_kept e.state.stage (held_bytes old.node) room);
   standing = calls.standing;
 }
 
-stage_after : (e : EndEffect Talk) (old called new : Parts) → Calls e old called new → new.node.engine.stage ≡ e.state.stage
+stage_after : (e : EndEffect Talk) (old called new : LiveEndValue) → Calls e old called new → new.node.engine.stage ≡ e.state.stage
 stage_after e old called new calls = ap (λ (x : LineEnd Talk). x.state.stage) calls.end
 
 -- nothing has come for some time
-pub timed_out_so : ReadsWritten → StaysInRange → CallsAreSteps → (old called new : Parts) → IsOrdered old → HasRoom old
+pub timed_out_so : ReadsWritten → StaysInRange → CallsAreSteps → (old called new : LiveEndValue) → IsOrdered old → HasRoom old
     → Does (stage_late old.node.engine.number old.node.engine.identity (talking_has_parted old.node.engine.talking) old.node.engine.stage old.node.engine.link old.node.engine.talking)
     (bare called.node.engine) old.node.engine called.node.engine
     → called.node.texts ≡ old.node.texts → called.node.packets ≡ old.node.packets → called.spool ≡ old.spool
-    → called.jottings ≡ old.jottings → called.line ≡ old.line → IsNoted called new
+    → called.journal ≡ old.journal → called.line ≡ old.line → IsNoted called new
     → IsCalled time_ran_out old new
-timed_out_so reads in_range steps old called new ordered room does texts packets spool jottings line noted_so =
+timed_out_so reads in_range steps old called new ordered room does texts packets spool journal line noted_so =
     let e = effect_of (holdings_of old.spool) old.spool.stored time_ran_out old.node.engine in
     let of_spool : MemoryHoldings → Type 0 = λ m. Does e (end_of (holdings_of m) m.stored called.node.engine) old.node.engine called.node.engine in
     let calls : Calls e old called new =
     steps_so reads in_range time_ran_out old called new ordered tt
     (subst of_spool (sym spool) (steps.late (holdings_of old.spool) old.spool.stored old.node.engine called.node.engine does))
-    noted_so (subst (λ (j : Jottings). AreWritten j.packets) (sym jottings) ordered.written) (ap holdings_of spool) in
-    calls_so time_ran_out old called new e refl room calls jottings line
+    noted_so (subst (λ (j : JournalValue). AreWritten j.packets) (sym journal) ordered.written) (ap holdings_of spool) in
+    calls_so time_ran_out old called new e refl room calls journal line
     (ap (λ (x : Stage). bytes_at x new.node) (stage_after e old called new calls)
     ∙ same_bytes e.state.stage new.node old.node (noted_so.texts ∙ texts) (noted_so.packets ∙ packets)
     ∙ held_late old.node.engine.number (player_of old).keeper old.node.engine.identity old.node.engine.stage old.node.engine.link (state_of old).keeper old.node)
@@ -138,11 +138,11 @@ held_lost parted (hailing g) n bytes = refl
 held_lost parted linked n bytes = refl
 held_lost parted (ended how) n bytes = refl
 
-pub hung_up_so : ReadsWritten → StaysInRange → CallsAreSteps → (old called new : Parts) → IsOrdered old → HasRoom old
+pub hung_up_so : ReadsWritten → StaysInRange → CallsAreSteps → (old called new : LiveEndValue) → IsOrdered old → HasRoom old
     → called.node.engine ≡ with_stage (hung_up (talking_has_parted old.node.engine.talking) old.node.engine.stage) old.node.engine
-    → called.spool ≡ old.spool → called.jottings ≡ old.jottings → called.line ≡ old.line → IsNoted called new
+    → called.spool ≡ old.spool → called.journal ≡ old.journal → called.line ≡ old.line → IsNoted called new
     → IsCalled line_lost old new
-hung_up_so reads in_range steps old called new ordered room engine spool jottings line noted_so =
+hung_up_so reads in_range steps old called new ordered room engine spool journal line noted_so =
     let parted = talking_has_parted old.node.engine.talking in
     let stage = hung_up parted old.node.engine.stage in
     let e = effect_of (holdings_of old.spool) old.spool.stored line_lost old.node.engine in
@@ -152,9 +152,9 @@ hung_up_so reads in_range steps old called new ordered room engine spool jotting
     let calls : Calls e old called new =
     steps_so reads in_range line_lost old called new ordered tt
     (subst of_spool (sym spool) (lost_does e (holdings_of old.spool) old.spool.stored stage old.node.engine called.node.engine is engine))
-    noted_so (subst (λ (j : Jottings). AreWritten j.packets) (sym jottings) ordered.written) (ap holdings_of spool) in
+    noted_so (subst (λ (j : JournalValue). AreWritten j.packets) (sym journal) ordered.written) (ap holdings_of spool) in
     let at : stage ≡ e.state.stage = ap (λ (x : EndEffect Talk). x.state.stage) (sym is) in
-    calls_so line_lost old called new e refl room calls jottings line
+    calls_so line_lost old called new e refl room calls journal line
     (ap (λ (x : Stage). bytes_at x new.node) (stage_after e old called new calls ∙ sym at)
     ∙ held_lost parted old.node.engine.stage new.node (held_bytes old.node)
     ∙ ap (λ (x : Stage). held_in x (held_bytes old.node)) at)
@@ -162,7 +162,7 @@ hung_up_so reads in_range steps old called new ordered room engine spool jotting
 -- ---- a session begins
 
 -- an end beside whom nothing has happened
-with_nothing_said : Identity → Announced → Parts → Parts
+with_nothing_said : Identity → Announced → LiveEndValue → LiveEndValue
 with_nothing_said id own p = record p {
   node = record p.node {
     engine = record p.node.engine {
@@ -184,12 +184,12 @@ none_held linked = refl
 none_held (ended how) = refl
 
 pub begun_so : ReadsWritten → StaysInRange
-    → CallsAreSteps → (id : Identity) (own : Announced) (number : Option ℕ) (l : Lists) (called new : Parts) → IsAnnouncement own
+    → CallsAreSteps → (id : Identity) (own : Announced) (number : Option ℕ) (l : Lists) (called new : LiveEndValue) → IsAnnouncement own
     → BeginsSession id own number l [] called.node.engine → HoldsNothing called.node
-    → called.jottings ≡ nothing_done → called.line ≡ [] → IsNoted called new
+    → called.journal ≡ nothing_done → called.line ≡ [] → IsNoted called new
     → HasBegun id own number l called.spool new
 unfolding with_nothing_said
-begun_so reads in_range steps id own number l called new announces session nothing_held jottings line noted_so =
+begun_so reads in_range steps id own number l called new announces session nothing_held journal line noted_so =
     let old = with_nothing_said id own called in
     let e = begins_session id own number (unopened l called.spool.stored) in
     let range = in_range.first id own number (unopened l called.spool.stored) announces in
@@ -201,31 +201,31 @@ begun_so reads in_range steps id own number l called new announces session nothi
     } in
     let calls : Calls e old called new =
     does_so reads e old called new refl (recursion_from_All CanBeWritten e.emitted range.1) does noted_so range.0 announces
-    (subst (λ (j : Jottings). AreWritten j.packets) (sym jottings) tt) refl in
+    (subst (λ (j : JournalValue). AreWritten j.packets) (sym journal) tt) refl in
     let bytes : held_bytes new.node ≡ [] =
     same_bytes new.node.engine.stage new.node called.node noted_so.texts noted_so.packets
     ∙ nothing_at new.node.engine.stage called.node nothing_held in
     let by_held : List ℕ → Hearer (LineEnd Talk) = λ x. record { held = x; end = line_end_of new } in
     let by_end : LineEnd Talk → Hearer (LineEnd Talk) = λ x. record { held = held_in e.state.stage []; end = x } in
-    let by_jottings : Jottings → LineEnd Talk = λ x. after_call (log_of x) called.line e in
+    let by_journal : JournalValue → LineEnd Talk = λ x. after_call (log_of x) called.line e in
     let by_line : List ℕ → LineEnd Talk = λ x. after_call (log_of nothing_done) x e in
     record {
       hearer = ap by_held (bytes ∙ none_held e.state.stage)
-          ∙ ap by_end (calls.end ∙ ap by_jottings jottings ∙ ap by_line line);
+          ∙ ap by_end (calls.end ∙ ap by_journal journal ∙ ap by_line line);
       ordered = calls.ordered;
       room = subst (λ (xs : List ℕ). length xs < READER_SIZE) (sym bytes) (omega arith);
       standing = calls.standing;
     }
 
 -- the next one begins
-pub begun_again : LineLaws → (old called new : Parts) → IsOrdered old
+pub begun_again : LineLaws → (old called new : LiveEndValue) → IsOrdered old
     → BeginsSession old.node.engine.identity old.node.engine.own old.node.engine.number (all_ahead old.node.engine.talking.machine.lists) old.node.engine.outbox.entries
     called.node.engine → HoldsNothing called.node → called.spool ≡ old.spool
-    → called.jottings ≡ nothing_done → called.line ≡ [] → IsNoted called new → BeginsAgain old new
-begun_again laws old called new ordered session nothing_held spool jottings line noted_so =
+    → called.journal ≡ nothing_done → called.line ≡ [] → IsNoted called new → BeginsAgain old new
+begun_again laws old called new ordered session nothing_held spool journal line noted_so =
     let e = old.node.engine in
     let l = all_ahead e.talking.machine.lists in
     subst (λ (m : MemoryHoldings). HasBegun e.identity e.own e.number l m new) spool
     (begun_so laws.reads laws.in_range laws.steps e.identity e.own e.number l called new ordered.own
     (subst (λ (es : List EntryValue). BeginsSession e.identity e.own e.number l es called.node.engine) ordered.cleared session)
-    nothing_held jottings line noted_so)
+    nothing_held journal line noted_so)

@@ -1,10 +1,10 @@
 -- The ends and events of the worked runs: a is the caller, b the end that is called.
-use Rattle.std.proofs.Common.{ℕ, zero, suc, ◌-◌, List, [], ◌∷◌, ◌++◌, length, replicate, codes, Some, None}
-use Rattle.uug_session.specs.declared.job.Job.{Job}
-use Rattle.uug_session.specs.declared.job.Job.TheVariants as job
-use Rattle.uug_session.specs.Holdings.{Kept}
-use Rattle.uug_session.specs.Jobs.{at_start}
-use Rattle.uug_session.specs.MemoryHoldings.{MemoryHoldings, no_holdings, holdings_of}
+use Rattle.std.proofs.Common.{false, ℕ, zero, suc, ◌-◌, List, [], ◌∷◌, ◌++◌, length, replicate, codes, Some, None}
+use Rattle.uug_conversation.specs.declared.job.Job.{Job}
+use Rattle.uug_conversation.specs.declared.job.Job.TheVariants as job
+use Rattle.uug_conversation.specs.Holdings.{Kept}
+use Rattle.uug_conversation.specs.Jobs.{at_start}
+use Rattle.uug_conversation.specs.MemoryHoldings.{MemoryHoldings, no_holdings, holdings_of}
 use Rattle.uug_line.specs.declared.event.Event.{Event}
 use Rattle.uug_line.specs.declared.event.Event.TheVariants.{Pass, Insert}
 use Rattle.uug_line.specs.declared.side.Side.TheVariants.{Caller, Called}
@@ -31,7 +31,7 @@ text bytes = bytes ++ replicate (32 - length bytes) 0
 abbrev pub end_of_size : (size_code : ℕ) → (name : List ℕ) → List Job → MemoryHoldings → EndSetupValue
 end_of_size size_code name jobs spool = record {
   name = name;
-  own = record { window = 2; size_code = size_code };
+  own = record { window = 2; size_code = size_code; quiet = false };
   holdings = holdings_of spool;
   belongings = record { lists = at_start jobs [] []; kept = []; number = None };
 }

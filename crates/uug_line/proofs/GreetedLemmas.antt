@@ -12,8 +12,8 @@ use Rattle.uug_session.specs.declared.greeting.Greeted.TheVariants.{GoesOn, Link
 use Rattle.uug_session.specs.declared.greeting.Greeting.{Greeting}
 use Rattle.uug_session.specs.EndStep.{Emitted, EndState, Identity, Stage, hailing, linked, ended, begins_link, greeted_so, says_text, stage_step, text_found}
 use Rattle.uug_session.specs.Greeting.{GreetingStep, begins_with, came_for, fails, goes_on, begins, greeting_at_first, is_expected, lets_in, name_in_caller_text, number_by, number_came, offers_g, passes_over, text_came}
-use Rattle.uug_session.specs.Keeper.{Keeper}
-use Rattle.uug_session.specs.Turns.{Side, caller, called}
+use Rattle.uug_conversation.specs.Keeper.{Keeper}
+use Rattle.uug_conversation.specs.Turns.{Side, caller, called}
 use Rattle.uug_session.specs.WholeGreeting.{GreetingRun, step_behind, texts_came}
 use Rattle.uug_talk.specs.Call.{call_text, number_in_call}
 use Rattle.uug_talk.specs.StreamTexts.{Rest}

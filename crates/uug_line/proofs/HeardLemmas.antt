@@ -19,7 +19,7 @@ use Rattle.uug_session.specs.Greeting.{greeting_at_first, number_by}
 use Rattle.uug_session.specs.Arriving.{Taker, Hearer, held_in, holds, Came, all_taken, stopped, takes_if, takes_up, takes_up_to, takes_piece}
 use Rattle.uug_session.specs.EndStep.{rises_at, EndEffect, EndEvent, EndState, Identity, time_ran_out, line_lost, text_found, long_text_found, packet_found_whole, broken_found, Stage, hailing, linked, ended, message_of, behind_link, takes_by, talks_by, begins_session, stage_step, end_step}
 use Rattle.uug_session.specs.Finding.{Finding, finds_nothing, finds, finds_packet, text_finding, item_finding, finding, behind_long_text, FindingLaws}
-use Rattle.uug_session.specs.Keeper.{Keeper}
+use Rattle.uug_conversation.specs.Keeper.{Keeper}
 use Rattle.uug_session.specs.TextsFound.{Taken}
 use Rattle.uug_session.proofs.NumberLemmas.{step_number}
 use Rattle.uug_session.specs.TextsHeld.{TextSearch, text_waits, text_stands, text_too_long, size_of_text, search_text}

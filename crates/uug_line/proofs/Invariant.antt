@@ -6,13 +6,13 @@ use Rattle.uug_link.specs.Terms.{size_of_code}
 use Rattle.uug_link.specs.TwoLinks.{taken_by}
 use Rattle.uug_packet.specs.Packet.{PacketValue}
 use Rattle.uug_session.specs.declared.greeting.Greeting.{Greeting}
-use Rattle.uug_session.specs.Count.{Count, count_keeper}
+use Rattle.uug_conversation.specs.Count.{Count, count_keeper}
 use Rattle.uug_session.specs.EndStep.{EndEffect, Sending, Stage, has_room, hailing, message_of, packets}
-use Rattle.uug_session.specs.Holdings.{Holdings}
-use Rattle.uug_session.specs.Keeper.{Keeper}
-use Rattle.uug_session.specs.Talk.{Talk, end_keeper}
-use Rattle.uug_session.specs.Turns.{Side}
-use Rattle.uug_session.specs.View.{Seen}
+use Rattle.uug_conversation.specs.Holdings.{Holdings}
+use Rattle.uug_conversation.specs.Keeper.{Keeper}
+use Rattle.uug_conversation.specs.Talk.{Talk, end_keeper}
+use Rattle.uug_conversation.specs.Turns.{Side}
+use Rattle.uug_conversation.specs.View.{Seen}
 use Rattle.uug_line.proofs.Joining.{Moment}
 use Rattle.uug_line.proofs.MomentLemmas.{count, emits}
 

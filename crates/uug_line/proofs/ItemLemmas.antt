@@ -15,23 +15,23 @@ use Rattle.uug_session.specs.Arriving.{Came, Hearer, all_taken, held_in, holds, 
 use Rattle.uug_session.specs.declared.end.End.TheVariants as ends
 use Rattle.uug_session.specs.declared.greeting.Greeting.{Greeting}
 use Rattle.uug_session.specs.EndStep.{EndEffect, EndEvent, EndState, Identity, Stage, hailing, linked, ended, behind_link, end_step, long_text_found, message_of, packet_found_whole, takes_by, talks_by, stage_step}
-use Rattle.uug_session.specs.Engine.{CountsFaults, Does, EngineState, end_of}
+use Rattle.uug_session.specs.Engine.{CountsFaults, Does, EngineState, end_of, faults_max}
 use Rattle.uug_session.specs.Finding.{Finding, LeavesFewer, finding}
-use Rattle.uug_session.specs.Holdings.{Holdings, Kept}
+use Rattle.uug_conversation.specs.Holdings.{Holdings, Kept}
 use Rattle.uug_session.specs.InRange.{IsEndInRange, MayFind}
-use Rattle.uug_session.specs.Keeper.{Keeper}
-use Rattle.uug_session.specs.MemoryHoldings.{MemoryHoldings, holdings_of}
+use Rattle.uug_conversation.specs.Keeper.{Keeper}
+use Rattle.uug_conversation.specs.MemoryHoldings.{MemoryHoldings, holdings_of}
 use Rattle.uug_session.specs.Node.{ItemValue, IsLeft, NodeState, ShowsItem, TakesItem, bad_item, bytes_at, effect_of, event_of, held_bytes, item_size, packet_item, searched, shown_size_at, text_item}
 use Rattle.uug_session.specs.ShownItems.{ItemFound, NothingFound, finding_of, is_too_long, waits}
-use Rattle.uug_session.specs.Talk.{Talk}
+use Rattle.uug_conversation.specs.Talk.{Talk}
 use Rattle.uug_session.specs.TextsHeld.{TextsHeld}
 use Rattle.uug_line.specs.declared.sighting.Sighting.TheVariants.{Other, At, Unsent}
-use Rattle.uug_line.specs.Jottings.{Jottings, log_of, packet_in, packet_jotted}
+use Rattle.uug_line.specs.JournalValue.{JournalValue, log_of, packet_in, packet_noted}
 use Rattle.uug_line.specs.LineEnd.{LineEnd, Log, after_call, took}
-use Rattle.uug_line.specs.LineLaws.{LineLaws}
-use Rattle.uug_line.specs.Live.{AreWritten, HasRoom, IsOrdered, IsStopped, IsTakenUp, Parts, TakesAll, TakesOne, hearer_of, line_end_of, player_of, standing_of, state_of, taker_of}
+use Rattle.uug_line.specs.Code.LineLaws.{LineLaws}
+use Rattle.uug_line.specs.Live.{AreWritten, HasRoom, IsOrdered, IsStopped, IsTakenUp, LiveEndValue, TakesAll, TakesOne, hearer_of, line_end_of, player_of, standing_of, state_of, taker_of}
 use Rattle.uug_line.specs.Shown.{lists_in}
-use Rattle.uug_line.specs.Sightings.{Sights, SightsShown, StandsAt, StandsNowhere}
+use Rattle.uug_line.specs.Code.Sightings.{Sights, SightsShown, StandsAt, StandsNowhere}
 use Rattle.uug_line.specs.Taking.{takes_sent}
 use Rattle.uug_line.proofs.FoundLemmas.{held_fewer}
 use Rattle.uug_line.proofs.SpokenLemmas.{Calls, steps_so}
@@ -114,13 +114,13 @@ left_at (ended how) next texts packets bad_item before called after t p shows ma
 
 -- ---- an item is taken up
 
-abbrev pub sought : Parts → Parts
+abbrev pub sought : LiveEndValue → LiveEndValue
 sought e = record e { node = searched e.node }
 
-not_failed : (b : Bool) → CountsFaults 18446744073709551615 0 0 b → b ≡ false
+not_failed : (b : Bool) → CountsFaults faults_max 0 0 b → b ≡ false
 not_failed false count = refl
 not_failed true failed = never failed where
-  never : (0 < 0) ⊎ (◌≡◌ {A = ℕ} 0 18446744073709551615) → true ≡ false
+  never : (0 < 0) ⊎ (◌≡◌ {A = ℕ} 0 faults_max) → true ≡ false
   never (inl less) = absurd (omega (arith, less))
   never (inr same) = absurd (omega (arith, same))
 
@@ -132,20 +132,20 @@ may_find laws linked texts packets (packet_item p) shows = laws.spelled p (take 
 may_find laws (hailing g) texts packets (packet_item p) shows = absurd shows
 may_find laws (ended how) texts packets (packet_item p) shows = absurd shows
 
-pub ordered_with : (e : Parts) (n : NodeState) → n.engine ≡ e.node.engine → IsOrdered e → IsOrdered (record e { node = n })
+pub ordered_with : (e : LiveEndValue) (n : NodeState) → n.engine ≡ e.node.engine → IsOrdered e → IsOrdered (record e { node = n })
 ordered_with e n same ordered = record {
   cleared = ap (λ (x : EngineState). x.outbox.entries) same ∙ ordered.cleared;
   in_range = subst (λ (x : EngineState). IsEndInRange x.identity.side (end_of (holdings_of e.spool) e.spool.stored x)) (sym same) ordered.in_range;
   own = subst (λ (x : EngineState). IsAnnouncement x.own) (sym same) ordered.own;
   written = ordered.written;
-  most = subst (λ (x : EngineState). length x.link.unacked ≤ e.jottings.most) (sym same) ordered.most;
+  most = subst (λ (x : EngineState). length x.link.unacked ≤ e.journal.most) (sym same) ordered.most;
 }
 
-abbrev effect_at : EndEvent → Parts → EndEffect Talk
+abbrev effect_at : EndEvent → LiveEndValue → EndEffect Talk
 effect_at event e = end_step (player_of e).keeper (player_of e).identity event (state_of e)
 
 -- the item was taken up, and this had been written down of it
-record IsTaken (item : ItemValue) (behind : List ℕ) (log : Log) (old new : Parts) : Type 0 where
+record IsTaken (item : ItemValue) (behind : List ℕ) (log : Log) (old new : LiveEndValue) : Type 0 where
   end : line_end_of new ≡ after_call log old.line (effect_at (event_of false item) old)
   held : held_bytes new.node ≡ held_in (effect_at (event_of false item) old).state.stage behind
   ordered : IsOrdered new
@@ -156,9 +156,9 @@ of_item : (h : Holdings) (kept kept_after : List Kept) (counts : Bool → Type 0
 of_item h kept kept_after counts item other before after took same takes =
     subst (λ (x : ItemValue). TakesItem h kept kept_after counts x before after took) same takes
 
-item_taken : LineLaws → (old new : Parts) (item : ItemValue) (found : Bool → Jottings) → IsOrdered old
+item_taken : LineLaws → (old new : LiveEndValue) (item : ItemValue) (found : Bool → JournalValue) → IsOrdered old
     → ShowsItem (searched old.node).engine.stage (searched old.node).texts (searched old.node).packets item
-    → ((b : Bool) → (found b).packets ≡ old.jottings.packets) → IsTakenUp found (sought old) new
+    → ((b : Bool) → (found b).packets ≡ old.journal.packets) → IsTakenUp found (sought old) new
     → IsTaken item (drop (item_size (searched old.node)) (held_bytes (searched old.node)))
     (log_of (found (effect_at (event_of false item) old).took)) old new
 item_taken laws old new item found ordered shows keeps taken_up =
@@ -166,7 +166,7 @@ item_taken laws old new item found ordered shows keeps taken_up =
     let h = holdings_of old.spool in
     let kept = old.spool.stored in
     let f : ItemFound item old.node n = laws.search.shown old.node item shows in
-    let counts = CountsFaults 18446744073709551615 0 0 in
+    let counts = CountsFaults faults_max 0 0 in
     let takes : TakesItem h kept taken_up.called.spool.stored counts item n taken_up.called.node taken_up.took =
     of_item h kept taken_up.called.spool.stored counts item taken_up.shown.0 n taken_up.called.node taken_up.took
     (laws.search.one old.node taken_up.shown.0 item taken_up.shown.1 shows) taken_up.shown.2 in
@@ -177,8 +177,8 @@ item_taken laws old new item found ordered shows keeps taken_up =
     let does_so : Does effect (state_of taken_up.called) n.engine taken_up.called.node.engine =
     subst (λ (x : EndState Talk). Does effect x n.engine taken_up.called.node.engine) (ap of_holdings (sym taken_up.holdings))
     (subst (λ (b : Bool). Does (of_failed b) (end_of h taken_up.called.spool.stored taken_up.called.node.engine) n.engine taken_up.called.node.engine) well takes.does) in
-    let written : AreWritten taken_up.called.jottings.packets =
-    subst AreWritten (sym (keeps taken_up.took) ∙ ap (λ (j : Jottings). j.packets) (sym taken_up.jottings)) ordered.written in
+    let written : AreWritten taken_up.called.journal.packets =
+    subst AreWritten (sym (keeps taken_up.took) ∙ ap (λ (j : JournalValue). j.packets) (sym taken_up.journal)) ordered.written in
     let calls : Calls effect (sought old) taken_up.called new =
     steps_so laws.reads laws.in_range (event_of false item) (sought old) taken_up.called new (ordered_with old n f.engine ordered)
     (may_find laws n.engine.stage n.texts n.packets item shows) does_so taken_up.noted written taken_up.holdings in
@@ -187,13 +187,13 @@ item_taken laws old new item found ordered shows keeps taken_up =
     let took_is : taken_up.took ≡ (effect_at (event_of false item) old).took =
     takes.answer ∙ ap (λ (b : Bool). (of_failed b).took) well ∙ ap (λ (x : EndEffect Talk). x.took) same in
     let stage : new.node.engine.stage ≡ effect.state.stage = ap (λ (x : LineEnd Talk). x.state.stage) calls.end in
-    let by_jottings : Jottings → LineEnd Talk = λ j. after_call (log_of j) taken_up.called.line effect in
+    let by_journal : JournalValue → LineEnd Talk = λ j. after_call (log_of j) taken_up.called.line effect in
     let by_line : List ℕ → LineEnd Talk = λ x. after_call (log_of (found taken_up.took)) x effect in
     let by_took : Bool → LineEnd Talk = λ b. after_call (log_of (found b)) old.line effect in
     let by_effect : EndEffect Talk → LineEnd Talk = λ x. after_call (log_of (found (effect_at (event_of false item) old).took)) old.line x in
     let behind = drop (item_size n) (held_bytes n) in
     record {
-      end = calls.end ∙ ap by_jottings taken_up.jottings ∙ ap by_line taken_up.line ∙ ap by_took took_is ∙ ap by_effect same;
+      end = calls.end ∙ ap by_journal taken_up.journal ∙ ap by_line taken_up.line ∙ ap by_took took_is ∙ ap by_effect same;
       held = ap (λ (x : Stage). bytes_at x new.node) stage
           ∙ left_at n.engine.stage effect.state.stage n.texts n.packets item n taken_up.called.node new.node refl refl shows
           (item_on (state_of (sought old)).number (player_of (sought old)).keeper n.engine.identity false n.engine.stage n.texts n.packets item n.engine.link (state_of (sought old)).keeper shows)
@@ -216,13 +216,13 @@ behind_item (packet_item p) from behind bytes fewer = fewer.1
 behind_item bad_item from behind bytes fewer = fewer
 
 -- so the taker takes it
-abbrev TakesIt : (others : List (List ℕ)) → ItemValue → (from behind : List ℕ) → Log → Parts → Type 0
+abbrev TakesIt : (others : List (List ℕ)) → ItemValue → (from behind : List ℕ) → Log → LiveEndValue → Type 0
 TakesIt others item from behind log old =
     let t = taker_of others old in
     takes_up (takes_all t) t (finding_of item from behind) (line_end_of old)
     ≡ takes_all t (holds t behind (after_call log old.line (effect_at (event_of false item) old)))
 
-one_so : LineLaws → (others : List (List ℕ)) (item : ItemValue) (log : Log) (old new : Parts)
+one_so : LineLaws → (others : List (List ℕ)) (item : ItemValue) (log : Log) (old new : LiveEndValue)
     → ShowsItem (searched old.node).engine.stage (searched old.node).texts (searched old.node).packets item
     → IsTaken item (drop (item_size (searched old.node)) (held_bytes (searched old.node))) log old new
     → TakesIt others item (held_bytes (searched old.node)) (drop (item_size (searched old.node)) (held_bytes (searched old.node))) log old
@@ -263,36 +263,36 @@ is_other (text_item text) others passed sights = tt
 is_other bad_item others passed sights = tt
 is_other (packet_item p) others passed sights = absurd sights
 
-takes_other : (others : List (List ℕ)) (item : ItemValue) (from behind : List ℕ) (old : Parts) → IsOther item
-    → TakesIt others item from behind (log_of old.jottings) old
+takes_other : (others : List (List ℕ)) (item : ItemValue) (from behind : List ℕ) (old : LiveEndValue) → IsOther item
+    → TakesIt others item from behind (log_of old.journal) old
 takes_other others (text_item text) from behind old is = refl
 takes_other others bad_item from behind old is = refl
 takes_other others (packet_item p) from behind old is = absurd is
 
-pub other_taken : LineLaws → (others : List (List ℕ)) (old new : Parts) → IsOrdered old
-    → SightsShown (searched old.node) others old.jottings.passed Other
-    → IsTakenUp (λ (b : Bool). old.jottings) (sought old) new → TakesOne others old new
+pub other_taken : LineLaws → (others : List (List ℕ)) (old new : LiveEndValue) → IsOrdered old
+    → SightsShown (searched old.node) others old.journal.passed Other
+    → IsTakenUp (λ (b : Bool). old.journal) (sought old) new → TakesOne others old new
 other_taken laws others old new ordered sights taken_up =
     let n = searched old.node in
     let item = sights.0 in
-    one_so laws others item (log_of old.jottings) old new sights.1
-    (item_taken laws old new item (λ (b : Bool). old.jottings) ordered sights.1 (λ b. refl) taken_up)
-    (takes_other others item (held_bytes n) (drop (item_size n) (held_bytes n)) old (is_other item others old.jottings.passed sights.2))
+    one_so laws others item (log_of old.journal) old new sights.1
+    (item_taken laws old new item (λ (b : Bool). old.journal) ordered sights.1 (λ b. refl) taken_up)
+    (takes_other others item (held_bytes n) (drop (item_size n) (held_bytes n)) old (is_other item others old.journal.passed sights.2))
 
 -- ---- a packet
 
-takes_packet : LineLaws → (others : List (List ℕ)) (p : PacketValue) (from behind bytes : List ℕ) (place : ℕ) (old : Parts)
-    → IsWellFormed p → AreWritten others → StandsAt (canonical p) others old.jottings.passed place → bytes ≡ canonical p
+takes_packet : LineLaws → (others : List (List ℕ)) (p : PacketValue) (from behind bytes : List ℕ) (place : ℕ) (old : LiveEndValue)
+    → IsWellFormed p → AreWritten others → StandsAt (canonical p) others old.journal.passed place → bytes ≡ canonical p
     → TakesIt others (packet_item p) from behind
-    (log_of (packet_jotted bytes place old.jottings (effect_at (packet_found_whole false p) old).took)) old
+    (log_of (packet_noted bytes place old.journal (effect_at (packet_found_whole false p) old).took)) old
 takes_packet laws others p from behind bytes place old well written stands is =
     let t = taker_of others old in
     let e = effect_at (packet_found_whole false p) old in
     let by_place : Option ℕ → Came (LineEnd Talk) =
     λ o. takes_if (takes_all t) t (takes_sent (player_of old) p o (line_end_of old)) from behind (line_end_of old) in
     let by_log : Log → Came (LineEnd Talk) = λ log. takes_all t (holds t behind (after_call log old.line e)) in
-    ap by_place (place_found laws.places laws.reads p others old.jottings.passed place well written stands)
-    ∙ ap by_log (sym (packet_logged laws.reads p bytes place old.jottings e.took well is))
+    ap by_place (place_found laws.places laws.reads p others old.journal.passed place well written stands)
+    ∙ ap by_log (sym (packet_logged laws.reads p bytes place old.journal e.took well is))
 
 packet_at : (item : ItemValue) (others : List (List ℕ)) (passed place : ℕ) → Sights item others passed (At place)
     → (p : PacketValue) × (item ≡ packet_item p) × StandsAt (canonical p) others passed place
@@ -304,26 +304,26 @@ shown_packet : (n : NodeState) (item : ItemValue) (p : PacketValue) → item ≡
     → ShowsItem n.engine.stage n.texts n.packets (packet_item p)
 shown_packet n item p is shows = subst (λ (x : ItemValue). ShowsItem n.engine.stage n.texts n.packets x) is shows
 
-jotted_packets : (bytes : List ℕ) (place : ℕ) (j : Jottings) (b : Bool) → (packet_jotted bytes place j b).packets ≡ j.packets
-jotted_packets bytes place j false = refl
-jotted_packets bytes place j true = refl
+journal_packets : (bytes : List ℕ) (place : ℕ) (j : JournalValue) (b : Bool) → (packet_noted bytes place j b).packets ≡ j.packets
+journal_packets bytes place j false = refl
+journal_packets bytes place j true = refl
 
 some_same : (x y : List ℕ) → ◌≡◌ {A = Option (List ℕ)} (Some x) (Some y) → x ≡ y
 some_same x y e = cc
 
-pub packet_taken : LineLaws → (others : List (List ℕ)) (place : ℕ) (bytes : List ℕ) (old new : Parts) → IsOrdered old → AreWritten others
-    → SightsShown (searched old.node) others old.jottings.passed (At place) → slice_get others place ≡ Some bytes
-    → IsTakenUp (packet_jotted bytes place old.jottings) (sought old) new → TakesOne others old new
+pub packet_taken : LineLaws → (others : List (List ℕ)) (place : ℕ) (bytes : List ℕ) (old new : LiveEndValue) → IsOrdered old → AreWritten others
+    → SightsShown (searched old.node) others old.journal.passed (At place) → slice_get others place ≡ Some bytes
+    → IsTakenUp (packet_noted bytes place old.journal) (sought old) new → TakesOne others old new
 packet_taken laws others place bytes old new ordered written sights there taken_so =
     let n = searched old.node in
-    let at = packet_at sights.0 others old.jottings.passed place sights.2 in
+    let at = packet_at sights.0 others old.journal.passed place sights.2 in
     let p = at.0 in
     let shows = shown_packet n sights.0 p at.1 sights.1 in
     let is : bytes ≡ canonical p = some_same bytes (canonical p) (sym there ∙ at.2.there) in
     let well : IsWellFormed p = may_find laws n.engine.stage n.texts n.packets (packet_item p) shows in
     one_so laws others (packet_item p)
-    (log_of (packet_jotted bytes place old.jottings (effect_at (packet_found_whole false p) old).took)) old new shows
-    (item_taken laws old new (packet_item p) (packet_jotted bytes place old.jottings) ordered shows (jotted_packets bytes place old.jottings) taken_so)
+    (log_of (packet_noted bytes place old.journal (effect_at (packet_found_whole false p) old).took)) old new shows
+    (item_taken laws old new (packet_item p) (packet_noted bytes place old.journal) ordered shows (journal_packets bytes place old.journal) taken_so)
     (takes_packet laws others p (held_bytes n) (drop (item_size n) (held_bytes n)) bytes place old well written at.2 is)
 
 -- ---- a packet that was not sent
@@ -335,10 +335,10 @@ unsent_packet (text_item text) others passed sights = absurd sights
 unsent_packet bad_item others passed sights = absurd sights
 
 -- the end, with the bytes that it holds
-abbrev with_bytes : List ℕ → Parts → Hearer (LineEnd Talk)
+abbrev with_bytes : List ℕ → LiveEndValue → Hearer (LineEnd Talk)
 with_bytes bytes e = record { held = bytes; end = line_end_of e }
 
-first_of_all : LineLaws → (others : List (List ℕ)) (old : Parts)
+first_of_all : LineLaws → (others : List (List ℕ)) (old : LiveEndValue)
     → takes_all (taker_of others old) (hearer_of old)
     ≡ takes_up (takes_all (taker_of others old)) (taker_of others old) (finding old.node.engine.stage (held_bytes old.node)) (line_end_of old)
 first_of_all laws others old =
@@ -346,7 +346,7 @@ first_of_all laws others old =
     ap (λ (x : List ℕ). takes_all t (with_bytes x old)) (holds_itself old.node.engine.stage old.node)
     ∙ laws.takes.first t (held_bytes old.node) (line_end_of old)
 
-sought_held : (old : Parts) → (searched old.node).engine ≡ old.node.engine
+sought_held : (old : LiveEndValue) → (searched old.node).engine ≡ old.node.engine
     → hearer_of (sought old) ≡ record { held = held_in old.node.engine.stage (held_bytes (searched old.node)); end = line_end_of old }
 sought_held old same =
     let n = searched old.node in
@@ -356,12 +356,12 @@ sought_held old same =
       end = line_end_of (record old { node = record old.node { engine = x } });
     }) same
 
-pub stopped_so : LineLaws → (others : List (List ℕ)) (old : Parts) → IsOrdered old → AreWritten others
-    → SightsShown (searched old.node) others old.jottings.passed Unsent → IsStopped others old (sought old)
+pub stopped_so : LineLaws → (others : List (List ℕ)) (old : LiveEndValue) → IsOrdered old → AreWritten others
+    → SightsShown (searched old.node) others old.journal.passed Unsent → IsStopped others old (sought old)
 stopped_so laws others old ordered written sights =
     let n = searched old.node in
     let t = taker_of others old in
-    let none = unsent_packet sights.0 others old.jottings.passed sights.2 in
+    let none = unsent_packet sights.0 others old.journal.passed sights.2 in
     let p = none.0 in
     let f : ItemFound (packet_item p) old.node n = laws.search.shown old.node (packet_item p) (shown_packet n sights.0 p none.1 sights.1) in
     let from = held_bytes n in
@@ -371,7 +371,7 @@ stopped_so laws others old ordered written sights =
     record {
       stopped = first_of_all laws others old
           ∙ ap (λ (x : Finding). takes_up (takes_all t) t x (line_end_of old)) f.finding
-          ∙ ap by_place (no_place_found laws.places p others old.jottings.passed written none.2)
+          ∙ ap by_place (no_place_found laws.places p others old.journal.passed written none.2)
           ∙ ap (λ (x : Hearer (LineEnd Talk)). stopped x) (sym (sought_held old f.engine));
       ordered = ordered_with old n f.engine ordered;
       standing = ap (λ (x : EngineState). standing_of (record old { node = record n { engine = x } })) f.engine;
@@ -385,11 +385,11 @@ greatest : (most n : ℕ) → n ≤ most → max most n ≡ most
 greatest most n below = omega arith
 
 -- the session has ended at a text that is too long
-too_long_after : (old : Parts) (g : Greeting) → old.node.engine.stage ≡ hailing g → IsOrdered old
-    → after_call (log_of old.jottings) old.line (effect_at long_text_found old)
+too_long_after : (old : LiveEndValue) (g : Greeting) → old.node.engine.stage ≡ hailing g → IsOrdered old
+    → after_call (log_of old.journal) old.line (effect_at long_text_found old)
     ≡ record (line_end_of old) { state = record (state_of old) { stage = ended ends.BadTalk } }
 too_long_after old g at ordered =
-    let j = old.jottings in
+    let j = old.journal in
     let by_stage : Stage → LineEnd Talk = λ x. after_call (log_of j) old.line
     (stage_step (player_of old).keeper (player_of old).identity x long_text_found (state_of old)) in
     let by_sent : List (List ℕ) → LineEnd Talk = λ x. record {
@@ -436,7 +436,7 @@ too_long_after old g at ordered =
     ap by_stage at ∙ ap by_sent (append-nil j.sent) ∙ ap by_packets (append-nil (map packet_in j.packets))
     ∙ ap by_most (greatest j.most (length old.node.engine.link.unacked) ordered.most) ∙ ap by_line (append-nil old.line)
 
-nothing_so_by : LineLaws → (others : List (List ℕ)) (old : Parts) → IsOrdered old → HasRoom (sought old)
+nothing_so_by : LineLaws → (others : List (List ℕ)) (old : LiveEndValue) → IsOrdered old → HasRoom (sought old)
     → NothingFound old.node (searched old.node) → TakesAll others old (sought old)
 nothing_so_by laws others old ordered room (waits engine found_so) =
     let n = searched old.node in
@@ -474,52 +474,52 @@ nothing_so_by laws others old ordered room (is_too_long g behind at found_so eng
             (laws.in_range.stays id.side (holdings_of old.spool) id long_text_found (state_of old) ordered.in_range tt));
         own = subst (λ (x : EngineState). IsAnnouncement x.own) (sym engine) ordered.own;
         written = ordered.written;
-        most = subst (λ (x : EngineState). length x.link.unacked ≤ old.jottings.most) (sym engine) ordered.most;
+        most = subst (λ (x : EngineState). length x.link.unacked ≤ old.journal.most) (sym engine) ordered.most;
       };
       standing = ap (λ (x : EngineState). standing_of (record old { node = record n { engine = x } })) engine;
       room = room;
     }
 
-pub nothing_so : LineLaws → (others : List (List ℕ)) (old : Parts) → IsOrdered old → item_size (searched old.node) ≡ 0 → HasRoom (sought old)
+pub nothing_so : LineLaws → (others : List (List ℕ)) (old : LiveEndValue) → IsOrdered old → item_size (searched old.node) ≡ 0 → HasRoom (sought old)
     → TakesAll others old (sought old)
 nothing_so laws others old ordered none room = nothing_so_by laws others old ordered room (laws.search.none old.node none)
 
 -- ---- the parts behind a search
 
-pub sought_is : (old mid : Parts) → mid.node ≡ searched old.node → mid.spool ≡ old.spool → mid.jottings ≡ old.jottings → mid.line ≡ old.line
+pub sought_is : (old mid : LiveEndValue) → mid.node ≡ searched old.node → mid.spool ≡ old.spool → mid.journal ≡ old.journal → mid.line ≡ old.line
     → mid ≡ sought old
-sought_is old mid node spool jottings line =
-    let by_node : NodeState → Parts = λ x. record { node = x; spool = mid.spool; jottings = mid.jottings; line = mid.line } in
-    let by_spool : MemoryHoldings → Parts = λ x. record { node = searched old.node; spool = x; jottings = mid.jottings; line = mid.line } in
-    let by_jottings : Jottings → Parts = λ x. record { node = searched old.node; spool = old.spool; jottings = x; line = mid.line } in
-    let by_line : List ℕ → Parts = λ x. record { node = searched old.node; spool = old.spool; jottings = old.jottings; line = x } in
-    ap by_node node ∙ ap by_spool spool ∙ ap by_jottings jottings ∙ ap by_line line
+sought_is old mid node spool journal line =
+    let by_node : NodeState → LiveEndValue = λ x. record { node = x; spool = mid.spool; journal = mid.journal; line = mid.line } in
+    let by_spool : MemoryHoldings → LiveEndValue = λ x. record { node = searched old.node; spool = x; journal = mid.journal; line = mid.line } in
+    let by_journal : JournalValue → LiveEndValue = λ x. record { node = searched old.node; spool = old.spool; journal = x; line = mid.line } in
+    let by_line : List ℕ → LiveEndValue = λ x. record { node = searched old.node; spool = old.spool; journal = old.journal; line = x } in
+    ap by_node node ∙ ap by_spool spool ∙ ap by_journal journal ∙ ap by_line line
 
-pub sees_nothing : LineLaws → (others : List (List ℕ)) (old mid : Parts) → IsOrdered old → mid ≡ sought old
+pub sees_nothing : LineLaws → (others : List (List ℕ)) (old mid : LiveEndValue) → IsOrdered old → mid ≡ sought old
     → item_size mid.node ≡ 0 → (item_size mid.node ≡ 0 → HasRoom mid) → TakesAll others old mid
 sees_nothing laws others old mid ordered is none room =
-    subst (λ (m : Parts). TakesAll others old m) (sym is)
-    (nothing_so laws others old ordered (subst (λ (m : Parts). item_size m.node ≡ 0) is none) (subst HasRoom is (room none)))
+    subst (λ (m : LiveEndValue). TakesAll others old m) (sym is)
+    (nothing_so laws others old ordered (subst (λ (m : LiveEndValue). item_size m.node ≡ 0) is none) (subst HasRoom is (room none)))
 
-pub sees_unsent : LineLaws → (others : List (List ℕ)) (old mid : Parts) → IsOrdered old → AreWritten others → mid ≡ sought old
-    → SightsShown mid.node others old.jottings.passed Unsent → IsStopped others old mid
+pub sees_unsent : LineLaws → (others : List (List ℕ)) (old mid : LiveEndValue) → IsOrdered old → AreWritten others → mid ≡ sought old
+    → SightsShown mid.node others old.journal.passed Unsent → IsStopped others old mid
 sees_unsent laws others old mid ordered written is sights =
-    subst (λ (m : Parts). IsStopped others old m) (sym is)
-    (stopped_so laws others old ordered written (subst (λ (m : Parts). SightsShown m.node others old.jottings.passed Unsent) is sights))
+    subst (λ (m : LiveEndValue). IsStopped others old m) (sym is)
+    (stopped_so laws others old ordered written (subst (λ (m : LiveEndValue). SightsShown m.node others old.journal.passed Unsent) is sights))
 
-pub sees_other : LineLaws → (others : List (List ℕ)) (old mid new : Parts) → IsOrdered old → mid ≡ sought old
-    → SightsShown mid.node others old.jottings.passed Other → IsTakenUp (λ (b : Bool). old.jottings) mid new → TakesOne others old new
+pub sees_other : LineLaws → (others : List (List ℕ)) (old mid new : LiveEndValue) → IsOrdered old → mid ≡ sought old
+    → SightsShown mid.node others old.journal.passed Other → IsTakenUp (λ (b : Bool). old.journal) mid new → TakesOne others old new
 sees_other laws others old mid new ordered is sights taken_so =
-    other_taken laws others old new ordered (subst (λ (m : Parts). SightsShown m.node others old.jottings.passed Other) is sights)
-    (subst (λ (m : Parts). IsTakenUp (λ (b : Bool). old.jottings) m new) is taken_so)
+    other_taken laws others old new ordered (subst (λ (m : LiveEndValue). SightsShown m.node others old.journal.passed Other) is sights)
+    (subst (λ (m : LiveEndValue). IsTakenUp (λ (b : Bool). old.journal) m new) is taken_so)
 
-pub sees_packet : {A : Type 0} → LineLaws → (others : List (Vec ℕ A)) (place : ℕ) (v : Vec ℕ A) (bytes : List ℕ) (old mid new : Parts)
+pub sees_packet : {A : Type 0} → LineLaws → (others : List (Vec ℕ A)) (place : ℕ) (v : Vec ℕ A) (bytes : List ℕ) (old mid new : LiveEndValue)
     → IsOrdered old → AreWritten (lists_in others) → mid ≡ sought old
-    → SightsShown mid.node (lists_in others) old.jottings.passed (At place) → v ≡ get_or others place v → bytes ≡ v.items
-    → IsTakenUp (packet_jotted bytes place old.jottings) mid new → TakesOne (lists_in others) old new
+    → SightsShown mid.node (lists_in others) old.journal.passed (At place) → v ≡ get_or others place v → bytes ≡ v.items
+    → IsTakenUp (packet_noted bytes place old.journal) mid new → TakesOne (lists_in others) old new
 sees_packet {A} laws others place v bytes old mid new ordered written is sights there same taken_so =
     let items : Vec ℕ A → List ℕ = λ x. x.items in
-    let at = packet_at sights.0 (lists_in others) old.jottings.passed place sights.2 in
+    let at = packet_at sights.0 (lists_in others) old.journal.passed place sights.2 in
     let within : place < length (lists_in others) = slice_get_within (lists_in others) place (canonical at.0) at.2.there in
     let count : length (lists_in others) ≡ length others = length-map others items in
     let stands : slice_get (lists_in others) place ≡ Some bytes =
@@ -527,5 +527,5 @@ sees_packet {A} laws others place v bytes old mid new ordered written is sights 
     ∙ ap (option_map items) (slice_get_read others (length others) place v refl (omega (arith, within, count)) there)
     ∙ ap Some (sym same) in
     packet_taken laws (lists_in others) place bytes old new ordered written
-    (subst (λ (m : Parts). SightsShown m.node (lists_in others) old.jottings.passed (At place)) is sights) stands
-    (subst (λ (m : Parts). IsTakenUp (packet_jotted bytes place old.jottings) m new) is taken_so)
+    (subst (λ (m : LiveEndValue). SightsShown m.node (lists_in others) old.journal.passed (At place)) is sights) stands
+    (subst (λ (m : LiveEndValue). IsTakenUp (packet_noted bytes place old.journal) m new) is taken_so)

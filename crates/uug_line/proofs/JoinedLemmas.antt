@@ -4,9 +4,9 @@ use Rattle.uug_link.specs.Arrivals.{IsPlace, place_of}
 use Rattle.uug_link.specs.State.{IsUp, KnowsWindow, State}
 use Rattle.uug_link.specs.declared.limits.TheConstants.{WINDOW_MAX}
 use Rattle.uug_packet.specs.Packet.{PacketValue}
-use Rattle.uug_session.specs.Count.{Count, count_keeper}
+use Rattle.uug_conversation.specs.Count.{Count, count_keeper}
 use Rattle.uug_session.specs.EndStep.{EndEffect, EndEvent, packet_found_whole, end_step, first_link, linked, message_of}
-use Rattle.uug_session.specs.Talk.{Talk, end_keeper}
+use Rattle.uug_conversation.specs.Talk.{Talk, end_keeper}
 use Rattle.uug_line.specs.declared.side.Side.{Side}
 use Rattle.uug_line.specs.Belongings.{Belongings, SetupValue, identity}
 use Rattle.uug_line.specs.LineEnd.{LineEnd, Log, after_call, does, found_at, took}
@@ -19,7 +19,7 @@ use Rattle.uug_line.proofs.FoundLemmas.{passed_behind}
 use Rattle.uug_line.proofs.Invariant.{DoesAlike, counted_effect, done_all, found}
 use Rattle.uug_line.proofs.Joining.{EndsJoined, HasPassed, IsSoundSession, Joined, Moment, link_end, moment_of}
 use Rattle.uug_line.proofs.LinkLemmas.{links_run}
-use Rattle.uug_line.specs.LowerLaws.{Laws}
+use Rattle.uug_line.specs.Code.LowerLaws.{Laws}
 use Rattle.uug_line.proofs.MoveLemmas.{StandsThere}
 use Rattle.uug_line.proofs.SpeakingLemmas.{spoken_after}
 use Rattle.uug_line.specs.Speaking.{HasSpoken}

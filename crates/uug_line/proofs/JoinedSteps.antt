@@ -3,7 +3,7 @@ use Rattle.uug_line.specs.Belongings.{Belongings, SetupValue}
 use Rattle.uug_line.specs.Sides.{AtBoth}
 use Rattle.uug_line.proofs.JoinedLemmas.{does_joined, packet_joined}
 use Rattle.uug_line.proofs.Joining.{IsSoundSession}
-use Rattle.uug_line.specs.LowerLaws.{Laws}
+use Rattle.uug_line.specs.Code.LowerLaws.{Laws}
 use Rattle.uug_line.proofs.SessionLemmas.{first_counted, first_joined, front, has_joined, to_floor, turned}
 use Rattle.uug_line.proofs.Steps.{Steps}
 

@@ -6,11 +6,11 @@ use Rattle.uug_link.specs.TwoLinks.{End}
 use Rattle.uug_packet.specs.Packet.{PacketValue}
 use Rattle.uug_session.specs.declared.greeting.Greeting.{Greeting}
 use Rattle.uug_session.specs.EndStep.{hailing, first_link}
-use Rattle.uug_session.specs.Jobs.{at_start, pending}
-use Rattle.uug_session.specs.Party.{Party, IsSound}
-use Rattle.uug_session.specs.Talk.{Talk, end_keeper, unopened}
+use Rattle.uug_conversation.specs.Jobs.{at_start, pending}
+use Rattle.uug_conversation.specs.Party.{Party, IsSound}
+use Rattle.uug_conversation.specs.Talk.{Talk, end_keeper, unopened}
 use Rattle.uug_session.specs.Told.{talk_behind}
-use Rattle.uug_session.specs.Turns.{Side as SessionSide}
+use Rattle.uug_conversation.specs.Turns.{Side as SessionSide}
 use Rattle.uug_session.specs.TwoEnds.{Talker, Two, Reached, first_talker, talker}
 use Rattle.uug_line.specs.declared.side.Side.{Side}
 use Rattle.uug_line.specs.declared.side.Side.TheVariants.{Caller, Called}

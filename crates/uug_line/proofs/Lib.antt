@@ -22,7 +22,7 @@ mod MomentLemmas
 mod MoveLemmas
 mod RightPacketLemmas
 mod ItemLemmas
-mod JottingLemmas
+mod JournalLemmas
 mod NoisyLineFacts
 mod PastLemmas
 mod PieceLemmas

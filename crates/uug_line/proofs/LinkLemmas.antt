@@ -11,7 +11,7 @@ use Rattle.uug_link.specs.Step.{Emission, Event, OutcomeValue, nothing, up, take
 use Rattle.uug_link.specs.TwoLinks.{End, IsRun, MayCall, first_ends, moved_by, moves, packets_of, sent_with, taken_by}
 use Rattle.uug_packet.specs.Packet.{PacketValue}
 use Rattle.uug_session.specs.EndStep.{is_up, packets}
-use Rattle.uug_session.specs.Talk.{Talk}
+use Rattle.uug_conversation.specs.Talk.{Talk}
 use Rattle.uug_line.specs.declared.side.Side.{Side}
 use Rattle.uug_line.specs.Belongings.{SetupValue}
 use Rattle.uug_line.specs.LineEnd.{messages_sent, packets_in}
@@ -20,7 +20,7 @@ use Rattle.uug_line.specs.Sides.{at, other, session_side}
 use Rattle.uug_line.proofs.Invariant.{answer_to, heard_with, moved}
 use Rattle.uug_line.proofs.Joining.{IsOpened, LinksOf, Moment, link_end}
 use Rattle.uug_line.proofs.LinkRunLemmas.{arrival_heard, is_run, ran_on}
-use Rattle.uug_line.specs.LowerLaws.{Laws}
+use Rattle.uug_line.specs.Code.LowerLaws.{Laws}
 use Rattle.uug_line.proofs.MomentLemmas.{none_sent, packets_in_packets}
 use Rattle.uug_line.proofs.SendLemmas.{sends_it}
 

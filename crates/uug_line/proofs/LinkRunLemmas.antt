@@ -7,7 +7,7 @@ use Rattle.uug_link.specs.State.{State}
 use Rattle.uug_link.specs.TwoLinks.{AllMayHappen, AllMayOccur, Ends, Happening, IsFirst, IsRun, MayOccur, Occurrence, after_happening, after_happenings, after_occurrence, after_occurrences, at_far, at_near, first_ends, hears, misses, moves, seen_from_far}
 use Rattle.uug_packet.specs.Packet.{PacketValue}
 use Rattle.uug_session.specs.EndStep.{first_link}
-use Rattle.uug_session.specs.Turns.{Side, caller, called}
+use Rattle.uug_conversation.specs.Turns.{Side, caller, called}
 use Rattle.uug_line.specs.LinkRun.{LinksRan, happened_far, happened_near, places_heard}
 
 -- ---- it is a run of two links that announce this

@@ -10,14 +10,14 @@ use Rattle.uug_link.specs.Step.{Event, OutcomeValue, nothing, up, taken, closed,
 use Rattle.uug_link.specs.Terms.{size_of_code}
 use Rattle.uug_link.specs.TwoLinks.{Ends, IsFrontOf, MayCall}
 use Rattle.uug_packet.specs.Packet.{PacketValue}
-use Rattle.uug_session.specs.EarlierJobs.{behind}
+use Rattle.uug_conversation.specs.EarlierJobs.{behind}
 use Rattle.uug_session.specs.EndStep.{first_link, has_room, is_up, message_of, packets}
-use Rattle.uug_session.specs.Holdings.{Holdings}
-use Rattle.uug_session.specs.Jobs.{Lists, at_start, pending}
-use Rattle.uug_session.specs.Talk.{Talk, end_keeper, first_of, opened_with, unopened}
+use Rattle.uug_conversation.specs.Holdings.{Holdings}
+use Rattle.uug_conversation.specs.Jobs.{Lists, at_start, pending}
+use Rattle.uug_conversation.specs.Talk.{Talk, end_keeper, first_of, opened_with, unopened}
 use Rattle.uug_session.specs.TwoEnds.{Talker, Two, first_talker, sends, takes}
-use Rattle.uug_session.specs.Turns.{Side as SessionSide}
-use Rattle.uug_session.specs.View.{own_messages}
+use Rattle.uug_conversation.specs.Turns.{Side as SessionSide}
+use Rattle.uug_conversation.specs.View.{own_messages}
 use Rattle.uug_line.specs.declared.side.Side.{Side}
 use Rattle.uug_line.specs.Belongings.{Belongings, SetupValue, party}
 use Rattle.uug_line.specs.LineEnd.{messages_sent}
@@ -26,7 +26,7 @@ use Rattle.uug_line.proofs.AnswerLemmas.{taken_message}
 use Rattle.uug_line.proofs.Invariant.{answer_to, heard_by, heard_with, moved}
 use Rattle.uug_line.proofs.Joining.{IsSoundSession, IsTalk, Joined, LinksOf, Moment, link_end}
 use Rattle.uug_line.proofs.LinkLemmas.{DoesNotOpen, FindsNone, IsNotUp, does_not_open, closes_it, links_run, opened_stays, run_hears, run_moves, sends_none, stays_starting, stays_up, up_is_not_starting}
-use Rattle.uug_line.specs.LowerLaws.{Laws}
+use Rattle.uug_line.specs.Code.LowerLaws.{Laws}
 use Rattle.uug_line.proofs.MomentLemmas.{none_sent}
 use Rattle.uug_line.proofs.SendLemmas.{sends_it, up_with_room}
 use Rattle.uug_line.proofs.TalkLemmas.{Acted, Reaches, acts, fit_at, seen_at, talk_at, talker_at, told_at}

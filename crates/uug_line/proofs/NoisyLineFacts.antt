@@ -8,7 +8,7 @@ use Rattle.uug_packet.specs.Packet.{rj, rr, init_c, init_b, init_a, control}
 use Rattle.uug_packet.specs.Spelling.{canonical}
 use Rattle.uug_session.specs.declared.end.End.TheVariants.{Done, BadTalk, GaveUp, HungUp}
 use Rattle.uug_session.specs.declared.greeting.AwaitedText.TheVariants.{Admission}
-use Rattle.uug_session.specs.MemoryHoldings.{no_holdings}
+use Rattle.uug_conversation.specs.MemoryHoldings.{no_holdings}
 use Rattle.uug_session.specs.Says.{written_text}
 use Rattle.uug_line.specs.declared.event.Event.{Event}
 use Rattle.uug_line.specs.declared.event.Event.TheVariants.{Pass, Drop, Flip, Timeout, HangUp, Call}

@@ -6,8 +6,8 @@ use Rattle.std.proofs.lemmas.Option.{slice_get_within}
 use Rattle.uug_link.proofs.OnTheLineLemmas.{slice_get-append, slice_get-last}
 use Rattle.uug_session.specs.Arriving.{Came, all_taken, stopped}
 use Rattle.uug_session.specs.EndStep.{EndState, Emitted, Identity, Stage, hailing, linked, ended, line_lost, stage_step}
-use Rattle.uug_session.specs.Keeper.{Keeper}
-use Rattle.uug_session.specs.Talk.{Talk}
+use Rattle.uug_conversation.specs.Keeper.{Keeper}
+use Rattle.uug_conversation.specs.Talk.{Talk}
 use Rattle.uug_line.specs.declared.event.Event.{Event}
 use Rattle.uug_line.specs.declared.event.Event.TheVariants.{Pass, Drop, Flip, Insert, Timeout, HangUp, Call}
 use Rattle.uug_line.specs.declared.side.Side.{Side}

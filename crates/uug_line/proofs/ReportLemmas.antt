@@ -1,5 +1,5 @@
 -- What a report shows of the program's run, and the run that goes on from a report.
-use Rattle.std.proofs.Common.{◌≡◌, ℕ, ◌<◌, ◌≤◌, List, [], ◌∷◌, ◌++◌, All, length, length-append, map, take, drop, get_or, refl, ap, ap₂, sym, subst, ◌∙◌, arith}
+use Rattle.std.proofs.Common.{◌≡◌, ℕ, ◌<◌, ◌≤◌, Bool, false, List, [], ◌∷◌, ◌++◌, All, length, length-append, map, take, drop, get_or, refl, ap, ap₂, sym, subst, ◌∙◌, arith}
 use Rattle.std.proofs.lemmas.List.{map-append}
 use Rattle.std.proofs.lemmas.List.Elements.{All-append, All-cons, All-nil}
 use Rattle.std.proofs.Math.Seq.{drop-append_seam, take-append_seam}
@@ -11,10 +11,10 @@ use Rattle.uug_session.specs.declared.phase.Phase.TheVariants as phases
 use Rattle.uug_session.specs.EndStep.{Stage, ended, hailing, linked}
 use Rattle.uug_session.specs.Phases.{phase_at, phase_of_link, timeouts_in}
 use Rattle.uug_session.specs.Arriving.{Hearer}
-use Rattle.uug_session.specs.Count.{Count}
-use Rattle.uug_session.specs.MemoryHoldings.{held_by}
+use Rattle.uug_conversation.specs.Count.{Count}
+use Rattle.uug_conversation.specs.MemoryHoldings.{held_by}
 use Rattle.uug_session.specs.Node.{held_bytes}
-use Rattle.uug_session.specs.Talk.{Talk}
+use Rattle.uug_conversation.specs.Talk.{Talk}
 use Rattle.uug_line.specs.declared.event.Event.{Event}
 use Rattle.uug_line.specs.declared.event.Event.TheVariants.{Pass, Timeout}
 use Rattle.uug_line.specs.declared.report.LastEnd.{LastEnd}
@@ -25,15 +25,15 @@ use Rattle.uug_line.specs.declared.verdict.LineVerdict.{LineVerdict}
 use Rattle.uug_line.specs.declared.verdict.LineVerdict.TheVariants.{Clean}
 use Rattle.uug_line.specs.Belongings.{SetupValue}
 use Rattle.uug_line.specs.LineEnd.{LineEnd}
-use Rattle.uug_line.specs.Live.{Parts, told_of}
+use Rattle.uug_line.specs.Live.{LiveEndValue, told_of}
 use Rattle.uug_line.specs.OfBytes.{AreOfTypes, IsOfBytes}
 use Rattle.uug_line.specs.OfSomeRun.{IsRunOf}
 use Rattle.uug_line.specs.Report.{end_now}
 use Rattle.uug_line.specs.Run.{Run, end_at}
-use Rattle.uug_line.specs.RunParts.{EndsAs, RunParts, StandsAs, held_parts}
+use Rattle.uug_line.specs.RunValue.{EndsAs, RunValue, StandsAs, held_parts}
 use Rattle.uug_line.specs.Settle.{EndMaySettle, MaySettle, Round, events_of, late, line_from, passing}
 use Rattle.uug_line.specs.Settled.{AreDone, CanSettle, EndCanSettle, SettlesInto}
-use Rattle.uug_line.specs.Settling.{IsFinished, MayFinish}
+use Rattle.uug_line.specs.Code.Settling.{IsFinished, MayFinish}
 use Rattle.uug_line.specs.Shown.{end_shown, session_shown}
 use Rattle.uug_line.specs.Sides.{AtBoth, at}
 use Rattle.uug_line.specs.Spelled.{spelled}
@@ -45,7 +45,7 @@ use Rattle.uug_line.proofs.RunLemmas.{ends_clean, give_as_set_up, held_counted, 
 
 -- ---- a report of the program's run
 
-lines_are : (setup : SetupValue) (events : List Event) (verdict : LineVerdict) (r : RunParts) →
+lines_are : (setup : SetupValue) (events : List Event) (verdict : LineVerdict) (r : RunValue) →
     EndsAs setup (run_of_ends setup events) verdict r → counted (run_of_ends setup events) ≡ world setup events →
     (side : Side) → (at side (whole_report r verdict).left).line ≡ line_from side (world setup events)
 lines_are setup events verdict r ends is_world Caller =
@@ -53,7 +53,7 @@ lines_are setup events verdict r ends is_world Caller =
 lines_are setup events verdict r ends is_world Called =
     sym (ap (λ (e : LineEnd Talk). e.line) ends.called) ∙ ap (λ (run : Run Count). line_from Called run) is_world
 
-pub is_run_of : (setup : SetupValue) (events : List Event) (verdict : LineVerdict) (r : RunParts) → AreOfTypes setup events →
+pub is_run_of : (setup : SetupValue) (events : List Event) (verdict : LineVerdict) (r : RunValue) → AreOfTypes setup events →
     EndsAs setup (run_of_ends setup events) verdict r → counted (run_of_ends setup events) ≡ world setup events →
     report_of_ends setup events ≡ report_of_world setup events → IsRunOf setup events (whole_report r verdict)
 is_run_of setup events verdict r types ends is_world same = record {
@@ -81,7 +81,7 @@ same_ends {A} xs ys x y same =
     )
 
 -- the parts of a run are those of which the report is
-pub same_parts : (r : RunParts) (report : WholeReport) (past : List (AtBoth SpelledEnd)) (caller called : SpelledEnd) →
+pub same_parts : (r : RunValue) (report : WholeReport) (past : List (AtBoth SpelledEnd)) (caller called : SpelledEnd) →
     whole_report r report.told.verdict ≡ report →
     report.told.sessions ≡ past ++ record { at_caller = caller; at_called = called } ∷ [] →
     record {
@@ -93,7 +93,7 @@ same_parts r report past caller called shown sessions =
     let last : AtBoth SpelledEnd = record { at_caller = told_of r.caller; at_called = told_of r.called } in
     let ends = same_ends past r.past (record { at_caller = caller; at_called = called }) last
     (sym sessions ∙ sym (ap (λ (w : WholeReport). w.told.sessions) shown)) in
-    let made : List (AtBoth SpelledEnd) → AtBoth SpelledEnd → WholeReport → RunParts = λ front back w. record {
+    let made : List (AtBoth SpelledEnd) → AtBoth SpelledEnd → WholeReport → RunValue = λ front back w. record {
       past = front;
       caller = part_from back.at_caller w.left.at_caller w.spools.at_caller;
       called = part_from back.at_called w.left.at_called w.spools.at_called;
@@ -116,6 +116,7 @@ end_may run side now held line now_is held_is line_is can =
     record {
       on_link = on.on_link;
       is_up = on.is_up;
+      plain = on.plain;
       timeouts = on.timeouts;
       holds_none = sym held_is ∙ on.holds_none;
       empty = sym line_is ∙ on.empty;
@@ -127,6 +128,7 @@ end_can run side now held line now_is held_is line_is may =
     subst (λ (n : EndNow). EndCanSettle n held line) (sym now_is) (record {
       on_link = may.on_link;
       is_up = may.is_up;
+      plain = may.plain;
       timeouts = may.timeouts;
       holds_none = held_is ∙ may.holds_none;
       empty = line_is ∙ may.empty;
@@ -162,7 +164,7 @@ can_settle setup events report is may =
 has_room : (held : List ℕ) → held ≡ [] → length held < READER_SIZE
 has_room held none = subst (λ (bytes : List ℕ). length bytes < READER_SIZE) (sym none) (omega arith)
 
-stands_again : (setup : SetupValue) (events : List Event) (report : WholeReport) (r : RunParts) →
+stands_again : (setup : SetupValue) (events : List Event) (report : WholeReport) (r : RunValue) →
     whole_report r report.told.verdict ≡ report → CanSettle report →
     EndsAs setup (run_of_ends setup events) report.told.verdict r → StandsAs setup (run_of_ends setup events) r
 stands_again setup events report r shown can ends =
@@ -187,11 +189,11 @@ stands_again setup events report r shown can ends =
     }
 
 -- the run with the parts of a report that may settle
-pub may_finish : (setup : SetupValue) (events : List Event) (report : WholeReport) (r : RunParts) →
+pub may_finish : (setup : SetupValue) (events : List Event) (report : WholeReport) (r : RunValue) →
     (is : IsRunOf setup events report) → CanSettle report → r ≡ is.left.parts → MayFinish setup events r
 may_finish setup events report r is can same = record {
   types = is.types;
-  stands = subst (λ (parts : RunParts). StandsAs setup (run_of_ends setup events) parts) (sym same)
+  stands = subst (λ (parts : RunValue). StandsAs setup (run_of_ends setup events) parts) (sym same)
       (stands_again setup events report is.left.parts is.left.shown can is.left.ends);
   settles = may_settle setup events report is can;
 }
@@ -219,7 +221,7 @@ pub record WorldOf (setup : SetupValue) : Type 0 where
   pub run : (events : List Event) → counted (run_of_ends setup events) ≡ world setup events
   pub report : (events : List Event) → report_of_ends setup events ≡ report_of_world setup events
 
-pub settles_into : (setup : SetupValue) (events : List Event) (r : RunParts) → WorldOf setup → AreOfTypes setup events →
+pub settles_into : (setup : SetupValue) (events : List Event) (r : RunValue) → WorldOf setup → AreOfTypes setup events →
     IsFinished setup events r → SettlesInto setup events (whole_report r Clean)
 settles_into setup events r laws types finished =
     let rounds = finished.settles.rounds in
@@ -245,7 +247,7 @@ one_less {A} sessions front last is =
     ap (λ (xs : List (SessionReport A)). map shown xs) is ∙ map-append shown front (last ∷ [])
 
 -- each report has a session
-pub has_session : (r : RunParts) (report : WholeReport) → whole_report r report.told.verdict ≡ report →
+pub has_session : (r : RunValue) (report : WholeReport) → whole_report r report.told.verdict ≡ report →
     report.told.sessions ≡ [] → ⊥
 has_session r report shown none =
     let last : AtBoth SpelledEnd = record { at_caller = told_of r.caller; at_called = told_of r.called } in
@@ -270,17 +272,18 @@ empty_so [] none = refl
 empty_so (b ∷ bs) none = absurd (omega (arith, none))
 
 -- what is read of the end is so
-pub end_settles : (now : EndNow) (held line : List ℕ) (phase : Phase) (timeouts waiting left : ℕ) →
-    phase ≡ phase_at now.stage now.link.phase →
+pub end_settles : (now : EndNow) (held line : List ℕ) (phase : Phase) (quiet : Bool) (timeouts waiting left : ℕ) →
+    phase ≡ phase_at now.stage now.link.phase → quiet ≡ now.link.own.quiet →
     timeouts ≡ timeouts_in (phase_at now.stage now.link.phase) now.link.timeouts → waiting ≡ length held → left ≡ length line →
-    phase ≡ phases.Talking → timeouts ≤ 6 → waiting ≡ 0 → left ≡ 0 → EndCanSettle now held line
-end_settles now held line phase timeouts waiting left phase_is timeouts_is waiting_is left_is talks few none empty =
+    phase ≡ phases.Talking → quiet ≡ false → timeouts ≤ 6 → waiting ≡ 0 → left ≡ 0 → EndCanSettle now held line
+end_settles now held line phase quiet timeouts waiting left phase_is quiet_is timeouts_is waiting_is left_is talks plain few none empty =
     let on = talks_so now.stage now.link.phase (sym phase_is ∙ talks) in
     let counted_as : timeouts ≡ now.link.timeouts =
     timeouts_is ∙ ap (λ (p : Phase). timeouts_in p now.link.timeouts) (sym phase_is ∙ talks) in
     record {
       on_link = on.0;
       is_up = on.1;
+      plain = sym quiet_is ∙ plain;
       timeouts = subst (λ (n : ℕ). n ≤ 6) counted_as few;
       holds_none = empty_so held (sym waiting_is ∙ none);
       empty = empty_so line (sym left_is ∙ empty);
@@ -290,20 +293,22 @@ talks_at : (stage : Stage) (p : LinkPhase) → stage ≡ linked → p ≡ link_p
 talks_at stage p on up = ap (λ (s : Stage). phase_at s p) on ∙ ap phase_of_link up
 
 -- and is read so
-pub record ReadsSettled (phase : Phase) (timeouts waiting left : ℕ) : Type 0 where
+pub record ReadsSettled (phase : Phase) (quiet : Bool) (timeouts waiting left : ℕ) : Type 0 where
   pub talks : phase ≡ phases.Talking
+  pub plain : quiet ≡ false
   pub few : timeouts ≤ 6
   pub none : waiting ≡ 0
   pub empty : left ≡ 0
 
-pub end_reads : (now : EndNow) (held line : List ℕ) (phase : Phase) (timeouts waiting left : ℕ) →
-    phase ≡ phase_at now.stage now.link.phase →
+pub end_reads : (now : EndNow) (held line : List ℕ) (phase : Phase) (quiet : Bool) (timeouts waiting left : ℕ) →
+    phase ≡ phase_at now.stage now.link.phase → quiet ≡ now.link.own.quiet →
     timeouts ≡ timeouts_in (phase_at now.stage now.link.phase) now.link.timeouts → waiting ≡ length held → left ≡ length line →
-    EndCanSettle now held line → ReadsSettled phase timeouts waiting left
-end_reads now held line phase timeouts waiting left phase_is timeouts_is waiting_is left_is can =
+    EndCanSettle now held line → ReadsSettled phase quiet timeouts waiting left
+end_reads now held line phase quiet timeouts waiting left phase_is quiet_is timeouts_is waiting_is left_is can =
     let talks = talks_at now.stage now.link.phase can.on_link can.is_up in
     record {
       talks = phase_is ∙ talks;
+      plain = quiet_is ∙ can.plain;
       few = subst (λ (n : ℕ). n ≤ 6) (sym (timeouts_is ∙ ap (λ (p : Phase). timeouts_in p now.link.timeouts) talks)) can.timeouts;
       none = waiting_is ∙ ap length can.holds_none;
       empty = left_is ∙ ap length can.empty;
@@ -312,15 +317,15 @@ end_reads now held line phase timeouts waiting left phase_is timeouts_is waiting
 -- ---- the run that a report goes on as
 
 pub goes_on_as : {A : Type 0} (sessions front : List (SessionReport A)) (last : SessionReport A) (kept_caller kept_called : LastEnd A)
-    (verdict : LineVerdict) (report : WholeReport) (caller called : Parts) →
+    (verdict : LineVerdict) (report : WholeReport) (caller called : LiveEndValue) →
     report_shown sessions kept_caller kept_called verdict ≡ report → sessions ≡ front ++ last ∷ [] →
     caller ≡ part_from (end_shown last.caller) (left_of kept_caller) (held_by kept_caller.node.spool) →
     called ≡ part_from (end_shown last.called) (left_of kept_called) (held_by kept_called.node.spool) →
-    (parts : RunParts) → whole_report parts report.told.verdict ≡ report →
+    (parts : RunValue) → whole_report parts report.told.verdict ≡ report →
     record { past = map session_shown front; caller = caller; called = called } ≡ parts
 goes_on_as {A} sessions front last kept_caller kept_called verdict report caller called view_is one_more caller_is called_is parts shown =
-    let made : Parts → Parts → RunParts = λ a b. record { past = map session_shown front; caller = a; called = b } in
-    let from_report : WholeReport → RunParts = λ w. record {
+    let made : LiveEndValue → LiveEndValue → RunValue = λ a b. record { past = map session_shown front; caller = a; called = b } in
+    let from_report : WholeReport → RunValue = λ w. record {
       past = map session_shown front;
       caller = part_from (end_shown last.caller) w.left.at_caller w.spools.at_caller;
       called = part_from (end_shown last.called) w.left.at_called w.spools.at_called;

@@ -3,23 +3,23 @@ use Rattle.std.proofs.Common.{◌≡◌, ℕ, List, length, take, All, sym, subs
 use Rattle.std.proofs.lemmas.List.Elements.{All-take}
 use Rattle.uug_link.specs.InRange.{IsAnnouncement}
 use Rattle.uug_packet.specs.Bytes.{AreBytes}
-use Rattle.uug_session.specs.Count.{Count}
-use Rattle.uug_session.specs.HeldBytes.{HoldsBytes}
-use Rattle.uug_session.specs.Party.{HasNames, Party}
-use Rattle.uug_session.specs.Talk.{Talk}
-use Rattle.uug_session.specs.Turns.{Side as SessionSide, caller, called}
+use Rattle.uug_conversation.specs.Count.{Count}
+use Rattle.uug_conversation.specs.HeldBytes.{HoldsBytes}
+use Rattle.uug_conversation.specs.Party.{HasNames, Party}
+use Rattle.uug_conversation.specs.Talk.{Talk}
+use Rattle.uug_conversation.specs.Turns.{Side as SessionSide, caller, called}
 use Rattle.uug_session.specs.TwoEnds.{IsTold}
-use Rattle.uug_session.specs.View.{conversation_view, own_messages}
+use Rattle.uug_conversation.specs.View.{conversation_view, own_messages}
 use Rattle.uug_line.specs.declared.event.Event.{Event}
 use Rattle.uug_line.specs.declared.side.Side.{Side}
 use Rattle.uug_line.specs.declared.side.Side.TheVariants.{Caller, Called}
 use Rattle.uug_line.specs.Belongings.{Belongings, SetupValue, party}
 use Rattle.uug_line.specs.Delivered.{came_in}
-use Rattle.uug_line.specs.LowerLaws.{Laws}
+use Rattle.uug_line.specs.Code.LowerLaws.{Laws}
 use Rattle.uug_line.specs.OfBytes.{AreOfBytes, IsSetupOfBytes}
 use Rattle.uug_line.specs.Run.{Run, end_at}
 use Rattle.uug_line.specs.RunKeeper.{by_numbers, by_themselves}
-use Rattle.uug_line.specs.SessionLaws.{SessionLaws}
+use Rattle.uug_line.specs.Code.SessionLaws.{SessionLaws}
 use Rattle.uug_line.specs.Sides.{AtBoth, at, other}
 use Rattle.uug_line.specs.SoundSetup.{IsSoundSetup}
 use Rattle.uug_line.specs.World.{counted, run_of_ends, world}

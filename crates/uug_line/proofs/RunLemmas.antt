@@ -3,16 +3,16 @@ use Rattle.std.proofs.Common.{◌≡◌, ℕ, suc, ◌+◌, ◌<◌, ◌≤◌, 
 use Rattle.std.proofs.lemmas.List.{drop_all, drop_more, map-append, take_all}
 use Rattle.uug_reader.specs.declared.reader.TheConstants.{READER_SIZE}
 use Rattle.uug_link.specs.Announced.{Announced}
-use Rattle.uug_session.specs.Turns.{Side as SessionSide}
+use Rattle.uug_conversation.specs.Turns.{Side as SessionSide}
 use Rattle.uug_packet.specs.Spelling.{canonical}
 use Rattle.uug_session.specs.Arriving.{Came, Hearer, all_taken, stopped, takes_piece}
 use Rattle.uug_session.specs.EndStep.{EndEvent, EndState, Identity, Stage, hailing, linked, ended, begins_session, line_lost, stage_step, time_ran_out}
-use Rattle.uug_session.specs.Holdings.{Holdings, Kept}
-use Rattle.uug_session.specs.Jobs.{Lists}
-use Rattle.uug_session.specs.MemoryHoldings.{MemoryHoldings, holdings_of}
+use Rattle.uug_conversation.specs.Holdings.{Holdings, Kept}
+use Rattle.uug_conversation.specs.Jobs.{Lists}
+use Rattle.uug_conversation.specs.MemoryHoldings.{MemoryHoldings, holdings_of}
 use Rattle.uug_session.specs.Node.{held_bytes}
-use Rattle.uug_session.specs.Keeper.{Keeper}
-use Rattle.uug_session.specs.Talk.{Talk, end_keeper, unopened}
+use Rattle.uug_conversation.specs.Keeper.{Keeper}
+use Rattle.uug_conversation.specs.Talk.{Talk, end_keeper, unopened}
 use Rattle.uug_line.specs.declared.event.Event.{Event}
 use Rattle.uug_line.specs.declared.event.Event.TheVariants.{Pass, Drop, Flip, Insert, Timeout, HangUp, Call}
 use Rattle.uug_line.specs.declared.report.EndReport.{EndReport}
@@ -22,13 +22,13 @@ use Rattle.uug_line.specs.declared.side.Side.TheVariants.{Caller, Called}
 use Rattle.uug_line.specs.declared.verdict.LineVerdict.{LineVerdict}
 use Rattle.uug_line.specs.declared.verdict.LineVerdict.TheVariants.{Clean, Fooled}
 use Rattle.uug_line.specs.Belongings.{Belongings, SetupValue, renewed}
-use Rattle.uug_line.specs.Jottings.{packet_in}
+use Rattle.uug_line.specs.JournalValue.{packet_in}
 use Rattle.uug_line.specs.LineEnd.{LineEnd, Player, begins, called_with, changed_line}
-use Rattle.uug_line.specs.Live.{AreWritten, BeginsAgain, HasBegun, HasRoom, IsCalled, IsOrdered, Parts, Standing, hearer_of, line_end_of, player_of, standing_of, taker_of, told_of}
+use Rattle.uug_line.specs.Live.{AreWritten, BeginsAgain, HasBegun, HasRoom, IsCalled, IsOrdered, LiveEndValue, Standing, hearer_of, line_end_of, player_of, standing_of, taker_of, told_of}
 use Rattle.uug_line.specs.Report.{end_now, report_of_end}
 use Rattle.uug_line.specs.Run.{Run, flipped, after_event, after_hearing, calls, end_at, first_run, goes_through, hung_up, player, unless_fooled, with_line_to}
 use Rattle.uug_line.specs.RunKeeper.{by_themselves}
-use Rattle.uug_line.specs.RunParts.{CallsAgain, ChangesLine, EndsAs, Happens, HappensAt, IsSteady, Passes, RunParts, StandsAs, hearing_side, held_parts, owned_parts, parts_now, standing_at, told_in_all, with_line}
+use Rattle.uug_line.specs.RunValue.{CallsAgain, ChangesLine, EndsAs, Happens, HappensAt, IsSteady, Passes, RunValue, StandsAs, hearing_side, held_parts, owned_parts, parts_now, standing_at, told_in_all, with_line}
 use Rattle.uug_line.specs.Shown.{end_shown, session_shown}
 use Rattle.uug_line.specs.Sides.{AtBoth, at, other}
 use Rattle.uug_line.specs.Spelled.{GiveAsSetUp, spelled, spelled_end, spelled_session}
@@ -43,17 +43,17 @@ use Rattle.uug_line.specs.Told.{EndReportValue, SpelledEnd, SpelledReport}
 player_by : Standing → Player Talk
 player_by s = record { identity = s.identity; keeper = end_keeper s.identity.side s.holdings }
 
-caller_is : (setup : SetupValue) (run : Run Talk) (r : RunParts) → StandsAs setup run r → player_of r.caller ≡ player by_themselves setup run Caller
+caller_is : (setup : SetupValue) (run : Run Talk) (r : RunValue) → StandsAs setup run r → player_of r.caller ≡ player by_themselves setup run Caller
 unfolding player_by
 caller_is setup run r stands = ap player_by stands.caller_standing
 
-called_is : (setup : SetupValue) (run : Run Talk) (r : RunParts) → StandsAs setup run r → player_of r.called ≡ player by_themselves setup run Called
+called_is : (setup : SetupValue) (run : Run Talk) (r : RunValue) → StandsAs setup run r → player_of r.called ≡ player by_themselves setup run Called
 unfolding player_by
 called_is setup run r stands = ap player_by stands.called_standing
 
 -- ---- a call at an end
 
-caller_called : (event : EndEvent) (setup : SetupValue) (run : Run Talk) (old new : RunParts) → StandsAs setup run old
+caller_called : (event : EndEvent) (setup : SetupValue) (run : Run Talk) (old new : RunValue) → StandsAs setup run old
     → HappensAt Caller (IsCalled event) old new → StandsAs setup (calls by_themselves setup Caller event run) new
 caller_called event setup run old new stands happens =
     let is = happens.0 in record {
@@ -72,7 +72,7 @@ caller_called event setup run old new stands happens =
       clean = stands.clean;
     }
 
-called_called : (event : EndEvent) (setup : SetupValue) (run : Run Talk) (old new : RunParts) → StandsAs setup run old
+called_called : (event : EndEvent) (setup : SetupValue) (run : Run Talk) (old new : RunValue) → StandsAs setup run old
     → HappensAt Called (IsCalled event) old new → StandsAs setup (calls by_themselves setup Called event run) new
 called_called event setup run old new stands happens =
     let is = happens.0 in record {
@@ -91,14 +91,14 @@ called_called event setup run old new stands happens =
       clean = stands.clean;
     }
 
-at_called : (event : EndEvent) (side : Side) (setup : SetupValue) (run : Run Talk) (old new : RunParts) → StandsAs setup run old
+at_called : (event : EndEvent) (side : Side) (setup : SetupValue) (run : Run Talk) (old new : RunValue) → StandsAs setup run old
     → HappensAt side (IsCalled event) old new → StandsAs setup (calls by_themselves setup side event run) new
 at_called event Caller setup run old new stands happens = caller_called event setup run old new stands happens
 at_called event Called setup run old new stands happens = called_called event setup run old new stands happens
 
 -- ---- the bytes on the line
 
-line_ordered : (change : List ℕ → List ℕ) (e : Parts) → IsOrdered e → IsOrdered (with_line change e)
+line_ordered : (change : List ℕ → List ℕ) (e : LiveEndValue) → IsOrdered e → IsOrdered (with_line change e)
 line_ordered change e ordered = record {
   cleared = ordered.cleared;
   in_range = ordered.in_range;
@@ -107,7 +107,7 @@ line_ordered change e ordered = record {
   most = ordered.most;
 }
 
-line_changed : (change : List ℕ → List ℕ) (side : Side) (setup : SetupValue) (run : Run Talk) (old new : RunParts) → StandsAs setup run old
+line_changed : (change : List ℕ → List ℕ) (side : Side) (setup : SetupValue) (run : Run Talk) (old new : RunValue) → StandsAs setup run old
     → HappensAt (other side) (ChangesLine change) old new → StandsAs setup (with_line_to side change run) new
 line_changed change Called setup run old new stands happens = record {
   past = stands.past ∙ sym happens.2;
@@ -141,9 +141,9 @@ line_changed change Caller setup run old new stands happens = record {
 -- ---- a piece comes
 
 -- what comes to an end is what comes to the end of the definitions' run
-came_to : (p : Player Talk) (n : ℕ) (hearer speaker : Parts) (hearing speaking : Hearer (LineEnd Talk)) (came : Came (LineEnd Talk))
+came_to : (p : Player Talk) (n : ℕ) (hearer speaker : LiveEndValue) (hearing speaking : Hearer (LineEnd Talk)) (came : Came (LineEnd Talk))
     → player_of hearer ≡ p → hearing ≡ hearer_of hearer → speaking ≡ hearer_of speaker
-    → takes_piece (taker_of speaker.jottings.packets hearer) (take n speaker.line) (hearer_of hearer) ≡ came
+    → takes_piece (taker_of speaker.journal.packets hearer) (take n speaker.line) (hearer_of hearer) ≡ came
     → takes_piece (line_taker p speaking.end.log.packets) (take n speaking.end.line) hearing ≡ came
 came_to p n hearer speaker hearing speaking came who hears speaks is =
     ap (λ (h : Hearer (LineEnd Talk)). takes_piece (line_taker p h.end.log.packets) (take n h.end.line) hearing) speaks
@@ -151,7 +151,7 @@ came_to p n hearer speaker hearing speaking came who hears speaks is =
     ∙ ap (λ (x : Player Talk). takes_piece (line_taker x (line_end_of speaker).log.packets) (take n speaker.line) (hearer_of hearer)) (sym who)
     ∙ is
 
-to_caller : (n number : ℕ) (setup : SetupValue) (run : Run Talk) (old new : RunParts) → StandsAs setup run old
+to_caller : (n number : ℕ) (setup : SetupValue) (run : Run Talk) (old new : RunValue) → StandsAs setup run old
     → Passes Caller n true old new → StandsAs setup (after_event by_themselves setup number (Pass Caller n) run) new
 to_caller n number setup run old new stands passes =
     let is = passes.0 in
@@ -173,7 +173,7 @@ to_caller n number setup run old new stands passes =
     } in
     subst (λ (c : Came (LineEnd Talk)). StandsAs setup (after_hearing number Caller c (with_line_to Caller (drop n) run)) new) (sym came) ends
 
-to_called : (n number : ℕ) (setup : SetupValue) (run : Run Talk) (old new : RunParts) → StandsAs setup run old
+to_called : (n number : ℕ) (setup : SetupValue) (run : Run Talk) (old new : RunValue) → StandsAs setup run old
     → Passes Called n true old new → StandsAs setup (after_event by_themselves setup number (Pass Called n) run) new
 to_called n number setup run old new stands passes =
     let is = passes.0 in
@@ -202,7 +202,7 @@ all_fits bytes held is room =
     let size = ap (λ (x : List ℕ). length x) is in
     is ∙ sym (take_all READER_SIZE held (omega (arith, size, room)))
 
-caller_holds : (number n : ℕ) (stop : Hearer (LineEnd Talk)) (run : Run Talk) (new : RunParts)
+caller_holds : (number n : ℕ) (stop : Hearer (LineEnd Talk)) (run : Run Talk) (new : RunValue)
     → held_bytes new.caller.node ≡ take READER_SIZE stop.held → held_bytes new.called.node ≡ (end_at Called run).held → HasRoom new.called
     → HoldWhatIsLeft (after_hearing number Caller (stopped stop) (with_line_to Caller (drop n) run)) (held_parts new)
 caller_holds number n stop run new here there room =
@@ -213,7 +213,7 @@ caller_holds number n stop run new here there room =
     fits Caller = here
     fits Called = all_fits (held_bytes new.called.node) (end_at Called run).held there room
 
-called_holds : (number n : ℕ) (stop : Hearer (LineEnd Talk)) (run : Run Talk) (new : RunParts)
+called_holds : (number n : ℕ) (stop : Hearer (LineEnd Talk)) (run : Run Talk) (new : RunValue)
     → held_bytes new.called.node ≡ take READER_SIZE stop.held → held_bytes new.caller.node ≡ (end_at Caller run).held → HasRoom new.caller
     → HoldWhatIsLeft (after_hearing number Called (stopped stop) (with_line_to Called (drop n) run)) (held_parts new)
 called_holds number n stop run new here there room =
@@ -224,7 +224,7 @@ called_holds number n stop run new here there room =
     fits Caller = all_fits (held_bytes new.caller.node) (end_at Caller run).held there room
     fits Called = here
 
-clean_holds : (run : Run Talk) (r : RunParts) → end_at Caller run ≡ hearer_of r.caller → end_at Called run ≡ hearer_of r.called
+clean_holds : (run : Run Talk) (r : RunValue) → end_at Caller run ≡ hearer_of r.caller → end_at Called run ≡ hearer_of r.called
     → IsSteady r → HoldWhatIsLeft run (held_parts r)
 clean_holds run r caller called steady = record { fits = fits; all = λ clean. all }
   where
@@ -249,7 +249,7 @@ held_counted run held holds = record { fits = fits; all = all }
     all clean Called = holds.all clean Called
 
 -- the run is fooled
-fooled_at : (side : Side) (n number : ℕ) (setup : SetupValue) (run : Run Talk) (old new : RunParts) → StandsAs setup run old
+fooled_at : (side : Side) (n number : ℕ) (setup : SetupValue) (run : Run Talk) (old new : RunValue) → StandsAs setup run old
     → Passes side n false old new → EndsAs setup (after_event by_themselves setup number (Pass side n) run) (Fooled number side) new
 fooled_at Caller n number setup run old new stands passes =
     let is = passes.0 in
@@ -266,7 +266,7 @@ fooled_at Caller n number setup run old new stands passes =
       called_ordered = subst IsOrdered (sym passes.1) (line_ordered (drop n) old.called stands.steady.called_ordered);
       verdict_is = refl;
       held = caller_holds number n stop run new is.fits
-          (ap (λ (e : Parts). held_bytes e.node) passes.1 ∙ sym (ap (λ (h : Hearer (LineEnd Talk)). h.held) stands.called))
+          (ap (λ (e : LiveEndValue). held_bytes e.node) passes.1 ∙ sym (ap (λ (h : Hearer (LineEnd Talk)). h.held) stands.called))
           (subst HasRoom (sym passes.1) stands.steady.called_room);
     } in
     subst (λ (c : Came (LineEnd Talk)). EndsAs setup (after_hearing number Caller c (with_line_to Caller (drop n) run)) (Fooled number Caller) new) (sym came) ends
@@ -285,7 +285,7 @@ fooled_at Called n number setup run old new stands passes =
       caller_ordered = subst IsOrdered (sym passes.1) (line_ordered (drop n) old.caller stands.steady.caller_ordered);
       verdict_is = refl;
       held = called_holds number n stop run new is.fits
-          (ap (λ (e : Parts). held_bytes e.node) passes.1 ∙ sym (ap (λ (h : Hearer (LineEnd Talk)). h.held) stands.caller))
+          (ap (λ (e : LiveEndValue). held_bytes e.node) passes.1 ∙ sym (ap (λ (h : Hearer (LineEnd Talk)). h.held) stands.caller))
           (subst HasRoom (sym passes.1) stands.steady.caller_room);
     } in
     subst (λ (c : Came (LineEnd Talk)). EndsAs setup (after_hearing number Called c (with_line_to Called (drop n) run)) (Fooled number Called) new) (sym came) ends
@@ -297,7 +297,7 @@ lost_keeper k id (hailing g) e = refl
 lost_keeper k id linked e = refl
 lost_keeper k id (ended how) e = refl
 
-kept_as_lost : (old lost : Parts) → IsCalled line_lost old lost → (line_end_of lost).state.keeper ≡ (line_end_of old).state.keeper
+kept_as_lost : (old lost : LiveEndValue) → IsCalled line_lost old lost → (line_end_of lost).state.keeper ≡ (line_end_of old).state.keeper
 kept_as_lost old lost is =
     ap (λ (h : Hearer (LineEnd Talk)). h.end.state.keeper) is.hearer
     ∙ lost_keeper (player_of old).keeper (player_of old).identity old.node.engine.stage (line_end_of old).state
@@ -307,7 +307,7 @@ lost_number k id (hailing g) e = refl
 lost_number k id linked e = refl
 lost_number k id (ended how) e = refl
 
-number_as_lost : (old lost : Parts) → IsCalled line_lost old lost → (line_end_of lost).state.number ≡ (line_end_of old).state.number
+number_as_lost : (old lost : LiveEndValue) → IsCalled line_lost old lost → (line_end_of lost).state.number ≡ (line_end_of old).state.number
 number_as_lost old lost is =
     ap (λ (h : Hearer (LineEnd Talk)). h.end.state.number) is.hearer
     ∙ lost_number (player_of old).keeper (player_of old).identity old.node.engine.stage (line_end_of old).state
@@ -316,7 +316,7 @@ owned_by_talk : (number : Option ℕ) → Talk → Belongings
 owned_by_talk number talk = record { lists = talk.machine.lists; kept = talk.kept; number = number }
 
 -- at an end that has begun again
-began_so : (setup : SetupValue) (side : Side) (old lost new : Parts) (now : Hearer (LineEnd Talk)) → standing_of old ≡ standing_at setup side
+began_so : (setup : SetupValue) (side : Side) (old lost new : LiveEndValue) (now : Hearer (LineEnd Talk)) → standing_of old ≡ standing_at setup side
     → now ≡ hearer_of old → IsCalled line_lost old lost → BeginsAgain lost new
     → begins (begins_session (standing_at setup side).identity (standing_at setup side).own now.end.state.number
     (by_themselves.first (renewed (owned_by_talk now.end.state.number now.end.state.keeper)))) ≡ hearer_of new
@@ -330,7 +330,7 @@ began_so setup side old lost new now standing is lost_is begun =
     ∙ ap (λ (s : Standing). first s (line_end_of lost).state.number (line_end_of lost).state.keeper) (sym (lost_is.standing ∙ standing))
     ∙ sym begun.hearer
 
-began_standing : (setup : SetupValue) (side : Side) (old lost new : Parts) → standing_of old ≡ standing_at setup side
+began_standing : (setup : SetupValue) (side : Side) (old lost new : LiveEndValue) → standing_of old ≡ standing_at setup side
     → IsCalled line_lost old lost → BeginsAgain lost new → standing_of new ≡ standing_at setup side
 began_standing setup side old lost new standing lost_is begun = begun.standing ∙ lost_is.standing ∙ standing
 
@@ -341,12 +341,12 @@ spelled_back (b ∷ bs) written =
     ap (λ (x : List ℕ). x ∷ map canonical (map packet_in bs)) (sym written.0.0)
     ∙ ap (λ (xs : List (List ℕ)). b ∷ xs) (spelled_back bs written.1)
 
-told_so : (e : Parts) → AreWritten e.jottings.packets → spelled_end (report_of_end (line_end_of e)) ≡ told_of e
-told_so e written = ap (λ (ps : List (List ℕ)). record (told_of e) { packets = ps }) (spelled_back e.jottings.packets written)
+told_so : (e : LiveEndValue) → AreWritten e.journal.packets → spelled_end (report_of_end (line_end_of e)) ≡ told_of e
+told_so e written = ap (λ (ps : List (List ℕ)). record (told_of e) { packets = ps }) (spelled_back e.journal.packets written)
 
 -- both of them
-both_told : (run_caller run_called : LineEnd Talk) (caller called : Parts) → run_caller ≡ line_end_of caller → run_called ≡ line_end_of called
-    → AreWritten caller.jottings.packets → AreWritten called.jottings.packets
+both_told : (run_caller run_called : LineEnd Talk) (caller called : LiveEndValue) → run_caller ≡ line_end_of caller → run_called ≡ line_end_of called
+    → AreWritten caller.journal.packets → AreWritten called.journal.packets
     → spelled_session (record { at_caller = report_of_end run_caller; at_called = report_of_end run_called })
     ≡ record { at_caller = told_of caller; at_called = told_of called }
 both_told run_caller run_called caller called a b caller_written called_written =
@@ -363,7 +363,7 @@ one_more_session past last told last_told is last_is =
     ∙ ap (λ (xs : List (AtBoth SpelledEnd)). xs ++ spelled_session last ∷ []) is
     ∙ ap (λ (x : AtBoth SpelledEnd). told ++ x ∷ []) last_is
 
-called_again : (setup : SetupValue) (run : Run Talk) (old new : RunParts) → StandsAs setup run old → CallsAgain old new
+called_again : (setup : SetupValue) (run : Run Talk) (old new : RunValue) → StandsAs setup run old → CallsAgain old new
     → StandsAs setup (after_event by_themselves setup 0 Call run) new
 unfolding owned_by_talk
 called_again setup run old new stands again =
@@ -398,7 +398,7 @@ called_again setup run old new stands again =
 
 -- ---- an event
 
-pub happens_clean : (event : Event) (number : ℕ) (setup : SetupValue) (run : Run Talk) (old new : RunParts) → StandsAs setup run old
+pub happens_clean : (event : Event) (number : ℕ) (setup : SetupValue) (run : Run Talk) (old new : RunValue) → StandsAs setup run old
     → Happens event true old new → StandsAs setup (after_event by_themselves setup number event run) new
 happens_clean (Pass Caller n) number setup run old new stands happens = to_caller n number setup run old new stands happens
 happens_clean (Pass Called n) number setup run old new stands happens = to_called n number setup run old new stands happens
@@ -411,7 +411,7 @@ happens_clean (HangUp side) number setup run old new stands happens = at_called 
 happens_clean Call number setup run old new stands happens = called_again setup run old new stands happens.1
 
 -- only bytes that come may fool an end
-pub happens_fooled : (event : Event) (number : ℕ) (setup : SetupValue) (run : Run Talk) (old new : RunParts) → StandsAs setup run old
+pub happens_fooled : (event : Event) (number : ℕ) (setup : SetupValue) (run : Run Talk) (old new : RunValue) → StandsAs setup run old
     → Happens event false old new → EndsAs setup (after_event by_themselves setup number event run) (Fooled number (hearing_side event)) new
 happens_fooled (Pass side n) number setup run old new stands happens = fooled_at side n number setup run old new stands happens
 happens_fooled (Drop side n) number setup run old new stands happens = let never = happens.0 in absurd cc
@@ -421,7 +421,7 @@ happens_fooled (Timeout side) number setup run old new stands happens = let neve
 happens_fooled (HangUp side) number setup run old new stands happens = let never = happens.0 in absurd cc
 happens_fooled Call number setup run old new stands happens = let never = happens.0 in absurd cc
 
-steady_changed : (change : List ℕ → List ℕ) (side : Side) (old new : RunParts) → IsSteady old
+steady_changed : (change : List ℕ → List ℕ) (side : Side) (old new : RunValue) → IsSteady old
     → HappensAt (other side) (ChangesLine change) old new → IsSteady new
 steady_changed change Called old new steady happens = record {
   caller_ordered = subst IsOrdered (sym happens.0) (line_ordered change old.caller steady.caller_ordered);
@@ -436,7 +436,7 @@ steady_changed change Caller old new steady happens = record {
   caller_room = subst HasRoom (sym happens.1) steady.caller_room;
 }
 
-steady_called : (event : EndEvent) (side : Side) (old new : RunParts) → IsSteady old → HappensAt side (IsCalled event) old new → IsSteady new
+steady_called : (event : EndEvent) (side : Side) (old new : RunValue) → IsSteady old → HappensAt side (IsCalled event) old new → IsSteady new
 steady_called event Caller old new steady happens = record {
   caller_ordered = happens.0.ordered;
   caller_room = happens.0.room;
@@ -450,7 +450,7 @@ steady_called event Called old new steady happens = record {
   caller_room = subst HasRoom (sym happens.1) steady.caller_room;
 }
 
-pub happens_steady : (event : Event) (old new : RunParts) → IsSteady old → Happens event true old new → IsSteady new
+pub happens_steady : (event : Event) (old new : RunValue) → IsSteady old → Happens event true old new → IsSteady new
 happens_steady (Pass Caller n) old new steady happens = record {
   caller_ordered = happens.0.ordered;
   caller_room = happens.0.room;
@@ -490,13 +490,13 @@ stays_fooled number event_number side (event ∷ events) setup run fooled =
     ap (λ (v : LineVerdict). unless_fooled v (λ before. goes_through by_themselves setup (suc number) events (after_event by_themselves setup number event before)) run) fooled
 
 -- what is left to happen
-pub record StillRuns (events : List Event) (number : ℕ) (setup : SetupValue) (run : Run Talk) (now : RunParts) : Type 0 where
+pub record StillRuns (events : List Event) (number : ℕ) (setup : SetupValue) (run : Run Talk) (now : RunValue) : Type 0 where
   pub stands_as : Run Talk
   pub stands : StandsAs setup stands_as now
   pub same : goes_through by_themselves setup 0 events run
       ≡ goes_through by_themselves setup number (drop number events) stands_as
 
-pub ends_clean : (run : Run Talk) (setup : SetupValue) (r : RunParts) → StandsAs setup run r → EndsAs setup run Clean r
+pub ends_clean : (run : Run Talk) (setup : SetupValue) (r : RunValue) → StandsAs setup run r → EndsAs setup run Clean r
 ends_clean run setup r stands = record {
   past = stands.past;
   caller = ap (λ (h : Hearer (LineEnd Talk)). h.end) stands.caller;
@@ -509,7 +509,7 @@ ends_clean run setup r stands = record {
   held = clean_holds run r stands.caller stands.called stands.steady;
 }
 
-pub runs_on : (events : List Event) (number : ℕ) (event : Event) (setup : SetupValue) (run : Run Talk) (old new : RunParts)
+pub runs_on : (events : List Event) (number : ℕ) (event : Event) (setup : SetupValue) (run : Run Talk) (old new : RunValue)
     → drop number events ≡ event ∷ drop (number + 1) events → StillRuns events number setup run old → Happens event true old new
     → StillRuns events (number + 1) setup run new
 runs_on events number event setup run old new next still happens =
@@ -524,7 +524,7 @@ runs_on events number event setup run old new next still happens =
           ∙ ap (λ (n : ℕ). goes_through by_themselves setup n (drop (number + 1) events) (after_event by_themselves setup number event before)) one_more;
     }
 
-pub runs_to_fooled : (events : List Event) (number : ℕ) (event : Event) (setup : SetupValue) (run : Run Talk) (old new : RunParts)
+pub runs_to_fooled : (events : List Event) (number : ℕ) (event : Event) (setup : SetupValue) (run : Run Talk) (old new : RunValue)
     → drop number events ≡ event ∷ drop (number + 1) events → StillRuns events number setup run old → Happens event false old new
     → EndsAs setup (goes_through by_themselves setup 0 events run) (Fooled number (hearing_side event)) new
 runs_to_fooled events number event setup run old new next still happens =
@@ -537,7 +537,7 @@ runs_to_fooled events number event setup run old new next still happens =
     ∙ goes_on_clean number (drop (number + 1) events) setup before event still.stands.clean
     ∙ stays_fooled (suc number) number (hearing_side event) (drop (number + 1) events) setup after ends.verdict_is)) ends
 
-pub runs_to_end : (events : List Event) (number : ℕ) (setup : SetupValue) (run : Run Talk) (now : RunParts)
+pub runs_to_end : (events : List Event) (number : ℕ) (setup : SetupValue) (run : Run Talk) (now : RunValue)
     → drop number events ≡ [] → StillRuns events number setup run now → EndsAs setup (goes_through by_themselves setup 0 events run) Clean now
 runs_to_end events number setup run now none still =
     subst (λ (r : Run Talk). EndsAs setup r Clean now)
@@ -546,7 +546,7 @@ runs_to_end events number setup run now none still =
 
 -- ---- what is told
 
-pub told_as : (setup : SetupValue) (run : Run Talk) (verdict : LineVerdict) (r : RunParts) → EndsAs setup run verdict r
+pub told_as : (setup : SetupValue) (run : Run Talk) (verdict : LineVerdict) (r : RunValue) → EndsAs setup run verdict r
     → spelled (report_of by_themselves setup run) ≡ told_in_all r verdict
 unfolding owned_by_talk
 told_as setup run verdict r ends =
@@ -589,17 +589,17 @@ told_as setup run verdict r ends =
     ap by_sessions sessions ∙ ap by_caller ends.caller ∙ ap by_called ends.called ∙ ap by_verdict ends.verdict_is
 
 -- a run that ends so is what the two ends do, and what the world tells
-pub told_by_ends : (setup : SetupValue) (events : List Event) (verdict : LineVerdict) (r : RunParts)
+pub told_by_ends : (setup : SetupValue) (events : List Event) (verdict : LineVerdict) (r : RunValue)
     → EndsAs setup (run_of_ends setup events) verdict r → told_in_all r verdict ≡ spelled (report_of_ends setup events)
 told_by_ends setup events verdict r ends = sym (told_as setup (run_of_ends setup events) verdict r ends)
 
-pub told_by_world : (setup : SetupValue) (events : List Event) (verdict : LineVerdict) (r : RunParts)
+pub told_by_world : (setup : SetupValue) (events : List Event) (verdict : LineVerdict) (r : RunValue)
     → EndsAs setup (run_of_ends setup events) verdict r → report_of_ends setup events ≡ report_of_world setup events
     → told_in_all r verdict ≡ spelled (report_of_world setup events)
 told_by_world setup events verdict r ends same = told_by_ends setup events verdict r ends ∙ ap spelled same
 
 -- the spools give and accept what they did at first
-pub give_as_set_up : (setup : SetupValue) (run : Run Talk) (verdict : LineVerdict) (r : RunParts) → EndsAs setup run verdict r
+pub give_as_set_up : (setup : SetupValue) (run : Run Talk) (verdict : LineVerdict) (r : RunValue) → EndsAs setup run verdict r
     → GiveAsSetUp setup (whole_report r verdict).spools
 give_as_set_up setup run verdict r ends Caller = ap (λ (s : Standing). s.holdings) ends.caller_standing
 give_as_set_up setup run verdict r ends Called = ap (λ (s : Standing). s.holdings) ends.called_standing
@@ -607,7 +607,7 @@ give_as_set_up setup run verdict r ends Called = ap (λ (s : Standing). s.holdin
 -- ---- the first session
 
 -- of ends that are set up so
-pub starts_as : (setup : SetupValue) (caller_spool called_spool : MemoryHoldings) (r : RunParts) → r.past ≡ []
+pub starts_as : (setup : SetupValue) (caller_spool called_spool : MemoryHoldings) (r : RunValue) → r.past ≡ []
     → setup.at_caller.holdings ≡ holdings_of caller_spool → setup.at_called.holdings ≡ holdings_of called_spool
     → setup.at_caller.belongings.kept ≡ caller_spool.stored → setup.at_called.belongings.kept ≡ called_spool.stored
     → HasBegun (standing_at setup Caller).identity (standing_at setup Caller).own setup.at_caller.belongings.number (renewed setup.at_caller.belongings).lists caller_spool r.caller
@@ -654,12 +654,12 @@ one_more_shown {A} past all caller called a b is first next =
     ∙ ap (λ (x : SpelledEnd). map shown past ++ record { at_caller = x; at_called = end_shown called } ∷ []) first
     ∙ ap (λ (x : SpelledEnd). map shown past ++ record { at_caller = a; at_called = x } ∷ []) next
 
-pub runs_from_start : (events : List Event) (setup : SetupValue) (run : Run Talk) (r : RunParts) → StandsAs setup run r
+pub runs_from_start : (events : List Event) (setup : SetupValue) (run : Run Talk) (r : RunValue) → StandsAs setup run r
     → StillRuns events 0 setup run r
 runs_from_start events setup run r stands = record { stands_as = run; stands = stands; same = refl }
 
 -- the event of this number happened
-pub next_runs : (events : List Event) (number : ℕ) (d : Event) (all_sent : Bool) (old new : RunParts) → number < length events → all_sent ≡ true
+pub next_runs : (events : List Event) (number : ℕ) (d : Event) (all_sent : Bool) (old new : RunValue) → number < length events → all_sent ≡ true
     → Happens (get_or events number d) all_sent old new
     → IsSteady old → (steady : IsSteady new)
     × ((setup : SetupValue) (run : Run Talk) → StillRuns events number setup run old → StillRuns events (number + 1) setup run new)
@@ -668,7 +668,7 @@ next_runs events number d all_sent old new within all happens steady =
     let clean = subst (λ (b : Bool). Happens event b old new) all happens in
     (happens_steady event old new steady clean, λ setup run still. runs_on events number event setup run old new (drop_more events number d within) still clean)
 
-pub next_fools : (events : List Event) (number : ℕ) (d : Event) (all_sent : Bool) (side : Side) (old new : RunParts) → number < length events
+pub next_fools : (events : List Event) (number : ℕ) (d : Event) (all_sent : Bool) (side : Side) (old new : RunValue) → number < length events
     → all_sent ≡ false → side ≡ hearing_side (get_or events number d) → Happens (get_or events number d) all_sent old new
     → (setup : SetupValue) (run : Run Talk) → StillRuns events number setup run old
     → EndsAs setup (goes_through by_themselves setup 0 events run) (Fooled number side) new
@@ -684,7 +684,7 @@ none_left events number past = drop_all number events past
 -- ---- the ends as they are set up
 
 pub begun_as : (side : SessionSide) (me peer my_name other_name : List ℕ) (own announced_so : Announced) (number set_up : Option ℕ)
-    (l : Lists) (spool : MemoryHoldings) (new : Parts)
+    (l : Lists) (spool : MemoryHoldings) (new : LiveEndValue)
     → me ≡ my_name → peer ≡ other_name → own ≡ announced_so → number ≡ set_up
     → HasBegun (record { side = side; me = me; peer = peer }) own number l spool new
     → HasBegun (record { side = side; me = my_name; peer = other_name }) announced_so set_up l spool new

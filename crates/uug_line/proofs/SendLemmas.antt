@@ -5,17 +5,17 @@ use Rattle.uug_link.specs.declared.phase.Phase.TheVariants as phases
 use Rattle.uug_link.specs.State.{State, IsUp, is_halted}
 use Rattle.uug_link.specs.Step.{Effect, Emission, answers_halted, on_send, to_send, step}
 use Rattle.uug_packet.specs.Packet.{PacketValue}
-use Rattle.uug_session.specs.Count.{Count, count_keeper}
+use Rattle.uug_conversation.specs.Count.{Count, count_keeper}
 use Rattle.uug_session.specs.EndStep.{Sending, has_room, in_front, is_up, packets, sending_nothing, sends_by, sends_next, sends_up_to}
-use Rattle.uug_session.specs.Holdings.{Holdings}
-use Rattle.uug_session.specs.Keeper.{Keeper}
-use Rattle.uug_session.specs.Talk.{Talk, end_keeper}
-use Rattle.uug_session.specs.Turns.{Side}
-use Rattle.uug_session.specs.View.{Seen}
+use Rattle.uug_conversation.specs.Holdings.{Holdings}
+use Rattle.uug_conversation.specs.Keeper.{Keeper}
+use Rattle.uug_conversation.specs.Talk.{Talk, end_keeper}
+use Rattle.uug_conversation.specs.Turns.{Side}
+use Rattle.uug_conversation.specs.View.{Seen}
 use Rattle.uug_line.specs.LineEnd.{messages_sent}
 use Rattle.uug_line.proofs.Invariant.{IsInvariant, SendsAlike, counted_sending, moved, sent_all}
 use Rattle.uug_line.proofs.Joining.{Moment}
-use Rattle.uug_line.specs.LowerLaws.{Laws}
+use Rattle.uug_line.specs.Code.LowerLaws.{Laws}
 use Rattle.uug_line.proofs.MomentLemmas.{count, emits, emits_more_packets, emits_nothing, length_sent}
 
 -- ---- a link that is up

@@ -2,14 +2,14 @@
 use Rattle.std.proofs.Common.{◌≡◌, inl, inr, ℕ, ◌≤◌, true, List, ◌++◌, length, refl, sym, ap, subst, ◌∙◌, arith, Option}
 use Rattle.uug_link.specs.declared.phase.Phase.TheVariants as phases
 use Rattle.uug_link.specs.TwoLinks.{IsFrontOf}
-use Rattle.uug_session.specs.EarlierJobs.{behind}
+use Rattle.uug_conversation.specs.EarlierJobs.{behind}
 use Rattle.uug_session.specs.EndStep.{first_link}
-use Rattle.uug_session.specs.Holdings.{Kept}
-use Rattle.uug_session.specs.Jobs.{Lists}
-use Rattle.uug_session.specs.Talk.{Talk, end_keeper}
-use Rattle.uug_session.specs.Turns.{caller, called}
+use Rattle.uug_conversation.specs.Holdings.{Kept}
+use Rattle.uug_conversation.specs.Jobs.{Lists}
+use Rattle.uug_conversation.specs.Talk.{Talk, end_keeper}
+use Rattle.uug_conversation.specs.Turns.{caller, called}
 use Rattle.uug_session.specs.TwoEnds.{Talker, at_first, first_two}
-use Rattle.uug_session.specs.View.{floor, kept_after, lists_after}
+use Rattle.uug_conversation.specs.View.{floor, kept_after, lists_after}
 use Rattle.uug_line.specs.declared.side.Side.{Side}
 use Rattle.uug_line.specs.declared.side.Side.TheVariants.{Caller, Called}
 use Rattle.uug_line.specs.Belongings.{Belongings, SetupValue, identity, party}
@@ -22,7 +22,7 @@ use Rattle.uug_line.proofs.Joining.{EndsJoined, IsSoundSession, IsTalk, Joined, 
 use Rattle.uug_line.proofs.LinkLemmas.{links_run, not_up}
 use Rattle.uug_line.proofs.SpeakingLemmas.{spoken_at_first}
 use Rattle.uug_line.proofs.LinkRunLemmas.{ran_from_far, ran_nowhere}
-use Rattle.uug_line.specs.LowerLaws.{Laws}
+use Rattle.uug_line.specs.Code.LowerLaws.{Laws}
 use Rattle.uug_line.proofs.TalkLemmas.{IsToldAt, seen_at, talk_at, talker_at, told_at}
 
 module _ (law : Laws) (setup : SetupValue) (brought : AtBoth Belongings) where

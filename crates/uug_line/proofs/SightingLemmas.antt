@@ -5,10 +5,10 @@ use Rattle.std.proofs.lemmas.List.{length-map}
 use Rattle.std.proofs.lemmas.Option.{slice_get-map, slice_get_read, slice_get_within}
 use Rattle.std.specs.Option.{option_map}
 use Rattle.uug_packet.specs.WellFormed.{IsWritten}
-use Rattle.uug_line.specs.Jottings.{packet_in}
+use Rattle.uug_line.specs.JournalValue.{packet_in}
 use Rattle.uug_line.specs.Live.{AreWritten}
 use Rattle.uug_line.specs.Shown.{lists_in}
-use Rattle.uug_line.specs.Sightings.{StandsNowhere}
+use Rattle.uug_line.specs.Code.Sightings.{StandsNowhere}
 
 -- what is read at a place is what stands there
 reads_there : {A : Type 0} (others : List (Vec ℕ A)) (i : ℕ) (v : Vec ℕ A) → i < length others → v ≡ get_or others i v

@@ -5,15 +5,15 @@ use Rattle.uug_link.specs.State.{State, IsUp}
 use Rattle.uug_link.specs.Step.{Effect, Emission, to_close, step}
 use Rattle.uug_packet.specs.Packet.{PacketValue}
 use Rattle.uug_session.specs.declared.end.End.{End}
-use Rattle.uug_session.specs.Count.{Count, count_keeper}
+use Rattle.uug_conversation.specs.Count.{Count, count_keeper}
 use Rattle.uug_session.specs.EndStep.{Identity, Sending, Stage, hailing, linked, ended, closes_by, ends_so, goes_on, goes_on_with, how_it_ends, is_up, packets, sending_nothing, sends, speaks_and_closes, speaks_by}
-use Rattle.uug_session.specs.Holdings.{Holdings}
-use Rattle.uug_session.specs.Talk.{Talk, end_keeper}
-use Rattle.uug_session.specs.Turns.{Side}
-use Rattle.uug_session.specs.View.{Seen}
+use Rattle.uug_conversation.specs.Holdings.{Holdings}
+use Rattle.uug_conversation.specs.Talk.{Talk, end_keeper}
+use Rattle.uug_conversation.specs.Turns.{Side}
+use Rattle.uug_conversation.specs.View.{Seen}
 use Rattle.uug_line.proofs.Invariant.{DoesAlike, HailsFresh, IsInvariant, SendsAlike, counted_effect, counted_sending, done_all, moved, sent_all}
 use Rattle.uug_line.proofs.Joining.{Moment}
-use Rattle.uug_line.specs.LowerLaws.{Laws}
+use Rattle.uug_line.specs.Code.LowerLaws.{Laws}
 use Rattle.uug_line.proofs.MomentLemmas.{count, count_silent, emits, emits_and_leaves, emits_more_packets, none_sent}
 use Rattle.uug_line.proofs.SendLemmas.{nothing_alike, sends_alike, sends_stays_up, up_by}
 

@@ -6,7 +6,7 @@ use Rattle.uug_link.specs.declared.phase.Phase.{Phase}
 use Rattle.uug_link.specs.declared.phase.Phase.TheVariants.{Fresh, AwaitsInitA, AwaitsInitB, AwaitsInitC, Up, Closing, Halted}
 use Rattle.uug_link.specs.State.{State, IsUp}
 use Rattle.uug_session.specs.EndStep.{EndEvent, EndState, Identity, Stage, begins_session, ended, end_step, hailing, is_up, linked}
-use Rattle.uug_session.specs.Keeper.{Keeper}
+use Rattle.uug_conversation.specs.Keeper.{Keeper}
 use Rattle.uug_session.specs.Sending.{SaidAt}
 use Rattle.uug_session.proofs.OverLemmas.{begins_open, stays_open}
 use Rattle.uug_session.proofs.RoomLemmas.{begins_so, down_has_no_room, stays_said}

@@ -13,16 +13,16 @@ use Rattle.uug_packet.specs.Spelling.{canonical}
 use Rattle.uug_packet.specs.WellFormed.{IsWellFormed}
 use Rattle.uug_session.specs.EndStep.{Emitted, says_text, sends_packet, EndEffect, EndEvent, EndState, Identity, end_step}
 use Rattle.uug_session.specs.Engine.{Does, EngineState, end_of, entry_of}
-use Rattle.uug_session.specs.Holdings.{Holdings}
+use Rattle.uug_conversation.specs.Holdings.{Holdings}
 use Rattle.uug_session.specs.InRange.{CanBeWritten, IsEndInRange, MayFind}
-use Rattle.uug_session.specs.MemoryHoldings.{MemoryHoldings, holdings_of}
+use Rattle.uug_conversation.specs.MemoryHoldings.{MemoryHoldings, holdings_of}
 use Rattle.uug_session.specs.Says.{written_text}
-use Rattle.uug_session.specs.Talk.{Talk}
-use Rattle.uug_session.specs.Turns.{Side}
-use Rattle.uug_line.specs.Jottings.{Jottings, if_first, log_of, messages_said, packet_in, packet_read, packets_said, saying, with_most}
-use Rattle.uug_line.specs.LineLaws.{ReadsWritten, StaysInRange}
+use Rattle.uug_conversation.specs.Talk.{Talk}
+use Rattle.uug_conversation.specs.Turns.{Side}
+use Rattle.uug_line.specs.JournalValue.{JournalValue, if_first, log_of, messages_said, packet_in, packet_read, packets_said, saying, with_most}
+use Rattle.uug_line.specs.Code.LineLaws.{ReadsWritten, StaysInRange}
 use Rattle.uug_line.specs.LineEnd.{LineEnd, Log, after_call, bytes_in, emitting, messages_sent, packets_in, sent_by}
-use Rattle.uug_line.specs.Live.{AreWritten, IsNoted, IsOrdered, Parts, Standing, line_end_of, player_of, standing_of, state_of}
+use Rattle.uug_line.specs.Live.{AreWritten, IsNoted, IsOrdered, LiveEndValue, Standing, line_end_of, player_of, standing_of, state_of}
 
 -- ---- the bytes
 
@@ -79,7 +79,7 @@ messages_back reads (sends_packet e ∷ es) well =
 -- ---- a call
 
 -- what is noted of a call that emitted this
-pub noted : ReadsWritten → (es : List Emitted) (entries : List EntryValue) (unacked : ℕ) (before after : Jottings)
+pub noted : ReadsWritten → (es : List Emitted) (entries : List EntryValue) (unacked : ℕ) (before after : JournalValue)
     → AllByRecursion CanBeWritten es → entries ≡ map entry_of es → after ≡ with_most unacked (saying entries before)
     → log_of after ≡ emitting es unacked (log_of before)
 noted reads es entries unacked before after well are noted_so =
@@ -106,25 +106,25 @@ noted reads es entries unacked before after well are noted_so =
     ∙ ap (λ (ps : List PacketValue). map packet_in before.packets ++ ps)
     (ap (λ (bs : List (List ℕ)). map packet_in bs) (packets_spelled es) ∙ packets_back reads es well))
 
-pub noted_well : ReadsWritten → (es : List Emitted) (entries : List EntryValue) (unacked : ℕ) (before after : Jottings)
+pub noted_well : ReadsWritten → (es : List Emitted) (entries : List EntryValue) (unacked : ℕ) (before after : JournalValue)
     → AllByRecursion CanBeWritten es → entries ≡ map entry_of es → after ≡ with_most unacked (saying entries before)
     → AreWritten before.packets → AreWritten after.packets
 noted_well reads es entries unacked before after well are noted_so written =
     subst AreWritten
-    (ap (λ (bs : List (List ℕ)). before.packets ++ bs) (sym (packets_spelled es) ∙ ap packets_said (sym are)) ∙ ap (λ (j : Jottings). j.packets) (sym noted_so))
+    (ap (λ (bs : List (List ℕ)). before.packets ++ bs) (sym (packets_spelled es) ∙ ap packets_said (sym are)) ∙ ap (λ (j : JournalValue). j.packets) (sym noted_so))
     (all_written before.packets (map canonical (packets_in es)) written (written_packets reads es well))
 
 -- the call did this to the end, of which was noted already what was found
-pub record Calls (effect : EndEffect Talk) (old called new : Parts) : Type 0 where
-  pub end : line_end_of new ≡ after_call (log_of called.jottings) called.line effect
+pub record Calls (effect : EndEffect Talk) (old called new : LiveEndValue) : Type 0 where
+  pub end : line_end_of new ≡ after_call (log_of called.journal) called.line effect
   pub standing : standing_of new ≡ standing_of old
   pub ordered : IsOrdered new
 
-pub does_so : ReadsWritten → (e : EndEffect Talk) (old called new : Parts)
+pub does_so : ReadsWritten → (e : EndEffect Talk) (old called new : LiveEndValue)
     → old.node.engine.outbox.entries ≡ [] → AllByRecursion CanBeWritten e.emitted
     → Does e (state_of called) old.node.engine called.node.engine → IsNoted called new
     → IsEndInRange old.node.engine.identity.side e.state → IsAnnouncement old.node.engine.own
-    → AreWritten called.jottings.packets → holdings_of called.spool ≡ holdings_of old.spool
+    → AreWritten called.journal.packets → holdings_of called.spool ≡ holdings_of old.spool
     → Calls e old called new
 does_so reads e old called new cleared writable does noted_so in_range own written holdings =
     let entries : called.node.engine.outbox.entries ≡ map entry_of e.emitted =
@@ -138,19 +138,19 @@ does_so reads e old called new cleared writable does noted_so in_range own writt
     let identity : new.node.engine.identity ≡ old.node.engine.identity =
     ap (λ (x : EngineState). x.identity) noted_so.engine ∙ does.identity in
     let announced : new.node.engine.own ≡ old.node.engine.own = ap (λ (x : EngineState). x.own) noted_so.engine ∙ does.own in
-    let log : log_of new.jottings ≡ emitting e.emitted (length e.state.link.unacked) (log_of called.jottings) =
-    noted reads e.emitted called.node.engine.outbox.entries (length called.node.engine.link.unacked) called.jottings new.jottings writable entries noted_so.jottings
-    ∙ ap (λ (n : ℕ). emitting e.emitted n (log_of called.jottings)) unacked in
+    let log : log_of new.journal ≡ emitting e.emitted (length e.state.link.unacked) (log_of called.journal) =
+    noted reads e.emitted called.node.engine.outbox.entries (length called.node.engine.link.unacked) called.journal new.journal writable entries noted_so.journal
+    ∙ ap (λ (n : ℕ). emitting e.emitted n (log_of called.journal)) unacked in
     let line : new.line ≡ called.line ++ bytes_in e.emitted =
     noted_so.line ∙ ap (λ (x : List EntryValue). called.line ++ joined x) entries ∙ ap (λ (x : List ℕ). called.line ++ x) (bytes_joined e.emitted) in
-    let by_state : EndState Talk → LineEnd Talk = λ x. record { state = x; log = log_of new.jottings; line = new.line } in
+    let by_state : EndState Talk → LineEnd Talk = λ x. record { state = x; log = log_of new.journal; line = new.line } in
     let by_log : Log → LineEnd Talk = λ x. record { state = e.state; log = x; line = new.line } in
     let by_line : List ℕ → LineEnd Talk =
-    λ x. record { state = e.state; log = emitting e.emitted (length e.state.link.unacked) (log_of called.jottings); line = x } in
+    λ x. record { state = e.state; log = emitting e.emitted (length e.state.link.unacked) (log_of called.journal); line = x } in
     let by_identity : Identity → Standing = λ x. record { identity = x; own = new.node.engine.own; holdings = holdings_of new.spool } in
     let by_own : Announced → Standing = λ x. record { identity = old.node.engine.identity; own = x; holdings = holdings_of new.spool } in
     let by_holdings : Holdings → Standing = λ x. record { identity = old.node.engine.identity; own = old.node.engine.own; holdings = x } in
-    let most : new.jottings.most ≡ max called.jottings.most (length called.node.engine.link.unacked) = ap (λ (j : Jottings). j.most) noted_so.jottings in
+    let most : new.journal.most ≡ max called.journal.most (length called.node.engine.link.unacked) = ap (λ (j : JournalValue). j.most) noted_so.journal in
     let left : length new.node.engine.link.unacked ≡ length called.node.engine.link.unacked = ap (λ (s : State). length s.unacked) link ∙ sym unacked in
     record {
       end = ap by_state state ∙ ap by_log log ∙ ap by_line line;
@@ -160,16 +160,16 @@ does_so reads e old called new cleared writable does noted_so in_range own writt
         in_range = subst (λ (s : Side). IsEndInRange s (state_of new)) (sym (ap (λ (id : Identity). id.side) identity))
             (subst (IsEndInRange old.node.engine.identity.side) (sym state) in_range);
         own = subst IsAnnouncement (sym announced) own;
-        written = noted_well reads e.emitted called.node.engine.outbox.entries (length called.node.engine.link.unacked) called.jottings new.jottings
-            writable entries noted_so.jottings written;
+        written = noted_well reads e.emitted called.node.engine.outbox.entries (length called.node.engine.link.unacked) called.journal new.journal
+            writable entries noted_so.journal written;
         most = omega (arith, most, left);
       };
     }
 
 -- the end's step
-pub steps_so : ReadsWritten → StaysInRange → (event : EndEvent) (old called new : Parts) → IsOrdered old → MayFind event
+pub steps_so : ReadsWritten → StaysInRange → (event : EndEvent) (old called new : LiveEndValue) → IsOrdered old → MayFind event
     → Does (end_step (player_of old).keeper (player_of old).identity event (state_of old)) (state_of called) old.node.engine called.node.engine
-    → IsNoted called new → AreWritten called.jottings.packets → holdings_of called.spool ≡ holdings_of old.spool
+    → IsNoted called new → AreWritten called.journal.packets → holdings_of called.spool ≡ holdings_of old.spool
     → Calls (end_step (player_of old).keeper (player_of old).identity event (state_of old)) old called new
 steps_so reads in_range event old called new ordered may does noted_so written holdings =
     let id = old.node.engine.identity in

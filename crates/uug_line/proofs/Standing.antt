@@ -7,11 +7,11 @@ use Rattle.uug_link.specs.State.{State, caller_state, called_state}
 use Rattle.uug_link.specs.TwoLinks.{End, Ends}
 use Rattle.uug_link.specs.WindowMachine.{Machine}
 use Rattle.uug_session.specs.Arriving.{held_in, Hearer, Came, all_taken, stopped, takes_piece}
-use Rattle.uug_session.specs.Count.{Count}
+use Rattle.uug_conversation.specs.Count.{Count}
 use Rattle.uug_session.specs.EndStep.{EndEvent, time_ran_out, line_lost}
-use Rattle.uug_session.specs.Jobs.{at_start, pending}
-use Rattle.uug_session.specs.Party.{IsSound}
-use Rattle.uug_session.specs.Talk.{Talk}
+use Rattle.uug_conversation.specs.Jobs.{at_start, pending}
+use Rattle.uug_conversation.specs.Party.{IsSound}
+use Rattle.uug_conversation.specs.Talk.{Talk}
 use Rattle.uug_line.specs.declared.event.Event.{Event}
 use Rattle.uug_line.specs.declared.event.Event.TheVariants.{Pass, Drop, Flip, Insert, Timeout, HangUp, Call}
 use Rattle.uug_line.specs.declared.side.Side.{Side}
@@ -33,7 +33,7 @@ use Rattle.uug_line.specs.World.{report_of, counted_hearer, counted, run_of_ends
 use Rattle.uug_line.proofs.Hearing.{counted_came, end_of, taken_piece}
 use Rattle.uug_line.proofs.Joining.{EndsJoined, HasPassed, IsSoundSession, LinksOf, link_end, moment_of}
 use Rattle.uug_line.proofs.MachineLemmas.{stands_behind, stands_first}
-use Rattle.uug_line.specs.SessionLaws.{SessionLaws}
+use Rattle.uug_line.specs.Code.SessionLaws.{SessionLaws}
 use Rattle.uug_line.specs.MachineRun.{PresentRanAsMachine, RanAsMachine, SomeLinksRan, first_links, first_machine, link_end as told_end, link_ends}
 use Rattle.uug_line.specs.Told.{EndReportValue}
 use Rattle.uug_line.proofs.Steps.{talk_player, count_player, IsNoPacket, Steps}

@@ -8,17 +8,17 @@ use Rattle.uug_session.specs.declared.end.End.TheVariants as ends
 use Rattle.uug_session.specs.declared.greeting.Greeted.{Greeted}
 use Rattle.uug_session.specs.declared.greeting.Greeted.TheVariants.{GoesOn, LinkBegins, Ended}
 use Rattle.uug_session.specs.declared.greeting.Greeting.{Greeting}
-use Rattle.uug_session.specs.Count.{Count, count_keeper}
+use Rattle.uug_conversation.specs.Count.{Count, count_keeper}
 use Rattle.uug_session.specs.EndStep.{EndEffect, EndEvent, text_found, long_text_found, packet_found_whole, broken_found, time_ran_out, line_lost, says_text, EndState, Identity, Stage, hailing, linked, ended, behind_greeting, begins_link, first_link, greeted_so, hailing_step, how_it_ends, linked_step, packets, stage_step, unmoved}
 use Rattle.uug_session.specs.Greeting.{GreetingStep, long_text_came, number_by, text_came, timed_out}
-use Rattle.uug_session.specs.Holdings.{Holdings}
-use Rattle.uug_session.specs.Talk.{end_keeper}
-use Rattle.uug_session.specs.Turns.{Side, caller, called}
-use Rattle.uug_session.specs.View.{Seen}
+use Rattle.uug_conversation.specs.Holdings.{Holdings}
+use Rattle.uug_conversation.specs.Talk.{end_keeper}
+use Rattle.uug_conversation.specs.Turns.{Side, caller, called}
+use Rattle.uug_conversation.specs.View.{Seen}
 use Rattle.uug_line.proofs.AnswerLemmas.{Heard, bad_alike, late_alike, packet_alike, quiet_count}
 use Rattle.uug_line.proofs.Invariant.{DoesAlike, HailsFresh, IsInvariant, moved}
 use Rattle.uug_line.proofs.Joining.{Moment}
-use Rattle.uug_line.specs.LowerLaws.{Laws}
+use Rattle.uug_line.specs.Code.LowerLaws.{Laws}
 use Rattle.uug_line.proofs.MomentLemmas.{count, emits, emits_nothing, emits_texts, emits_texts_first}
 use Rattle.uug_line.proofs.SpeakLemmas.{ended_hails_not, linked_hails_not}
 use Rattle.uug_line.proofs.Steps.{IsNoPacket}

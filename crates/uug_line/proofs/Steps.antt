@@ -4,11 +4,11 @@ use Rattle.std.proofs.Common.{◌≡◌, ℕ, ◌≤◌, length, Some}
 use Rattle.std.specs.Bool.{⊤}
 use Rattle.uug_link.specs.Arrivals.{place_of}
 use Rattle.uug_packet.specs.Packet.{PacketValue}
-use Rattle.uug_session.specs.Count.{Count, count_keeper}
+use Rattle.uug_conversation.specs.Count.{Count, count_keeper}
 use Rattle.uug_session.specs.EndStep.{EndEvent, linked, packet_found_whole}
-use Rattle.uug_session.specs.Talk.{Talk, end_keeper}
+use Rattle.uug_conversation.specs.Talk.{Talk, end_keeper}
 use Rattle.uug_link.specs.TwoLinks.{IsFrontOf}
-use Rattle.uug_session.specs.View.{floor}
+use Rattle.uug_conversation.specs.View.{floor}
 use Rattle.uug_line.specs.declared.side.Side.{Side}
 use Rattle.uug_line.specs.declared.side.Side.TheVariants.{Caller, Called}
 use Rattle.uug_line.specs.Belongings.{Belongings, SetupValue, identity}

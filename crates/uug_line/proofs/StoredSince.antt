@@ -3,14 +3,14 @@
 use Rattle.std.proofs.Common.{◌≡◌, inl, inr, ℕ, ◌≤◌, Bool, true, false, List, [], ◌++◌, length, drop, All, refl, sym, ap, subst, ◌∙◌, append_assoc, append-nil, arith, Option}
 use Rattle.std.proofs.lemmas.List.{length-append}
 use Rattle.std.proofs.Math.Seq.{drop-append_seam}
-use Rattle.uug_session.specs.declared.job.Job.{Job}
-use Rattle.uug_session.specs.Holdings.{Kept, Holdings}
-use Rattle.uug_session.specs.Jobs.{pending}
-use Rattle.uug_session.specs.OwnEntries.{OwnEntries, none, HasOwnEntries}
-use Rattle.uug_session.specs.Party.{Party, HasNames}
-use Rattle.uug_session.specs.Talk.{Talk}
+use Rattle.uug_conversation.specs.declared.job.Job.{Job}
+use Rattle.uug_conversation.specs.Holdings.{Kept, Holdings}
+use Rattle.uug_conversation.specs.Jobs.{pending}
+use Rattle.uug_conversation.specs.OwnEntries.{OwnEntries, none, HasOwnEntries}
+use Rattle.uug_conversation.specs.Party.{Party, HasNames}
+use Rattle.uug_conversation.specs.Talk.{Talk}
 use Rattle.uug_session.specs.TwoEnds.{talker}
-use Rattle.uug_session.specs.View.{floor, kept_after, lists_after}
+use Rattle.uug_conversation.specs.View.{floor, kept_after, lists_after}
 use Rattle.uug_line.specs.declared.side.Side.{Side}
 use Rattle.uug_line.specs.declared.side.Side.TheVariants.{Caller, Called}
 use Rattle.uug_line.specs.Belongings.{Belongings, SetupValue, party, renewed}
@@ -20,7 +20,7 @@ use Rattle.uug_line.specs.Run.{parties}
 use Rattle.uug_line.specs.RunKeeper.{by_themselves, has_by, view_at}
 use Rattle.uug_line.specs.Sides.{other, session_side, AtBoth, at, at_each}
 use Rattle.uug_line.proofs.Joining.{IsTalk, EndsJoined}
-use Rattle.uug_line.specs.SessionLaws.{SessionLaws}
+use Rattle.uug_line.specs.Code.SessionLaws.{SessionLaws}
 use Rattle.uug_line.proofs.Steps.{Steps}
 
 -- ---- in a session of these parties

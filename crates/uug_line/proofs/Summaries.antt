@@ -2,9 +2,9 @@
 use Rattle.std.proofs.Common.{◌≡◌, ℕ, ◌==◌, Bool, true, false, ◌&&◌, List, [], ◌∷◌, length, map}
 use Rattle.uug_link.specs.Arrivals.{same_message, same_packet}
 use Rattle.uug_session.specs.Arriving.{Hearer}
-use Rattle.uug_session.specs.Count.{Count}
-use Rattle.uug_session.specs.Holdings.{Kept}
-use Rattle.uug_session.specs.Jobs.{pending}
+use Rattle.uug_conversation.specs.Count.{Count}
+use Rattle.uug_conversation.specs.Holdings.{Kept}
+use Rattle.uug_conversation.specs.Jobs.{pending}
 use Rattle.uug_line.specs.declared.event.Event.{Event}
 use Rattle.uug_line.specs.declared.verdict.LineVerdict.{LineVerdict}
 use Rattle.uug_line.specs.Belongings.{Belongings, SetupValue}

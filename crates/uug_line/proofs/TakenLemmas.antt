@@ -8,12 +8,12 @@ use Rattle.uug_packet.specs.Message.{message_if_data, message_in}
 use Rattle.uug_packet.specs.Packet.{PacketValue, control, carry}
 use Rattle.uug_packet.specs.Spelling.{canonical}
 use Rattle.uug_packet.specs.WellFormed.{IsWellFormed}
-use Rattle.uug_line.specs.Jottings.{Jottings, log_of, or_empty, packet_in, packet_jotted}
+use Rattle.uug_line.specs.JournalValue.{JournalValue, log_of, or_empty, packet_in, packet_noted}
 use Rattle.uug_line.specs.LineEnd.{Log, found_at, took}
 use Rattle.uug_line.specs.Live.{AreWritten}
-use Rattle.uug_line.specs.Sightings.{StandsAt, StandsNowhere}
+use Rattle.uug_line.specs.Code.Sightings.{StandsAt, StandsNowhere}
 use Rattle.uug_session.specs.EndStep.{message_of}
-use Rattle.uug_line.specs.LineLaws.{PlaceIs, ReadsWritten}
+use Rattle.uug_line.specs.Code.LineLaws.{PlaceIs, ReadsWritten}
 use Rattle.uug_line.proofs.SpokenLemmas.{packet_back}
 
 -- ---- places
@@ -70,8 +70,8 @@ message_is (carry seq ack k message) = refl
 message_back : ReadsWritten → (p : PacketValue) → IsWellFormed p → or_empty (message_in (canonical p)) ≡ message_of p
 message_back reads p well = ap or_empty (reads.message p well) ∙ message_is p
 
-pub packet_logged : ReadsWritten → (p : PacketValue) (bytes : List ℕ) (place : ℕ) (j : Jottings) (was_taken : Bool) → IsWellFormed p → bytes ≡ canonical p
-    → log_of (packet_jotted bytes place j was_taken) ≡ took was_taken (message_of p) (found_at place (log_of j))
+pub packet_logged : ReadsWritten → (p : PacketValue) (bytes : List ℕ) (place : ℕ) (j : JournalValue) (was_taken : Bool) → IsWellFormed p → bytes ≡ canonical p
+    → log_of (packet_noted bytes place j was_taken) ≡ took was_taken (message_of p) (found_at place (log_of j))
 packet_logged reads p bytes place j false well is = refl
 packet_logged reads p bytes place j true well is =
     let taking : List ℕ → Log = λ message. record (found_at place (log_of j)) { taken = j.taken ++ message ∷ [] } in

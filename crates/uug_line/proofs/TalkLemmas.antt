@@ -1,14 +1,14 @@
 -- The conversation of the two ends of a session, seen from a side of the line.
 use Rattle.std.proofs.Common.{◌≡◌, ◌≤◌, false, List, All, length, refl}
-use Rattle.uug_session.specs.declared.job.Job.{Job}
-use Rattle.uug_session.specs.Count.{count_keeper}
-use Rattle.uug_session.specs.Holdings.{Holdings, Kept}
-use Rattle.uug_session.specs.Party.{Party}
-use Rattle.uug_session.specs.Talk.{Talk, end_keeper}
+use Rattle.uug_conversation.specs.declared.job.Job.{Job}
+use Rattle.uug_conversation.specs.Count.{count_keeper}
+use Rattle.uug_conversation.specs.Holdings.{Holdings, Kept}
+use Rattle.uug_conversation.specs.Party.{Party}
+use Rattle.uug_conversation.specs.Talk.{Talk, end_keeper}
 use Rattle.uug_session.specs.Told.{count_of_talker, talk_behind}
 use Rattle.uug_session.specs.TwoEnds.{Act, IsTold, Permits, Reached, Talker, Two, after, after_act, talker, with_talker}
-use Rattle.uug_session.specs.Turns.{Side as SessionSide, caller, called}
-use Rattle.uug_session.specs.View.{Seen, conversation_view, own_messages, party as side_party}
+use Rattle.uug_conversation.specs.Turns.{Side as SessionSide, caller, called}
+use Rattle.uug_conversation.specs.View.{Seen, conversation_view, own_messages, party as side_party}
 use Rattle.uug_line.specs.declared.side.Side.{Side}
 use Rattle.uug_line.specs.declared.side.Side.TheVariants.{Caller, Called}
 use Rattle.uug_line.specs.Belongings.{Belongings, SetupValue, party}
@@ -16,7 +16,7 @@ use Rattle.uug_line.specs.Run.{parties}
 use Rattle.uug_line.specs.RunKeeper.{view_at}
 use Rattle.uug_line.specs.Sides.{AtBoth, at, other, session_side}
 use Rattle.uug_line.proofs.Joining.{IsSoundSession}
-use Rattle.uug_line.specs.LowerLaws.{Laws}
+use Rattle.uug_line.specs.Code.LowerLaws.{Laws}
 
 -- what an end keeps, and its numbers, say the same
 pub record Agrees (me : SessionSide) (h : Holdings) (v : List Seen) (talk : Talk) (t : Talker) : Type 0 where

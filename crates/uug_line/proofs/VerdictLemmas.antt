@@ -14,7 +14,7 @@ use Rattle.uug_session.specs.EndStep.{EndEvent, text_found, long_text_found, pac
 use Rattle.uug_packet.specs.Packet.{PacketValue}
 use Rattle.uug_session.specs.Finding.{FindingLaws, finds_nothing, finds_packet, finding}
 use Rattle.uug_session.specs.Greeting.{fails}
-use Rattle.uug_session.specs.Keeper.{Keeper}
+use Rattle.uug_conversation.specs.Keeper.{Keeper}
 use Rattle.uug_line.specs.declared.event.Event.{Event}
 use Rattle.uug_line.specs.declared.event.Event.TheVariants.{Pass, Drop, Flip, Insert, Timeout, HangUp, Call}
 use Rattle.uug_line.specs.declared.side.Side.{Side}

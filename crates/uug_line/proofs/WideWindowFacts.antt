@@ -1,13 +1,13 @@
 -- An end sends while there is room: with the widest window, worked out by hand, and computed with the two ends themselves and
 -- with two numbers an end.
-use Rattle.std.proofs.Common.{ℕ, List, [], ◌∷◌, replicate, codes, refl}
+use Rattle.std.proofs.Common.{false, ℕ, List, [], ◌∷◌, replicate, codes, refl}
 use Rattle.uug_link.specs.Terms.{smallest_code}
 use Rattle.uug_packet.specs.Checksum.{check}
 use Rattle.uug_packet.specs.Decoded.{header_at, decoded}
 use Rattle.uug_session.specs.declared.phase.Phase.TheVariants.{Ended, Talking}
 use Rattle.uug_session.specs.declared.end.End.TheVariants.{Done}
-use Rattle.uug_session.specs.MemoryHoldings.{MemoryHoldings, no_holdings}
-use Rattle.uug_session.specs.declared.job.Job.{Job}
+use Rattle.uug_conversation.specs.MemoryHoldings.{MemoryHoldings, no_holdings}
+use Rattle.uug_conversation.specs.declared.job.Job.{Job}
 use Rattle.uug_line.specs.declared.event.Event.TheVariants.{Pass}
 use Rattle.uug_line.specs.declared.side.Side.TheVariants.{Caller, Called}
 use Rattle.uug_line.specs.declared.verdict.LineVerdict.TheVariants.{Clean}
@@ -16,7 +16,7 @@ use Rattle.uug_line.proofs.FactSetups.{all, end_with, file, flow, flow_then, giv
 use Rattle.uug_line.proofs.Summaries.{InSession, Summary, ComeTo, at_ends, talks, owns}
 
 abbrev wide_end : (name : List ℕ) → List Job → MemoryHoldings → EndSetupValue
-wide_end name jobs spool = record (end_with name jobs spool) { own = record { window = 7; size_code = 0 } }
+wide_end name jobs spool = record (end_with name jobs spool) { own = record { window = 7; size_code = 0; quiet = false } }
 
 -- six messages of 32 bytes and one of a byte, and the empty one behind them
 abbrev long : List ℕ

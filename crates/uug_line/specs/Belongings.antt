@@ -3,9 +3,9 @@ use Rattle.std.specs.Prelude.{ℕ, List, Option}
 use Rattle.uug_link.specs.Announced.{Announced}
 use Rattle.uug_link.specs.Terms.{size_of_code}
 use Rattle.uug_session.specs.EndStep.{Identity}
-use Rattle.uug_session.specs.Holdings.{Kept, Holdings}
-use Rattle.uug_session.specs.Jobs.{Lists, at_start, pending}
-use Rattle.uug_session.specs.Party.{Party}
+use Rattle.uug_conversation.specs.Holdings.{Kept, Holdings}
+use Rattle.uug_conversation.specs.Jobs.{Lists, at_start, pending}
+use Rattle.uug_conversation.specs.Party.{Party}
 use Rattle.uug_line.specs.declared.side.Side.{Side}
 use Rattle.uug_line.specs.Sides.{other, session_side, AtBoth, at}
 

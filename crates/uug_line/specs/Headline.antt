@@ -2,9 +2,9 @@
 -- whichever way the report keeps packets (this project's profile).
 use Rattle.std.specs.Prelude.{◌≡◌, ◌≤◌, List, ◌++◌, length, drop, All}
 use Rattle.uug_link.specs.TwoLinks.{IsFrontOf}
-use Rattle.uug_session.specs.declared.job.Job.{Job}
-use Rattle.uug_session.specs.Holdings.{Kept}
-use Rattle.uug_session.specs.OwnEntries.{HasOwnEntries}
+use Rattle.uug_conversation.specs.declared.job.Job.{Job}
+use Rattle.uug_conversation.specs.Holdings.{Kept}
+use Rattle.uug_conversation.specs.OwnEntries.{HasOwnEntries}
 use Rattle.uug_line.specs.declared.side.Side.{Side}
 use Rattle.uug_line.specs.Belongings.{SetupValue}
 use Rattle.uug_line.specs.Sides.{other, AtBoth, at}

@@ -2,7 +2,7 @@
 use Rattle.std.specs.Prelude.{◌<◌, List, All, ⊤}
 use Rattle.uug_link.specs.declared.limits.TheConstants.{SIZE_CODES}
 use Rattle.uug_packet.specs.Bytes.{AreBytes}
-use Rattle.uug_session.specs.HeldBytes.{HoldsBytes}
+use Rattle.uug_conversation.specs.HeldBytes.{HoldsBytes}
 use Rattle.uug_line.specs.declared.event.Event.{Event}
 use Rattle.uug_line.specs.declared.event.Event.TheVariants.{Flip, Insert}
 use Rattle.uug_line.specs.declared.side.Side.{Side}

@@ -4,7 +4,7 @@ use Rattle.uug_line.specs.declared.event.Event.{Event}
 use Rattle.uug_line.specs.declared.side.Side.{Side}
 use Rattle.uug_line.specs.Belongings.{SetupValue}
 use Rattle.uug_line.specs.OfBytes.{AreOfTypes}
-use Rattle.uug_line.specs.RunParts.{EndsAs, RunParts}
+use Rattle.uug_line.specs.RunValue.{EndsAs, RunValue}
 use Rattle.uug_line.specs.Settle.{line_from}
 use Rattle.uug_line.specs.Sides.{at}
 use Rattle.uug_line.specs.Spelled.{GiveAsSetUp, spelled}
@@ -14,7 +14,7 @@ use Rattle.uug_line.specs.World.{report_of_world, run_of_ends, world}
 
 -- the report's ends are those of the program's run, which has ended as the two ends do
 pub record IsLeftBy (setup : SetupValue) (events : List Event) (report : WholeReport) : Type 0 where
-  pub parts : RunParts
+  pub parts : RunValue
   pub shown : whole_report parts report.told.verdict ≡ report
   pub ends : EndsAs setup (run_of_ends setup events) report.told.verdict parts
 

@@ -2,7 +2,7 @@
 use Rattle.std.specs.Prelude.{ℕ, suc, List, [], ◌∷◌, ◌++◌, take, drop, bit_xor}
 use Rattle.uug_session.specs.Arriving.{Hearer, Came, all_taken, stopped, takes_piece}
 use Rattle.uug_session.specs.EndStep.{EndEvent, time_ran_out, line_lost, begins_session}
-use Rattle.uug_session.specs.Party.{Party}
+use Rattle.uug_conversation.specs.Party.{Party}
 use Rattle.uug_line.specs.declared.event.Event.{Event}
 use Rattle.uug_line.specs.declared.event.Event.TheVariants.{Pass, Drop, Flip, Insert, Timeout, HangUp, Call}
 use Rattle.uug_line.specs.declared.side.Side.{Side}

@@ -2,12 +2,12 @@
 -- ends themselves, and over how many messages of the whole conversation each has sent and taken (this project's
 -- profile).
 use Rattle.std.specs.Prelude.{ℕ, Bool, true, false, List, ◌++◌, Option}
-use Rattle.uug_session.specs.Count.{Count, nothing_yet, count_keeper}
-use Rattle.uug_session.specs.EarlierJobs.{behind}
-use Rattle.uug_session.specs.Keeper.{Keeper}
-use Rattle.uug_session.specs.Party.{Party}
-use Rattle.uug_session.specs.Talk.{Talk, unopened, end_keeper}
-use Rattle.uug_session.specs.View.{Seen, conversation_view, kept_after, lists_after}
+use Rattle.uug_conversation.specs.Count.{Count, nothing_yet, count_keeper}
+use Rattle.uug_conversation.specs.EarlierJobs.{behind}
+use Rattle.uug_conversation.specs.Keeper.{Keeper}
+use Rattle.uug_conversation.specs.Party.{Party}
+use Rattle.uug_conversation.specs.Talk.{Talk, unopened, end_keeper}
+use Rattle.uug_conversation.specs.View.{Seen, conversation_view, kept_after, lists_after}
 use Rattle.uug_line.specs.declared.side.Side.{Side}
 use Rattle.uug_line.specs.Belongings.{Belongings}
 use Rattle.uug_line.specs.Sides.{session_side, AtBoth, at}

@@ -2,11 +2,11 @@
 -- that stands on it passes to the called end and then to the caller, or, where nothing does, each has waited too long (this
 -- project's profile).
 use Rattle.std.specs.Prelude.{◌≡◌, ℕ, suc, ◌+◌, ◌-◌, ◌*◌, ◌<◌, ◌≤◌, List, [], ◌∷◌, ◌++◌, length, ⊤}
-use Rattle.uug_link.specs.State.{IsUp}
+use Rattle.uug_link.specs.State.{IsPlain, IsUp}
 use Rattle.uug_session.specs.declared.end.End.TheVariants.{Done}
-use Rattle.uug_session.specs.Count.{Count}
+use Rattle.uug_conversation.specs.Count.{Count}
 use Rattle.uug_session.specs.EndStep.{Stage, ended, linked}
-use Rattle.uug_session.specs.View.{others_messages}
+use Rattle.uug_conversation.specs.View.{others_messages}
 use Rattle.uug_line.specs.declared.event.Event.{Event}
 use Rattle.uug_line.specs.declared.event.Event.TheVariants.{Pass, Timeout}
 use Rattle.uug_line.specs.declared.side.Side.{Side}
@@ -24,10 +24,12 @@ use Rattle.uug_line.specs.World.{world}
 abbrev pub line_from : {C : Type 0} → Side → Run C → List ℕ
 line_from side run = (end_at side run).end.line
 
--- The end talks and has counted at most six timeouts in a row, and nothing that was said is held or on the line.
+-- The end talks, is not quiet on repeats, and has counted at most six timeouts in a row, and nothing that was said is held or
+-- on the line.
 pub record EndMaySettle {C : Type 0} (run : Run C) (side : Side) : Type 0 where
   pub on_link : (end_at side run).end.state.stage ≡ linked
   pub is_up : IsUp (end_at side run).end.state.link
+  pub plain : IsPlain (end_at side run).end.state.link
   pub timeouts : (end_at side run).end.state.link.timeouts ≤ 6
   pub holds_none : (end_at side run).held ≡ []
   pub empty : line_from side run ≡ []

@@ -1,6 +1,6 @@
 -- Which reports may settle, and what they settle to (this project's profile).
 use Rattle.std.specs.Prelude.{◌≡◌, ℕ, ◌≤◌, List, [], ◌++◌}
-use Rattle.uug_link.specs.State.{IsUp}
+use Rattle.uug_link.specs.State.{IsPlain, IsUp}
 use Rattle.uug_session.specs.declared.end.End.TheVariants.{Done}
 use Rattle.uug_session.specs.EndStep.{ended, linked}
 use Rattle.uug_line.specs.declared.event.Event.{Event}
@@ -13,10 +13,12 @@ use Rattle.uug_line.specs.Sides.{at}
 use Rattle.uug_line.specs.Told.{EndNow, SpelledReport}
 use Rattle.uug_line.specs.WholeReport.{WholeReport}
 
--- the end talks and has counted at most six timeouts in a row; it holds no byte, and none is on the line from it
+-- The end talks, is not quiet on repeats, and has counted at most six timeouts in a row; it holds no byte, and none is on the
+-- line from it.
 pub record EndCanSettle (now : EndNow) (held line : List ℕ) : Type 0 where
   pub on_link : now.stage ≡ linked
   pub is_up : IsUp now.link
+  pub plain : IsPlain now.link
   pub timeouts : now.link.timeouts ≤ 6
   pub holds_none : held ≡ []
   pub empty : line ≡ []

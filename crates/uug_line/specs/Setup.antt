@@ -1,6 +1,6 @@
 -- What the program's set-up of two ends says.
 use Rattle.uug_link.specs.Announced.{announced}
-use Rattle.uug_session.specs.MemoryHoldings.{held_by, holdings_of}
+use Rattle.uug_conversation.specs.MemoryHoldings.{held_by, holdings_of}
 use Rattle.uug_line.specs.declared.setup.EndSetup.{EndSetup}
 use Rattle.uug_line.specs.declared.setup.Setup.{Setup}
 use Rattle.uug_line.specs.Belongings.{EndSetupValue, SetupValue}

@@ -1,8 +1,8 @@
 -- What the sessions and the ends of a program's report show.
 use Rattle.std.specs.Prelude.{◌≡◌, ℕ, List, [], map, Vec}
-use Rattle.uug_session.specs.declared.memory_spool.MemorySpool.{MemorySpool}
+use Rattle.uug_conversation.specs.declared.memory_spool.MemorySpool.{MemorySpool}
 use Rattle.uug_session.specs.declared.node.Node.{Node}
-use Rattle.uug_session.specs.MemoryHoldings.{MemoryHoldings, held_by}
+use Rattle.uug_conversation.specs.MemoryHoldings.{MemoryHoldings, held_by}
 use Rattle.uug_session.specs.Node.{held_bytes, node_of}
 use Rattle.uug_line.specs.declared.report.EndReport.{EndReport}
 use Rattle.uug_line.specs.declared.report.SessionReport.{SessionReport}

@@ -1,7 +1,7 @@
 -- The two ends of the line, and what there is at each of them.
 use Rattle.uug_line.specs.declared.side.Side.{Side}
 use Rattle.uug_line.specs.declared.side.Side.TheVariants.{Caller, Called}
-use Rattle.uug_session.specs.Turns.{Side as SessionSide, caller, called}
+use Rattle.uug_conversation.specs.Turns.{Side as SessionSide, caller, called}
 
 abbrev pub other : Side → Side
 other Caller = Called

@@ -1,9 +1,9 @@
 -- What the types of a program's set-up say of it (this project's profile).
 use Rattle.std.specs.Prelude.{All}
 use Rattle.uug_link.specs.Terms.{IsWindow}
-use Rattle.uug_session.specs.Holdings.{AreModes}
-use Rattle.uug_session.specs.Jobs.{pending}
-use Rattle.uug_session.specs.Party.{HasNames}
+use Rattle.uug_conversation.specs.Holdings.{AreModes}
+use Rattle.uug_conversation.specs.Jobs.{pending}
+use Rattle.uug_conversation.specs.Party.{HasNames}
 use Rattle.uug_line.specs.declared.side.Side.{Side}
 use Rattle.uug_line.specs.Belongings.{EndSetupValue, SetupValue}
 use Rattle.uug_line.specs.Sides.{at}

@@ -1,6 +1,6 @@
 -- An end says what it can, and closes where all is said and taken (this project's profile).
 use Rattle.uug_session.specs.EndStep.{EndState}
-use Rattle.uug_session.specs.Keeper.{Keeper}
+use Rattle.uug_conversation.specs.Keeper.{Keeper}
 use Rattle.uug_session.specs.Sending.{HasClosedWhereItIsOver, HasSaidWhatItCan}
 use Rattle.uug_line.specs.declared.side.Side.{Side}
 use Rattle.uug_line.specs.Belongings.{SetupValue}

@@ -1,7 +1,7 @@
 -- What is told of a run as a program tells it: a packet is kept as it is spelled (this project's profile).
 use Rattle.std.specs.Prelude.{◌≡◌, map}
 use Rattle.uug_packet.specs.Spelling.{canonical}
-use Rattle.uug_session.specs.MemoryHoldings.{MemoryHoldings, holdings_of}
+use Rattle.uug_conversation.specs.MemoryHoldings.{MemoryHoldings, holdings_of}
 use Rattle.uug_line.specs.declared.side.Side.{Side}
 use Rattle.uug_line.specs.Belongings.{SetupValue}
 use Rattle.uug_line.specs.Sides.{AtBoth, at}

@@ -1,13 +1,13 @@
 -- What a program has of a run, for another to go on from there (this project's profile).
 use Rattle.std.specs.Prelude.{ℕ, List, map}
-use Rattle.uug_session.specs.MemoryHoldings.{MemoryHoldings}
+use Rattle.uug_conversation.specs.MemoryHoldings.{MemoryHoldings}
 use Rattle.uug_session.specs.Node.{NodeState, node_of}
 use Rattle.uug_line.specs.declared.report.LastEnd.{LastEnd}
 use Rattle.uug_line.specs.declared.report.SessionReport.{SessionReport}
 use Rattle.uug_line.specs.declared.verdict.LineVerdict.{LineVerdict}
-use Rattle.uug_line.specs.Jottings.{jottings_by}
-use Rattle.uug_line.specs.Live.{Parts}
-use Rattle.uug_line.specs.RunParts.{RunParts, held_parts, told_in_all}
+use Rattle.uug_line.specs.JournalValue.{journal_by}
+use Rattle.uug_line.specs.Live.{LiveEndValue}
+use Rattle.uug_line.specs.RunValue.{RunValue, held_parts, told_in_all}
 use Rattle.uug_line.specs.Shown.{held_at, owned_by, session_shown, spool_of, stands_so}
 use Rattle.uug_line.specs.Sides.{AtBoth}
 use Rattle.uug_line.specs.Told.{SpelledEnd, SpelledReport}
@@ -29,10 +29,10 @@ pub record WholeReport : Type 0 where
 
 -- ---- of the program's run
 
-abbrev pub left_parts : Parts → EndLeft
-left_parts e = record { node = e.node; line = e.line; passed = e.jottings.passed }
+abbrev pub left_parts : LiveEndValue → EndLeft
+left_parts e = record { node = e.node; line = e.line; passed = e.journal.passed }
 
-abbrev pub whole_report : RunParts → LineVerdict → WholeReport
+abbrev pub whole_report : RunValue → LineVerdict → WholeReport
 whole_report r verdict = record {
   told = told_in_all r verdict;
   spools = record { at_caller = r.caller.spool; at_called = r.called.spool };
@@ -41,9 +41,9 @@ whole_report r verdict = record {
 }
 
 -- an end that goes on, of whose session this is told
-abbrev pub part_from : SpelledEnd → EndLeft → MemoryHoldings → Parts
+abbrev pub part_from : SpelledEnd → EndLeft → MemoryHoldings → LiveEndValue
 part_from told left spool =
-    record { node = left.node; spool = spool; jottings = jottings_by told left.passed; line = left.line }
+    record { node = left.node; spool = spool; journal = journal_by told left.passed; line = left.line }
 
 -- ---- of the program's report
 

@@ -2,8 +2,8 @@
 -- profile).
 use Rattle.std.specs.Prelude.{List, [], ◌∷◌, ◌++◌, length}
 use Rattle.uug_session.specs.Arriving.{Hearer}
-use Rattle.uug_session.specs.Count.{Count}
-use Rattle.uug_session.specs.Talk.{Talk}
+use Rattle.uug_conversation.specs.Count.{Count}
+use Rattle.uug_conversation.specs.Talk.{Talk}
 use Rattle.uug_line.specs.declared.event.Event.{Event}
 use Rattle.uug_line.specs.Belongings.{SetupValue}
 use Rattle.uug_line.specs.LineEnd.{LineEnd}

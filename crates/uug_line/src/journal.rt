@@ -1,5 +1,5 @@
 ghost use Rattle.std.specs.Prelude.{◌≡◌, ◌<◌, [], ◌∷◌, ◌++◌, length, MatchOption, OnOk, None, Some};
-ghost use Rattle.uug_line.specs.Jottings.{jotted, jottings_by, packet_jotted, saying, taking_from, sending_from, with_most};
+ghost use Rattle.uug_line.specs.JournalValue.{journal_value, journal_by, packet_noted, saying, taking_from, sending_from, with_most};
 ghost use Rattle.uug_line.specs.Shown.{end_shown, lists_in};
 ghost use Rattle.uug_line.specs.LineEnd.{found_at, nothing_done};
 ghost use Rattle.uug_line.specs.Report.{told_by};
@@ -27,7 +27,7 @@ pub(crate) struct Journal<A: Allocator> {
 impl<A: Allocator + Copy> Journal<A> {
     /// Nothing is written down yet.
     pub(crate) fn new(alloc: A) -> Self
-        ensures { jotted result ≡ nothing_done }
+        ensures { journal_value result ≡ nothing_done }
     {
         Journal {
             sent: Vec::new(alloc),
@@ -41,7 +41,7 @@ impl<A: Allocator + Copy> Journal<A> {
 
     /// What was written down of an end that has found or gone past so many packets.
     pub(crate) fn from_report(report: EndReport<A>, passed: usize) -> Self
-        ensures { jotted result ≡ jottings_by (end_shown report) passed }
+        ensures { journal_value result ≡ journal_by (end_shown report) passed }
     {
         Journal {
             sent: report.sent,
@@ -55,7 +55,7 @@ impl<A: Allocator + Copy> Journal<A> {
 
     /// What the end did, which has come so far.
     pub(crate) fn into_report(self, phase: Phase) -> EndReport<A>
-        ensures { end_shown result ≡ told_by (jotted self) phase }
+        ensures { end_shown result ≡ told_by (journal_value self) phase }
     {
         EndReport {
             sent: self.sent,
@@ -76,8 +76,8 @@ impl<A: Allocator + Copy> Journal<A> {
         took: bool,
     ) -> Result<(), AllocError>
         requires { place < usize.MAX }
-        ensures { OnOk result (jotted self.new
-            ≡ packet_jotted packet.now place (jotted self.old) took) }
+        ensures { OnOk result (journal_value self.new
+            ≡ packet_noted packet.now place (journal_value self.old) took) }
     {
         self.add_arrival(place)?;
         if took {
@@ -88,7 +88,7 @@ impl<A: Allocator + Copy> Journal<A> {
 
     fn add_arrival(&mut self, place: usize) -> Result<(), AllocError>
         requires { place < usize.MAX }
-        ensures { OnOk result (jotted self.new ≡ found_at place (jotted self.old)) }
+        ensures { OnOk result (journal_value self.new ≡ found_at place (journal_value self.old)) }
     {
         self.arrivals.push(place)?;
         self.passed = place + 1;
@@ -97,7 +97,7 @@ impl<A: Allocator + Copy> Journal<A> {
 
     /// The message of the packet that is spelled so was taken.
     fn add_taken(&mut self, alloc: A, packet: &[u8]) -> Result<(), AllocError>
-        ensures { OnOk result (jotted self.new ≡ taking_from packet.now (jotted self.old)) }
+        ensures { OnOk result (journal_value self.new ≡ taking_from packet.now (journal_value self.old)) }
     {
         let message = message_in(packet).unwrap_or(&[]);
         push_bytes(&mut self.taken, alloc, message)
@@ -110,8 +110,8 @@ impl<A: Allocator + Copy> Journal<A> {
         outbox: &Outbox<A>,
         unacked: usize,
     ) -> Result<(), AllocError>
-        ensures { OnOk result (jotted self.new
-            ≡ with_most unacked (saying outbox.now.entries (jotted self.old))) }
+        ensures { OnOk result (journal_value self.new
+            ≡ with_most unacked (saying outbox.now.entries (journal_value self.old))) }
     {
         self.add_entries(alloc, outbox)?;
         self.most = self.most.max(unacked);
@@ -119,7 +119,7 @@ impl<A: Allocator + Copy> Journal<A> {
     }
 
     fn add_entries(&mut self, alloc: A, outbox: &Outbox<A>) -> Result<(), AllocError>
-        ensures { OnOk result (jotted self.new ≡ saying outbox.now.entries (jotted self.old)) }
+        ensures { OnOk result (journal_value self.new ≡ saying outbox.now.entries (journal_value self.old)) }
     {
         for i in 0..outbox.len() {
             self.add_entry(alloc, outbox.entry(i))?;
@@ -128,8 +128,8 @@ impl<A: Allocator + Copy> Journal<A> {
     }
 
     fn add_entry(&mut self, alloc: A, entry: Entry<'_>) -> Result<(), AllocError>
-        ensures { OnOk result (jotted self.new
-            ≡ saying (shown_entry entry.entry ∷ []) (jotted self.old)) }
+        ensures { OnOk result (journal_value self.new
+            ≡ saying (shown_entry entry.entry ∷ []) (journal_value self.old)) }
     {
         let Entry::Packet { bytes, first } = entry else {
             return Ok(());
@@ -142,7 +142,7 @@ impl<A: Allocator + Copy> Journal<A> {
 
     /// The packet that is spelled so goes out for the first time. Only a data packet has a message.
     fn add_sent(&mut self, alloc: A, packet: &[u8]) -> Result<(), AllocError>
-        ensures { OnOk result (jotted self.new ≡ sending_from packet.now (jotted self.old)) }
+        ensures { OnOk result (journal_value self.new ≡ sending_from packet.now (journal_value self.old)) }
     {
         match message_in(packet) {
             Some(message) => push_bytes(&mut self.sent, alloc, message),

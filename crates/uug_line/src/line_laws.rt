@@ -1,4 +1,4 @@
-ghost use Rattle.uug_line.specs.LineLaws.{LineLaws};
+ghost use Rattle.uug_line.specs.Code.LineLaws.{LineLaws};
 
 use crate::live_end::LiveEnd;
 use std::alloc::{Allocator, Global};
@@ -20,12 +20,12 @@ struct EndOnLine<A: Allocator + Copy> {
 
 impl<A: Allocator + Copy> Model for EndOnLine<A> {
     ghost use Rattle.uug_line.specs.LineEnd.{LineEnd};
-    ghost use Rattle.uug_line.specs.Live.{line_end_of, parts_of};
-    ghost use Rattle.uug_session.specs.Talk.{Talk};
+    ghost use Rattle.uug_line.specs.Live.{line_end_of, live_end_value};
+    ghost use Rattle.uug_conversation.specs.Talk.{Talk};
 
     ghost Value = { LineEnd Talk };
 
-    ghost view = { λ seen. line_end_of (parts_of seen.end) };
+    ghost view = { λ seen. line_end_of (live_end_value seen.end) };
 }
 
 /// The laws of packets, links and ends, for the proofs here.

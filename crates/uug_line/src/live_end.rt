@@ -1,12 +1,12 @@
 ghost use Rattle.std.specs.Prelude.{◌≡◌, ◌<◌, ℕ, [], IfOk, OnOk, Option};
 ghost use Rattle.uug_link.specs.Announced.{Announced};
 ghost use Rattle.uug_link.specs.InRange.{IsAnnouncement};
-ghost use Rattle.uug_line.specs.Jottings.{jotted, packet_jotted};
-ghost use Rattle.uug_line.specs.Live.{AreWritten, BeginsAgain, HasBegun, HasRoom, HearsPiece, IsCalled, IsNoted, IsOrdered, IsTakenUp, TakesItems, TakesNext, parts_of, told_of};
+ghost use Rattle.uug_line.specs.JournalValue.{journal_value, packet_noted};
+ghost use Rattle.uug_line.specs.Live.{AreWritten, BeginsAgain, HasBegun, HasRoom, HearsPiece, IsCalled, IsNoted, IsOrdered, IsTakenUp, TakesItems, TakesNext, live_end_value, told_of};
 ghost use Rattle.uug_line.specs.Shown.{end_shown, lists_in};
 ghost use Rattle.uug_session.specs.Engine.{BeginsSession, IsEnded};
-ghost use Rattle.uug_session.specs.Jobs.{Lists};
-ghost use Rattle.uug_session.specs.MemoryHoldings.{held_by};
+ghost use Rattle.uug_conversation.specs.Jobs.{Lists};
+ghost use Rattle.uug_conversation.specs.MemoryHoldings.{held_by};
 ghost use Rattle.uug_session.specs.Sessions.{HoldsNothing};
 ghost use Rattle.uug_session.specs.Node.{item_size, node_of};
 ghost use Rattle.uug_session.specs.EndStep.{Identity, line_lost, time_ran_out};
@@ -46,7 +46,7 @@ impl<A: Allocator + Copy> LiveEnd<A> {
         ensures { IfOk result (λ end. (id : Identity) (own : Announced) (number : Option ℕ)
             (l : Lists) → IsAnnouncement own
             → BeginsSession id own number l [] (node_of node).engine → HoldsNothing (node_of node)
-            → HasBegun id own number l (held_by node.spool) (parts_of end)) }
+            → HasBegun id own number l (held_by node.spool) (live_end_value end)) }
     {
         line_laws();
         let mut end = LiveEnd {
@@ -60,7 +60,7 @@ impl<A: Allocator + Copy> LiveEnd<A> {
 
     /// Writes down what a call of the end has emitted, which goes on the line at once.
     fn note_call(&mut self, alloc: A) -> Result<(), AllocError>
-        ensures { OnOk result (IsNoted (parts_of self.old) (parts_of self.new)) }
+        ensures { OnOk result (IsNoted (live_end_value self.old) (live_end_value self.new)) }
     {
         let unacked = self.node.unacked();
         let outbox = self.node.outbox();
@@ -72,9 +72,9 @@ impl<A: Allocator + Copy> LiveEnd<A> {
 
     /// Nothing has come for some time.
     pub(crate) fn time_out(&mut self, alloc: A) -> Result<(), AllocError>
-        requires ordered { IsOrdered (parts_of self.old) }
-        requires room { HasRoom (parts_of self.old) }
-        ensures { OnOk result (IsCalled time_ran_out (parts_of self.old) (parts_of self.new)) }
+        requires ordered { IsOrdered (live_end_value self.old) }
+        requires room { HasRoom (live_end_value self.old) }
+        ensures { OnOk result (IsCalled time_ran_out (live_end_value self.old) (live_end_value self.new)) }
     {
         line_laws();
         self.node.on_timeout()?;
@@ -84,9 +84,9 @@ impl<A: Allocator + Copy> LiveEnd<A> {
 
     /// The line is gone.
     pub(crate) fn hang_up(&mut self, alloc: A) -> Result<(), AllocError>
-        requires ordered { IsOrdered (parts_of self.old) }
-        requires room { HasRoom (parts_of self.old) }
-        ensures { OnOk result (IsCalled line_lost (parts_of self.old) (parts_of self.new)) }
+        requires ordered { IsOrdered (live_end_value self.old) }
+        requires room { HasRoom (live_end_value self.old) }
+        ensures { OnOk result (IsCalled line_lost (live_end_value self.old) (live_end_value self.new)) }
     {
         line_laws();
         self.node.hang_up();
@@ -97,9 +97,9 @@ impl<A: Allocator + Copy> LiveEnd<A> {
     /// The next session begins, with nothing on the line. The answer is what the end did in the last one, which is over.
     pub(crate) fn call_again(&mut self, alloc: A) -> Result<EndReport<A>, AllocError>
         requires ended { IsEnded (node_of self.old.node).engine.stage }
-        requires ordered { IsOrdered (parts_of self.old) }
-        ensures begun { OnOk result (BeginsAgain (parts_of self.old) (parts_of self.new)) }
-        ensures report { IfOk result (λ report. end_shown report ≡ told_of (parts_of self.old)) }
+        requires ordered { IsOrdered (live_end_value self.old) }
+        ensures begun { OnOk result (BeginsAgain (live_end_value self.old) (live_end_value self.new)) }
+        ensures report { IfOk result (λ report. end_shown report ≡ told_of (live_end_value self.old)) }
     {
         line_laws();
         let phase = self.node.phase();
@@ -118,12 +118,12 @@ impl<A: Allocator + Copy> LiveEnd<A> {
         piece: &[u8],
         others: &[Vec<u8, A>],
     ) -> Result<bool, AllocError>
-        requires ordered { IsOrdered (parts_of self.old) }
-        requires room { HasRoom (parts_of self.old) }
+        requires ordered { IsOrdered (live_end_value self.old) }
+        requires room { HasRoom (live_end_value self.old) }
         requires written { AreWritten (lists_in others.now) }
         ensures { IfOk result (λ all_sent.
-            HearsPiece all_sent (lists_in others.now) piece.now (parts_of self.old)
-            (parts_of self.new)) }
+            HearsPiece all_sent (lists_in others.now) piece.now (live_end_value self.old)
+            (live_end_value self.new)) }
     {
         line_laws();
         let mut rest = piece;
@@ -143,10 +143,10 @@ impl<A: Allocator + Copy> LiveEnd<A> {
 
     /// Takes up what is whole in the bytes held, one item after the other.
     fn take_all(&mut self, alloc: A, others: &[Vec<u8, A>]) -> Result<bool, AllocError>
-        requires ordered { IsOrdered (parts_of self.old) }
+        requires ordered { IsOrdered (live_end_value self.old) }
         requires written { AreWritten (lists_in others.now) }
         ensures { IfOk result (λ all_sent.
-            TakesItems all_sent (lists_in others.now) (parts_of self.old) (parts_of self.new)) }
+            TakesItems all_sent (lists_in others.now) (live_end_value self.old) (live_end_value self.new)) }
     {
         loop {
             match self.take_next(alloc, others)? {
@@ -159,10 +159,10 @@ impl<A: Allocator + Copy> LiveEnd<A> {
 
     /// Takes up the next item, if one is whole.
     fn take_next(&mut self, alloc: A, others: &[Vec<u8, A>]) -> Result<Taking, AllocError>
-        requires ordered { IsOrdered (parts_of self.old) }
+        requires ordered { IsOrdered (live_end_value self.old) }
         requires written { AreWritten (lists_in others.now) }
         ensures { IfOk result (λ taking.
-            TakesNext taking (lists_in others.now) (parts_of self.old) (parts_of self.new)) }
+            TakesNext taking (lists_in others.now) (live_end_value self.old) (live_end_value self.new)) }
     {
         line_laws();
         match sight(&mut self.node, others, self.journal.passed) {
@@ -183,7 +183,7 @@ impl<A: Allocator + Copy> LiveEnd<A> {
     fn take_other(&mut self, alloc: A) -> Result<(), AllocError>
         requires { 0 < item_size (node_of self.old.node) }
         ensures { OnOk result
-            (IsTakenUp (λ took. jotted self.old.journal) (parts_of self.old) (parts_of self.new)) }
+            (IsTakenUp (λ took. journal_value self.old.journal) (live_end_value self.old) (live_end_value self.new)) }
     {
         self.node.take_found()?;
         self.note_call(alloc)?;
@@ -195,8 +195,8 @@ impl<A: Allocator + Copy> LiveEnd<A> {
         requires shown { 0 < item_size (node_of self.old.node) }
         requires place { place < usize.MAX }
         ensures { OnOk result
-            (IsTakenUp (packet_jotted packet.now place (jotted self.old.journal))
-            (parts_of self.old) (parts_of self.new)) }
+            (IsTakenUp (packet_noted packet.now place (journal_value self.old.journal))
+            (live_end_value self.old) (live_end_value self.new)) }
     {
         let took = self.node.take_found()?;
         self.journal.add_found(alloc, packet, place, took)?;

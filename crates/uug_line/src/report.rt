@@ -111,8 +111,8 @@ impl<A: Allocator + Copy> Report<A> {
         self.verdict
     }
 
-    /// Whether `settle` may be called: each packet that was found had been sent, both ends talk, neither has counted more than
-    /// six timeouts in a row, and nothing waits at an end or on the line.
+    /// Whether `settle` may be called: each packet that was found had been sent, both ends talk, neither is quiet on repeats or
+    /// has counted more than six timeouts in a row, and nothing waits at an end or on the line.
     pub fn can_settle(&self) -> bool
         ensures told { IsTrue result ↔ CanSettle self.now }
         // So it is exactly where the world may settle.
@@ -136,13 +136,15 @@ impl<A: Allocator + Copy> Report<A> {
 const TIMEOUTS_BEFORE: u8 = 6;
 
 impl<A: Allocator + Copy> LastEnd<A> {
-    /// Whether it talks and has not counted too many timeouts, and nothing waits at it or on the line from it.
+    /// Whether it talks, is not quiet on repeats, and has not counted too many timeouts, and nothing waits at it or on the line
+    /// from it.
     fn can_settle(&self) -> bool
         ensures { IsTrue result ↔ EndCanSettle (stands_so self.now.node)
             (held_at self.now.node) self.now.line }
     {
         let talks = matches!(self.node.phase(), Phase::Talking);
         talks
+            && !self.node.is_quiet()
             && self.node.timeouts() <= TIMEOUTS_BEFORE
             && self.node.waiting() == 0
             && self.line.len() == 0

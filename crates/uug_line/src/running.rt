@@ -2,17 +2,17 @@ ghost use Rattle.std.specs.Prelude.{◌≡◌, ◌∷◌, [], ◌++◌, ℕ, All
 ghost use Rattle.uug_link.specs.Announced.{announced};
 ghost use Rattle.uug_session.specs.Engine.{all_ahead};
 ghost use Rattle.uug_session.specs.EndStep.{line_lost, time_ran_out};
-ghost use Rattle.uug_session.specs.MemoryHoldings.{held_by};
-ghost use Rattle.uug_session.specs.Side.{side_of};
-ghost use Rattle.uug_session.specs.Turns.{caller, called};
-ghost use Rattle.uug_session.specs.Talk.{Talk};
+ghost use Rattle.uug_conversation.specs.MemoryHoldings.{held_by};
+ghost use Rattle.uug_conversation.specs.Side.{side_of};
+ghost use Rattle.uug_conversation.specs.Turns.{caller, called};
+ghost use Rattle.uug_conversation.specs.Talk.{Talk};
 ghost use Rattle.uug_line.specs.Belongings.{SetupValue};
-ghost use Rattle.uug_line.specs.Live.{AreWritten, HasBegun, HasRoom, HearsPiece, IsCalled, IsOrdered, parts_of};
+ghost use Rattle.uug_line.specs.Live.{AreWritten, HasBegun, HasRoom, HearsPiece, IsCalled, IsOrdered, live_end_value};
 ghost use Rattle.uug_line.specs.OfBytes.{AreOfTypes};
 ghost use Rattle.uug_line.specs.OfSomeRun.{IsOfSomeRun, IsRunOf};
 ghost use Rattle.uug_line.specs.Run.{Run, end_at, first_run, flipped, goes_through};
 ghost use Rattle.uug_line.specs.RunKeeper.{by_themselves};
-ghost use Rattle.uug_line.specs.RunParts.{AllIsSaid, CallsAgain, ChangesLine, EndsAs, Happens, HappensAt, IsSteady, Passes, StandsAs, hearing_side, run_parts, with_line};
+ghost use Rattle.uug_line.specs.RunValue.{AllIsSaid, CallsAgain, ChangesLine, EndsAs, Happens, HappensAt, IsSteady, Passes, StandsAs, hearing_side, run_value, with_line};
 ghost use Rattle.uug_line.specs.Setup.{setup_of};
 ghost use Rattle.uug_line.specs.Shown.{lists_in};
 ghost use Rattle.uug_line.specs.Sides.{AtBoth, other};
@@ -128,7 +128,7 @@ pub fn run<A: Allocator + Copy>(
 impl<A: Allocator + Copy> RunSoFar<A> {
     fn start(alloc: A, setup: Setup<A>) -> Result<Self, AllocError>
         ensures { IfOk result (λ run.
-            StandsAs (setup_of setup) (first_run by_themselves (setup_of setup)) (run_parts run)) }
+            StandsAs (setup_of setup) (first_run by_themselves (setup_of setup)) (run_value run)) }
     {
         line_laws();
         let Setup { caller, called } = setup;
@@ -143,11 +143,11 @@ impl<A: Allocator + Copy> RunSoFar<A> {
 
     /// The events, one after the other, up to one at which a packet is found that was not sent.
     fn go_through(&mut self, alloc: A, events: &[Event]) -> Result<LineVerdict, AllocError>
-        requires { IsSteady (run_parts self.old) }
+        requires { IsSteady (run_value self.old) }
         ensures { IfOk result (λ verdict. (setup : SetupValue) (run : Run Talk)
-            → StandsAs setup run (run_parts self.old)
+            → StandsAs setup run (run_value self.old)
             → EndsAs setup (goes_through by_themselves setup 0 events.now run) verdict
-            (run_parts self.new)) }
+            (run_value self.new)) }
     {
         for (number, event) in events.iter().enumerate() {
             if !self.happens(alloc, *event)? {
@@ -162,9 +162,9 @@ impl<A: Allocator + Copy> RunSoFar<A> {
 
     /// The event happens. The answer is false where an end has found a packet that was not sent.
     fn happens(&mut self, alloc: A, event: Event) -> Result<bool, AllocError>
-        requires { IsSteady (run_parts self.old) }
+        requires { IsSteady (run_value self.old) }
         ensures { IfOk result (λ all_sent.
-            Happens event all_sent (run_parts self.old) (run_parts self.new)) }
+            Happens event all_sent (run_value self.old) (run_value self.new)) }
     {
         match event {
             Event::Pass { side, n } => return self.pass(alloc, side, n as usize),
@@ -180,9 +180,9 @@ impl<A: Allocator + Copy> RunSoFar<A> {
 
     /// The next bytes come to the side as one piece.
     pub(crate) fn pass(&mut self, alloc: A, side: Side, n: usize) -> Result<bool, AllocError>
-        requires { IsSteady (run_parts self.old) }
+        requires { IsSteady (run_value self.old) }
         ensures { IfOk result (λ all_sent.
-            Passes side n all_sent (run_parts self.old) (run_parts self.new)) }
+            Passes side n all_sent (run_value self.old) (run_value self.new)) }
     {
         match side {
             Side::Caller => deliver(alloc, &mut self.caller, &mut self.called, n),
@@ -192,8 +192,8 @@ impl<A: Allocator + Copy> RunSoFar<A> {
 
     /// The next bytes to the side are lost.
     fn lose(&mut self, side: Side, n: usize)
-        ensures { HappensAt (other side) (ChangesLine (drop n)) (run_parts self.old)
-            (run_parts self.new) }
+        ensures { HappensAt (other side) (ChangesLine (drop n)) (run_value self.old)
+            (run_value self.new) }
     {
         match side {
             Side::Caller => self.called.line.pass(n),
@@ -203,8 +203,8 @@ impl<A: Allocator + Copy> RunSoFar<A> {
 
     /// The next byte to the side is changed.
     fn flip(&mut self, side: Side, mask: u8)
-        ensures { HappensAt (other side) (ChangesLine (flipped mask)) (run_parts self.old)
-            (run_parts self.new) }
+        ensures { HappensAt (other side) (ChangesLine (flipped mask)) (run_value self.old)
+            (run_value self.new) }
     {
         match side {
             Side::Caller => self.called.line.flip(mask),
@@ -215,8 +215,8 @@ impl<A: Allocator + Copy> RunSoFar<A> {
     /// A byte is put in front of the next one to the side.
     fn insert(&mut self, side: Side, byte: u8) -> Result<(), AllocError>
         ensures { OnOk result
-            (HappensAt (other side) (ChangesLine (λ line. byte ∷ line)) (run_parts self.old)
-            (run_parts self.new)) }
+            (HappensAt (other side) (ChangesLine (λ line. byte ∷ line)) (run_value self.old)
+            (run_value self.new)) }
     {
         match side {
             Side::Caller => self.called.line.insert(byte),
@@ -226,9 +226,9 @@ impl<A: Allocator + Copy> RunSoFar<A> {
 
     /// Nothing has come to the side for some time.
     pub(crate) fn time_out(&mut self, alloc: A, side: Side) -> Result<(), AllocError>
-        requires { IsSteady (run_parts self.old) }
+        requires { IsSteady (run_value self.old) }
         ensures { OnOk result
-            (HappensAt side (IsCalled time_ran_out) (run_parts self.old) (run_parts self.new)) }
+            (HappensAt side (IsCalled time_ran_out) (run_value self.old) (run_value self.new)) }
     {
         match side {
             Side::Caller => self.caller.time_out(alloc),
@@ -238,9 +238,9 @@ impl<A: Allocator + Copy> RunSoFar<A> {
 
     /// The line is gone for the side.
     fn hang_up(&mut self, alloc: A, side: Side) -> Result<(), AllocError>
-        requires { IsSteady (run_parts self.old) }
+        requires { IsSteady (run_value self.old) }
         ensures { OnOk result
-            (HappensAt side (IsCalled line_lost) (run_parts self.old) (run_parts self.new)) }
+            (HappensAt side (IsCalled line_lost) (run_value self.old) (run_value self.new)) }
     {
         match side {
             Side::Caller => self.caller.hang_up(alloc),
@@ -250,8 +250,8 @@ impl<A: Allocator + Copy> RunSoFar<A> {
 
     /// Both ends hang up, what is on the line is lost, and a new session begins.
     fn call_again(&mut self, alloc: A) -> Result<(), AllocError>
-        requires { IsSteady (run_parts self.old) }
-        ensures { OnOk result (CallsAgain (run_parts self.old) (run_parts self.new)) }
+        requires { IsSteady (run_value self.old) }
+        ensures { OnOk result (CallsAgain (run_value self.old) (run_value self.new)) }
     {
         self.caller.hang_up(alloc)?;
         self.called.hang_up(alloc)?;
@@ -263,9 +263,9 @@ impl<A: Allocator + Copy> RunSoFar<A> {
 
     /// What is told of it.
     pub(crate) fn into_report(self, verdict: LineVerdict) -> Result<Report<A>, AllocError>
-        requires some_run { IsOfSomeRun (whole_report (run_parts self) verdict) }
-        requires said { AllIsSaid (run_parts self) }
-        ensures { IfOk result (λ report. report ≡ whole_report (run_parts self) verdict) }
+        requires some_run { IsOfSomeRun (whole_report (run_value self) verdict) }
+        requires said { AllIsSaid (run_value self) }
+        ensures { IfOk result (λ report. report ≡ whole_report (run_value self) verdict) }
     {
         let RunSoFar {
             mut past,
@@ -330,7 +330,7 @@ fn start_caller<A: Allocator + Copy>(
     ensures { IfOk result (λ end.
         HasBegun (record { side = caller; me = place.me; peer = place.peer })
         (announced place.announce)
-        place.number (all_ahead setup.queue) (held_by setup.spool) (parts_of end)) }
+        place.number (all_ahead setup.queue) (held_by setup.spool) (live_end_value end)) }
 {
     line_laws();
     let Ok(node) = Node::caller(alloc, place, setup.queue, setup.spool) else {
@@ -348,7 +348,7 @@ fn start_called<A: Allocator + Copy>(
     ensures { IfOk result (λ end.
         HasBegun (record { side = called; me = place.me; peer = place.peer })
         (announced place.announce)
-        place.number (all_ahead setup.queue) (held_by setup.spool) (parts_of end)) }
+        place.number (all_ahead setup.queue) (held_by setup.spool) (live_end_value end)) }
 {
     line_laws();
     let Ok(node) = Node::called(alloc, place, setup.queue, setup.spool) else {
@@ -366,13 +366,13 @@ fn deliver<A: Allocator + Copy>(
     speaker: &mut LiveEnd<A>,
     n: usize,
 ) -> Result<bool, AllocError>
-    requires ordered { IsOrdered (parts_of hearer.old) }
-    requires room { HasRoom (parts_of hearer.old) }
-    requires written { AreWritten (parts_of speaker.old).jottings.packets }
+    requires ordered { IsOrdered (live_end_value hearer.old) }
+    requires room { HasRoom (live_end_value hearer.old) }
+    requires written { AreWritten (live_end_value speaker.old).journal.packets }
     ensures heard { IfOk result (λ all_sent.
-        HearsPiece all_sent (parts_of speaker.old).jottings.packets
-        (take n (parts_of speaker.old).line) (parts_of hearer.old) (parts_of hearer.new)) }
-    ensures line { OnOk result (parts_of speaker.new ≡ with_line (drop n) (parts_of speaker.old)) }
+        HearsPiece all_sent (live_end_value speaker.old).journal.packets
+        (take n (live_end_value speaker.old).line) (live_end_value hearer.old) (live_end_value hearer.new)) }
+    ensures line { OnOk result (live_end_value speaker.new ≡ with_line (drop n) (live_end_value speaker.old)) }
 {
     let piece = speaker.line.next(n);
     let all_sent = hearer.hear(alloc, piece, speaker.journal.packets.as_slice())?;

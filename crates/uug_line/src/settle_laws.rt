@@ -1,7 +1,7 @@
 //! A clean line finishes: how two ends come to the end of what they have to say. The functions do nothing.
 ghost use Rattle.std.specs.Prelude.{List, length};
 ghost use Rattle.uug_line.specs.Belongings.{SetupValue};
-ghost use Rattle.uug_line.specs.CleanLaws.{CleanLaws};
+ghost use Rattle.uug_line.specs.Code.CleanLaws.{CleanLaws};
 ghost use Rattle.uug_line.specs.OfBytes.{AreOfTypes};
 ghost use Rattle.uug_line.specs.Settle.{MaySettle, Settles, SettlesFrom};
 ghost use Rattle.uug_line.specs.World.{world};

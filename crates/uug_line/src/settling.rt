@@ -1,17 +1,17 @@
 ghost use Rattle.std.specs.Prelude.{◌≡◌, ◌↔◌, ◌≤◌, List, IfOk, IsTrue, OnOk};
 ghost use Rattle.uug_session.specs.declared.end.End.TheVariants.{Done as done};
 ghost use Rattle.uug_session.specs.EndStep.{ended};
-ghost use Rattle.uug_session.specs.MemoryHoldings.{held_by};
+ghost use Rattle.uug_conversation.specs.MemoryHoldings.{held_by};
 ghost use Rattle.uug_session.specs.Node.{node_of};
 ghost use Rattle.uug_line.specs.declared.event.Event.{Event};
 ghost use Rattle.uug_line.specs.declared.verdict.LineVerdict.TheVariants.{Clean};
 ghost use Rattle.uug_line.specs.Belongings.{SetupValue};
-ghost use Rattle.uug_line.specs.Live.{parts_of};
-ghost use Rattle.uug_line.specs.RunParts.{IsSteady, RunParts, run_parts};
+ghost use Rattle.uug_line.specs.Live.{live_end_value};
+ghost use Rattle.uug_line.specs.RunValue.{IsSteady, RunValue, run_value};
 ghost use Rattle.uug_line.specs.OfSomeRun.{IsOfSomeRun, IsRunOf};
 ghost use Rattle.uug_line.specs.Settle.{one_if_over};
 ghost use Rattle.uug_line.specs.Settled.{AreDone, CanSettle, SettlesInto};
-ghost use Rattle.uug_line.specs.Settling.{AreOver, CanFinish, IsFinished, MayFinish, RoundHappens, parts_weight};
+ghost use Rattle.uug_line.specs.Code.Settling.{AreOver, CanFinish, IsFinished, MayFinish, RoundHappens, parts_weight};
 ghost use Rattle.uug_line.specs.Shown.{end_shown};
 ghost use Rattle.uug_line.specs.WholeReport.{left_of, part_from, whole_report};
 
@@ -51,8 +51,8 @@ impl<A: Allocator + Copy> Report<A> {
     /// The run whose report it is, as it stands.
     fn into_run(self) -> RunSoFar<A>
         ensures of_a_run { IsOfSomeRun self }
-        ensures same { (parts : RunParts) → whole_report parts self.told.verdict ≡ self
-            → run_parts result ≡ parts }
+        ensures same { (parts : RunValue) → whole_report parts self.told.verdict ≡ self
+            → run_value result ≡ parts }
     {
         let Report {
             mut sessions,
@@ -74,7 +74,7 @@ impl<A: Allocator + Copy> Report<A> {
 impl<A: Allocator + Copy> LastEnd<A> {
     /// The end in its session, of which this is reported.
     fn goes_on(self, report: EndReport<A>) -> LiveEnd<A>
-        ensures { parts_of result
+        ensures { live_end_value result
             ≡ part_from (end_shown report) (left_of self) (held_by self.node.spool) }
     {
         let journal = Journal::from_report(report, self.passed);
@@ -89,10 +89,10 @@ impl<A: Allocator + Copy> LastEnd<A> {
 impl<A: Allocator + Copy> RunSoFar<A> {
     /// Passes what is on the line, round by round, until both sessions are over. Both ends have waited too long first.
     pub(crate) fn finish(&mut self, alloc: A) -> Result<(), AllocError>
-        requires { CanFinish (run_parts self.old) }
+        requires { CanFinish (run_value self.old) }
         ensures { OnOk result ((setup : SetupValue) (events : List Event)
-            → MayFinish setup events (run_parts self.old)
-            → IsFinished setup events (run_parts self.new)) }
+            → MayFinish setup events (run_value self.old)
+            → IsFinished setup events (run_value self.new)) }
     {
         a_run_is_the_world();
         rounds_lead_to_the_end();
@@ -111,9 +111,9 @@ impl<A: Allocator + Copy> RunSoFar<A> {
     /// All on the line passes to the called end, and then all to the caller. The answer is false where an end has found a
     /// packet that was not sent.
     fn round(&mut self, alloc: A) -> Result<bool, AllocError>
-        requires { IsSteady (run_parts self.old) }
+        requires { IsSteady (run_value self.old) }
         ensures { IfOk result (λ all_sent.
-            RoundHappens all_sent (run_parts self.old) (run_parts self.new)) }
+            RoundHappens all_sent (run_value self.old) (run_value self.new)) }
     {
         let to_called = self.caller.line.len();
         if !self.pass(alloc, Side::Called, to_called)? {
@@ -126,14 +126,14 @@ impl<A: Allocator + Copy> RunSoFar<A> {
 
     /// Whether both sessions are over, and well.
     fn is_over(&self) -> bool
-        ensures { IsTrue result ↔ AreOver (run_parts self.now) }
+        ensures { IsTrue result ↔ AreOver (run_value self.now) }
     {
         self.caller.is_done() && self.called.is_done()
     }
 
     /// How many messages both ends have sent and taken, and how many sessions are over.
     fn weight(&self) -> u128
-        ensures weight { result ≡ parts_weight (run_parts self.now) }
+        ensures weight { result ≡ parts_weight (run_value self.now) }
         ensures within { result ≤ u128.MAX }
     {
         let caller = &self.caller.journal;

@@ -3,7 +3,7 @@ ghost use Rattle.uug_packet.specs.Packet.{shown};
 ghost use Rattle.uug_packet.specs.Spelling.{IsWritable, canonical};
 ghost use Rattle.uug_line.specs.Live.{AreWritten};
 ghost use Rattle.uug_line.specs.Shown.{lists_in};
-ghost use Rattle.uug_line.specs.Sightings.{ItemIsWritable, Sights, SightsNext, StandsAt, StandsNowhere};
+ghost use Rattle.uug_line.specs.Code.Sightings.{ItemIsWritable, Sights, SightsNext, StandsAt, StandsNowhere};
 ghost use Rattle.uug_reader.specs.declared.reader.TheConstants.{READER_SIZE};
 ghost use Rattle.uug_session.specs.Node.{held_bytes, item_size, node_of, searched, shown_item};
 

@@ -9,12 +9,12 @@ ghost use Rattle.uug_line.specs.Belongings.{SetupValue};
 ghost use Rattle.uug_line.specs.Delivered.{HasHeardAt, HasScanned, came_in};
 ghost use Rattle.uug_line.specs.Fooled.{ArrivalsArePlaces, FindsNothingMore, FindsUnsent, StoppedAt};
 ghost use Rattle.uug_line.specs.Headline.{AllKeptToWindows, AllTookFronts, StaysInFront, StruckWereStored};
-ghost use Rattle.uug_line.specs.LowerLaws.{Laws};
+ghost use Rattle.uug_line.specs.Code.LowerLaws.{Laws};
 ghost use Rattle.uug_line.specs.OfBytes.{AreOfBytes, IsSetupOfBytes};
 ghost use Rattle.uug_line.specs.PastSessions.{StayOver, WasPresent};
 ghost use Rattle.uug_line.specs.Run.{end_at};
 ghost use Rattle.uug_line.specs.RunKeeper.{by_numbers, by_themselves};
-ghost use Rattle.uug_line.specs.SessionLaws.{SessionLaws};
+ghost use Rattle.uug_line.specs.Code.SessionLaws.{SessionLaws};
 ghost use Rattle.uug_line.specs.Sides.{AtBoth, at};
 ghost use Rattle.uug_line.specs.SoundSetup.{IsSoundSetup};
 ghost use Rattle.uug_line.specs.Speaking.{HaveSpoken};
@@ -22,19 +22,19 @@ ghost use Rattle.uug_line.specs.Told.{EndReportValue};
 ghost use Rattle.uug_line.specs.World.{counted, report_of_ends, report_of_world, run_of_ends, world};
 ghost use Rattle.uug_line.specs.MachineRun.{AllRanAsMachine, PresentRanAsMachine};
 
+use uug_conversation::conversation_laws::{jobs_are_in_one_list, messages_are_bytes};
+use uug_conversation::stored_laws::{
+    nothing_is_struck_at_first, own_entries_have_places, own_entries_of_sessions,
+    struck_jobs_have_own_entries,
+};
 use uug_link::laws::{
     arrivals, each_occurrence_is_moves_of_the_machine, runs_of_two_links, the_window_is_safe,
     two_links_run_as_the_machine, what_a_link_answers, what_a_link_emits_can_be_written,
 };
 use uug_reader::laws::{found_in_steps, search_finds_the_first};
 use uug_session::arriving_laws::{bytes_are_left, what_is_found_stays};
-use uug_session::conversation_laws::{jobs_are_in_one_list, messages_are_bytes};
 use uug_session::end_laws::{earlier_jobs_change_nothing, own_messages_fit};
 use uug_session::laws::two_ends_are_told_by_four_numbers;
-use uug_session::stored_laws::{
-    nothing_is_struck_at_first, own_entries_have_places, own_entries_of_sessions,
-    struck_jobs_have_own_entries,
-};
 use uug_session::text_laws::texts_are_taken_in_order;
 use uug_session::told_laws::{an_end_is_told_by_two_numbers, an_end_keeps_what_it_brought};
 

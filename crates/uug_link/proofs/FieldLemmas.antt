@@ -7,8 +7,9 @@ use Rattle.uug_link.specs.declared.phase.Role.{Role}
 use Rattle.uug_link.specs.declared.phase.Role.TheVariants.{Caller, Called}
 use Rattle.uug_link.specs.Fields.{HaveSmallestFields, IsSmallestFor}
 use Rattle.uug_link.specs.State.{State, is_halted}
-use Rattle.uug_link.specs.Step.{Effect, Event, to_begin, packet_found, bad_found, timed_out, to_send, to_close, step, on_init_a, on_init_b, on_init_c, on_close, on_rr, on_rj, on_srj, on_data, is_expected, on_bad, acknowledged, data_packet, sent_again, repeated, on_timeout, on_packet, on_event}
+use Rattle.uug_link.specs.Step.{Effect, Event, to_begin, packet_found, bad_found, timed_out, to_send, to_close, step, on_init_a, on_init_b, on_init_c, on_close, on_rr, on_rj, on_srj, on_data, is_expected, is_enough, on_bad, acknowledged, data_packet, sent_again, repeated, on_packet, on_event}
 use Rattle.uug_link.specs.Terms.{smallest_code}
+use Rattle.uug_link.proofs.OtherLemmas.{other_holds}
 use Rattle.uug_link.proofs.SmallestLemmas.{smallest_is_code, smallest_is_least, smallest_saves}
 use Rattle.uug_packet.specs.Packet.{close, rj, srj, rr, init_c, init_b, init_a, PacketValue, control, carry}
 
@@ -67,7 +68,9 @@ small_srj _ y s = tt
 small_data : (phase : Phase) (seq ack : ℕ) (s : State) → HaveSmallestFields (on_data phase seq ack s).emitted
 small_data Up seq ack s =
     let left = acknowledged ack s in
-    small_either (is_expected seq left) _ _ (tt, tt) (small_either left.told _ _ (tt, tt) (tt, tt))
+    small_either (is_expected seq left) _ _ (tt, tt)
+    (other_holds (λ e. HaveSmallestFields e.emitted) seq left (λ told passed. (tt, tt)) (λ told passed. (tt, tt))
+    (λ told passed is. tt))
 small_data _ seq ack s = tt
 
 small_packet : (p : PacketValue) (s : State) → HaveSmallestFields (on_packet p s).emitted
@@ -83,7 +86,7 @@ small_packet (carry seq ack k message) s = small_data s.phase seq ack s
 -- ---- the other events
 
 small_bad : (phase : Phase) (s : State) → HaveSmallestFields (on_bad phase s).emitted
-small_bad Up s = small_either s.told _ _ tt (tt, tt)
+small_bad Up s = small_either (is_enough s) _ _ tt (tt, tt)
 small_bad _ s = tt
 
 small_repeated : (role : Role) (phase : Phase) (s : State) → HaveSmallestFields (repeated role phase s)

@@ -1,5 +1,5 @@
 -- Each step of a link that is in range leaves it so, and emits packets that can be written.
-use Rattle.std.proofs.Common.{◌≡◌, ℕ, ◌+◌, ◌%◌, ◌<◌, ◌≤◌, ◌==◌, nat_lt, if◌then◌else◌, Bool, true, false, List, [], ◌∷◌, length, All, option_to_list, slice_get, get_or, inl, inr, refl, sym, subst, arith}
+use Rattle.std.proofs.Common.{◌≡◌, ℕ, ◌+◌, ◌%◌, ◌<◌, ◌≤◌, ◌==◌, nat_lt, if◌then◌else◌, Bool, true, false, List, [], ◌∷◌, length, All, Option, None, option_to_list, slice_get, get_or, inl, inr, refl, sym, subst, arith}
 use Rattle.std.proofs.lemmas.List.{drop_all}
 use Rattle.std.proofs.lemmas.List.Elements.{All-nil, All-cons, All-head, All-tail, All-same, All-drop, All-append}
 use Rattle.std.proofs.lemmas.Option.{slice_get-get_or, slice_get_past}
@@ -13,7 +13,8 @@ use Rattle.uug_link.specs.declared.phase.Role.TheVariants.{Caller, Called}
 use Rattle.uug_link.specs.Announced.{Announced, announced}
 use Rattle.uug_link.specs.InRange.{IsAnnouncement, IsInRange, MayMeet, AreWellFormed}
 use Rattle.uug_link.specs.State.{State, Fits, IsFresh, IsStarting, IsUp, caller_state, called_state, first_state, is_halted}
-use Rattle.uug_link.specs.Step.{Effect, Emission, Event, to_begin, packet_found, bad_found, timed_out, to_send, to_close, step, ignored, answers, only, nothing, on_init_a, on_init_b, on_init_c, on_close, on_rr, on_rj, on_srj, on_data, on_number, is_expected, on_bad, acknowledged, struck, distance, data_packet, last_received, sent_again, outstanding, selected, next_number, repeated, on_timeout, on_send, on_packet, on_event}
+use Rattle.uug_link.specs.Step.{Effect, Emission, Event, to_begin, packet_found, bad_found, timed_out, to_send, to_close, step, ignored, answers, only, nothing, on_init_a, on_init_b, on_init_c, on_close, on_rr, on_rj, on_srj, on_data, on_number, is_expected, is_enough, told_behind, until_over, on_bad, acknowledged, struck, distance, data_packet, last_received, sent_again, outstanding, selected, next_number, repeated, on_timeout, on_send, on_packet, on_event}
+use Rattle.uug_link.proofs.OtherLemmas.{keeping, other_holds}
 use Rattle.uug_link.proofs.SmallestLemmas.{smallest_holds, smallest_is_code, within_most}
 use Rattle.uug_packet.specs.Packet.{ControlValue, close, rj, srj, rr, init_c, init_b, init_a, PacketValue, control, carry}
 use Rattle.uug_packet.specs.WellFormed.{HasNumber, IsWellFormed}
@@ -199,14 +200,23 @@ fine_srj _ y s low h = fine_ignored s h
 received_number : (s : State) → last_received s < 8
 received_number s = omega arith
 
-fine_rejecting : (s : State) → IsInRange s → IsFine (answers (record s { told = true }) (rj (last_received s)) nothing)
-fine_rejecting s h = record {
+fine_asking : (told : ℕ) (passed : Option ℕ) (s : State) → IsInRange s →
+    IsFine (answers (keeping s told passed) (rr (last_received s)) nothing)
+fine_asking told passed s h = record {
+  state = range_later s _ h refl refl refl refl refl (λ starts. starts);
+  emitted = only_out (rr (last_received s)) (received_number s);
+}
+
+fine_rejecting : (told : ℕ) (passed : Option ℕ) (s : State) → IsInRange s →
+    IsFine (answers (keeping s told passed) (rj (last_received s)) nothing)
+fine_rejecting told passed s h = record {
   state = range_later s _ h refl refl refl refl refl (λ starts. starts);
   emitted = only_out (rj (last_received s)) (received_number s);
 }
 
-range_taken : (s : State) → IsInRange s → IsInRange (record s { expected = (s.expected + 1) % 8; told = false; timeouts = 0 })
-range_taken s h = record {
+range_taken : (told : ℕ) (s : State) → IsInRange s →
+    IsInRange (record s { expected = (s.expected + 1) % 8; told = told; passed = None; timeouts = 0 })
+range_taken told s h = record {
   own = h.own;
   size_code = h.size_code;
   fit = h.fit;
@@ -217,9 +227,12 @@ range_taken s h = record {
 
 fine_number : (x : ℕ) (s : State) → x < 8 → IsInRange s → IsFine (on_number x s)
 fine_number x s low h =
-    fine_either (is_expected x s) _ _ (record { state = range_taken s h; emitted = only_out (rr x) low })
-    (fine_either s.told _ _ (record { state = h; emitted = only_out (rr (last_received s)) (received_number s) })
-    (fine_rejecting s h))
+    fine_either (is_expected x s) _ _ (record { state = range_taken (told_behind s) s h; emitted = only_out (rr x) low })
+    (other_holds IsFine x s (λ told passed. fine_asking told passed s h) (λ told passed. fine_rejecting told passed s h)
+    (λ told passed is. record {
+      state = range_later s _ h refl refl refl refl refl (λ starts. starts);
+      emitted = none_out;
+    }))
 
 fine_data : (phase : Phase) (seq ack : ℕ) (s : State) → seq < 8 → IsInRange s → IsFine (on_data phase seq ack s)
 fine_data Up seq ack s low h = fine_number seq (acknowledged ack s) low (range_acknowledged ack s h)
@@ -240,7 +253,7 @@ fine_packet (carry seq ack k message) s low h = fine_data s.phase seq ack s low.
 -- ---- the other events
 
 fine_bad : (phase : Phase) (s : State) → IsInRange s → IsFine (on_bad phase s)
-fine_bad Up s h = fine_either s.told _ _ (fine_ignored s h) (fine_rejecting s h)
+fine_bad Up s h = fine_either (is_enough s) _ _ (fine_ignored s h) (fine_rejecting (until_over s) s.passed s h)
 fine_bad _ s h = fine_ignored s h
 
 repeated_out : (role : Role) (phase : Phase) (s : State) → IsInRange s → AreWellFormed (repeated role phase s)

@@ -7,7 +7,8 @@ use Rattle.uug_link.specs.declared.phase.Role.{Role}
 use Rattle.uug_link.specs.declared.phase.Role.TheVariants.{Caller, Called}
 use Rattle.uug_link.specs.Slots.{Keeps}
 use Rattle.uug_link.specs.State.{State, IsSound, IsStarting, is_halted}
-use Rattle.uug_link.specs.Step.{Effect, step, to_begin, packet_found, bad_found, timed_out, to_close, on_init_a, on_init_b, on_init_c, on_close, on_rr, on_rj, on_srj, on_data, on_number, is_expected, on_bad, acknowledged, struck, distance, on_timeout, on_control, on_packet}
+use Rattle.uug_link.specs.Step.{Effect, step, to_begin, packet_found, bad_found, timed_out, to_close, on_init_a, on_init_b, on_init_c, on_close, on_rr, on_rj, on_srj, on_data, on_number, is_expected, is_enough, on_bad, acknowledged, struck, distance, on_timeout, on_control, on_packet}
+use Rattle.uug_link.proofs.OtherLemmas.{other_holds}
 use Rattle.uug_packet.specs.Packet.{ControlValue, close, rj, srj, rr, init_c, init_b, init_a, PacketValue, control, carry}
 
 -- what a step may count on
@@ -142,7 +143,8 @@ keeps-either s false e f h k = k
 keeps-number : (x : ℕ) (s t : State) → Keeps s t → Keeps s (on_number x t).state
 keeps-number x s t h =
     keeps-either s (is_expected x t) _ _ (keeps-later s t _ h refl refl)
-    (keeps-either s t.told _ _ h (keeps-later s t _ h refl refl))
+    (other_holds (λ e. Keeps s e.state) x t (λ told passed. keeps-later s t _ h refl refl)
+    (λ told passed. keeps-later s t _ h refl refl) (λ told passed is. keeps-later s t _ h refl refl))
 
 keeps-data : (phase : Phase) (x y : ℕ) (s : State) → IsSteady s → Keeps s (on_data phase x y s).state
 keeps-data Fresh x y s h = keeps-self s h
@@ -158,7 +160,7 @@ keeps-bad Fresh s h = keeps-self s h
 keeps-bad AwaitsInitA s h = keeps-self s h
 keeps-bad AwaitsInitB s h = keeps-self s h
 keeps-bad AwaitsInitC s h = keeps-self s h
-keeps-bad Up s h = keeps-either s s.told _ _ (keeps-self s h) (keeps-same s _ h refl refl)
+keeps-bad Up s h = keeps-either s (is_enough s) _ _ (keeps-self s h) (keeps-same s _ h refl refl)
 keeps-bad Closing s h = keeps-self s h
 keeps-bad Halted s h = keeps-self s h
 

@@ -5,6 +5,7 @@ pub mod FieldLemmas
 pub mod EntriesLemmas
 pub mod SlotsLemmas
 pub mod RepeatLemmas
+pub mod OtherLemmas
 pub mod KeepLemmas
 pub mod SoundLemmas
 pub mod LinkLemmas
@@ -12,6 +13,7 @@ pub mod WindowMachineLemmas
 pub mod WindowMachineRuns
 pub mod WindowMachineFacts
 pub mod WindowFacts
+pub mod QuietFacts
 pub mod OnTheLineLemmas
 pub mod SimulationLemmas
 pub mod StrayLemmas
@@ -25,6 +27,8 @@ pub mod MovesFacts
 pub mod ArrivalLemmas
 pub mod OutcomeLemmas
 pub mod TermsLemmas
+pub mod PlainLemmas
+pub mod RejectLemmas
 pub mod InRangeLemmas
 pub mod WrittenRuns
 pub mod CountsRuns

@@ -1,5 +1,5 @@
 -- What a line brings where nothing is lost: what goes out again, what is sent and what is heard, at a link that is up.
-use Rattle.std.proofs.Common.{◌≡◌, ◌⊎◌, inl, inr, ℕ, zero, suc, ◌+◌, ◌%◌, ◌<◌, ◌≤◌, ◌==◌, nat_lt, Bool, true, false, if◌then◌else◌, All, List, [], ◌∷◌, ◌++◌, length, length-append, slice_get, Some, refl, ap, sym, subst, ◌∙◌, arith}
+use Rattle.std.proofs.Common.{◌≡◌, ◌⊎◌, inl, inr, ℕ, zero, suc, ◌+◌, ◌%◌, ◌<◌, ◌≤◌, ◌==◌, nat_lt, Bool, true, false, if◌then◌else◌, All, List, [], ◌∷◌, ◌++◌, length, length-append, slice_get, None, Some, true≢false, refl, ap, sym, subst, ◌∙◌, arith}
 use Rattle.std.proofs.lemmas.Bool.{cases_lt}
 use Rattle.std.proofs.lemmas.Bool.Decides.{nat_tests}
 use Rattle.std.proofs.lemmas.List.Elements.{All-nil, All-cons}
@@ -7,8 +7,8 @@ use Rattle.std.proofs.lemmas.List.{append_assoc}
 use Rattle.uug_link.specs.Announced.{Announced}
 use Rattle.uug_link.specs.Arrivals.{IsPlace, arrived}
 use Rattle.uug_link.specs.OnTheWay.{IsTalk, IsData, expected_with, oldest_with, expected_behind, oldest_behind, TellOldest, AreComing, Hears, Sends, Repeats, StillBring, emitted_by}
-use Rattle.uug_link.specs.State.{State, IsUp, is_halted}
-use Rattle.uug_link.specs.Step.{Effect, Event, taken, answers, answers_halted, quiet, nothing, gave_up, Emission, acknowledged, data_packet, is_expected, last_received, next_number, on_data, on_event, on_packet, on_rj, on_rr, on_send, outstanding, packet_found, rejecting, repeated, sent_again, step, timed_out, to_send}
+use Rattle.uug_link.specs.State.{State, IsPlain, IsUp, is_halted}
+use Rattle.uug_link.specs.Step.{Effect, Event, taken, answers, answers_halted, quiet, nothing, gave_up, Emission, acknowledged, data_packet, is_expected, last_received, next_number, on_data, on_event, on_other, on_packet, on_rj, on_rr, on_send, outstanding, packet_found, repeated, sent_again, step, timed_out, to_send, told_behind}
 use Rattle.uug_link.specs.Terms.{IsWindow}
 use Rattle.uug_link.specs.TwoLinks.{End, Ends, IsRun, packets_of}
 use Rattle.uug_link.specs.declared.limits.TheConstants.{TIMEOUTS_MAX}
@@ -18,6 +18,7 @@ use Rattle.uug_link.specs.declared.phase.Role.{Role}
 use Rattle.uug_link.specs.declared.phase.Role.TheVariants.{Caller, Called}
 use Rattle.uug_link.proofs.ArrivalLemmas.{arrival_runs}
 use Rattle.uug_link.proofs.CountsRuns.{acks_count, counted}
+use Rattle.uug_link.proofs.OtherLemmas.{other_holds}
 use Rattle.uug_link.proofs.PeerLemmas.{beside}
 use Rattle.uug_link.proofs.SimulatedSteps.{LawsBelow}
 use Rattle.uug_link.proofs.StrayLemmas.{up_step}
@@ -122,11 +123,11 @@ abbrev late : (lasts : Bool) → State → Effect
 late lasts s =
     if lasts
     then record {
-      state = record s { timeouts = s.timeouts + 1; told = false };
+      state = record s { timeouts = s.timeouts + 1; told = 0 };
       emitted = repeated s.role s.phase s;
       outcome = nothing;
     }
-    else answers (record s { phase = Halted; timeouts = TIMEOUTS_MAX; told = false }) close gave_up
+    else answers (record s { phase = Halted; timeouts = TIMEOUTS_MAX; told = 0 }) close gave_up
 
 repeated_at : (role : Role) (s : State) → repeated role Up s ≡ outstanding s
 repeated_at Caller s = refl
@@ -166,7 +167,7 @@ record Heard (p : PacketValue) (s : State) (e : Effect) : Type 0 where
       expected_behind (packets_of e.emitted) (next_number e.state) ≡ next_number e.state
   tells : TellOldest (packets_of e.emitted) e.state.expected
       ⊎ ((packets_of e.emitted ≡ []) × (e.state.expected ≡ s.expected))
-  answered : IsData p → TellOldest (packets_of e.emitted) e.state.expected
+  answered : IsPlain s → IsData p → TellOldest (packets_of e.emitted) e.state.expected
 
 heard_rr : (y : ℕ) (s : State) → s.phase ≡ Up → Heard (control (rr y)) s (quiet (acknowledged y s))
 heard_rr y s is =
@@ -177,7 +178,7 @@ heard_rr y s is =
       talk = All-nil IsTalk;
       known = λ low few. refl;
       tells = inr (refl, others.expected);
-      answered = λ none. absurd none;
+      answered = λ plain none. absurd none;
     }
 
 -- what is left is repeated
@@ -204,19 +205,22 @@ heard_rj y s is low =
       known = λ first few.
           again_brings left left.oldest left.unacked (length left.unacked) (next_number left) first few (omega arith) refl;
       tells = left_tells s left others.expected low;
-      answered = λ none. absurd none;
+      answered = λ plain none. absurd none;
     }
 
 same_test : (seq a b : ℕ) (t : Bool) → a ≡ b → (seq == a) ≡ t → expected_with (carry seq 0 0 []) b ≡ (if t then (a + 1) % 8 else a)
 same_test seq a b t same is =
     ap (λ (e : ℕ). if seq == e then (e + 1) % 8 else e) (sym same) ∙ ap (λ (x : Bool). if x then (a + 1) % 8 else a) is
 
-heard_number : (seq ack k : ℕ) (message : List ℕ) (s left : State) (t told : Bool) → left.expected ≡ s.expected →
-    left.phase ≡ Up → left.expected < 8 → (seq == left.expected) ≡ t →
+heard_number : (seq ack k : ℕ) (message : List ℕ) (s left : State) (t : Bool) (other : Effect) → left.expected ≡ s.expected →
+    left.phase ≡ Up → (seq == left.expected) ≡ t →
+    ((seq == left.expected) ≡ false → Heard (carry seq ack k message) s other) →
     Heard (carry seq ack k message) s
-    (if t then answers (record left { expected = (left.expected + 1) % 8; told = false; timeouts = 0 }) (rr seq) taken
-    else if told then answers left (rr (last_received left)) nothing else rejecting left)
-heard_number seq ack k message s left true told same is low test =
+    (if t then answers
+    (record left { expected = (left.expected + 1) % 8; told = told_behind left; passed = None; timeouts = 0 })
+    (rr seq) taken
+    else other)
+heard_number seq ack k message s left true other same is test others =
     let equal : seq ≡ left.expected = grind (arith, nat_tests, test) in
     let tells : (seq + 1) % 8 ≡ (left.expected + 1) % 8 = ap (λ (n : ℕ). (n + 1) % 8) equal in
     record {
@@ -225,24 +229,41 @@ heard_number seq ack k message s left true told same is low test =
       talk = All-cons IsTalk (control (rr seq)) [] tt (All-nil IsTalk);
       known = λ first few. refl;
       tells = inl (λ o. tells);
-      answered = λ data_packet o. tells;
+      answered = λ plain data_packet o. tells;
     }
-heard_number seq ack k message s left false true same is low test = record {
-  is_up = is;
-  expected = sym (same_test seq left.expected s.expected false same test);
-  talk = All-cons IsTalk (control (rr (last_received left))) [] tt (All-nil IsTalk);
-  known = λ first few. refl;
-  tells = inl (λ o. last_says left low);
-  answered = λ data_packet o. last_says left low;
-}
-heard_number seq ack k message s left false false same is low test = record {
-  is_up = is;
-  expected = sym (same_test seq left.expected s.expected false same test);
-  talk = All-cons IsTalk (control (rj (last_received left))) [] tt (All-nil IsTalk);
-  known = λ first few. refl;
-  tells = inl (λ o. last_says left low);
-  answered = λ data_packet o. last_says left low;
-}
+heard_number seq ack k message s left false other same is test others = others test
+
+-- a link that is quiet on repeats may answer nothing
+heard_other : (seq ack k : ℕ) (message : List ℕ) (s left : State) → left.expected ≡ s.expected → left.own ≡ s.own →
+    left.phase ≡ Up → left.expected < 8 → (seq == left.expected) ≡ false →
+    Heard (carry seq ack k message) s (on_other seq left)
+heard_other seq ack k message s left same own is low test =
+    other_holds (Heard (carry seq ack k message) s) seq left
+    (λ told passed. record {
+      is_up = is;
+      expected = sym (same_test seq left.expected s.expected false same test);
+      talk = All-cons IsTalk (control (rr (last_received left))) [] tt (All-nil IsTalk);
+      known = λ first few. refl;
+      tells = inl (λ o. last_says left low);
+      answered = λ plain data_packet o. last_says left low;
+    })
+    (λ told passed. record {
+      is_up = is;
+      expected = sym (same_test seq left.expected s.expected false same test);
+      talk = All-cons IsTalk (control (rj (last_received left))) [] tt (All-nil IsTalk);
+      known = λ first few. refl;
+      tells = inl (λ o. last_says left low);
+      answered = λ plain data_packet o. last_says left low;
+    })
+    (λ told passed silent. record {
+      is_up = is;
+      expected = sym (same_test seq left.expected s.expected false same test);
+      talk = All-nil IsTalk;
+      known = λ first few. refl;
+      tells = inr (refl, same);
+      answered = λ plain data_packet.
+          absurd (true≢false (sym silent ∙ ap (λ (a : Announced). a.quiet) own ∙ plain));
+    })
 
 heard_on : (p : PacketValue) (s : State) → IsUp s → s.expected < 8 → IsTalk p → Heard p s (on_packet p s)
 heard_on (control (rr y)) s is low talk =
@@ -258,8 +279,9 @@ heard_on (carry seq ack k message) s is low talk =
     let left : State = acknowledged ack s in
     let others = beside ack s in
     subst (λ (phase : Phase). Heard (carry seq ack k message) s (on_data phase seq ack s)) (sym is)
-    (heard_number seq ack k message s left (is_expected seq left) left.told others.expected (others.phase ∙ is)
-    (omega (arith, others.expected, low)) refl)
+    (heard_number seq ack k message s left (is_expected seq left) (on_other seq left) others.expected (others.phase ∙ is) refl
+    (heard_other seq ack k message s left others.expected others.own (others.phase ∙ is)
+    (omega (arith, others.expected, low))))
 
 heard_so : (p : PacketValue) (s : State) → IsUp s → s.expected < 8 → IsTalk p → Heard p s (step s (packet_found p))
 heard_so p s is low talk = subst (Heard p s) (sym (up_step s p is)) (heard_on p s is low talk)

@@ -2,12 +2,13 @@
 use Rattle.std.proofs.Common.{◌≡◌, ◌≢◌, ℕ, ◌+◌, ◌%◌, ◌==◌, nat_lt, Bool, true, false, if◌then◌else◌, List, [], ◌∷◌, inl, inr, refl, ap, sym, subst, ◌∙◌, true≢false}
 use Rattle.uug_link.specs.Outcomes.{MayAnswer, IsComing, MovesPhase, NoneIsFirst, FirstBySend}
 use Rattle.uug_link.specs.State.{State, IsFresh, IsUp, IsStarting, is_halted}
-use Rattle.uug_link.specs.Step.{Effect, Event, to_begin, packet_found, bad_found, timed_out, to_send, to_close, step, ignored, answers_halted, on_init_a, on_init_b, on_init_c, on_close, on_rr, on_rj, on_srj, on_data, is_expected, on_bad, acknowledged, struck, distance, repeated, on_timeout, on_packet, sent_again}
+use Rattle.uug_link.specs.Step.{Effect, Event, to_begin, packet_found, bad_found, timed_out, to_send, to_close, step, ignored, answers_halted, on_init_a, on_init_b, on_init_c, on_close, on_rr, on_rj, on_srj, on_data, is_expected, is_enough, on_bad, acknowledged, struck, distance, repeated, on_timeout, on_packet, sent_again}
 use Rattle.uug_link.specs.declared.limits.TheConstants.{TIMEOUTS_MAX}
 use Rattle.uug_link.specs.declared.phase.Phase.{Phase}
 use Rattle.uug_link.specs.declared.phase.Phase.TheVariants.{Fresh, AwaitsInitA, AwaitsInitB, AwaitsInitC, Up, Closing, Halted}
 use Rattle.uug_link.specs.declared.phase.Role.{Role}
 use Rattle.uug_link.specs.declared.phase.Role.TheVariants.{Caller, Called}
+use Rattle.uug_link.proofs.OtherLemmas.{other_holds}
 use Rattle.uug_packet.specs.Packet.{close, rj, srj, rr, init_c, init_b, init_a, PacketValue, control, carry}
 
 -- the effect of an event on a link
@@ -113,9 +114,10 @@ fine_data seq ack k message s Up is runs =
     let stays : t.phase ≡ s.phase = acknowledged_phase ack s in
     fine_either e s (is_expected seq t) _ _
     (record { answers = tt; moves = λ c. (is, stays ∙ is); firsts = (refl, tt) })
-    (fine_either e s t.told _ _
-    (record { answers = tt; moves = λ c. (runs, inl stays); firsts = (refl, tt) })
-    (record { answers = tt; moves = λ c. (runs, inl stays); firsts = (refl, tt) }))
+    (other_holds (IsFine e s) seq t
+    (λ told passed. record { answers = tt; moves = λ c. (runs, inl stays); firsts = (refl, tt) })
+    (λ told passed. record { answers = tt; moves = λ c. (runs, inl stays); firsts = (refl, tt) })
+    (λ told passed is. record { answers = tt; moves = λ c. (runs, inl stays); firsts = tt }))
 fine_data seq ack k message s _ is runs = fine_ignored (carry seq ack k message) s runs
 
 fine_packet : (p : PacketValue) (s : State) → s.phase ≢ Halted → IsFine (packet_found p) s (on_packet p s)
@@ -136,7 +138,7 @@ fine_packet (carry seq ack k message) s runs = fine_data seq ack k message s s.p
 
 fine_bad : (s : State) (phase : Phase) → s.phase ≢ Halted → IsFine bad_found s (on_bad phase s)
 fine_bad s Up runs =
-    fine_either bad_found s s.told _ _ (record { answers = tt; moves = λ c. (runs, inl refl); firsts = tt })
+    fine_either bad_found s (is_enough s) _ _ (record { answers = tt; moves = λ c. (runs, inl refl); firsts = tt })
     (record { answers = tt; moves = λ c. (runs, inl refl); firsts = (refl, tt) })
 fine_bad s _ runs = record { answers = tt; moves = λ c. (runs, inl refl); firsts = tt }
 

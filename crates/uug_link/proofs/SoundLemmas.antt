@@ -9,7 +9,8 @@ use Rattle.uug_link.specs.declared.phase.Phase.TheVariants.{Fresh, AwaitsInitA, 
 use Rattle.uug_link.specs.declared.phase.Role.{Role}
 use Rattle.uug_link.specs.declared.phase.Role.TheVariants.{Caller, Called}
 use Rattle.uug_link.specs.State.{State, IsSound, IsStarting, KnowsWindow, HasRoom, Fits, is_halted}
-use Rattle.uug_link.specs.Step.{Effect, step, packet_found, bad_found, timed_out, on_init_a, on_init_b, on_init_c, on_close, on_rr, on_rj, on_srj, on_data, on_number, is_expected, on_bad, acknowledged, struck, distance, on_timeout, on_control, on_packet}
+use Rattle.uug_link.specs.Step.{Effect, step, packet_found, bad_found, timed_out, on_init_a, on_init_b, on_init_c, on_close, on_rr, on_rj, on_srj, on_data, on_number, is_expected, is_enough, on_bad, acknowledged, struck, distance, on_timeout, on_control, on_packet}
+use Rattle.uug_link.proofs.OtherLemmas.{other_holds}
 use Rattle.uug_packet.specs.Packet.{ControlValue, close, rj, srj, rr, init_c, init_b, init_a, PacketValue, control, carry}
 
 -- nothing is outstanding
@@ -160,7 +161,10 @@ sound-either false e f h k = k
 sound-number : (x : ℕ) (s : State) → IsSound s → IsSound (on_number x s).state
 sound-number x s h =
     sound-either (is_expected x s) _ _ (sound-later s _ h refl refl refl (λ starts. starts) (λ known. known))
-    (sound-either s.told _ _ h (sound-later s _ h refl refl refl (λ starts. starts) (λ known. known)))
+    (other_holds (λ e. IsSound e.state) x s
+    (λ told passed. sound-later s _ h refl refl refl (λ starts. starts) (λ known. known))
+    (λ told passed. sound-later s _ h refl refl refl (λ starts. starts) (λ known. known))
+    (λ told passed is. sound-later s _ h refl refl refl (λ starts. starts) (λ known. known)))
 
 sound-data : (phase : Phase) (x y : ℕ) (s : State) → IsSound s → IsSound (on_data phase x y s).state
 sound-data Up x y s h = sound-number x _ (sound-acknowledged y s h)
@@ -172,7 +176,7 @@ sound-data Closing x y s h = h
 sound-data Halted x y s h = h
 
 sound-bad : (phase : Phase) (s : State) → IsSound s → IsSound (on_bad phase s).state
-sound-bad Up s h = sound-either s.told _ _ h (sound-later s _ h refl refl refl (λ starts. starts) (λ known. known))
+sound-bad Up s h = sound-either (is_enough s) _ _ h (sound-later s _ h refl refl refl (λ starts. starts) (λ known. known))
 sound-bad Fresh s h = h
 sound-bad AwaitsInitA s h = h
 sound-bad AwaitsInitB s h = h

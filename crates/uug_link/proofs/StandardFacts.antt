@@ -1,6 +1,6 @@
 -- Starts and ends of links that were worked out by hand, computed by the definitions: a wrong rule in them does not
 -- check.
-use Rattle.std.proofs.Common.{◌≡◌, ℕ, zero, suc, List, [], ◌∷◌, ◌++◌, refl}
+use Rattle.std.proofs.Common.{◌≡◌, ℕ, false, zero, suc, List, [], ◌∷◌, ◌++◌, refl}
 use Rattle.uug_link.specs.Terms.{size_of_code}
 use Rattle.uug_link.specs.Entries.{bytes_of}
 use Rattle.uug_link.specs.Follows.{written}
@@ -39,10 +39,10 @@ all_bytes (es ∷ more) = bytes es ∷ all_bytes more
 -- ---- a caller with window 3 and size 64, and a called end with window 2 and size 32
 
 abbrev caller : State
-caller = caller_state (record { window = 3; size_code = 1 })
+caller = caller_state (record { window = 3; size_code = 1; quiet = false })
 
 abbrev called : State
-called = called_state (record { window = 2; size_code = 0 })
+called = called_state (record { window = 2; size_code = 0; quiet = false })
 
 abbrev to_caller : List Event
 to_caller = to_begin ∷ found (init_a 2) ∷ found (init_b 0) ∷ found (init_c 2) ∷ []

@@ -8,6 +8,7 @@ use Rattle.uug_link.specs.declared.phase.Role.TheVariants.{Caller, Called}
 use Rattle.uug_link.specs.State.{State, IsUp, is_halted}
 use Rattle.uug_link.specs.Step.{Effect, up, packet_found, step, answers_halted, on_init_a, on_init_b, on_init_c, on_close, on_rr, on_rj, on_srj, on_data, on_number, is_expected, acknowledged, distance, on_packet, next_number}
 use Rattle.uug_link.specs.Strays.{HasNumbers, IsSmallerOf, StandsBehind, acknowledgement}
+use Rattle.uug_link.proofs.OtherLemmas.{other_holds}
 use Rattle.uug_packet.specs.Packet.{close, rj, srj, rr, init_c, init_b, init_a, PacketValue, control, carry}
 
 -- ---- an acknowledgement
@@ -104,7 +105,9 @@ holds_effect P true e f h k = h
 holds_effect P false e f h k = k
 
 holds_number : (P : List (List ℕ) → ℕ → Type 0) (x : ℕ) (s : State) → Holds P s → Holds P (on_number x s).state
-holds_number P x s h = holds_effect P (is_expected x s) _ _ h (holds_effect P s.told _ _ h h)
+holds_number P x s h =
+    holds_effect P (is_expected x s) _ _ h
+    (other_holds (λ e. Holds P e.state) x s (λ told passed. h) (λ told passed. h) (λ told passed is. h))
 
 pub up_step : (s : State) (p : PacketValue) → IsUp s → step s (packet_found p) ≡ on_packet p s
 up_step s p is =
@@ -277,7 +280,8 @@ up_srj _ y s p = λ e. absurd cc
 up_data : (phase : Phase) (seq ack : ℕ) (s : State) (p : PacketValue) → ComesUpWhere s p (on_data phase seq ack s)
 up_data Up seq ack s p =
     up_either s p (is_expected seq (acknowledged ack s)) _ _ (λ e. absurd cc)
-    (up_either s p (acknowledged ack s).told _ _ (λ e. absurd cc) (λ e. absurd cc))
+    (other_holds (ComesUpWhere s p) seq (acknowledged ack s) (λ told passed e. absurd cc) (λ told passed e. absurd cc)
+    (λ told passed is e. absurd cc))
 up_data _ seq ack s p = λ e. absurd cc
 
 up_packet : (p : PacketValue) (s : State) → ComesUpWhere s p (on_packet p s)

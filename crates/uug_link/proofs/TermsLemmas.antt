@@ -1,12 +1,13 @@
 -- What this end has announced stays, and on a link that is up so do the size and the window.
 use Rattle.std.proofs.Common.{◌≡◌, ℕ, ◌+◌, ◌==◌, nat_lt, Bool, true, false, if◌then◌else◌, length, refl, sym, subst}
 use Rattle.uug_link.specs.State.{State, IsUp, IsStarting, is_halted}
-use Rattle.uug_link.specs.Step.{Effect, Event, to_begin, packet_found, bad_found, timed_out, to_send, to_close, step, on_init_a, on_init_b, on_init_c, on_close, on_rr, on_rj, on_srj, on_data, on_number, is_expected, on_bad, acknowledged, struck, distance, on_packet, on_event}
+use Rattle.uug_link.specs.Step.{Effect, Event, to_begin, packet_found, bad_found, timed_out, to_send, to_close, step, on_init_a, on_init_b, on_init_c, on_close, on_rr, on_rj, on_srj, on_data, on_number, is_expected, is_enough, on_bad, acknowledged, struck, distance, on_packet, on_event}
 use Rattle.uug_link.specs.declared.limits.TheConstants.{TIMEOUTS_MAX}
 use Rattle.uug_link.specs.declared.phase.Phase.{Phase}
 use Rattle.uug_link.specs.declared.phase.Phase.TheVariants.{AwaitsInitA, AwaitsInitB, AwaitsInitC, Up, Closing}
 use Rattle.uug_link.specs.declared.phase.Role.{Role}
 use Rattle.uug_link.specs.declared.phase.Role.TheVariants.{Caller, Called}
+use Rattle.uug_link.proofs.OtherLemmas.{other_holds}
 use Rattle.uug_packet.specs.Packet.{close, rj, srj, rr, init_c, init_b, init_a, PacketValue, control, carry}
 
 -- a link before and after
@@ -80,7 +81,9 @@ keeps_srj _ y s = keeps_itself s
 keeps_number : (x : ℕ) (s t : State) → Keeps s t → Keeps s (on_number x t).state
 keeps_number x s t h =
     keeps_either s (is_expected x t) _ _ (record { own = h.own; size = h.size; window = h.window })
-    (keeps_either s t.told _ _ h (record { own = h.own; size = h.size; window = h.window }))
+    (other_holds (λ e. Keeps s e.state) x t (λ told passed. record { own = h.own; size = h.size; window = h.window })
+    (λ told passed. record { own = h.own; size = h.size; window = h.window })
+    (λ told passed is. record { own = h.own; size = h.size; window = h.window }))
 
 keeps_data : (phase : Phase) (seq ack : ℕ) (s : State) → Keeps s (on_data phase seq ack s).state
 keeps_data Up seq ack s = keeps_number seq s _ (keeps_acknowledged ack s)
@@ -101,7 +104,7 @@ keeps_packet (carry seq ack k message) s = keeps_data s.phase seq ack s
 -- ---- the other events
 
 keeps_bad : (phase : Phase) (s : State) → Keeps s (on_bad phase s).state
-keeps_bad Up s = keeps_either s s.told _ _ (keeps_itself s) (keeps_same s _ refl refl refl)
+keeps_bad Up s = keeps_either s (is_enough s) _ _ (keeps_itself s) (keeps_same s _ refl refl refl)
 keeps_bad _ s = keeps_itself s
 
 keeps_event : (e : Event) (s : State) → Keeps s (on_event e s).state

@@ -19,11 +19,11 @@ abbrev by_count : (more : Bool) → State → Effect
 by_count more s =
     if more
     then record {
-      state = record s { timeouts = s.timeouts + 1; told = false };
+      state = record s { timeouts = s.timeouts + 1; told = 0 };
       emitted = repeated s.role s.phase s;
       outcome = nothing;
     }
-    else answers (record s { phase = Halted; timeouts = TIMEOUTS_MAX; told = false }) close gave_up
+    else answers (record s { phase = Halted; timeouts = TIMEOUTS_MAX; told = 0 }) close gave_up
 
 up_again : (s : State) → s.phase ≡ Up → s.timeouts + 1 < TIMEOUTS_MAX → (step s timed_out).emitted ≡ outstanding s
 up_again s is less =

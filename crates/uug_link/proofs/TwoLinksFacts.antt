@@ -1,5 +1,5 @@
 -- A run of two links that was worked out by hand, from the start to the close: a wrong rule does not check.
-use Rattle.std.proofs.Common.{◌≡◌, List, [], ◌∷◌, Some, refl, arith}
+use Rattle.std.proofs.Common.{false, ◌≡◌, List, [], ◌∷◌, Some, refl, arith}
 use Rattle.uug_link.specs.Arrivals.{place_of}
 use Rattle.uug_link.specs.State.{caller_state, called_state, IsUp}
 use Rattle.uug_link.specs.Step.{to_begin, to_send, to_close}
@@ -10,7 +10,7 @@ use Rattle.uug_packet.specs.Packet.{PacketValue, close, rj, rr, init_a, init_b, 
 
 -- the caller wants window 3 and size 64, the called end window 2 and size 32
 abbrev begun : Ends
-begun = first_ends (caller_state (record { window = 3; size_code = 1 })) (called_state (record { window = 2; size_code = 0 }))
+begun = first_ends (caller_state (record { window = 3; size_code = 1; quiet = false })) (called_state (record { window = 2; size_code = 0; quiet = false }))
 
 abbrev caller_hears : PacketValue → Occurrence
 caller_hears p = at_near (hears p)

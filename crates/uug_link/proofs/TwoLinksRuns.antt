@@ -323,6 +323,9 @@ pub windows : (law : LawsBelow) → AlwaysOfTwo (λ e other announced. KnowsWind
 windows law = of_two law (λ e other announced. KnowsWindow e.link.phase → e.link.window ≡ announced.window)
     (λ a b e f out back h. h.sim.knows.window)
 
+pub owns : (law : LawsBelow) → AlwaysOfTwo (λ e other announced. other.link.own ≡ announced)
+owns law = of_two law (λ e other announced. other.link.own ≡ announced) (λ a b e f out back h. h.sim.other_own)
+
 pub sizes : (law : LawsBelow) → AlwaysOfTwo (λ e other announced. KnowsSize e.link.phase → e.link.size_code ≡ announced.size_code)
 sizes law = of_two law (λ e other announced. KnowsSize e.link.phase → e.link.size_code ≡ announced.size_code)
     (λ a b e f out back h. h.sim.knows.size)

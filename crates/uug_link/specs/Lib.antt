@@ -3,6 +3,7 @@ pub mod Announced
 pub mod Entries
 pub mod State
 pub mod Step
+pub mod Plain
 pub mod Fields
 pub mod InRange
 pub mod Reactions

@@ -1,7 +1,7 @@
 -- What a line brings where nothing is lost: read at the end to which it leads, packet by packet, and modulo eight as it stands
 -- in the packets. Taylor UUCP manual, UUCP 'g' Protocol.
 use Rattle.std.specs.Prelude.{◌≡◌, ◌⊎◌, ℕ, ◌+◌, ◌%◌, ◌≤◌, ◌==◌, if◌then◌else◌, All, List, [], ◌∷◌, ◌++◌, length, ⊤}
-use Rattle.uug_link.specs.State.{State, IsUp}
+use Rattle.uug_link.specs.State.{State, IsPlain, IsUp}
 use Rattle.uug_link.specs.Step.{Event, next_number, step}
 use Rattle.uug_link.specs.TwoLinks.{End, packets_of}
 use Rattle.uug_packet.specs.Packet.{PacketValue, control, carry, rr, rj}
@@ -75,8 +75,8 @@ pub record Hears (p : PacketValue) (before after : State) (packets : List Packet
   pub expected : after.expected ≡ expected_with p before.expected
   pub oldest : after.oldest ≡ oldest_with p before.oldest
   pub answers : Answers before after packets
-  -- a data packet is always answered
-  pub answered : IsData p → TellOldest packets after.expected
+  -- a data packet is always answered, by an end that is not quiet on repeats
+  pub answered : IsPlain before → IsData p → TellOldest packets after.expected
 
 -- an end that is up has sent a message
 pub record Sends (before after : State) (packets : List PacketValue) : Type 0 where

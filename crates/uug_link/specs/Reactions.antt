@@ -1,5 +1,5 @@
 -- What the program's values of a link mean.
-use Rattle.std.specs.Prelude.{ℕ, ◌+◌, ◌%◌, List, [], drop}
+use Rattle.std.specs.Prelude.{ℕ, ◌+◌, ◌%◌, option_map, List, [], drop}
 use Rattle.uug_link.specs.declared.outcome.Reply.{Reply}
 use Rattle.uug_link.specs.declared.outcome.Reply.TheVariants as replies
 use Rattle.uug_link.specs.declared.reaction.Emits.{Emits}
@@ -24,6 +24,7 @@ state_of s unacked = record {
   oldest = number_of s.oldest;
   expected = (number_of s.received + 1) % 8;
   told = s.told;
+  passed = option_map number_of s.passed;
   timeouts = s.timeouts.count;
 }
 

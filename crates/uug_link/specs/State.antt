@@ -1,6 +1,6 @@
--- The state of one end's link. Taylor UUCP manual, UUCP 'g' Protocol; the phases, the mark "told", the closing phase
--- and the count of timeouts are this project's profile.
-use Rattle.std.specs.Prelude.{◌≡◌, ℕ, ◌<◌, ◌≤◌, Bool, true, false, List, [], length, All, ⊤}
+-- The state of one end's link. Taylor UUCP manual, UUCP 'g' Protocol; the phases, what is kept of a reject, the
+-- closing phase and the count of timeouts are this project's profile.
+use Rattle.std.specs.Prelude.{◌≡◌, ℕ, suc, ◌<◌, ◌≤◌, Bool, true, false, Option, None, IfSome, List, [], length, All, ⊤}
 use Rattle.uug_link.specs.declared.phase.Phase.{Phase}
 use Rattle.uug_link.specs.declared.phase.Phase.TheVariants.{Fresh, AwaitsInitA, AwaitsInitB, AwaitsInitC, Up, Closing, Halted}
 use Rattle.uug_link.specs.declared.phase.Role.{Role}
@@ -23,8 +23,12 @@ pub record State : Type 0 where
   pub oldest : ℕ
   -- the number of the data packet that is to be taken next
   pub expected : ℕ
-  -- whether a reject has gone out for the expected packet
-  pub told : Bool
+  -- 0 where no reject has gone out for the expected packet; of an end that is quiet on repeats, how many packets it has
+  -- still to take until the other end's repeats are surely over
+  pub told : ℕ
+  -- the number of the data packet out of order that came last, if one came since the last that was taken; of an end that
+  -- is quiet on repeats
+  pub passed : Option ℕ
   -- the timeouts in a row without progress
   pub timeouts : ℕ
 
@@ -39,7 +43,8 @@ first_state role phase own = record {
   unacked = [];
   oldest = 1;
   expected = 1;
-  told = false;
+  told = 0;
+  passed = None;
   timeouts = 0;
 }
 
@@ -92,6 +97,18 @@ pub record IsSound (s : State) : Type 0 where
   pub fit : All (Fits s.size_code) s.unacked
   pub none_before : IsStarting s.phase → s.unacked ≡ []
   pub some : KnowsWindow s.phase → 1 ≤ s.window
+
+-- what every link keeps of rejects: at most one more than the window that it has announced, and a number of a packet
+pub record KeepsRejects (s : State) : Type 0 where
+  pub told : s.told ≤ suc s.own.window
+  pub passed : IfSome s.passed (λ number. number < 8)
+
+-- the link is quiet on repeats, or is not
+abbrev pub IsQuiet : State → Type 0
+IsQuiet s = s.own.quiet ≡ true
+
+abbrev pub IsPlain : State → Type 0
+IsPlain s = s.own.quiet ≡ false
 
 -- one more message may go out
 abbrev pub HasRoom : State → Type 0

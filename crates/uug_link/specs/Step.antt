@@ -1,6 +1,6 @@
 -- What a link does on each event: its next state, the packets that it emits, and what it answers.
 -- Taylor UUCP manual, UUCP 'g' Protocol; what is this project's own profile is said beside it.
-use Rattle.std.specs.Prelude.{ℕ, ◌+◌, ◌-◌, ◌%◌, min, ◌==◌, nat_lt, Bool, true, false, if◌then◌else◌, List, [], ◌∷◌, ◌++◌, length, drop, slice_get, option_to_list}
+use Rattle.std.specs.Prelude.{ℕ, suc, pred, ◌+◌, ◌-◌, ◌%◌, min, ◌==◌, nat_lt, nat_le, Bool, true, false, if◌then◌else◌, Option, Some, None, List, [], ◌∷◌, ◌++◌, length, drop, slice_get, option_to_list}
 use Rattle.uug_link.specs.declared.limits.TheConstants.{TIMEOUTS_MAX}
 use Rattle.uug_link.specs.declared.phase.Phase.{Phase}
 use Rattle.uug_link.specs.declared.phase.Phase.TheVariants.{AwaitsInitA, AwaitsInitB, AwaitsInitC, Up, Closing, Halted}
@@ -172,28 +172,79 @@ on_srj _ y s = ignored s
 
 -- ---- data packets that come
 
+-- A reject makes the other end repeat at most a window of packets. So once one more than a window was taken, the last of
+-- them was sent behind those repeats, and they are over.
+abbrev pub until_over : State → ℕ
+until_over s = suc s.own.window
+
 -- One reject goes out for the expected packet, until it has come or a timeout passes (this project's profile).
 abbrev pub rejecting : State → Effect
-rejecting s = answers (record s { told = true }) (rj (last_received s)) nothing
+rejecting s = answers (record s { told = until_over s }) (rj (last_received s)) nothing
+
+abbrev pub has_told : State → Bool
+has_told s = nat_lt 0 s.told
 
 -- one number alone is the expected one
 abbrev pub is_expected : ℕ → State → Bool
 is_expected x s = x == s.expected
 
--- the expected packet is taken; each other is rejected or, where a reject has gone out, answered with the last number
--- received
+-- what is left of a reject where a packet is taken: of an end that is quiet on repeats, one packet less
+abbrev pub told_behind : State → ℕ
+told_behind s = if s.own.quiet then pred s.told else 0
+
+-- ---- those that come out of order, at an end that is quiet on repeats (this project's profile)
+
+-- how far a packet lies behind the last one that was taken
+abbrev pub depth : ℕ → State → ℕ
+depth x s = distance x (last_received s)
+
+-- a repeat has begun anew: the packet is no younger than the one before it, and nothing was taken between
+abbrev pub begins_anew : Option ℕ → ℕ → State → Bool
+begins_anew None x s = false
+begins_anew (Some y) x s = nat_le (depth y s) (depth x s)
+
+-- it asks again, from that packet on
+abbrev pub asks : ℕ → State → ControlValue → Effect
+asks x s c = answers (record s { told = until_over s; passed = Some x }) c nothing
+
+-- Where nothing has told the other end, a packet is rejected; but the one that was taken last is acknowledged once more,
+-- and so is the first of a repeat that has begun anew. The rest of a repeat is not answered.
+abbrev pub on_repeat : ℕ → State → Effect
+on_repeat x s =
+    if has_told s
+    then if begins_anew s.passed x s
+    then asks x s (rr (last_received s))
+    else quiet (record s { passed = Some x })
+    else if x == last_received s then asks x s (rr (last_received s)) else asks x s (rj (last_received s))
+
+-- ---- data packets by their numbers
+
+-- another than the expected one is rejected or, where a reject has gone out, answered with the last number received
+abbrev pub on_other : ℕ → State → Effect
+on_other x s =
+    if s.own.quiet then on_repeat x s
+    else if has_told s then answers s (rr (last_received s)) nothing else rejecting s
+
+-- the expected packet is taken
 abbrev pub on_number : ℕ → State → Effect
 on_number x s =
     if is_expected x s
-    then answers (record s { expected = (s.expected + 1) % 8; told = false; timeouts = 0 }) (rr x) taken
-    else if s.told then answers s (rr (last_received s)) nothing else rejecting s
+    then answers
+    (record s { expected = (s.expected + 1) % 8; told = told_behind s; passed = None; timeouts = 0 })
+    (rr x) taken
+    else on_other x s
 
 abbrev pub on_data : Phase → (seq ack : ℕ) → State → Effect
 on_data Up seq ack s = on_number seq (acknowledged ack s)
 on_data _ seq ack s = ignored s
 
+-- whether the reject that has gone out is enough for a broken packet too; at an end that is quiet on repeats, only until the
+-- next packet is taken
+abbrev pub is_enough : State → Bool
+is_enough s = if s.own.quiet then nat_lt s.own.window s.told else has_told s
+
 abbrev pub on_bad : Phase → State → Effect
-on_bad Up s = if s.told then ignored s else rejecting s
+on_bad Up s = if is_enough s then ignored s else rejecting s
 on_bad _ s = ignored s
 
 -- ---- packets
@@ -228,11 +279,11 @@ abbrev pub on_timeout : State → Effect
 on_timeout s =
     if nat_lt (s.timeouts + 1) TIMEOUTS_MAX
     then record {
-      state = record s { timeouts = s.timeouts + 1; told = false };
+      state = record s { timeouts = s.timeouts + 1; told = 0 };
       emitted = repeated s.role s.phase s;
       outcome = nothing;
     }
-    else answers (record s { phase = Halted; timeouts = TIMEOUTS_MAX; told = false }) close gave_up
+    else answers (record s { phase = Halted; timeouts = TIMEOUTS_MAX; told = 0 }) close gave_up
 
 -- ---- the step
 

@@ -1,4 +1,4 @@
-ghost use Rattle.std.specs.Prelude.{◌≡◌, ◌≢◌, ℕ, ◌<◌, ◌≤◌, ◌⊎◌, ◌↔◌, IfOk, IsErrOf, MatchOption};
+ghost use Rattle.std.specs.Prelude.{◌≡◌, ◌≢◌, ℕ, false, ◌<◌, ◌≤◌, ◌⊎◌, ◌↔◌, IfOk, IsErrOf, MatchOption};
 ghost use Rattle.uug_link.specs.Terms.{IsSize, IsWindow, size_of_code};
 ghost use Rattle.uug_packet.specs.Number.{number_of};
 
@@ -6,11 +6,13 @@ use crate::limits::{MESSAGE_MAX, SIZE_MIN, WINDOW_MAX};
 use thiserror::Error;
 use uug_packet::{Seq, field_size};
 
-/// What one end of a link announces: the window and the packet size that the other end shall use.
+/// What one end of a link announces: the window and the packet size that the other end shall use. Beside it, whether this
+/// end is quiet on repeats, which it keeps to itself.
 #[derive(Clone, Copy, Debug, PartialEq, Eq)]
 pub struct Announce {
     pub(crate) window: Seq,
     pub(crate) size_code: Seq,
+    pub(crate) quiet: bool,
     ghost in_range: { IsWindow (number_of window) },
 }
 
@@ -26,13 +28,14 @@ pub enum BadAnnounce {
 }
 
 impl Announce {
-    ghost use Rattle.uug_link.specs.Announced.{announced};
+    ghost use Rattle.uug_link.specs.Announced.{announced, quiet_as};
 
     /// The announcement of a window, 1 to 7, and a size in bytes, a power of two from 32 to 4096. The window is
-    /// looked at first.
+    /// looked at first. It is of an end that is not quiet on repeats.
     pub fn new(window: u8, size: usize) -> Result<Self, BadAnnounce>
         ensures window { IfOk result (λ a. (announced a).window ≡ window) }
         ensures size { IfOk result (λ a. size_of_code (announced a).size_code ≡ size) }
+        ensures plain { IfOk result (λ a. (announced a).quiet ≡ false) }
         ensures bad_window { IsErrOf result BadAnnounce.BadWindow ↔ ((window < 1)
             ⊎ (WINDOW_MAX < window)) }
         ensures bad_size { IsErrOf result BadAnnounce.BadSize ↔
@@ -40,7 +43,33 @@ impl Announce {
     {
         let window = window_of(window).ok_or(BadAnnounce::BadWindow)?;
         let size_code = code_of_size(size).ok_or(BadAnnounce::BadSize)?;
-        Ok(Announce { window, size_code })
+        Ok(Announce {
+            window,
+            size_code,
+            quiet: false,
+        })
+    }
+
+    /// The same, of an end that is quiet on repeats, or is not.
+    ///
+    /// Of an end that is not, each data packet out of order is answered. One that is leaves the repeats that follow a
+    /// reject or a doubled packet unanswered, since each answer to them would make the other end repeat all again.
+    #[must_use]
+    pub fn with_quiet(self, quiet: bool) -> Self
+        ensures { announced result ≡ quiet_as quiet (announced self) }
+    {
+        Announce {
+            window: self.window,
+            size_code: self.size_code,
+            quiet,
+        }
+    }
+
+    /// Whether this end is quiet on repeats.
+    pub fn is_quiet(self) -> bool
+        ensures { result ≡ (announced self).quiet }
+    {
+        self.quiet
     }
 
     /// The window that the other end shall use, 1 to 7.

@@ -9,7 +9,8 @@ ghost use Rattle.uug_link.specs.Moves.{AllMoveWith, MovesWith, ReadsBoth};
 ghost use Rattle.uug_link.specs.OnTheLine.{Reads};
 ghost use Rattle.uug_link.specs.OnTheWay.{AreComing, Hears, IsTalk, Repeats, Sends, StillBring, emitted_by};
 ghost use Rattle.uug_link.specs.Outcomes.{FirstBySend, IsComing, MayAnswer, MovesPhase};
-ghost use Rattle.uug_link.specs.State.{IsFresh, IsUp, KnowsSize, KnowsWindow, State, called_state, caller_state};
+ghost use Rattle.uug_link.specs.Plain.{plain_step};
+ghost use Rattle.uug_link.specs.State.{IsFresh, IsPlain, IsUp, KeepsRejects, KnowsSize, KnowsWindow, State, called_state, caller_state};
 ghost use Rattle.uug_link.specs.Step.{Event, answers_halted, next_number, packet_found, step, timed_out, to_begin, to_close, to_send, up};
 ghost use Rattle.uug_link.specs.Strays.{HasNumbers, IsSmallerOf, StandsBehind, acknowledgement};
 ghost use Rattle.uug_link.specs.Terms.{IsWindow, smallest_code};
@@ -54,6 +55,17 @@ pub fn what_a_link_answers()
     ensures size_stays { (s : State) (e : Event) → IsUp s
         → (step s e).state.size_code ≡ s.size_code }
     ensures window_stays { (s : State) (e : Event) → IsUp s → (step s e).state.window ≡ s.window }
+{}
+
+/// A link that is quiet on repeats, and one that is not.
+pub fn quiet_on_repeats()
+    // One that is not steps by the old rules: the setting moves nothing then.
+    ensures plain { (s : State) (e : Event) → IsPlain s → step s e ≡ plain_step s e }
+    // What each keeps of rejects stays within its bounds: at most one more than the window that it has announced, and a
+    // number of a packet.
+    ensures first { (own : Announced) → KeepsRejects (caller_state own) × KeepsRejects (called_state own) }
+    ensures bounds { (s : State) (e : Event) → KeepsRejects s → MayMeet s e
+        → KeepsRejects (step s e).state }
 {}
 
 /// Whatever a peer sends that doesn't keep to the rules: it strikes no message but by the number of a packet that is
@@ -135,6 +147,8 @@ pub fn two_links_run_as_the_machine()
     ensures front { AlwaysOfTwo (λ e other announced. IsFrontOf e.taken other.sent) }
     // What is unacknowledged at an end is at most what the other announced, before and after it is up too.
     ensures unacked { AlwaysOfTwo (λ e other announced. length e.link.unacked ≤ announced.window) }
+    // What an end is set to stays: what it announces, and whether it is quiet on repeats.
+    ensures own { AlwaysOfTwo (λ e other announced. other.link.own ≡ announced) }
     // From INITA on an end knows the window, and from INITB on the size, that the other announced.
     ensures window { AlwaysOfTwo (λ e other announced.
         KnowsWindow e.link.phase → e.link.window ≡ announced.window) }
@@ -231,7 +245,8 @@ pub fn what_two_links_emit_arrives()
 /// have to say.
 pub fn a_clean_line_brings_all()
     // A packet that arrives, whatever was lost before it, leaves the others on the way; it is taken where it is the expected
-    // one, what it acknowledges counts, and data is always answered.
+    // one, what it acknowledges counts, and data is always answered by a
+    // link that is not quiet on repeats.
     ensures hears { (near far : Announced) (ends : Ends) (p : PacketValue) (ps : List PacketValue)
         (place : ℕ) →
         IsWindow near.window → IsWindow far.window → IsRun near far ends → IsUp ends.near.link

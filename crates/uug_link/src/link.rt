@@ -159,6 +159,13 @@ impl Link {
         matches!(self.status.phase, Phase::Closing)
     }
 
+    /// Whether this end is quiet on repeats.
+    pub fn is_quiet(&self) -> bool
+        ensures { result ≡ self.now.own.quiet }
+    {
+        self.status.own.quiet
+    }
+
     /// Whether `on_packet` would answer `Taken` to this packet, if it is not refused memory.
     pub fn takes(&self, packet: &Packet<'_>) -> bool
         ensures { IsTrue result ↔ ((step self.now (packet_found (shown packet.now))).outcome

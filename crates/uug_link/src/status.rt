@@ -22,8 +22,11 @@ pub(crate) struct Status {
     pub(crate) oldest: Seq,
     /// The number of the last data packet that was taken.
     pub(crate) received: Seq,
-    /// Whether a reject has gone out for the packet that is expected.
-    pub(crate) told: bool,
+    /// 0 where no reject has gone out for the packet that is expected, else at most one more than the window that this
+    /// end has announced.
+    pub(crate) told: u8,
+    /// The number of the data packet out of order that came last, since one was taken.
+    pub(crate) passed: Option<Seq>,
     pub(crate) timeouts: Timeouts,
 }
 
@@ -49,7 +52,8 @@ impl Status {
             size_code: zero,
             oldest: zero.next(),
             received: zero,
-            told: false,
+            told: 0,
+            passed: None,
             timeouts: Timeouts::none(),
         }
     }
@@ -89,7 +93,7 @@ impl Status {
     {
         match self.phase {
             Phase::Halted => self.refusing(),
-            Phase::Up if !self.told => self.rejecting(),
+            Phase::Up if !self.has_enough() => self.rejecting(),
             _ => self.ignoring(),
         }
     }
@@ -106,7 +110,7 @@ impl Status {
         match self.timeouts.next() {
             Some(timeouts) => Reaction {
                 status: Status {
-                    told: false,
+                    told: 0,
                     timeouts,
                     ..self
                 },
@@ -117,7 +121,7 @@ impl Status {
             None => Reaction {
                 status: Status {
                     phase: Phase::Halted,
-                    told: false,
+                    told: 0,
                     timeouts: Timeouts::most(),
                     ..self
                 },

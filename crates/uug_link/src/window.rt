@@ -1,7 +1,8 @@
 //! What a link that is up does with the numbers of packets.
 
-ghost use Rattle.std.specs.Prelude.{◌≡◌, ℕ, ◌≤◌, List, length};
+ghost use Rattle.std.specs.Prelude.{◌≡◌, ℕ, suc, pred, ◌≤◌, nat_lt, if◌then◌else◌, List, [], length, option_map};
 ghost use Rattle.uug_packet.specs.Number.{number_of};
+ghost use Rattle.uug_packet.specs.Packet.{shown_control};
 
 use crate::outcome::Reply;
 use crate::phase::Phase;
@@ -12,7 +13,7 @@ use uug_packet::{Control, Seq};
 
 impl Status {
     ghost use Rattle.uug_link.specs.Reactions.{state_of, effect_of};
-    ghost use Rattle.uug_link.specs.Step.{on_data, on_number, acknowledged, quiet, rejecting};
+    ghost use Rattle.uug_link.specs.Step.{on_data, on_number, on_other, on_repeat, acknowledged, quiet, rejecting, asks, begins_anew};
 
     /// Strikes the messages that have arrived, by an acknowledgement of the last of them.
     pub(crate) fn acknowledged(self, ack: Seq, outstanding: usize) -> Reaction
@@ -61,7 +62,8 @@ impl Status {
         if number == self.received.next() {
             let status = Status {
                 received: number,
-                told: false,
+                told: self.told_behind(),
+                passed: None,
                 timeouts: Timeouts::none(),
                 ..self
             };
@@ -69,11 +71,92 @@ impl Status {
                 reply: Reply::Taken,
                 ..status.emitting(Control::Rr(number))
             }
-        } else if self.told {
+        } else if self.own.quiet {
+            self.after_repeat(number)
+        } else if self.told != 0 {
             self.emitting(Control::Rr(self.received))
         } else {
             self.rejecting()
         }
+    }
+
+    /// What is left of a reject where a packet is taken.
+    fn told_behind(self) -> u8
+        ensures { result ≡ (if self.own.quiet then pred self.told else 0) }
+    {
+        if self.own.quiet {
+            self.told.saturating_sub(1)
+        } else {
+            0
+        }
+    }
+
+    /// Takes up the number of a data packet out of order, at an end that is quiet on repeats.
+    fn after_repeat(self, number: Seq) -> Reaction
+        ensures strikes { result.strikes ≡ 0 }
+        ensures effect { (ms : List (List ℕ))
+            → effect_of result ms ≡ on_repeat (number_of number) (state_of self ms) }
+    {
+        let rr = Control::Rr(self.received);
+        if self.told != 0 {
+            if self.begins_anew(number) {
+                return self.asking(number, rr);
+            }
+            let status = Status {
+                passed: Some(number),
+                ..self
+            };
+            return status.ignoring();
+        }
+        if number == self.received {
+            self.asking(number, rr)
+        } else {
+            self.asking(number, Control::Rj(self.received))
+        }
+    }
+
+    /// Whether a repeat has begun anew with a packet, and nothing was taken since the one before it.
+    fn begins_anew(self, number: Seq) -> bool
+        ensures { result ≡
+            begins_anew (option_map number_of self.passed) (number_of number) (state_of self []) }
+    {
+        match self.passed {
+            Some(passed) => self.received.ahead_of(passed) <= self.received.ahead_of(number),
+            None => false,
+        }
+    }
+
+    /// Asks for what follows the packet that was taken last, from a packet out of order on.
+    fn asking(self, number: Seq, control: Control) -> Reaction
+        ensures strikes { result.strikes ≡ 0 }
+        ensures effect { (ms : List (List ℕ)) → effect_of result ms
+            ≡ asks (number_of number) (state_of self ms) (shown_control control) }
+    {
+        let status = Status {
+            told: self.until_over(),
+            passed: Some(number),
+            ..self
+        };
+        status.emitting(control)
+    }
+
+    /// Whether the reject that has gone out is enough for a broken packet too.
+    pub(crate) fn has_enough(self) -> bool
+        ensures { result ≡
+            (if self.own.quiet then nat_lt (number_of self.own.window) self.told else nat_lt 0 self.told) }
+    {
+        if self.own.quiet {
+            self.told > self.own.window.value()
+        } else {
+            self.told != 0
+        }
+    }
+
+    /// How many packets have to be taken behind a reject until all that is repeated for it has passed.
+    fn until_over(self) -> u8
+        ensures { result ≡ suc (number_of self.own.window) }
+    {
+        self.own.window.value() + 1
     }
 
     /// Asks for the packet that is expected.
@@ -81,7 +164,8 @@ impl Status {
         ensures strikes { result.strikes ≡ 0 }
         ensures effect { (ms : List (List ℕ)) → effect_of result ms ≡ rejecting (state_of self ms) }
     {
-        let status = Status { told: true, ..self };
+        let told = self.until_over();
+        let status = Status { told, ..self };
         status.emitting(Control::Rj(self.received))
     }
 }

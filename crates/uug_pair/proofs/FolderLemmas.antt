@@ -1,9 +1,9 @@
 -- What was kept is what was put in the folder last.
 use Rattle.std.proofs.Common.{◌≡◌, List, [], ◌∷◌, ◌++◌, map, Option, Some, None, sym, ap, subst, ◌∙◌, append_assoc}
 use Rattle.std.proofs.lemmas.List.{append-nil, map-append}
-use Rattle.uug_session.specs.declared.stored.Stored.{Stored}
-use Rattle.uug_session.specs.Holdings.{Kept}
-use Rattle.uug_session.specs.MemoryHoldings.{kept_of}
+use Rattle.uug_conversation.specs.declared.stored.Stored.{Stored}
+use Rattle.uug_conversation.specs.Holdings.{Kept}
+use Rattle.uug_conversation.specs.MemoryHoldings.{kept_of}
 use Rattle.uug_pair.specs.Folders.{Placed, EndsWith, also_placed, placed_of}
 
 nothing_is_placed : (placed : Option (List Placed)) → EndsWith placed []

@@ -5,9 +5,9 @@ use Rattle.std.proofs.lemmas.List.{append-nil}
 use Rattle.std.proofs.lemmas.List.Elements.{All-weaker, All-nil, All-cons, All-append, All-head, All-tail}
 use Rattle.std.proofs.lemmas.List.Splits.{slice_split_at}
 use Rattle.std.specs.List.{AllByRecursion}
-use Rattle.uug_session.specs.declared.job.Job.{Job}
-use Rattle.uug_session.specs.declared.job.Job.TheVariants.{Send, Request}
-use Rattle.uug_session.specs.declared.queue.TheConstants.{JOBS_MAX}
+use Rattle.uug_conversation.specs.declared.job.Job.{Job}
+use Rattle.uug_conversation.specs.declared.job.Job.TheVariants.{Send, Request}
+use Rattle.uug_conversation.specs.declared.queue.TheConstants.{JOBS_MAX}
 use Rattle.uug_talk.specs.Name.{IsName, IsNameByte}
 use Rattle.uug_talk.specs.Words.{words, joined}
 use Rattle.uug_talk.proofs.JoinedLemmas.{IsWord-name, words-joined}

@@ -3,11 +3,11 @@ use Rattle.std.proofs.Common.{◌≡◌, [], ◌∷◌, ◌++◌, codes, replica
 use Rattle.std.specs.Fmt.{digits}
 use Rattle.uug_line.specs.declared.side.Side.TheVariants.{Caller, Called}
 use Rattle.uug_session.specs.declared.end.End.TheVariants.{Done, SpoolFault}
-use Rattle.uug_session.specs.declared.job.Job.{Job}
-use Rattle.uug_session.specs.declared.job.Job.TheVariants.{Send, Request}
+use Rattle.uug_conversation.specs.declared.job.Job.{Job}
+use Rattle.uug_conversation.specs.declared.job.Job.TheVariants.{Send, Request}
 use Rattle.uug_session.specs.declared.phase.Phase.TheVariants.{Ended}
-use Rattle.uug_session.specs.declared.queue.TheConstants.{JOBS_MAX}
-use Rattle.uug_session.specs.Jobs.{at_start}
+use Rattle.uug_conversation.specs.declared.queue.TheConstants.{JOBS_MAX}
+use Rattle.uug_conversation.specs.Jobs.{at_start}
 use Rattle.uug_script.specs.ReportText.{ended}
 use Rattle.uug_pair.specs.JobsText.{jobs_of, job_line, jobs_text, with_line, one_job}
 use Rattle.uug_pair.specs.PairReport.{state_line, failed_lines}

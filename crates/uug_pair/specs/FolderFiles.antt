@@ -1,6 +1,6 @@
 -- What a spool over a folder has (this project's profile).
 use Rattle.std.specs.Prelude.{List}
-use Rattle.uug_session.specs.declared.stored.Stored.{Stored}
+use Rattle.uug_conversation.specs.declared.stored.Stored.{Stored}
 
 pub record FolderFiles (F A : Type 0) : Type 0 where
   -- the files that it has to give

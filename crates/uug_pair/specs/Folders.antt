@@ -1,9 +1,9 @@
 -- What a folder is given to hold, and which names a spool over it takes.
 use Rattle.std.specs.Prelude.{◌≡◌, ℕ, Bool, true, false, List, [], ◌∷◌, ◌++◌, Option, Some, None, ⊤, if◌then◌else◌, eqb}
 use Rattle.std.specs.List.{list_any}
-use Rattle.uug_session.specs.declared.verdict.Verdict.TheVariants.{Yes, Never}
-use Rattle.uug_session.specs.Holdings.{Kept, Holdings}
-use Rattle.uug_session.specs.MemoryHoldings.{first_named}
+use Rattle.uug_conversation.specs.declared.verdict.Verdict.TheVariants.{Yes, Never}
+use Rattle.uug_conversation.specs.Holdings.{Kept, Holdings}
+use Rattle.uug_conversation.specs.MemoryHoldings.{first_named}
 
 -- a file that was put in a folder; its mode is the system's affair
 pub record Placed : Type 0 where

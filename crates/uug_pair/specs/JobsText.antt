@@ -1,9 +1,9 @@
 -- What a text of jobs says, and the text of a list of jobs (this project's profile).
 use Rattle.std.specs.Prelude.{◌≡◌, ◌==◌, ℕ, suc, ⊤, List, [], ◌∷◌, ◌++◌, length, codes, nat_le, Option, Some, None, Result, Ok, Err, if◌then◌else◌}
 use Rattle.std.specs.Str.{bytes_eq}
-use Rattle.uug_session.specs.declared.job.Job.{Job}
-use Rattle.uug_session.specs.declared.job.Job.TheVariants.{Send, Request}
-use Rattle.uug_session.specs.declared.queue.TheConstants.{JOBS_MAX}
+use Rattle.uug_conversation.specs.declared.job.Job.{Job}
+use Rattle.uug_conversation.specs.declared.job.Job.TheVariants.{Send, Request}
+use Rattle.uug_conversation.specs.declared.queue.TheConstants.{JOBS_MAX}
 use Rattle.uug_talk.specs.Name.{IsName}
 use Rattle.uug_talk.specs.Words.{words, joined}
 use Rattle.uug_script.specs.declared.line.TheConstants.{LINE_MAX}

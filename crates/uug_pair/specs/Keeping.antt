@@ -1,7 +1,7 @@
 -- The laws of what an end keeps, for the proofs.
 use Rattle.std.specs.Prelude.{◌≡◌, ℕ, List}
 use Rattle.uug_session.specs.Engine.{HasFailed}
-use Rattle.uug_session.specs.Holdings.{Holdings, Kept}
+use Rattle.uug_conversation.specs.Holdings.{Holdings, Kept}
 use Rattle.uug_session.specs.Node.{NodeState}
 use Rattle.uug_session.specs.NodeArriving.{GoesOn, TakesAll}
 use Rattle.uug_pair.specs.Seats.{KeepsJobs, LateStep}

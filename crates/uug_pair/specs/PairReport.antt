@@ -1,8 +1,8 @@
 -- What `pair` prints of an end (this project's profile).
 use Rattle.std.specs.Prelude.{ℕ, List, [], ◌∷◌, ◌++◌, length, codes}
 use Rattle.std.specs.Fmt.{decimal}
-use Rattle.uug_session.specs.Jobs.{Lists, pending}
-use Rattle.uug_session.specs.declared.job.Job.{Job}
+use Rattle.uug_conversation.specs.Jobs.{Lists, pending}
+use Rattle.uug_conversation.specs.declared.job.Job.{Job}
 use Rattle.uug_session.specs.declared.phase.Phase.{Phase}
 use Rattle.uug_line.specs.declared.side.Side.{Side}
 use Rattle.uug_script.specs.Fields.{side_word}

@@ -1,12 +1,12 @@
 -- One end at a line, and what becomes of it (this project's profile).
 use Rattle.std.specs.Prelude.{◌≡◌, ◌++◌, ℕ, List, []}
 use Rattle.uug_session.specs.Engine.{Does, EngineState, bare, stage_late, with_outbox}
-use Rattle.uug_session.specs.Holdings.{Holdings, Kept}
+use Rattle.uug_conversation.specs.Holdings.{Holdings, Kept}
 use Rattle.uug_session.specs.Node.{NodeState, node_of, struck_jobs}
 use Rattle.uug_session.specs.NodeArriving.{TakesAll}
-use Rattle.uug_session.specs.OwnRequests.{KeepsWhatItAskedFor}
-use Rattle.uug_session.specs.Sharing.{HaveSameJobs}
-use Rattle.uug_session.specs.Talking.{talking_has_parted}
+use Rattle.uug_conversation.specs.OwnRequests.{KeepsWhatItAskedFor}
+use Rattle.uug_conversation.specs.Sharing.{HaveSameJobs}
+use Rattle.uug_conversation.specs.Talking.{talking_has_parted}
 use Rattle.uug_pair.specs.Outgoing.{count_behind, outgoing_from}
 use Rattle.uug_pair.specs.declared.noise.Noise.{Noise}
 use Rattle.uug_pair.specs.declared.seat.Seat.{Seat}

@@ -1,7 +1,7 @@
 //! Two ends over a line, from their first turn to the report.
 ghost use Rattle.std.specs.Prelude.{◌≡◌, ◌≤◌, ◌⊎◌, IfErr, IfOk, OnOk};
 ghost use Rattle.uug_session.specs.Engine.{HasFailed, IsEnded};
-ghost use Rattle.uug_session.specs.Jobs.{pending};
+ghost use Rattle.uug_conversation.specs.Jobs.{pending};
 ghost use Rattle.uug_tool.specs.Streams.{Appends, CountsFault};
 ghost use Rattle.uug_pair.specs.Folders.{holding};
 ghost use Rattle.uug_pair.specs.JobsText.{jobs_text};

@@ -1,8 +1,8 @@
 ghost use Rattle.std.specs.Prelude.{◌≡◌, ◌<◌, ◌≤◌, [], ◌∷◌, ◌++◌, map, vec_len, vec_capacity};
-ghost use Rattle.uug_session.specs.FileView.{shown_file};
-ghost use Rattle.uug_session.specs.Holdings.{kept_file};
-ghost use Rattle.uug_session.specs.MemoryHoldings.{first_named, kept_of};
-ghost use Rattle.uug_session.specs.StoredModes.{modes_in_range};
+ghost use Rattle.uug_conversation.specs.FileView.{shown_file};
+ghost use Rattle.uug_conversation.specs.Holdings.{kept_file};
+ghost use Rattle.uug_conversation.specs.MemoryHoldings.{first_named, kept_of};
+ghost use Rattle.uug_conversation.specs.Code.StoredModes.{modes_in_range};
 ghost use Rattle.uug_pair.specs.Folders.{EndsWith, folder_holdings, is_hidden, placed_of};
 
 use crate::folder::Folder;
@@ -23,7 +23,7 @@ pub struct FolderSpool<F: Folder, A: Allocator> {
 
 impl<F: Folder, A: Allocator> Model for FolderSpool<F, A> {
     ghost use Rattle.std.specs.Prelude.{map};
-    ghost use Rattle.uug_session.specs.MemoryHoldings.{kept_of};
+    ghost use Rattle.uug_conversation.specs.MemoryHoldings.{kept_of};
     ghost use Rattle.uug_pair.specs.FolderFiles.{FolderFiles};
     ghost use Rattle.uug_pair.specs.Folders.{EndsWith, placed_of};
 

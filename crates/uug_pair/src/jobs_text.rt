@@ -1,6 +1,6 @@
 //! Jobs as a text: one line a job.
 ghost use Rattle.std.specs.Prelude.{◌≡◌, ◌∷◌, [], ◌++◌, OnOk, IfOk, IfErr, Ok, Some, string_bytes};
-ghost use Rattle.uug_session.specs.Jobs.{at_start, pending};
+ghost use Rattle.uug_conversation.specs.Jobs.{at_start, pending};
 ghost use Rattle.uug_talk.specs.Words.{words, joined};
 ghost use Rattle.uug_script.specs.ReportText.{ended};
 ghost use Rattle.uug_pair.specs.JobsText.{Faults, RefusesLine, one_job, with_line, job_of, job_line, jobs_of, jobs_text, line_added};

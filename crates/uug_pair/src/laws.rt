@@ -1,7 +1,7 @@
 //! Laws of what this crate reads and writes. A call does nothing: its contract is the law.
 ghost use Rattle.std.specs.Prelude.{◌≡◌, ◌≤◌, List, length, All, Ok};
-ghost use Rattle.uug_session.specs.declared.job.Job.{Job};
-ghost use Rattle.uug_session.specs.declared.queue.TheConstants.{JOBS_MAX};
+ghost use Rattle.uug_conversation.specs.declared.job.Job.{Job};
+ghost use Rattle.uug_conversation.specs.declared.queue.TheConstants.{JOBS_MAX};
 ghost use Rattle.uug_pair.specs.JobsText.{IsPlainJob, jobs_of, jobs_text};
 
 /// The text of a list of jobs is read as the list, as long as no more of them are pending than may be, and none of

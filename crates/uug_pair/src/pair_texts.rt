@@ -1,7 +1,7 @@
 //! What is written of two ends when their turns are over.
 ghost use Rattle.std.specs.Prelude.{◌≡◌, ◌⊎◌, IfErr, IfOk, OnOk, string_bytes};
 ghost use Rattle.uug_session.specs.Engine.{HasFailed};
-ghost use Rattle.uug_session.specs.Jobs.{pending};
+ghost use Rattle.uug_conversation.specs.Jobs.{pending};
 ghost use Rattle.uug_session.specs.Node.{node_of};
 ghost use Rattle.uug_tool.specs.Streams.{Appends, CountsFault};
 ghost use Rattle.uug_pair.specs.Folders.{holding};

@@ -4,15 +4,21 @@ use Rattle.uug_line.specs.declared.event.Event.{Event}
 use Rattle.uug_line.specs.declared.verdict.LineVerdict.{LineVerdict}
 use Rattle.uug_line.specs.Belongings.{Belongings}
 use Rattle.uug_line.specs.Sides.{AtBoth}
+use Rattle.uug_line.specs.declared.side.Side.TheVariants.{Caller, Called}
+use Rattle.uug_conversation.specs.Holdings.{Holdings}
+use Rattle.uug_conversation.specs.MemoryHoldings.{holdings_of}
 use Rattle.uug_line.specs.OfSomeRun.{IsRunOf}
 use Rattle.uug_line.specs.Told.{SpelledEnd, SpelledReport}
+use Rattle.uug_line.specs.Spelled.{spelled}
 use Rattle.uug_line.specs.WholeReport.{WholeReport}
+use Rattle.uug_line.specs.World.{report_of_world}
 use Rattle.uug_script.specs.declared.report.SessionNumbers.{SessionNumbers}
 use Rattle.uug_script.specs.IsScript.{IsScript}
 use Rattle.uug_script.specs.ReportText.{EndResult, RunResult, report_text}
 use Rattle.uug_script.specs.Script.{ScriptSays}
 use Rattle.uug_play.specs.Numbers.{session_numbers, end_result, result_of, status_of_result}
-use Rattle.uug_play.specs.Played.{setup_said, IsPlayed}
+use Rattle.uug_play.specs.Played.{setup_said, holdings_said, IsPlayed, IsPlayedVerbosely}
+use Rattle.uug_play.specs.Reasons.{holdings_in, reasons_text}
 use Rattle.uug_play.specs.Settled.{IsRunOfScript}
 
 abbrev pub result_by : List SessionNumbers → EndResult → EndResult → LineVerdict → RunResult
@@ -48,6 +54,38 @@ plays script text status report run t s = record {
   script_is = run.script_is;
   text_is = t ∙ ap (λ r. report_text (result_of r)) run.is.told;
   status_is = s ∙ ap (λ r. status_of_result (result_of r)) run.is.told;
+}
+
+abbrev both_holdings : Holdings → Holdings → AtBoth Holdings
+both_holdings caller called = record { at_caller = caller; at_called = called }
+
+-- the spools of the report give and accept what the script says
+holdings_are : (report : WholeReport) (script : List ℕ) (run : IsRunOfScript script report) → holdings_in report.spools ≡ holdings_said run.says
+holdings_are report script run =
+    ap (λ h. both_holdings h (holdings_of report.spools.at_called)) (run.is.spools Caller)
+    ∙ ap (λ h. both_holdings (holdings_of run.says.caller.held) h) (run.is.spools Called)
+
+-- so the reasons are of what the script says, too
+pub plays_with_reasons : (script text reasons : List ℕ) (status : ℕ) (report : WholeReport) → IsRunOfScript script report →
+    text ≡ report_text (result_of report.told) → reasons ≡ reasons_text report.told (holdings_in report.spools) →
+    status ≡ status_of_result (result_of report.told) → IsPlayedVerbosely script text reasons status
+plays_with_reasons script text reasons status report run t r s = record {
+  says = run.says;
+  script_is = run.script_is;
+  text_is = t ∙ ap (λ x. report_text (result_of x)) run.is.told;
+  reasons_are = r ∙ ap (λ x. reasons_text x (holdings_in report.spools)) run.is.told
+      ∙ ap (reasons_text (spelled (report_of_world (setup_said run.says) run.says.events))) (holdings_are report script run);
+  status_is = s ∙ ap (λ x. status_of_result (result_of x)) run.is.told;
+}
+
+-- what is played verbosely is played: the report and the status are the same
+pub plays_verbosely : (script text reasons : List ℕ) (status : ℕ) → IsPlayedVerbosely script text reasons status →
+    IsPlayed script text status
+plays_verbosely script text reasons status played = record {
+  says = played.says;
+  script_is = played.script_is;
+  text_is = played.text_is;
+  status_is = played.status_is;
 }
 
 -- the run is of the set-up and the events that the script says

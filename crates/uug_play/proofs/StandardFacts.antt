@@ -1,19 +1,22 @@
 -- What reports show, and the statuses that they give, computed from the definitions: a wrong rule in them does not check.
 use Rattle.std.proofs.Common.{◌≡◌, ℕ, List, [], ◌∷◌, codes, Some, None, refl}
 use Rattle.uug_session.specs.declared.end.End.TheVariants.{Done, HungUp}
-use Rattle.uug_session.specs.declared.job.Job.{Job}
-use Rattle.uug_session.specs.declared.job.Job.TheVariants.{Send}
+use Rattle.uug_conversation.specs.declared.job.Job.{Job}
+use Rattle.uug_conversation.specs.declared.job.Job.TheVariants.{Send, Request}
 use Rattle.uug_session.specs.declared.phase.Phase.{Phase}
 use Rattle.uug_session.specs.declared.phase.Phase.TheVariants.{Closing, Ended}
-use Rattle.uug_session.specs.Holdings.{Kept, kept_file}
+use Rattle.uug_conversation.specs.Holdings.{Holdings, Kept, kept_file}
+use Rattle.uug_conversation.specs.MemoryHoldings.{holdings_of, no_holdings}
 use Rattle.uug_line.specs.declared.side.Side.TheVariants.{Caller, Called}
 use Rattle.uug_line.specs.declared.verdict.LineVerdict.{LineVerdict}
 use Rattle.uug_line.specs.declared.verdict.LineVerdict.TheVariants.{Clean, Fooled}
 use Rattle.uug_line.specs.Belongings.{Belongings}
 use Rattle.uug_line.specs.Told.{EndNow, SpelledEnd, SpelledReport}
 use Rattle.uug_line.specs.Sides.{AtBoth}
-use Rattle.uug_script.specs.ReportText.{RunResult}
+use Rattle.uug_script.specs.ReportText.{RunResult, ended}
+use Rattle.uug_play.specs.declared.reasons.Reason.TheVariants.{NoFile, NoFileThere, Refused, NoPlace, NoPlaceThere, PutOff, Over, GoesOn}
 use Rattle.uug_play.specs.Numbers.{result_of, status_of_result}
+use Rattle.uug_play.specs.Reasons.{failed_reason, pending_reason, reason_line}
 
 -- ---- what is shown of a report
 
@@ -114,3 +117,48 @@ no_session ends = refl
 -- a run that was fooled never ends as done
 fooled_when_done : (ends : AtBoth EndNow) → status ends (Fooled 14 Caller) (done ∷ []) ≡ 5
 fooled_when_done ends = refl
+
+-- ---- why jobs are not done
+
+-- an end that has the file x, and one that has none, refuses y, and takes z later
+abbrev with_x : Holdings
+with_x = holdings_of (record no_holdings { files = kept_file (codes "x") 420 [] ∷ [] })
+
+abbrev choosy : Holdings
+choosy = holdings_of (record no_holdings { denied = codes "y" ∷ []; postponed = codes "z" ∷ [] })
+
+abbrev sends : (source target : List ℕ) → Job
+sends source target = Send source target (codes "u") None
+
+no_file : failed_reason choosy with_x (sends (codes "x") (codes "w")) ≡ NoFile
+no_file = refl
+
+-- the copy is looked for, not the file of which it was made
+no_copy : failed_reason with_x choosy (Send (codes "x") (codes "y") (codes "u") (Some (codes "D"))) ≡ NoFile
+no_copy = refl
+
+refused : failed_reason with_x choosy (sends (codes "x") (codes "y")) ≡ Refused
+refused = refl
+
+no_place_there : failed_reason with_x choosy (sends (codes "x") (codes "w")) ≡ NoPlaceThere
+no_place_there = refl
+
+-- what is asked for is looked for at the other end
+no_file_there : failed_reason with_x choosy (Request (codes "x") (codes "w") (codes "u")) ≡ NoFileThere
+no_file_there = refl
+
+no_place : failed_reason choosy with_x (Request (codes "x") (codes "w") (codes "u")) ≡ NoPlace
+no_place = refl
+
+put_off : pending_reason Closing choosy (sends (codes "x") (codes "z")) ≡ PutOff
+put_off = refl
+
+-- the target is put off, not the file
+over : pending_reason (Ended HungUp) choosy (sends (codes "z") (codes "x")) ≡ Over
+over = refl
+
+goes_on : pending_reason Closing choosy (Request (codes "z") (codes "z") (codes "u")) ≡ GoesOn
+goes_on = refl
+
+a_line : reason_line Called (sends (codes "x") (codes "y")) Refused ≡ ended (codes "send called x y u: refused by the other end")
+a_line = refl

@@ -1,6 +1,6 @@
 -- What is shown of a run, and how the program ends then (this project's profile).
 use Rattle.std.specs.Prelude.{ℕ, ◌-◌, Bool, true, false, List, length, map, slice_get, Option, Some, None, if◌then◌else◌, ◌&&◌}
-use Rattle.uug_session.specs.Jobs.{pending}
+use Rattle.uug_conversation.specs.Jobs.{pending}
 use Rattle.uug_session.specs.declared.end.End.TheVariants.{Done}
 use Rattle.uug_session.specs.declared.phase.Phase.{Phase}
 use Rattle.uug_session.specs.declared.phase.Phase.TheVariants.{Ended}

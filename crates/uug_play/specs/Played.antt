@@ -1,7 +1,7 @@
 -- What is played from a text (this project's profile).
 use Rattle.std.specs.Io.KnownBytes.{Keeps}
 use Rattle.std.specs.Prelude.{◌≡◌, ◌⊎◌, ℕ, List, [], Option, Some, Result, Ok, Err, IfSome, ⊤}
-use Rattle.uug_session.specs.MemoryHoldings.{holdings_of}
+use Rattle.uug_conversation.specs.MemoryHoldings.{holdings_of}
 use Rattle.uug_tool.specs.Streams.{Appends, AppendsFront}
 use Rattle.uug_tool.specs.declared.fault.ToolFault.{ToolFault}
 use Rattle.uug_tool.specs.declared.fault.ToolFault.TheVariants as faults
@@ -11,7 +11,10 @@ use Rattle.uug_line.specs.World.{report_of_world}
 pub use Rattle.uug_script.specs.IsScript.{IsFirstBad, IsScript}
 use Rattle.uug_script.specs.ReportText.{RunResult, report_text}
 use Rattle.uug_script.specs.Script.{EndSays, ScriptSays}
+use Rattle.uug_line.specs.Sides.{AtBoth}
+use Rattle.uug_conversation.specs.Holdings.{Holdings}
 use Rattle.uug_play.specs.Numbers.{result_of, status_of_result}
+use Rattle.uug_play.specs.Reasons.{reasons_text}
 
 -- an end as the script sets it up
 abbrev pub end_setup_said : EndSays → EndSetupValue
@@ -36,10 +39,27 @@ pub record IsPlayed (script text : List ℕ) (status : ℕ) : Type 0 where
   pub text_is : text ≡ report_text (result_said says)
   pub status_is : status ≡ status_of_result (result_said says)
 
+-- what the spools of the two ends give and accept
+abbrev pub holdings_said : ScriptSays → AtBoth Holdings
+holdings_said s = record { at_caller = holdings_of s.caller.held; at_called = holdings_of s.called.held }
+
+-- the same, and beside it why the jobs that are not done are not
+pub record IsPlayedVerbosely (script text reasons : List ℕ) (status : ℕ) : Type 0 where
+  pub says : ScriptSays
+  pub script_is : IsScript script says
+  pub text_is : text ≡ report_text (result_said says)
+  pub reasons_are : reasons ≡ reasons_text (spelled (report_of_world (setup_said says) says.events)) (holdings_said says)
+  pub status_is : status ≡ status_of_result (result_said says)
+
 -- the report of what the script says was appended, where the output tells what was written
 abbrev pub AppendsReport : (script : List ℕ) → (status : ℕ) → Option (List ℕ) → Option (List ℕ) → Type 0
 AppendsReport script status before after =
     (text : List ℕ) × IsPlayed script text status × Appends text before after
+
+-- that report was appended, and these are the reasons
+abbrev pub AppendsVerbosely : (script reasons : List ℕ) → (status : ℕ) → Option (List ℕ) → Option (List ℕ) → Type 0
+AppendsVerbosely script reasons status before after =
+    (text : List ℕ) × IsPlayedVerbosely script text reasons status × Appends text before after
 
 -- a front of that report was appended, or none of it
 abbrev pub BeginsReport : (script : List ℕ) → Option (List ℕ) → Option (List ℕ) → Type 0

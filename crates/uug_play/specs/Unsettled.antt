@@ -1,5 +1,5 @@
 -- Why a report may not settle (this project's profile).
-use Rattle.std.specs.Prelude.{◌≡◌, ℕ, ◌≤◌, List, [], codes}
+use Rattle.std.specs.Prelude.{◌≡◌, ℕ, ◌≤◌, false, List, [], codes}
 use Rattle.uug_session.specs.declared.phase.Phase.TheVariants.{Talking}
 use Rattle.uug_session.specs.Phases.{phase_at}
 use Rattle.uug_line.specs.declared.side.Side.{Side}
@@ -11,7 +11,7 @@ use Rattle.uug_line.specs.Told.{EndNow}
 use Rattle.uug_line.specs.WholeReport.{WholeReport}
 use Rattle.uug_tool.specs.Listing.{ended}
 use Rattle.uug_play.specs.declared.unsettled.Unsettled.{Unsettled}
-use Rattle.uug_play.specs.declared.unsettled.Unsettled.TheVariants.{Fooled, Silent, Late, Holds, OnLine}
+use Rattle.uug_play.specs.declared.unsettled.Unsettled.TheVariants.{Fooled, Silent, Quiet, Late, Holds, OnLine}
 
 abbrev pub Talks : EndNow → Type 0
 Talks now = phase_at now.stage now.link.phase ≡ Talking
@@ -20,6 +20,7 @@ Talks now = phase_at now.stage now.link.phase ≡ Talking
 abbrev pub Fails : Unsettled → WholeReport → Type 0
 Fails Fooled report = report.told.verdict ≡ Clean → ⊥
 Fails (Silent side) report = Talks (at side report.told.ends) → ⊥
+Fails (Quiet side) report = (at side report.told.ends).link.own.quiet ≡ false → ⊥
 Fails (Late side) report = (at side report.told.ends).link.timeouts ≤ 6 → ⊥
 Fails (Holds side) report = at side report.held ≡ [] → ⊥
 Fails OnLine report = ((side : Side) → (at side report.left).line ≡ []) → ⊥
@@ -34,6 +35,7 @@ IsQuietEnd now held = EndCanSettle now held []
 abbrev pub EndFails : (side : Side) (now : EndNow) (held : List ℕ) → Unsettled → Type 0
 EndFails side now held Fooled = ⊥
 EndFails side now held (Silent s) = (s ≡ side) × (Talks now → ⊥)
+EndFails side now held (Quiet s) = (s ≡ side) × (now.link.own.quiet ≡ false → ⊥)
 EndFails side now held (Late s) = (s ≡ side) × (now.link.timeouts ≤ 6 → ⊥)
 EndFails side now held (Holds s) = (s ≡ side) × (held ≡ [] → ⊥)
 EndFails side now held OnLine = ⊥
@@ -44,6 +46,8 @@ abbrev pub unsettled_words : Unsettled → List ℕ
 unsettled_words Fooled = codes "not settled: the line fooled an end"
 unsettled_words (Silent Caller) = codes "not settled: caller is not talking"
 unsettled_words (Silent Called) = codes "not settled: called is not talking"
+unsettled_words (Quiet Caller) = codes "not settled: caller is quiet on repeats"
+unsettled_words (Quiet Called) = codes "not settled: called is quiet on repeats"
 unsettled_words (Late Caller) = codes "not settled: caller has timed out more than 6 times"
 unsettled_words (Late Called) = codes "not settled: called has timed out more than 6 times"
 unsettled_words (Holds Caller) = codes "not settled: caller holds a part of a packet"

@@ -3,12 +3,14 @@
 
 mod play;
 mod played;
+mod reasons;
 mod settled;
 mod unsettled;
 mod whole;
 
 pub use play::{play_stream, play_within};
-pub use played::{Played, play_script};
+pub use played::{Played, PlayedVerbosely, play_script, play_script_verbosely};
+pub use reasons::{Reason, add_reasons};
 pub use settled::{play_settled, settle_script};
 pub use unsettled::{Unsettled, why_unsettled};
 pub use whole::read_whole;

@@ -5,9 +5,11 @@ ghost use Rattle.uug_line.specs.Shown as told;
 ghost use Rattle.uug_script.specs.ReportShown.{end_shown};
 ghost use Rattle.uug_script.specs.ReportText.{report_text};
 ghost use Rattle.uug_play.specs.Numbers.{end_numbers, session_numbers, end_result, result_of, status_of_result, status_by, last_session, is_done};
-ghost use Rattle.uug_play.specs.Played.{IsPlayed, IsScriptFault};
+ghost use Rattle.uug_play.specs.Played.{IsPlayed, IsPlayedVerbosely, IsScriptFault};
+ghost use Rattle.uug_play.specs.Reasons.{holdings_in, reasons_text};
 ghost use Rattle.uug_play.specs.Settled.{IsRunOfScript};
 
+use crate::reasons::add_reasons;
 use std::alloc::{AllocError, Allocator};
 use uug_line::{EndReport, LineVerdict, Report, SessionReport, run};
 use uug_script::{
@@ -21,6 +23,17 @@ use uug_tool::ToolFault;
 pub struct Played<A: Allocator> {
     /// The text of the report.
     pub text: String<A>,
+    /// The status that the program ends with.
+    pub status: u8,
+}
+
+/// The same, and why its jobs are not done.
+#[derive(Drop)]
+pub struct PlayedVerbosely<A: Allocator> {
+    /// The text of the report.
+    pub text: String<A>,
+    /// A line for each job that is not done.
+    pub reasons: String<A>,
     /// The status that the program ends with.
     pub status: u8,
 }
@@ -138,6 +151,47 @@ pub fn play_script<A: Allocator + Copy>(alloc: A, text: &[u8]) -> Result<Played<
 {
     let report = run_script(alloc, text)?;
     match shown(alloc, &report) {
+        Ok(played) => Ok(played),
+        Err(_) => Err(ToolFault::Memory),
+    }
+}
+
+/// The text of a report, why its jobs are not done, and the status.
+fn shown_verbosely<A: Allocator + Copy>(
+    alloc: A,
+    report: &Report<A>,
+) -> Result<PlayedVerbosely<A>, AllocError>
+    ensures text { IfOk result (λ played.
+        string_bytes played.text ≡ report_text (result_of report.now.told)) }
+    ensures reasons { IfOk result (λ played.
+        string_bytes played.reasons ≡ reasons_text report.now.told (holdings_in report.now.spools)) }
+    ensures status { IfOk result (λ played.
+        played.status ≡ status_of_result (result_of report.now.told)) }
+{
+    let mut reasons = String::new(alloc);
+    add_reasons(&mut reasons, report)?;
+    let Played { text, status } = shown(alloc, report)?;
+    Ok(PlayedVerbosely {
+        text,
+        reasons,
+        status,
+    })
+}
+
+/// Plays a script, and says why jobs are not done.
+pub fn play_script_verbosely<A: Allocator + Copy>(
+    alloc: A,
+    text: &[u8],
+) -> Result<PlayedVerbosely<A>, ToolFault>
+    ensures verbosely { IfOk result (λ played.
+        IsPlayedVerbosely text.now (string_bytes played.text) (string_bytes played.reasons) played.status) }
+    // The report and the status are those of `play_script`.
+    ensures played { IfOk result (λ played.
+        IsPlayed text.now (string_bytes played.text) played.status) }
+    ensures fault { IfErr result (IsScriptFault text.now) }
+{
+    let report = run_script(alloc, text)?;
+    match shown_verbosely(alloc, &report) {
         Ok(played) => Ok(played),
         Err(_) => Err(ToolFault::Memory),
     }

@@ -20,6 +20,8 @@ pub enum Unsettled {
     Fooled,
     /// The end does not talk: it greets the other, closes its link, or its session is over.
     Silent(Side),
+    /// The end is quiet on repeats.
+    Quiet(Side),
     /// The end has counted more than six timeouts in a row.
     Late(Side),
     /// The end holds bytes that it has not taken up.
@@ -42,6 +44,9 @@ fn end_unsettled<A: Allocator + Copy>(
     let talks = matches!(node.phase(), Phase::Talking);
     if !talks {
         return Some(Unsettled::Silent(side));
+    }
+    if node.is_quiet() {
+        return Some(Unsettled::Quiet(side));
     }
     if node.timeouts() > TIMEOUTS_BEFORE {
         return Some(Unsettled::Late(side));
@@ -82,6 +87,8 @@ fn unsettled_words(why: Unsettled) -> &'static str
         Unsettled::Fooled => "not settled: the line fooled an end",
         Unsettled::Silent(Side::Caller) => "not settled: caller is not talking",
         Unsettled::Silent(Side::Called) => "not settled: called is not talking",
+        Unsettled::Quiet(Side::Caller) => "not settled: caller is quiet on repeats",
+        Unsettled::Quiet(Side::Called) => "not settled: called is quiet on repeats",
         Unsettled::Late(Side::Caller) => "not settled: caller has timed out more than 6 times",
         Unsettled::Late(Side::Called) => "not settled: called has timed out more than 6 times",
         Unsettled::Holds(Side::Caller) => "not settled: caller holds a part of a packet",

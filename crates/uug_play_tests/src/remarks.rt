@@ -1,4 +1,4 @@
-//! Remarks on bad scripts. What this catches beyond the clauses: a text that is wrong in the definition, and a call that
+//! Remarks on bad scripts, and on jobs that are not done. What this catches beyond the clauses: a text that is wrong in the definition, and a call that
 //! gives up where it need not.
 
 use crate::assertions::{assert_same, assert_so};
@@ -8,7 +8,7 @@ use uug_remark::play_remarked;
 use uug_tool::{MemoryInput, MemoryOutput, ToolFault};
 
 /// Third lines behind two that set up the ends, and what is wrong with them.
-const REMARKS: [(&[u8], &str); 21] = [
+const REMARKS: [(&[u8], &str); 23] = [
     (b"caller a 8 32", "window 8 is not 1 to 7"),
     (b"caller a 0 32", "window 0 is not 1 to 7"),
     (
@@ -17,7 +17,7 @@ const REMARKS: [(&[u8], &str); 21] = [
     ),
     (
         b"caller a 2 32",
-        "the end is set up or numbered already, or has 1024 jobs",
+        "the end is set up, numbered or quiet already, or has 1024 jobs",
     ),
     (b"caller a 2", "packet size is missing"),
     (b"caller a 2 32 x", "unexpected word x"),
@@ -34,6 +34,8 @@ const REMARKS: [(&[u8], &str); 21] = [
         b"number called 4294967296",
         "number 4294967296 is not 0 to 4294967295",
     ),
+    (b"quiet", "side is missing"),
+    (b"quiet caller 1", "unexpected word 1"),
     (b"flow 100001", "number 100001 is not 0 to 100000"),
     (b"flip caller 0g", "byte 0g is not 2 hexadecimal digits"),
     (
@@ -68,6 +70,69 @@ fn check_remark(
     assert_same(rt, answer, Err(ToolFault::Script(number)));
     assert_same(rt, remark.as_str(), expected);
     assert_same(rt, output.bytes().len(), 0);
+    Ok(())
+}
+
+/// Lines behind two that set up the ends, of sessions that go as far as they can, and what is said of the jobs then.
+const REASONS: [(&[u8], &str); 8] = [
+    (
+        b"send caller x y u\nflow 20",
+        "send caller x y u: no such file\n",
+    ),
+    (
+        b"file caller x 0644 -\ndeny called y\nsend caller x y u D.0\nsend caller x y u\nflow 20",
+        "send caller x y u D.0: no such file\nsend caller x y u: refused by the other end\n",
+    ),
+    (
+        b"file called x 0644 -\nimmovable caller y\nsend called x y u\nflow 20",
+        "send called x y u: can't be put in its place at the other end\n",
+    ),
+    // its own file of this name is not asked for
+    (
+        b"file caller x 0644 -\nrequest caller x y u\nflow 20",
+        "request caller x y u: no such file at the other end\n",
+    ),
+    (
+        b"file caller x 0644 -\nimmovable called y\nrequest called x y u\nflow 20",
+        "request called x y u: can't be put in its place\n",
+    ),
+    (
+        b"file called x 0644 -\nlater caller y\nsend called x y u\nsend called x z u\nflow 20",
+        "send called x y u: put off: the other end takes it later\n",
+    ),
+    (
+        b"file caller x 0644 -\nsend caller x y u\nhangup caller",
+        "send caller x y u: not done: the session ended before\n",
+    ),
+    (
+        b"request called x y u\nsend caller x y u",
+        "send caller x y u: not done: the session goes on\nrequest called x y u: not done: the session goes on\n",
+    ),
+];
+
+/// Checks what is said of the jobs of a script, beside the report of it.
+fn check_reasons(
+    rt: &(impl Abort + AllocGlobal),
+    script: &[u8],
+    expected: &str,
+) -> Result<(), Fail> {
+    let mut input = MemoryInput::new(script);
+    let mut output = MemoryOutput::new(rt.alloc());
+    let mut remark = String::new(rt.alloc());
+    let answer = play_remarked(rt.alloc(), &mut input, &mut output, &mut remark);
+    assert_so(rt, answer.is_ok());
+    assert_same(rt, remark.as_str(), expected);
+    assert_so(rt, output.bytes().ends_with(b"verdict clean\n"));
+    Ok(())
+}
+
+#[test]
+fn says_why_jobs_are_not_done(rt: HostRuntime) -> Result<(), Fail> {
+    for (lines, expected) in REASONS {
+        let mut script = Vec::from_slice(rt.alloc(), b"caller a 2 32\ncalled b 2 32\n")?;
+        script.extend_from_slice(lines)?;
+        check_reasons(&rt, &script, expected)?;
+    }
     Ok(())
 }
 

@@ -10,7 +10,7 @@ use Rattle.uug_reader.specs.Reading.{Reading, fresh, Shows, IsWaiting}
 use Rattle.uug_reader.specs.Scan.{Finds, IsScan}
 use Rattle.uug_reader.proofs.FindingLemmas.{StandsFirst-not-Waits, StandsFirst-append, StandsFirst-unique, stands_unpassed}
 use Rattle.uug_reader.proofs.ScanLemmas.{Finds-item, Finds-join, Finds-append, IsScan-some, IsScan-unique, IsScan-behind, AreBytes-found}
-use Rattle.uug_reader.specs.PacketLaws.{PacketLaws}
+use Rattle.uug_reader.specs.Code.PacketLaws.{PacketLaws}
 
 module _ (laws : PacketLaws) where
   -- what some calls drop is found from the front of what was held and what they accept

@@ -4,7 +4,7 @@ use Rattle.uug_packet.specs.Packet.{PacketValue}
 use Rattle.uug_packet.specs.Spelling.{IsSpelling}
 use Rattle.uug_packet.specs.Waits.{Waits}
 use Rattle.uug_reader.specs.Cut.{BeginsWithPacket, IsNoise, Part, packet, broken, noise, CutsOff, found, bad, items_of}
-use Rattle.uug_reader.specs.PacketLaws.{PacketLaws}
+use Rattle.uug_reader.specs.Code.PacketLaws.{PacketLaws}
 
 pub items_of-append : (parts more : List Part) → items_of (parts ++ more) ≡ items_of parts ++ items_of more
 items_of-append [] more = refl

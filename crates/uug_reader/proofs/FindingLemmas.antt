@@ -7,7 +7,7 @@ use Rattle.uug_reader.specs.declared.reader.TheConstants.{READER_SIZE}
 use Rattle.uug_reader.specs.Cut.{IsNoise, Part, packet, broken, noise, CutsOff, Item, found, bad, items_of}
 use Rattle.uug_reader.specs.Finding.{StandsFirst, PassesNoise, FindsNothing}
 use Rattle.uug_reader.proofs.ScanLemmas.{Finds-none}
-use Rattle.uug_reader.specs.PacketLaws.{PacketLaws}
+use Rattle.uug_reader.specs.Code.PacketLaws.{PacketLaws}
 
 module _ (laws : PacketLaws) where
   -- ---- bytes that wait leave room

@@ -12,7 +12,7 @@ use Rattle.uug_packet.specs.declared.decoding.NoPacket.TheVariants as refusals
 use Rattle.uug_packet.specs.declared.header.TheConstants.{CONTROL_K}
 use Rattle.uug_reader.specs.Cut.{BeginsWithPacket, IsNoise, Part, packet, broken, noise, CutsOff, IsCut}
 use Rattle.uug_reader.proofs.CutLemmas.{some_spelled, CutsOff-append, CutsOff-join}
-use Rattle.uug_reader.specs.PacketLaws.{PacketLaws}
+use Rattle.uug_reader.specs.Code.PacketLaws.{PacketLaws}
 
 -- a part at the front of the bytes, which leaves fewer
 record TakesPart (s : List ℕ) : Type 0 where

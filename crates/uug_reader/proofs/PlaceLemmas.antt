@@ -10,14 +10,14 @@ use Rattle.uug_reader.specs.declared.found.Found.{Found}
 use Rattle.uug_reader.specs.declared.place.Standing.{Standing}
 use Rattle.uug_reader.specs.Cut.{Item}
 use Rattle.uug_reader.specs.Finding.{StandsFirst, PassesNoise, FindsFirst, FindsNothing}
-use Rattle.uug_reader.specs.Place.{item_at, item_beside, IsFirst, IsBeside, StandsBeside, StandsThere, size_of, left, Holds}
+use Rattle.uug_reader.specs.Code.Place.{item_at, item_beside, IsFirst, IsBeside, StandsBeside, StandsThere, size_of, left, Holds}
 use Rattle.uug_reader.specs.Reading.{Reading, Shows, IsWaiting}
 use Rattle.uug_reader.specs.Shown.{item_of}
 use Rattle.uug_reader.specs.Search.{left_by, after_search}
 use Rattle.uug_reader.proofs.FindingLemmas.{StandsFirst-append, stands_not_nothing, waiting_fits}
 use Rattle.uug_reader.proofs.ScanLemmas.{Finds-none, Finds-append, Finds-join, IsScan-rest}
 use Rattle.uug_reader.proofs.SearchLemmas.{search_finds_item, search_finds_rest}
-use Rattle.uug_reader.specs.PacketLaws.{PacketLaws}
+use Rattle.uug_reader.specs.Code.PacketLaws.{PacketLaws}
 
 pub record HasFound (s : List ℕ) (result : Bool) (new : Reading) : Type 0 where
   pub found : IsTrue result → (item : Item) × Shows item new

@@ -9,7 +9,7 @@ use Rattle.uug_reader.specs.Finding.{StandsFirst, PassesNoise}
 use Rattle.uug_reader.specs.Scan.{Finds, IsScan}
 use Rattle.uug_reader.proofs.CutLemmas.{CutsOff-append, CutsOff-join, items_of-append, some_in_spelling}
 use Rattle.uug_reader.proofs.OneCut.{AreBytes-drop, IsCut-some, IsCut-unique}
-use Rattle.uug_reader.specs.PacketLaws.{PacketLaws}
+use Rattle.uug_reader.specs.Code.PacketLaws.{PacketLaws}
 
 module _ (laws : PacketLaws) where
   -- ---- in steps

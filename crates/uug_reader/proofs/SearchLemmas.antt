@@ -17,12 +17,12 @@ use Rattle.uug_reader.specs.declared.place.Place.{Place}
 use Rattle.uug_reader.specs.declared.place.Place.TheVariants as places
 use Rattle.uug_reader.specs.Cut.{IsNoise, noise, Item, bad, found}
 use Rattle.uug_reader.specs.Finding.{StandsFirst, PassesNoise}
-use Rattle.uug_reader.specs.Place.{BeginsWith, IsFirst, item_at, LiesIn}
+use Rattle.uug_reader.specs.Code.Place.{BeginsWith, IsFirst, item_at, LiesIn}
 use Rattle.uug_reader.specs.Search.{Search, waiting, standing, search_by, search_of}
 use Rattle.uug_reader.proofs.FindingLemmas.{StandsFirst-not-Waits, StandsFirst-unique, StandsFirst-not-noise, PassesNoise-unique}
 use Rattle.uug_reader.proofs.OneCut.{AreBytes-drop, refused_noise}
 use Rattle.uug_reader.proofs.ScanLemmas.{Finds-none, Finds-join}
-use Rattle.uug_reader.specs.PacketLaws.{PacketLaws}
+use Rattle.uug_reader.specs.Code.PacketLaws.{PacketLaws}
 
 pub record Passed (bytes : List ℕ) (at : ℕ) : Type 0 where
   pub within : at ≤ length bytes

@@ -6,5 +6,4 @@ pub mod Shown
 pub mod Reading
 pub mod Calls
 pub mod Loan
-pub mod Place
-pub mod PacketLaws
+pub mod Code

@@ -1,4 +1,4 @@
-ghost use Rattle.uug_reader.specs.PacketLaws.{PacketLaws};
+ghost use Rattle.uug_reader.specs.Code.PacketLaws.{PacketLaws};
 
 use uug_packet::laws::{decoded_is_spelled, limits, one_spelling, waiting_is_undecided};
 

@@ -1,6 +1,6 @@
 //! Where an item lies among the bytes that it stands first in.
 ghost use Rattle.std.specs.Prelude.{◌≡◌};
-ghost use Rattle.uug_reader.specs.Place.{item_beside};
+ghost use Rattle.uug_reader.specs.Code.Place.{item_beside};
 ghost use Rattle.uug_reader.specs.Shown.{item_of};
 
 use crate::found::Found;

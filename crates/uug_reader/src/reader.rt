@@ -26,7 +26,7 @@ pub struct Reader<A: Allocator = Global> {
 
 impl<A: Allocator> Model for Reader<A> {
     ghost use Rattle.uug_reader.specs.Reading.{Reading};
-    ghost use Rattle.uug_reader.specs.Place.{Holds, size_of};
+    ghost use Rattle.uug_reader.specs.Code.Place.{Holds, size_of};
 
     ghost Value = { Reading };
 

@@ -4,7 +4,7 @@ ghost use Rattle.arrayvec.specs.ArrayVec.{array_vec_len};
 ghost use Rattle.circular_buffer.specs.Buffer.{buffer};
 ghost use Rattle.uug_packet.specs.Bytes.{AreBytes};
 ghost use Rattle.uug_reader.specs.Finding.{PassesNoise};
-ghost use Rattle.uug_reader.specs.Place.{IsBeside, item_at, item_beside, left, LiesIn, StandsBeside};
+ghost use Rattle.uug_reader.specs.Code.Place.{IsBeside, item_at, item_beside, left, LiesIn, StandsBeside};
 ghost use Rattle.uug_reader.specs.Search.{after_search};
 
 use crate::packet_laws::packet_laws;

@@ -6,7 +6,7 @@ ghost use Rattle.uug_packet.specs.Spelling.{IsSpelling};
 ghost use Rattle.uug_packet.specs.Waits.{Waits};
 ghost use Rattle.uug_reader.specs.Cut.{found};
 ghost use Rattle.uug_reader.specs.Finding.{PassesNoise};
-ghost use Rattle.uug_reader.specs.Place.{BeginsWith, item_at, LiesIn, StandsThere};
+ghost use Rattle.uug_reader.specs.Code.Place.{BeginsWith, item_at, LiesIn, StandsThere};
 
 use crate::packet_laws::packet_laws;
 use crate::place::{Place, Standing};

@@ -4,7 +4,7 @@ use Rattle.std.specs.Str.{bytes_eq}
 use Rattle.uug_remark.specs.declared.field.Field.{Field}
 use Rattle.uug_remark.specs.declared.field.Field.TheVariants as fields
 use Rattle.uug_remark.specs.declared.statement.Statement.{Statement}
-use Rattle.uug_remark.specs.declared.statement.Statement.TheVariants.{Place, File, Send, Request, Refuse, Number, Move, Damage, Tell, Call, Flow}
+use Rattle.uug_remark.specs.declared.statement.Statement.TheVariants.{Place, File, Send, Request, Refuse, Number, Quiet, Move, Damage, Tell, Call, Flow}
 
 abbrev pub is_refusal : List ℕ → Bool
 is_refusal word = bytes_eq word (codes "deny") || bytes_eq word (codes "later") || bytes_eq word (codes "immovable")
@@ -24,7 +24,8 @@ statement_of word =
     (if bytes_eq word (codes "send") then Some Send else
     (if bytes_eq word (codes "request") then Some Request else
     (if is_refusal word then Some Refuse else
-    (if bytes_eq word (codes "number") then Some Number else event_of word)))))
+    (if bytes_eq word (codes "number") then Some Number else
+    (if bytes_eq word (codes "quiet") then Some Quiet else event_of word))))))
 
 -- what the words behind the first have to be
 abbrev pub fields_of : Statement → List Field
@@ -34,6 +35,7 @@ fields_of Send = fields.Side ∷ fields.Name ∷ fields.Name ∷ fields.Name ∷
 fields_of Request = fields.Side ∷ fields.Name ∷ fields.Name ∷ fields.Name ∷ []
 fields_of Refuse = fields.Side ∷ fields.Name ∷ []
 fields_of Number = fields.Side ∷ fields.Number ∷ []
+fields_of Quiet = fields.Side ∷ []
 fields_of Move = fields.Side ∷ fields.Count ∷ []
 fields_of Damage = fields.Side ∷ fields.Byte ∷ []
 fields_of Tell = fields.Side ∷ []

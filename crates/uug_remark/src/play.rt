@@ -1,28 +1,30 @@
-//! A script played, with a remark where it is bad.
+//! A script played, with a remark where it is bad or has jobs that are not done.
 ghost use Rattle.std.specs.Prelude.{◌≡◌, ℕ, IfErr, IfOk, IfSome, string_bytes};
 ghost use Rattle.std.specs.Io.KnownBytes.{Keeps};
 ghost use Rattle.uug_tool.specs.Streams.{ReadsAll};
-ghost use Rattle.uug_play.specs.Played.{AppendsReport, BeforeReport, IsFirstBad, IsPlayed, IsPlayFault, IsScriptFault, OnceRead};
+ghost use Rattle.uug_play.specs.Played.{AppendsReport, AppendsVerbosely, BeforeReport, IsFirstBad, IsPlayed, IsPlayedVerbosely, IsPlayFault, IsScriptFault, OnceRead};
 ghost use Rattle.uug_remark.specs.Remarks.{remark_text, wrong_at};
 
 use crate::remark::script_remark;
 use std::alloc::Allocator;
-use uug_play::{Played, play_script, read_whole};
+use uug_play::{PlayedVerbosely, play_script_verbosely, read_whole};
 use uug_tool::{Input, Output, READ_LIMIT, ToolFault, write_all};
 
-/// Plays a script. Where it is bad, `remark` becomes what is wrong with its first bad line.
+/// Plays a script, and says why jobs are not done. Where it is bad, `remark` becomes what is wrong with its first bad line.
 fn play_text<A: Allocator + Copy>(
     alloc: A,
     script: &[u8],
     remark: &mut String<A>,
-) -> Result<Played<A>, ToolFault>
+) -> Result<PlayedVerbosely<A>, ToolFault>
+    ensures verbosely { IfOk result (λ played.
+        IsPlayedVerbosely script.now (string_bytes played.text) (string_bytes played.reasons) played.status) }
     ensures played { IfOk result (λ played.
         IsPlayed script.now (string_bytes played.text) played.status) }
     ensures fault { IfErr result (IsScriptFault script.now) }
     ensures remark { (line : ℕ) → result ≡ Err (ToolFault.Script line)
         → string_bytes remark.new ≡ remark_text (wrong_at line script.now) }
 {
-    let fault = match play_script(alloc, script) {
+    let fault = match play_script_verbosely(alloc, script) {
         Ok(played) => return Ok(played),
         Err(fault) => fault,
     };
@@ -32,8 +34,8 @@ fn play_text<A: Allocator + Copy>(
     Err(fault)
 }
 
-/// The same as `play_stream` of `uug_play`; but where the script is bad, `remark` becomes what is wrong with its first bad
-/// line, for which memory is taken.
+/// The same as `play_stream` of `uug_play`; and `remark` becomes a line for each job that is not done, which says why, or
+/// where the script is bad, what is wrong with its first bad line. For both memory is taken.
 pub fn play_remarked<A: Allocator + Copy, I: Input, O: Output>(
     alloc: A,
     input: &mut I,
@@ -43,6 +45,9 @@ pub fn play_remarked<A: Allocator + Copy, I: Input, O: Output>(
     ensures whole { OnceRead result (ReadsAll (I.to_come input.old) (I.to_come input.new)) }
     ensures report { IfOk result (λ status. IfSome (I.to_come input.old)
         (λ script. AppendsReport script status (O.written output.old) (O.written output.new))) }
+    ensures reasons { IfOk result (λ status. IfSome (I.to_come input.old)
+        (λ script. AppendsVerbosely script (string_bytes remark.new) status
+        (O.written output.old) (O.written output.new))) }
     ensures script { (line : ℕ) → result ≡ Err (ToolFault.Script line)
         → IfSome (I.to_come input.old) (λ script. IsFirstBad script line) }
     ensures remark { (line : ℕ) → result ≡ Err (ToolFault.Script line)
@@ -53,7 +58,12 @@ pub fn play_remarked<A: Allocator + Copy, I: Input, O: Output>(
     ensures no_other { IfErr result IsPlayFault }
 {
     let script = read_whole(alloc, input, READ_LIMIT)?;
-    let played = play_text(alloc, script.as_slice(), remark)?;
-    write_all(output, played.text.as_bytes())?;
-    Ok(played.status)
+    let PlayedVerbosely {
+        text,
+        reasons,
+        status,
+    } = play_text(alloc, script.as_slice(), remark)?;
+    write_all(output, text.as_bytes())?;
+    *remark = reasons;
+    Ok(status)
 }

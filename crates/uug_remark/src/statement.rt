@@ -20,6 +20,8 @@ pub enum Statement {
     Refuse,
     /// `number SIDE N`.
     Number,
+    /// `quiet SIDE`.
+    Quiet,
     /// `pass SIDE N`, `drop SIDE N`.
     Move,
     /// `flip SIDE HH`, `insert SIDE HH`.
@@ -61,6 +63,8 @@ pub fn statement_of(first: &[u8]) -> Option<Statement>
         Some(Statement::Refuse)
     } else if spells(first, b"number") {
         Some(Statement::Number)
+    } else if spells(first, b"quiet") {
+        Some(Statement::Quiet)
     } else {
         event_of(first)
     }
@@ -120,7 +124,7 @@ pub fn field_at(statement: Statement, place: usize) -> Option<Field>
         Statement::Number => pick(&[Field::Side, Field::Number], place),
         Statement::Move => pick(&[Field::Side, Field::Count], place),
         Statement::Damage => pick(&[Field::Side, Field::Byte], place),
-        Statement::Tell => pick(&[Field::Side], place),
+        Statement::Quiet | Statement::Tell => pick(&[Field::Side], place),
         Statement::Call => None,
         Statement::Flow => pick(&[Field::Turns], place),
     }

@@ -1,19 +1,19 @@
 -- Worked scripts and reports, computed from the definitions.
-use Rattle.std.proofs.Common.{◌≡◌, ℕ, List, [], ◌∷◌, ◌++◌, codes, Some, None, Ok, Err, refl}
+use Rattle.std.proofs.Common.{◌≡◌, ℕ, false, List, [], ◌∷◌, ◌++◌, codes, Some, None, Ok, Err, refl}
 use Rattle.std.specs.Fmt.{digits}
 use Rattle.hex.proofs.OnLiterals.{hex_on_literals}
-use Rattle.uug_session.specs.Jobs.{at_start}
-use Rattle.uug_session.specs.Holdings.{kept_file}
-use Rattle.uug_session.specs.MemoryHoldings.{no_holdings}
+use Rattle.uug_conversation.specs.Jobs.{at_start}
+use Rattle.uug_conversation.specs.Holdings.{kept_file}
+use Rattle.uug_conversation.specs.MemoryHoldings.{no_holdings}
 use Rattle.uug_session.specs.declared.end.End.TheVariants.{Done}
-use Rattle.uug_session.specs.declared.job.Job.TheVariants.{Send}
+use Rattle.uug_conversation.specs.declared.job.Job.TheVariants.{Send}
 use Rattle.uug_line.specs.declared.event.Event.TheVariants.{Flip, Call}
 use Rattle.uug_session.specs.declared.phase.Phase.TheVariants.{Ended}
 use Rattle.uug_script.specs.declared.report.EndNumbers.{EndNumbers}
 use Rattle.uug_line.specs.declared.side.Side.TheVariants.{Caller, Called}
 use Rattle.uug_line.specs.declared.verdict.LineVerdict.TheVariants.{Clean, Fooled}
 use Rattle.uug_script.specs.Lines.{lines}
-use Rattle.uug_script.specs.Meaning.{event, number, of_end}
+use Rattle.uug_script.specs.Meaning.{event, number, of_end, quiet}
 use Rattle.uug_script.specs.ReadLine.{line_of}
 use Rattle.uug_script.specs.ReportText.{RunResult, ended, report_text, stored_line, verdict_line}
 use Rattle.uug_script.specs.Script.{ScriptSays, flow_events}
@@ -30,12 +30,12 @@ abbrev sent_file_says : ScriptSays
 sent_file_says = record {
   caller = record {
     name = codes "a";
-    announced = record { window = 2; size_code = 0 };
+    announced = record { window = 2; size_code = 0; quiet = false };
     queue = at_start (Send (codes "x") (codes "y") (codes "u") None ∷ []) [] [];
     held = record no_holdings { files = kept_file (codes "x") 420 [] ∷ [] };
     number = None;
   };
-  called = record { name = codes "b"; announced = record { window = 2; size_code = 0 }; queue = at_start [] [] []; held = no_holdings; number = None };
+  called = record { name = codes "b"; announced = record { window = 2; size_code = 0; quiet = false }; queue = at_start [] [] []; held = no_holdings; number = None };
   events = flow_events 2;
 }
 
@@ -73,6 +73,13 @@ too_great_a_number = refl
 -- a number is said once of each end
 two_numbers : script_of (both_ends ++ ended (codes "number caller 7") ++ ended (codes "number called 9") ++ codes "number caller 7") ≡ Err 5
 two_numbers = refl
+
+a_quiet_end : line_of (codes "quiet called") ≡ Some (of_end Called quiet)
+a_quiet_end = refl
+
+-- that an end is quiet on repeats is said once of each end
+twice_quiet : script_of (both_ends ++ ended (codes "quiet caller") ++ ended (codes "quiet called") ++ codes "quiet caller") ≡ Err 5
+twice_quiet = refl
 
 a_tab : line_of (9 ∷ codes "call") ≡ None
 a_tab = refl

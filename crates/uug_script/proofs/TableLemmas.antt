@@ -2,8 +2,8 @@
 use Rattle.std.proofs.Common.{◌≡◌, ℕ, Bool, true, false, if◌then◌else◌, List, [], ◌∷◌, length, codes, nat_le, Option, Some, None, Ok, refl, sym, ap, subst, ◌∙◌, arith}
 use Rattle.std.proofs.lemmas.Bool.Decides.{nat_tests}
 use Rattle.std.specs.Str.{bytes_eq}
-use Rattle.uug_session.specs.Holdings.{kept_file}
-use Rattle.uug_session.specs.declared.job.Job.TheVariants.{Send, Request}
+use Rattle.uug_conversation.specs.Holdings.{kept_file}
+use Rattle.uug_conversation.specs.declared.job.Job.TheVariants.{Send, Request}
 use Rattle.uug_talk.specs.Name.{IsName}
 use Rattle.uug_talk.specs.Words.{words}
 use Rattle.uug_line.specs.declared.event.Event.TheVariants.{Pass, Drop, Flip, Insert, Timeout, HangUp, Call}
@@ -14,9 +14,9 @@ use Rattle.uug_talk.specs.declared.call.TheConstants.{NUMBER_MAX}
 use Rattle.uug_talk.specs.Number.{number_of}
 use Rattle.uug_script.specs.Fields.{◌>>=◌, side_word, side_of, name_of, mode_of_word, hex_bytes, byte_of, announcement_of, is_comment}
 use Rattle.hex.specs.Hex.{decode_of}
-use Rattle.uug_script.specs.LineSays.{WritesNumber, NamesCopy, LineSays, TextSays, blank, comment, end_line, file_line, send_line, request_line, deny_line, later_line, immovable_line, number_line, pass_line, drop_line, flip_line, insert_line, timeout_line, hangup_line, call_line, flow_line}
-use Rattle.uug_script.specs.Meaning.{LineMeaning, nothing, of_end, event, flow, place, file, job, deny, later, immovable, number, file_meaning, of_side}
-use Rattle.uug_script.specs.ReadLine.{place_of, file_of, last_name_of, send_of, request_of, side_and_name, side_and_number, side_and_byte, one_side, call_of, flow_of, deny_of, later_of, immovable_of, number_line_of, pass_of, drop_of, flip_of, insert_of, timeout_of, hang_up_of, event_by, line_by, line_of_words, line_of}
+use Rattle.uug_script.specs.LineSays.{WritesNumber, NamesCopy, LineSays, TextSays, blank, comment, end_line, file_line, send_line, request_line, deny_line, later_line, immovable_line, number_line, quiet_line, pass_line, drop_line, flip_line, insert_line, timeout_line, hangup_line, call_line, flow_line}
+use Rattle.uug_script.specs.Meaning.{LineMeaning, nothing, of_end, event, flow, place, file, job, deny, later, immovable, number, quiet, file_meaning, of_side}
+use Rattle.uug_script.specs.ReadLine.{place_of, file_of, last_name_of, send_of, request_of, side_and_name, side_and_number, side_and_byte, one_side, call_of, flow_of, deny_of, later_of, immovable_of, number_line_of, quiet_of, pass_of, drop_of, flip_of, insert_of, timeout_of, hang_up_of, event_by, line_by, line_of_words, line_of}
 use Rattle.uug_script.proofs.WordTableLemmas.{bind_some, same_bytes, name_of_name, name_is, number_written, writes_number, announcement_written, announces, mode_written, writes_mode, bytes_written, writes_bytes, byte_written, writes_byte}
 
 -- ---- what the table says is read
@@ -44,6 +44,7 @@ says_read ws m (deny_line {side = side} {name = name} n) = rw (side_read side, n
 says_read ws m (later_line {side = side} {name = name} n) = rw (side_read side, name_of_name name n) refl
 says_read ws m (immovable_line {side = side} {name = name} n) = rw (side_read side, name_of_name name n) refl
 says_read ws m (number_line {side = side} {word = word} {n = n} h) = rw (side_read side, number_written NUMBER_MAX word n h) refl
+says_read ws m (quiet_line {side = side}) = rw (side_read side) refl
 says_read ws m (pass_line {side = side} {word = word} {n = n} h) = rw (side_read side, number_written BYTES_MAX word n h) refl
 says_read ws m (drop_line {side = side} {word = word} {n = n} h) = rw (side_read side, number_written BYTES_MAX word n h) refl
 says_read ws m (flip_line {side = side} {hex = hex} {byte = byte} h) = rw (side_read side, byte_written hex byte h) refl
@@ -262,6 +263,11 @@ number_says ws m e =
     let w = side_and_number_is NUMBER_MAX ws p.0 p.1 in
     spelled_says (codes "number") (side_word p.0.0 ∷ w.word ∷ []) ws (of_end p.0.0 (number p.0.1)) m w.spelled (number_line w.written) p.2
 
+quiet_says : (ws : List (List ℕ)) (m : LineMeaning) → quiet_of ws ≡ Some m → LineSays (codes "quiet" ∷ ws) m
+quiet_says ws m e =
+    let s = bind_some (one_side ws) (λ s. Some (of_end s quiet)) m e in
+    spelled_says (codes "quiet") (side_word s.0 ∷ []) ws (of_end s.0 quiet) m (one_side_is ws s.0 s.1) quiet_line s.2
+
 pass_says : (ws : List (List ℕ)) (m : LineMeaning) → pass_of ws ≡ Some m → LineSays (codes "pass" ∷ ws) m
 pass_says ws m e =
     let p = bind_some (side_and_number BYTES_MAX ws) (λ p. Some (event (Pass p.0 p.1))) m e in
@@ -339,7 +345,8 @@ line_says first ws m e =
     by_word first (codes "deny") _ _ m e (λ k f. with_first _ first ws m k (deny_says ws m f)) (λ e.
     by_word first (codes "later") _ _ m e (λ k f. with_first _ first ws m k (later_says ws m f)) (λ e.
     by_word first (codes "immovable") _ _ m e (λ k f. with_first _ first ws m k (immovable_says ws m f)) (λ e.
-    by_word first (codes "number") _ _ m e (λ k f. with_first _ first ws m k (number_says ws m f)) (λ e. event_says first ws m e)))))))))
+    by_word first (codes "number") _ _ m e (λ k f. with_first _ first ws m k (number_says ws m f)) (λ e.
+    by_word first (codes "quiet") _ _ m e (λ k f. with_first _ first ws m k (quiet_says ws m f)) (λ e. event_says first ws m e))))))))))
 
 comment_is : (first : List ℕ) → is_comment first ≡ true → (letters : List ℕ) × (35 ∷ letters ≡ first)
 comment_is [] e = absurd cc

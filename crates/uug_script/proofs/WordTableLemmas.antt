@@ -14,7 +14,7 @@ use Rattle.hex.proofs.HexLemmas.{decode_of-ok, decode_sized-ok, decode_sized-twi
 use Rattle.hex.specs.Hex.{decode_of, decode_sized}
 use Rattle.hex.specs.declared.error.FromHexError.{FromHexError}
 use Rattle.hex.specs.declared.error.FromHexError.TheVariants.{OddLength}
-use Rattle.uug_link.specs.Announced.{Announced}
+use Rattle.uug_link.specs.Announced.{Announced, quiet_as}
 use Rattle.uug_link.specs.declared.limits.TheConstants.{MESSAGE_MAX, SIZE_CODES, WINDOW_MAX}
 use Rattle.uug_link.specs.Terms.{size_of_code}
 use Rattle.uug_talk.specs.Mode.{IsOctalDigit, IsModeWord, is_octal_digit, is_mode_word, mode_of, mode_read, octal_value}
@@ -127,19 +127,25 @@ pub announcement_written : (window size : List ℕ) (a : Announced) → Announce
 announcement_written window size a h =
     let w = number_written WINDOW_MAX window a.window (h.digits.0, sym h.window_is, h.is_window.1) in
     let s = number_written MESSAGE_MAX size (size_of_code a.size_code) (h.digits.1, sym h.size_is, size_fits a.size_code h.is_code) in
-    rw (w, s, window_fits a.window h.is_window, code_of_its_size a.size_code h.is_code) refl
+    rw (w, s, window_fits a.window h.is_window, code_of_its_size a.size_code h.is_code)
+    (ap (λ (q : Bool). Some (quiet_as q a)) (sym h.plain))
 
 announcement_parts : (w s : ℕ) (a : Announced) → announcement w s ≡ Some a
-    → (1 ≤ w) × (w ≡ a.window) × (a.size_code < SIZE_CODES) × (s ≡ size_of_code a.size_code)
+    → (1 ≤ w) × (w ≡ a.window) × (a.size_code < SIZE_CODES) × (s ≡ size_of_code a.size_code) × (a.quiet ≡ false)
 announcement_parts w s a e = by_window (nat_le 1 w) refl e where
   by_window : (b : Bool) → nat_le 1 w ≡ b → (if b then code_of_size s >>= (λ code. Some (announced_as w code)) else None) ≡ Some a
-      → (1 ≤ w) × (w ≡ a.window) × (a.size_code < SIZE_CODES) × (s ≡ size_of_code a.size_code)
+      → (1 ≤ w) × (w ≡ a.window) × (a.size_code < SIZE_CODES) × (s ≡ size_of_code a.size_code) × (a.quiet ≡ false)
   by_window true t f =
       let c = bind_some (code_of_size s) (λ code. Some (announced_as w code)) a f in
       let k = size_of_its_code s c.0 c.1 in
       let found = c.2 in
-      let same : announced_as w c.0 ≡ a = cc in
-      (grind (arith, nat_tests), ap (λ (x : Announced). x.window) same, subst (λ (x : Announced). x.size_code < SIZE_CODES) same k.0, k.1 ∙ ap (λ (x : Announced). size_of_code x.size_code) same)
+      let same : announced_as w c.0 ≡ a = cc in (
+        grind (arith, nat_tests),
+        ap (λ (x : Announced). x.window) same,
+        subst (λ (x : Announced). x.size_code < SIZE_CODES) same k.0,
+        k.1 ∙ ap (λ (x : Announced). size_of_code x.size_code) same,
+        sym (ap (λ (x : Announced). x.quiet) same),
+      )
   by_window false t f = absurd cc
 
 pub announces : (window size : List ℕ) (a : Announced) → announcement_of window size ≡ Some a → Announces window size a
@@ -155,6 +161,7 @@ announces window size a e =
       is_code = parts.2;
       window_is = sym window_is.1 ∙ parts.1;
       size_is = sym size_is.1 ∙ parts.3;
+      plain = parts.4;
     }
 
 -- ---- modes

@@ -1,5 +1,5 @@
 -- What single words of a script's line say (this project's profile), as functions.
-use Rattle.std.specs.Prelude.{◌==◌, ◌&&◌, ℕ, Bool, List, [], length, codes, nat_eq, nat_lt, nat_le, slice_index, Option, Some, None, Result, Ok, Err, if◌then◌else◌}
+use Rattle.std.specs.Prelude.{◌==◌, ◌&&◌, ℕ, Bool, List, [], length, codes, nat_eq, nat_lt, nat_le, slice_index, Option, Some, None, Result, Ok, Err, if◌then◌else◌, false}
 use Rattle.std.specs.List.{starts_with}
 use Rattle.std.specs.Result.{result_ok}
 use Rattle.std.specs.Str.{bytes_eq}
@@ -62,10 +62,10 @@ code_of_size size =
     (if size == 2048 then Some 6 else
     (if size == 4096 then Some 7 else None)))))))
 
--- the announcement of this window and size
+-- the announcement of this window and size, by an end that is not quiet on repeats
 abbrev pub announcement : ℕ → ℕ → Option Announced
 announcement window size =
-    if nat_le 1 window then code_of_size size >>= (λ code. Some (record { window = window; size_code = code })) else None
+    if nat_le 1 window then code_of_size size >>= (λ code. Some (record { window = window; size_code = code; quiet = false })) else None
 
 abbrev pub announcement_of : List ℕ → List ℕ → Option Announced
 announcement_of window size =

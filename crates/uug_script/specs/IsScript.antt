@@ -1,6 +1,6 @@
 -- What a text says as a script (this project's profile): its lines, taken in order, each behind those before it.
 use Rattle.std.specs.Prelude.{◌≡◌, ℕ, ◌+◌, List, [], ◌∷◌, ◌++◌, length, ⊤, Some}
-use Rattle.uug_session.specs.Jobs.{at_start}
+use Rattle.uug_conversation.specs.Jobs.{at_start}
 use Rattle.uug_script.specs.declared.fault.ScriptFault.{ScriptFault}
 use Rattle.uug_script.specs.declared.fault.ScriptFault.TheVariants as fault
 use Rattle.uug_script.specs.Lines.{lines}

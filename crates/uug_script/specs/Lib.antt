@@ -1,10 +1,11 @@
+pub mod Code
 pub mod Fields
 pub mod IsScript
+pub mod JobWords
 pub mod LineSays
 pub mod Lines
 pub mod Meaning
 pub mod ReadLine
-pub mod Refusals
 pub mod ReportShown
 pub mod ReportText
 pub mod Script

@@ -1,12 +1,12 @@
 -- The lines of a script, by their words (this project's profile): one clause for each kind of line.
-use Rattle.std.specs.Prelude.{◌≡◌, ℕ, ◌<◌, ◌≤◌, List, [], ◌∷◌, length, codes, Option, Some, None, Ok}
+use Rattle.std.specs.Prelude.{◌≡◌, ℕ, ◌<◌, ◌≤◌, List, [], ◌∷◌, length, codes, Option, Some, None, Ok, false}
 use Rattle.std.specs.Str.Parse.{IsNumeral, digits_value}
 use Rattle.hex.specs.Hex.{decode_of}
 use Rattle.uug_link.specs.Announced.{Announced}
 use Rattle.uug_link.specs.Terms.{IsWindow, size_of_code}
 use Rattle.uug_link.specs.declared.limits.TheConstants.{SIZE_CODES}
-use Rattle.uug_session.specs.Holdings.{kept_file}
-use Rattle.uug_session.specs.declared.job.Job.TheVariants.{Send, Request}
+use Rattle.uug_conversation.specs.Holdings.{kept_file}
+use Rattle.uug_conversation.specs.declared.job.Job.TheVariants.{Send, Request}
 use Rattle.uug_talk.specs.declared.call.TheConstants.{NUMBER_MAX}
 use Rattle.uug_talk.specs.Mode.{IsModeWord, octal_value}
 use Rattle.uug_talk.specs.Name.{IsName}
@@ -17,19 +17,20 @@ use Rattle.uug_script.specs.declared.fields.TheConstants.{MODE_DIGITS}
 use Rattle.uug_script.specs.declared.line.TheConstants.{LINE_MAX, BYTES_MAX, TURNS_MAX}
 use Rattle.uug_line.specs.declared.side.Side.{Side}
 use Rattle.uug_script.specs.Fields.{side_word}
-use Rattle.uug_script.specs.Meaning.{LineMeaning, nothing, of_end, event, flow, place, file, job, deny, later, immovable, number}
+use Rattle.uug_script.specs.Meaning.{LineMeaning, nothing, of_end, event, flow, place, file, job, deny, later, immovable, number, quiet}
 
 -- the word writes the number in decimal digits, with no sign, and the number is at most this one
 abbrev pub WritesNumber : ℕ → List ℕ → ℕ → Type 0
 WritesNumber most word n = IsNumeral 10 word × (n ≡ digits_value 10 word) × (n ≤ most)
 
--- the two words write the window, 1 to 7, and one of the packet sizes
+-- the two words write the window, 1 to 7, and one of the packet sizes; that an end is quiet on repeats stands in another line
 pub record Announces (window size : List ℕ) (a : Announced) : Type 0 where
   pub digits : IsNumeral 10 window × IsNumeral 10 size
   pub is_window : IsWindow a.window
   pub is_code : a.size_code < SIZE_CODES
   pub window_is : digits_value 10 window ≡ a.window
   pub size_is : digits_value 10 size ≡ size_of_code a.size_code
+  pub plain : a.quiet ≡ false
 
 -- the word writes the mode in one to four octal digits
 abbrev pub WritesMode : List ℕ → ℕ → Type 0
@@ -72,6 +73,8 @@ pub data LineSays : List (List ℕ) → LineMeaning → Type 0 where
   -- number SIDE N
   number_line : {side : Side} {word : List ℕ} {n : ℕ} → WritesNumber NUMBER_MAX word n
       → LineSays (codes "number" ∷ side_word side ∷ word ∷ []) (of_end side (number n))
+  -- quiet SIDE
+  quiet_line : {side : Side} → LineSays (codes "quiet" ∷ side_word side ∷ []) (of_end side quiet)
   -- pass SIDE N, drop SIDE N
   pass_line : {side : Side} {word : List ℕ} {n : ℕ} → WritesNumber BYTES_MAX word n
       → LineSays (codes "pass" ∷ side_word side ∷ word ∷ []) (event (Pass side n))

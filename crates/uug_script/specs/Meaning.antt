@@ -2,8 +2,8 @@
 use Rattle.std.specs.Prelude.{ℕ, List, Option, Some, None}
 use Rattle.uug_link.specs.Announced.{Announced, announced}
 use Rattle.uug_link.specs.declared.announce.Announce.{Announce}
-use Rattle.uug_session.specs.Holdings.{Kept, kept_file}
-use Rattle.uug_session.specs.declared.job.Job.{Job}
+use Rattle.uug_conversation.specs.Holdings.{Kept, kept_file}
+use Rattle.uug_conversation.specs.declared.job.Job.{Job}
 use Rattle.uug_script.specs.Fields.{hex_bytes}
 use Rattle.uug_line.specs.declared.event.Event.{Event}
 use Rattle.uug_script.specs.declared.line.EndLine.{EndLine}
@@ -27,6 +27,8 @@ pub data EndMeaning : Type 0 where
   immovable : List ℕ → EndMeaning
   -- the number of its conversations
   number : ℕ → EndMeaning
+  -- it is quiet on repeats
+  quiet : EndMeaning
 
 pub data LineMeaning : Type 0 where
   nothing : LineMeaning
@@ -61,6 +63,7 @@ end_meaning (end_line.Deny name) = Some (deny name)
 end_meaning (end_line.Later name) = Some (later name)
 end_meaning (end_line.Immovable name) = Some (immovable name)
 end_meaning (end_line.Number n) = Some (number n)
+end_meaning end_line.Quiet = Some quiet
 
 abbrev pub line_meaning : Line → Option LineMeaning
 line_meaning line.Nothing = Some nothing

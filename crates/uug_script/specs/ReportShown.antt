@@ -1,6 +1,6 @@
 -- What the program shows of a report.
 use Rattle.std.specs.Prelude.{map}
-use Rattle.uug_session.specs.MemoryHoldings.{kept_of}
+use Rattle.uug_conversation.specs.MemoryHoldings.{kept_of}
 use Rattle.uug_script.specs.declared.report.ShownEnd.{ShownEnd}
 use Rattle.uug_script.specs.declared.report.ShownReport.{ShownReport}
 use Rattle.uug_script.specs.ReportText.{EndResult, RunResult}

@@ -2,7 +2,7 @@
 use Rattle.std.specs.Prelude.{ℕ, suc, List, [], ◌∷◌, ◌++◌, codes, Option, Some, None}
 use Rattle.std.specs.Fmt.{decimal}
 use Rattle.hex.specs.Hex.{encode_lower}
-use Rattle.uug_session.specs.Holdings.{Kept}
+use Rattle.uug_conversation.specs.Holdings.{Kept}
 use Rattle.uug_session.specs.declared.end.End.{End}
 use Rattle.uug_session.specs.declared.end.End.TheVariants.{Done, Refused, WrongName, NoProtocol, PeerClosed, GaveUp, BadTalk, SpoolFault, HungUp, BadSequence}
 use Rattle.uug_talk.specs.Mode.{mode_digits}

@@ -1,17 +1,17 @@
 -- What the lines of a script say together (this project's profile).
-use Rattle.std.specs.Prelude.{◌==◌, ℕ, zero, suc, List, [], ◌∷◌, ◌++◌, length, Option, Some, None, if◌then◌else◌}
-use Rattle.uug_link.specs.Announced.{Announced}
-use Rattle.uug_session.specs.Jobs.{Lists, at_start, pending, added as job_added}
-use Rattle.uug_session.specs.MemoryHoldings.{MemoryHoldings, no_holdings}
-use Rattle.uug_session.specs.declared.queue.TheConstants.{JOBS_MAX}
+use Rattle.std.specs.Prelude.{◌==◌, ℕ, zero, suc, List, [], ◌∷◌, ◌++◌, length, Bool, true, false, Option, Some, None, if◌then◌else◌}
+use Rattle.uug_link.specs.Announced.{Announced, quiet_as}
+use Rattle.uug_conversation.specs.Jobs.{Lists, at_start, pending, added as job_added}
+use Rattle.uug_conversation.specs.MemoryHoldings.{MemoryHoldings, no_holdings}
+use Rattle.uug_conversation.specs.declared.queue.TheConstants.{JOBS_MAX}
 use Rattle.uug_line.specs.declared.event.Event.{Event}
 use Rattle.uug_line.specs.declared.event.Event.TheVariants.{Pass}
 use Rattle.uug_script.specs.declared.line.TheConstants.{BYTES_MAX}
 use Rattle.uug_line.specs.declared.side.Side.TheVariants.{Caller, Called}
 use Rattle.uug_script.specs.Fields.{◌>>=◌}
-use Rattle.uug_script.specs.Meaning.{EndMeaning, place, file, job, deny, later, immovable, number, LineMeaning, nothing, of_end, event, flow}
+use Rattle.uug_script.specs.Meaning.{EndMeaning, place, file, job, deny, later, immovable, number, quiet, LineMeaning, nothing, of_end, event, flow}
 
--- an end's name, and what it announces
+-- an end's name, and what it announces; that it is quiet on repeats is said apart
 pub record Place : Type 0 where
   pub name : List ℕ
   pub announced : Announced
@@ -25,6 +25,8 @@ pub record EndSaid : Type 0 where
   pub held : MemoryHoldings
   -- the number of its conversations
   pub number : Option ℕ
+  -- whether it is quiet on repeats
+  pub quiet : Bool
 
 pub record Said : Type 0 where
   pub caller : EndSaid
@@ -32,7 +34,7 @@ pub record Said : Type 0 where
   pub events : List Event
 
 abbrev pub nothing_of_end : EndSaid
-nothing_of_end = record { place = None; queue = at_start [] [] []; held = no_holdings; number = None }
+nothing_of_end = record { place = None; queue = at_start [] [] []; held = no_holdings; number = None; quiet = false }
 
 abbrev pub nothing_said : Said
 nothing_said = record { caller = nothing_of_end; called = nothing_of_end; events = [] }
@@ -47,6 +49,11 @@ abbrev pub numbered : ℕ → Option ℕ → EndSaid → Option EndSaid
 numbered n None end = Some (record end { number = Some n })
 numbered n (Some earlier) end = None
 
+-- that it is quiet on repeats is said once
+abbrev pub quieted : Bool → EndSaid → Option EndSaid
+quieted true end = None
+quieted false end = Some (record end { quiet = true })
+
 abbrev pub place_at : List ℕ → Announced → Place
 place_at name a = record { name = name; announced = a }
 
@@ -60,6 +67,7 @@ end_added (deny name) end = Some (record end { held = record end.held { denied =
 end_added (later name) end = Some (record end { held = record end.held { postponed = end.held.postponed ++ name ∷ [] } })
 end_added (immovable name) end = Some (record end { held = record end.held { immovable = end.held.immovable ++ name ∷ [] } })
 end_added (number n) end = numbered n end.number end
+end_added quiet end = quieted end.quiet end
 
 -- all bytes for the called end come to it, and then all for the caller, so many times
 abbrev pub flow_events : ℕ → List Event
@@ -98,7 +106,7 @@ pub record ScriptSays : Type 0 where
 abbrev pub end_completed : Option Place → EndSaid → Option EndSays
 end_completed None end = None
 end_completed (Some p) end =
-    Some (record { name = p.name; announced = p.announced; queue = end.queue; held = end.held; number = end.number })
+    Some (record { name = p.name; announced = quiet_as end.quiet p.announced; queue = end.queue; held = end.held; number = end.number })
 
 abbrev pub completed : Said → Option ScriptSays
 completed s =

@@ -2,7 +2,7 @@
 use Rattle.std.specs.Prelude.{◌≡◌, ℕ, ⊤, suc, List, [], ◌∷◌, Option, Some, None, Result, Err, ok_or}
 use Rattle.uug_line.specs.declared.setup.EndSetup.{EndSetup}
 use Rattle.uug_link.specs.Announced.{announced}
-use Rattle.uug_session.specs.MemoryHoldings.{held_by}
+use Rattle.uug_conversation.specs.MemoryHoldings.{held_by}
 use Rattle.uug_script.specs.declared.draft.Draft.{Draft}
 use Rattle.uug_script.specs.declared.draft.EndDraft.{EndDraft}
 use Rattle.uug_script.specs.declared.draft.EndPlace.{EndPlace}
@@ -42,7 +42,13 @@ place_by None = None
 place_by (Some p) = Some (record { name = p.name; announced = announced p.announce })
 
 abbrev pub said_of_end : {A : Type 0} → EndDraft A → EndSaid
-said_of_end d = record { place = place_by d.place; queue = d.queue; held = held_by d.spool; number = d.number }
+said_of_end d = record {
+  place = place_by d.place;
+  queue = d.queue;
+  held = held_by d.spool;
+  number = d.number;
+  quiet = d.quiet;
+}
 
 abbrev pub said_by : {A : Type 0} → Draft A → Said
 said_by d = record { caller = said_of_end d.caller; called = said_of_end d.called; events = d.events.items }

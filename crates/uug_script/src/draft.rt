@@ -1,9 +1,9 @@
 //! What the lines of a script said so far.
 ghost use Rattle.std.specs.Prelude.{◌≡◌, [], ◌∷◌, ◌++◌, OnOk, IfOk, IfErr, Some};
 ghost use Rattle.uug_script.specs.Fields.{hex_bytes};
-ghost use Rattle.uug_script.specs.Meaning.{place as placed_line, job as job_line, number as number_line};
+ghost use Rattle.uug_script.specs.Meaning.{place as placed_line, job as job_line, number as number_line, quiet as quiet_line};
 ghost use Rattle.uug_link.specs.Announced.{announced};
-ghost use Rattle.uug_script.specs.Refusals.{Refuses};
+ghost use Rattle.uug_script.specs.Code.Refusals.{Refuses};
 ghost use Rattle.uug_script.specs.Script.{end_added, flow_events, completed, end_completed, nothing_of_end, nothing_said};
 ghost use Rattle.uug_script.specs.ScriptOf.{file_added, end_line_added, line_added, text_added, said_of_end, said_by, place_by, end_said_by, script_said_by};
 
@@ -34,6 +34,8 @@ pub(crate) struct EndDraft<A: Allocator> {
     spool: MemorySpool<A>,
     /// The number of its conversations.
     number: Option<u32>,
+    /// Whether it is quiet on repeats.
+    quiet: bool,
 }
 
 /// What was said.
@@ -68,6 +70,7 @@ impl<A: Allocator + Copy> EndDraft<A> {
             queue: Queue::new(alloc),
             spool: MemorySpool::new(alloc),
             number: None,
+            quiet: false,
         }
     }
 
@@ -95,6 +98,19 @@ impl<A: Allocator + Copy> EndDraft<A> {
             return Err(LineFault::Bad);
         }
         self.number = Some(number);
+        Ok(())
+    }
+
+    fn set_quiet(&mut self) -> Result<(), LineFault>
+        ensures ok { OnOk result
+            (end_added quiet_line (said_of_end self.old) ≡ Some (said_of_end self.new)) }
+        ensures fault { IfErr result (λ fault.
+            Refuses fault (end_added quiet_line (said_of_end self.old))) }
+    {
+        if self.quiet {
+            return Err(LineFault::Bad);
+        }
+        self.quiet = true;
         Ok(())
     }
 
@@ -138,6 +154,7 @@ impl<A: Allocator + Copy> EndDraft<A> {
             EndLine::Later(name) => Ok(self.spool.later(*name)?),
             EndLine::Immovable(name) => Ok(self.spool.immovable(*name)?),
             EndLine::Number(number) => self.set_number(*number),
+            EndLine::Quiet => self.set_quiet(),
         }
     }
 
@@ -150,11 +167,12 @@ impl<A: Allocator + Copy> EndDraft<A> {
             queue,
             spool,
             number,
+            quiet,
         } = self;
         let EndPlace { name, announce } = place?;
         Some(EndSetup {
             name,
-            announce,
+            announce: announce.with_quiet(quiet),
             queue,
             spool,
             number,

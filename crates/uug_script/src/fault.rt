@@ -1,5 +1,5 @@
 ghost use Rattle.std.specs.Prelude.{◌≡◌};
-ghost use Rattle.uug_script.specs.Refusals.{fault_at};
+ghost use Rattle.uug_script.specs.Code.Refusals.{fault_at};
 ghost use Rattle.uug_script.specs.declared.fault.LineFault.TheVariants.{Memory as memory};
 
 use std::alloc::AllocError;

@@ -2,7 +2,13 @@
 ghost use Rattle.std.specs.Prelude.{◌≡◌, ℕ, List, Ok, Err};
 ghost use Rattle.uug_script.specs.declared.fields.TheConstants.{MODE_DIGITS};
 ghost use Rattle.uug_script.specs.declared.line.TheConstants.{LINE_MAX, BYTES_MAX, TURNS_MAX};
+ghost use Rattle.uug_line.specs.declared.side.Side.{Side};
+ghost use Rattle.uug_conversation.specs.declared.job.Job.{Job};
+ghost use Rattle.uug_conversation.specs.Party.{HasNames};
 ghost use Rattle.uug_script.specs.IsScript.{IsScript, IsFirstBad};
+ghost use Rattle.uug_script.specs.JobWords.{job_words};
+ghost use Rattle.uug_script.specs.LineSays.{LineSays};
+ghost use Rattle.uug_script.specs.Meaning.{of_end, job};
 ghost use Rattle.uug_script.specs.Script.{ScriptSays};
 ghost use Rattle.uug_script.specs.ScriptOf.{script_of};
 
@@ -14,6 +20,12 @@ pub fn one_reading_of_scripts()
     ensures read_script { (text : List ℕ) (script : ScriptSays) →
         script_of text ≡ Ok script → IsScript text script }
     ensures read_bad { (text : List ℕ) (n : ℕ) → script_of text ≡ Err n → IsFirstBad text n }
+{}
+
+/// The words that are written of a job are those of a line that gives it.
+pub fn a_job_is_written_as_a_line_says_it()
+    ensures { (side : Side) (given : Job) → HasNames given
+        → LineSays (job_words side given) (of_end side (job given)) }
 {}
 
 /// Each limit of a script is this number: of the bytes of a line, of the bytes that one event passes or drops, of the

@@ -4,6 +4,7 @@
 mod draft;
 mod fault;
 mod fields;
+mod job_words;
 pub mod laws;
 mod line;
 mod lines;
@@ -12,6 +13,7 @@ mod report;
 mod script;
 
 pub use fault::ScriptFault;
+pub use job_words::add_job_words;
 pub use line::{BYTES_MAX, LINE_MAX, TURNS_MAX};
 pub use lines::split_line;
 pub use report::{

@@ -1,6 +1,6 @@
 //! The text of a report.
 ghost use Rattle.std.specs.Prelude.{◌≡◌, ◌≤◌, ◌++◌, OnErr, OnOk, IfOk, map, string_bytes};
-ghost use Rattle.uug_session.specs.MemoryHoldings.{kept_of};
+ghost use Rattle.uug_conversation.specs.MemoryHoldings.{kept_of};
 ghost use Rattle.uug_talk.specs.Mode.{mode_digits};
 ghost use Rattle.uug_script.specs.Fields.{side_word};
 ghost use Rattle.uug_script.specs.ReportText.{end_word, phase_word, end_line, session_text, sessions_text, jobs_line, hex_text, stored_line, stored_text, number_line, verdict_line, report_text};

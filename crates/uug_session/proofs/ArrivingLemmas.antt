@@ -6,7 +6,7 @@ use Rattle.uug_reader.specs.Cut.{found, bad}
 use Rattle.uug_reader.specs.Search.{Search, waiting, standing, search_of}
 use Rattle.uug_session.specs.EndStep.{Stage, hailing, linked, ended, EndEvent, broken_found}
 use Rattle.uug_session.specs.Finding.{Finding, finds_nothing, finds, finds_packet, item_finding, finding, found_with, LeavesFewer, FindingLaws}
-use Rattle.uug_session.specs.HearingLaws.{HearingLaws}
+use Rattle.uug_session.specs.Code.HearingLaws.{HearingLaws}
 use Rattle.uug_session.specs.Arriving.{Taker, Hearer, Came, all_taken, stopped, held_in, holds, takes_if, takes_up, takes_up_to, takes_all, takes_piece, then_takes}
 use Rattle.uug_session.proofs.LongTextLemmas.{HearsInPieces, text_more, text_fewer}
 use Rattle.uug_session.proofs.PacketSearchLemmas.{search_with, search_more, Within, search_within, some_size}

@@ -4,8 +4,8 @@ use Rattle.uug_link.specs.Announced.{Announced}
 use Rattle.uug_link.specs.State.{State as LinkState}
 use Rattle.uug_session.specs.EndStep.{Identity, Stage, first_link}
 use Rattle.uug_session.specs.Engine.{IsHailing, IsReady}
-use Rattle.uug_session.specs.Talking.{Talking}
-use Rattle.uug_session.specs.Turns.{Side, caller, called}
+use Rattle.uug_conversation.specs.Talking.{Talking}
+use Rattle.uug_conversation.specs.Turns.{Side, caller, called}
 
 none_at_first : (side : Side) (own : Announced) → length (first_link side own).unacked ≡ 0
 none_at_first caller own = refl

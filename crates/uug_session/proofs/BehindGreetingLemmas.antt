@@ -7,10 +7,10 @@ use Rattle.uug_session.specs.Arriving.{Hearer, Came, all_taken, stopped, held_in
 use Rattle.uug_session.specs.EndStep.{Stage, hailing, linked, ended, Emitted, EndEvent, EndState, Identity, text_found, long_text_found, packet_found_whole, broken_found, time_ran_out, line_lost, behind_link, end_step, late_link, linked_step, message_of, rises_at, stage_step, takes_by, talks_by}
 use Rattle.uug_session.specs.Finding.{Finding, finds_nothing, finds, finds_packet, finding}
 use Rattle.uug_session.specs.Greeting.{number_by}
-use Rattle.uug_session.specs.Holdings.{Holdings}
-use Rattle.uug_session.specs.Keeper.{Keeper}
+use Rattle.uug_conversation.specs.Holdings.{Holdings}
+use Rattle.uug_conversation.specs.Keeper.{Keeper}
 use Rattle.uug_session.specs.NodeArriving.{NodeEnd, fails_first, fails_later, node_taker, with_effect}
-use Rattle.uug_session.specs.Talk.{Talk, end_keeper}
+use Rattle.uug_conversation.specs.Talk.{Talk, end_keeper}
 use Rattle.uug_session.proofs.NumberLemmas.{step_number}
 
 -- ---- what is emitted on the link stands behind what was emitted before

@@ -3,19 +3,19 @@ use Rattle.std.proofs.Common.{◌≡◌, ℕ, Bool, false, List, [], Option, sym
 use Rattle.uug_link.specs.Announced.{Announced}
 use Rattle.uug_link.specs.Entries.{EntryValue}
 use Rattle.uug_link.specs.Step.{Effect, OutcomeValue, nothing, up, taken, closed, gave_up, halted, step, timed_out}
-use Rattle.uug_session.specs.declared.awaits.Awaits.TheVariants as awaits
+use Rattle.uug_conversation.specs.declared.awaits.Awaits.TheVariants as awaits
 use Rattle.uug_session.specs.declared.end.End.TheVariants as ends
-use Rattle.uug_session.specs.declared.reaction.Saying.{Saying}
+use Rattle.uug_conversation.specs.declared.reaction.Saying.{Saying}
 use Rattle.uug_session.specs.EndStep.{Stage, hailing, linked, ended, EndState, Identity, begins_session, how_it_ends, late_link, line_lost, stage_step, time_ran_out, unmoved}
 use Rattle.uug_session.specs.Engine.{BeginsSession, Does, EngineState, IsUnopened, bare, end_of, hung_up, stage_late, with_stage}
 use Rattle.uug_session.specs.Greeting.{number_by, timed_out as greeting_timed_out}
-use Rattle.uug_session.specs.Holdings.{Kept, Holdings}
-use Rattle.uug_session.specs.Jobs.{Lists}
-use Rattle.uug_session.specs.Machine.{State, between}
+use Rattle.uug_conversation.specs.Holdings.{Kept, Holdings}
+use Rattle.uug_conversation.specs.Jobs.{Lists}
+use Rattle.uug_conversation.specs.Machine.{State, between}
 use Rattle.uug_session.specs.Node.{effect_of}
-use Rattle.uug_session.specs.Outgoing.{messages_of}
-use Rattle.uug_session.specs.Talk.{Talk, end_keeper, unopened}
-use Rattle.uug_session.specs.Talking.{Talking, talk_of, talking_has_parted}
+use Rattle.uug_conversation.specs.Outgoing.{messages_of}
+use Rattle.uug_conversation.specs.Talk.{Talk, end_keeper, unopened}
+use Rattle.uug_conversation.specs.Talking.{Talking, talk_of, talking_has_parted}
 use Rattle.uug_session.proofs.NodeLemmas.{greeted_beside}
 use Rattle.uug_session.proofs.SpeakLemmas.{has_parted_told}
 

@@ -7,7 +7,7 @@ use Rattle.uug_reader.specs.Reading.{Reading}
 use Rattle.uug_session.specs.Arriving.{Taker, Hearer, all_taken, takes_piece}
 use Rattle.uug_session.specs.EndStep.{Stage, Emitted, Identity}
 use Rattle.uug_session.specs.Engine.{EngineState, HasFailed, end_of, entry_of, with_stage}
-use Rattle.uug_session.specs.Holdings.{Kept, Holdings}
+use Rattle.uug_conversation.specs.Holdings.{Kept, Holdings}
 use Rattle.uug_session.specs.Node.{NodeState, struck_jobs}
 use Rattle.uug_session.specs.NodeArriving.{NodeEnd, node_taker, hearer_of, Course, GoesOn, TakesAll}
 use Rattle.uug_session.specs.TextsHeld.{TextsHeld}

@@ -3,16 +3,16 @@
 use Rattle.std.proofs.Common.{◌≡◌, ℕ, zero, suc, Bool, true, false, List, [], ◌∷◌, ◌++◌, codes, None, refl}
 use Rattle.uug_link.specs.Announced.{Announced}
 use Rattle.uug_session.specs.declared.end.End.TheVariants as ends
-use Rattle.uug_session.specs.Count.{Count, nothing_yet, count_keeper}
+use Rattle.uug_conversation.specs.Count.{Count, nothing_yet, count_keeper}
 use Rattle.uug_session.specs.EndStep.{ended, EndState, Emitted, says_text, sends_packet, EndEffect, Identity, EndEvent, text_found, packet_found_whole, end_step, begins_session}
-use Rattle.uug_session.specs.Jobs.{at_start}
-use Rattle.uug_session.specs.Keeper.{Keeper}
-use Rattle.uug_session.specs.Party.{Party}
-use Rattle.uug_session.specs.Talk.{Talk, unopened, end_keeper}
-use Rattle.uug_session.specs.Turns.{caller, called}
-use Rattle.uug_session.specs.View.{conversation_view}
-use Rattle.uug_session.proofs.ConversationFacts.{sender, taker}
-use Rattle.uug_session.proofs.FactParties.{no_exception, send, y}
+use Rattle.uug_conversation.specs.Jobs.{at_start}
+use Rattle.uug_conversation.specs.Keeper.{Keeper}
+use Rattle.uug_conversation.specs.Party.{Party}
+use Rattle.uug_conversation.specs.Talk.{Talk, unopened, end_keeper}
+use Rattle.uug_conversation.specs.Turns.{caller, called}
+use Rattle.uug_conversation.specs.View.{conversation_view}
+use Rattle.uug_conversation.proofs.ConversationFacts.{sender, taker}
+use Rattle.uug_conversation.proofs.FactParties.{no_exception, send, y}
 
 -- ---- a clean line: each end is given all that the other emits, and then the other what it emitted at that
 
@@ -69,7 +69,7 @@ called_id = record { side = called; me = codes "b"; peer = codes "a" }
 
 -- window 2, size 32
 abbrev pub announced : Announced
-announced = record { window = 2; size_code = 0 }
+announced = record { window = 2; size_code = 0; quiet = false }
 
 abbrev pub played : {C : Type 0} → EndEffect C → Played C
 played e = record { state = e.state; emitted = e.emitted; took = 0 }

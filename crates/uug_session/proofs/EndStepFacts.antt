@@ -5,19 +5,19 @@ use Rattle.uug_link.specs.State.{State, called_state, caller_state}
 use Rattle.uug_link.specs.Terms.{smallest_code}
 use Rattle.uug_link.specs.declared.phase.Phase.TheVariants as phases
 use Rattle.uug_packet.specs.Packet.{ControlValue, control, carry, close, rr, rj}
-use Rattle.uug_session.specs.declared.awaits.Awaits.{Awaits}
-use Rattle.uug_session.specs.declared.awaits.Awaits.TheVariants as awaits
+use Rattle.uug_conversation.specs.declared.awaits.Awaits.{Awaits}
+use Rattle.uug_conversation.specs.declared.awaits.Awaits.TheVariants as awaits
 use Rattle.uug_session.specs.declared.end.End.TheVariants as ends
 use Rattle.uug_session.specs.EndStep.{Stage, linked, ended, Emitted, says_text, sends_packet, EndEffect, Identity, EndEvent, packet_found_whole, broken_found, time_ran_out, line_lost, end_step}
-use Rattle.uug_session.specs.Jobs.{at_start}
-use Rattle.uug_session.specs.Talk.{Talk, end_keeper}
-use Rattle.uug_session.specs.Turns.{Side, caller, called}
-use Rattle.uug_session.proofs.FactParties.{Exception, no_exception, fixed, holdings, q, y, text}
+use Rattle.uug_conversation.specs.Jobs.{at_start}
+use Rattle.uug_conversation.specs.Talk.{Talk, end_keeper}
+use Rattle.uug_conversation.specs.Turns.{Side, caller, called}
+use Rattle.uug_conversation.proofs.FactParties.{Exception, no_exception, fixed, holdings, q, y, text}
 
 -- ---- an end that stands so, and what comes
 
 abbrev pub announced : Announced
-announced = record { window = 2; size_code = 0 }
+announced = record { window = 2; size_code = 0; quiet = false }
 
 -- it has sent one message, which is acknowledged, and taken none
 abbrev pub link_of : Side → State

@@ -17,15 +17,15 @@ use Rattle.uug_session.specs.declared.greeting.Greeted.{Greeted}
 use Rattle.uug_session.specs.declared.greeting.Greeted.TheVariants.{GoesOn, LinkBegins, Ended}
 use Rattle.uug_session.specs.EndStep.{Stage, linked, ended, EndEffect, EndState, Emitted, says_text, Identity, begins_link, behind_link, ends_so, goes_on, goes_on_with, greeted_so, how_it_ends, is_up, late_link, leave, message_of, packet_came, packets, sending_nothing, speaks_by, takes_by, talks_by, then_closes}
 use Rattle.uug_session.specs.Engine.{Does, EngineState, Spoken, StandsStill, TakesUp, after_speaking, end_of, entry_of, packet_effect, spoken_of, spoken_with}
-use Rattle.uug_session.specs.Holdings.{Kept, Holdings}
-use Rattle.uug_session.specs.Keeper.{Keeper}
-use Rattle.uug_session.specs.declared.reaction.Saying.{Saying}
-use Rattle.uug_session.specs.Machine.{State as MachineState}
-use Rattle.uug_session.specs.Outgoing.{messages_of}
+use Rattle.uug_conversation.specs.Holdings.{Kept, Holdings}
+use Rattle.uug_conversation.specs.Keeper.{Keeper}
+use Rattle.uug_conversation.specs.declared.reaction.Saying.{Saying}
+use Rattle.uug_conversation.specs.Machine.{State as MachineState}
+use Rattle.uug_conversation.specs.Outgoing.{messages_of}
 use Rattle.uug_session.specs.Says.{entry_of_text}
-use Rattle.uug_session.specs.Talk.{Talk, end_keeper}
-use Rattle.uug_session.specs.Talking.{Talking, talk_of}
-use Rattle.uug_session.specs.Turns.{Side, caller, called}
+use Rattle.uug_conversation.specs.Talk.{Talk, end_keeper}
+use Rattle.uug_conversation.specs.Talking.{Talking, talk_of}
+use Rattle.uug_conversation.specs.Turns.{Side, caller, called}
 
 -- packets stand in an outbox as they are written
 pub packets_written : (es : List Emission) → map entry_of (packets es) ≡ map written es

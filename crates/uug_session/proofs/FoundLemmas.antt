@@ -13,7 +13,7 @@ use Rattle.uug_session.specs.Arriving.{Taker, Hearer, Came, all_taken, stopped, 
 use Rattle.uug_session.specs.EndStep.{Stage, hailing, linked, ended, text_found, broken_found}
 use Rattle.uug_session.specs.Finding.{Finding, text_finding, item_finding, finding, behind_long_text, LeavesFewer, FindingLaws}
 use Rattle.uug_session.specs.Found.{Hails, BehindTexts, hails_on, hails_no_more, finds_long_text, FindsTexts, takes_item, BehindItems, links_on, links_no_more, stops_at, FindsItems}
-use Rattle.uug_session.specs.HearingLaws.{HearingLaws}
+use Rattle.uug_session.specs.Code.HearingLaws.{HearingLaws}
 use Rattle.uug_session.specs.TextsFound.{Taken}
 use Rattle.uug_session.specs.TextsHeld.{TextSearch, text_waits, text_stands, text_too_long, size_of_text, search_text}
 use Rattle.uug_talk.specs.Texts.{Passing}

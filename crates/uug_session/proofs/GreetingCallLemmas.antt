@@ -16,17 +16,17 @@ use Rattle.uug_session.specs.EndStep.{Stage, hailing, Emitted, EndEffect, EndSta
 use Rattle.uug_session.specs.Engine.{BeginsSession, CountsFaults, Does, EngineState, bare, end_of, entry_of, stage_late}
 use Rattle.uug_session.specs.Greeting.{GreetingStep, fails, greeting_at_first, number_by, text_came, timed_out}
 use Rattle.uug_session.specs.GreetingCalls.{Hearing, hears_text, hears_long_text, hears_nothing, greets_to, text_in, Brings, GreetsAt, DoesStep, GreetsOn, GreetsThrough}
-use Rattle.uug_session.specs.HearingLaws.{HearingLaws}
-use Rattle.uug_session.specs.Holdings.{Holdings}
-use Rattle.uug_session.specs.Jobs.{Lists}
+use Rattle.uug_session.specs.Code.HearingLaws.{HearingLaws}
+use Rattle.uug_conversation.specs.Holdings.{Holdings}
+use Rattle.uug_conversation.specs.Jobs.{Lists}
 use Rattle.uug_session.specs.Node.{NodeState, ItemValue, text_item, packet_item, bad_item, ShowsItem, TakesItem, offered_at, searched_at, texts_searched}
 use Rattle.uug_session.specs.NodeCalls.{Adds, Beside, Make, Makes, NodeCall, offers, looks, takes, refuses, times_out, refuses_timeout, clears, taken_in}
 use Rattle.uug_session.specs.Sessions.{HoldsNothing}
-use Rattle.uug_session.specs.Talk.{Talk, end_keeper}
-use Rattle.uug_session.specs.Talking.{Talking, talking_has_parted}
+use Rattle.uug_conversation.specs.Talk.{Talk, end_keeper}
+use Rattle.uug_conversation.specs.Talking.{Talking, talking_has_parted}
 use Rattle.uug_session.specs.TextsFound.{Taken}
 use Rattle.uug_session.specs.TextsHeld.{TextsHeld, TextSearch, text_waits, text_stands, text_too_long, search_text}
-use Rattle.uug_session.specs.Turns.{Side, caller, called}
+use Rattle.uug_conversation.specs.Turns.{Side, caller, called}
 use Rattle.uug_session.proofs.TextCallLemmas.{stands_dropped, taken_more, taken_right_behind, taken_searched, taken_too_long}
 
 -- ---- a step as it is told

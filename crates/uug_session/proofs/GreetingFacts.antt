@@ -13,7 +13,7 @@ use Rattle.uug_session.specs.declared.greeting.Greeting.{Greeting}
 use Rattle.uug_session.specs.EndStep.{hailing, says_text, EndEffect, Identity, begins_session}
 use Rattle.uug_session.specs.Greeting.{GreetingStep, first_greeting, lets_in, text_came, timed_out}
 use Rattle.uug_session.specs.Says.{written_text}
-use Rattle.uug_session.specs.Turns.{Side, caller, called}
+use Rattle.uug_conversation.specs.Turns.{Side, caller, called}
 use Rattle.uug_session.specs.WholeGreeting.{GreetingRun, whole_greeting}
 
 abbrev at_caller : List ℕ → GreetingRun

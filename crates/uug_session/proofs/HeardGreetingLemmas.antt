@@ -13,15 +13,15 @@ use Rattle.uug_session.specs.Arriving.{Came, Hearer, all_taken, held_in, holds, 
 use Rattle.uug_session.specs.EndStep.{Stage, hailing, linked, Emitted, EndEffect, EndState, Identity, begins_link, begins_session, first_link, first_words, packets, says_text}
 use Rattle.uug_session.specs.Engine.{end_of, entry_of}
 use Rattle.uug_session.specs.Finding.{FindingLaws, finding, finds_nothing, text_finding}
-use Rattle.uug_session.specs.HearingLaws.{HearingLaws}
-use Rattle.uug_session.specs.Holdings.{Holdings}
+use Rattle.uug_session.specs.Code.HearingLaws.{HearingLaws}
+use Rattle.uug_conversation.specs.Holdings.{Holdings}
 use Rattle.uug_session.specs.Node.{NodeState, bytes_at, held_bytes}
 use Rattle.uug_session.specs.NodeArriving.{NodeEnd, hearer_of, node_taker}
 use Rattle.uug_session.specs.NodeGreeting.{HasHeard, GreetsStill, HasEnded, HasBegunLink, at_link, come_to, on_link, talk_at_first}
 use Rattle.uug_session.specs.Says.{entry_of_text}
-use Rattle.uug_session.specs.Talk.{Talk}
+use Rattle.uug_conversation.specs.Talk.{Talk}
 use Rattle.uug_session.specs.TextsHeld.{TextsHeld}
-use Rattle.uug_session.specs.Turns.{Side, caller, called}
+use Rattle.uug_conversation.specs.Turns.{Side, caller, called}
 use Rattle.uug_session.specs.WholeGreeting.{GreetingRun, Greets}
 use Rattle.uug_session.proofs.ArrivingLemmas.{found_nothing}
 use Rattle.uug_session.proofs.BehindGreetingLemmas.{CameGreeted, CameWith, CameWithout, came_without, front_stays, HasGreeted, hails_not, stays_greeted, stays_with, with_front}

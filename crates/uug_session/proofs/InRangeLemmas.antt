@@ -20,13 +20,13 @@ use Rattle.uug_session.specs.declared.greeting.Greeted.TheVariants.{GoesOn, Link
 use Rattle.uug_session.specs.declared.greeting.Greeting.{Greeting}
 use Rattle.uug_session.specs.EndStep.{Stage, hailing, linked, ended, EndState, Emitted, says_text, sends_packet, EndEffect, Identity, Sending, packets, leave, ends_so, is_up, has_room, sending_nothing, sends_next, sends_by, sends_up_to, sends, closes_by, speaks_by, goes_on, goes_on_with, then_closes, talks_by, takes_by, behind_link, message_of, packet_came, bad_came, late_link, begins_link, greeted_so, EndEvent, text_found, long_text_found, packet_found_whole, broken_found, time_ran_out, line_lost, unmoved, hailing_step, linked_step, stage_step, end_step, begins_session, first_link, how_it_ends}
 use Rattle.uug_session.specs.Greeting.{GreetingStep, first_texts, long_text_came, number_by, text_came, timed_out as greeting_timed_out}
-use Rattle.uug_session.specs.Holdings.{Holdings}
+use Rattle.uug_conversation.specs.Holdings.{Holdings}
 use Rattle.uug_session.specs.InRange.{BeginsFresh, CanBeWritten, HasSize, IsEndInRange, MayFind}
-use Rattle.uug_session.specs.Keeper.{Keeper}
-use Rattle.uug_session.specs.Machine as machine
-use Rattle.uug_session.specs.Talk.{Talk, behind_first, end_keeper, first_of, opened_with, replied, taking, with_first_sent}
-use Rattle.uug_session.specs.Turns.{Side, caller, called, Said, all_messages, said_messages}
-use Rattle.uug_session.proofs.FitLemmas.{MessagesFit, said_fit}
+use Rattle.uug_conversation.specs.Keeper.{Keeper}
+use Rattle.uug_conversation.specs.Machine as machine
+use Rattle.uug_conversation.specs.Talk.{Talk, behind_first, end_keeper, first_of, opened_with, replied, taking, with_first_sent}
+use Rattle.uug_conversation.specs.Turns.{Side, caller, called, Said, all_messages, said_messages}
+use Rattle.uug_conversation.proofs.FitLemmas.{MessagesFit, said_fit}
 
 abbrev Fits : ℕ → List ℕ → Type 0
 Fits size message = length message ≤ size

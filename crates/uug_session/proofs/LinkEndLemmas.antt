@@ -15,9 +15,9 @@ use Rattle.uug_session.specs.declared.phase.Phase.TheVariants as session_phases
 use Rattle.uug_session.specs.EndStep.{Stage, hailing, linked, ended, EndState, Emitted, Identity, Sending, has_room, is_up, sends_next, sends_by, sends_up_to, sends, closes_by, speaks_by, goes_on, talks_by, takes_by, behind_link, message_of, late_link, begins_link, greeted_so, EndEvent, text_found, long_text_found, packet_found_whole, broken_found, time_ran_out, line_lost, hailing_step, linked_step, stage_step, end_step, begins_session, first_link}
 use Rattle.uug_session.specs.Engine.{IsEnded}
 use Rattle.uug_session.specs.Greeting.{number_by, text_came, timed_out as greeting_timed_out}
-use Rattle.uug_session.specs.Keeper.{Keeper}
+use Rattle.uug_conversation.specs.Keeper.{Keeper}
 use Rattle.uug_session.specs.Phases.{EndsWithItsLink, phase_at}
-use Rattle.uug_session.specs.Turns.{Side, caller, called}
+use Rattle.uug_conversation.specs.Turns.{Side, caller, called}
 
 -- ---- links
 

@@ -6,7 +6,7 @@ use Rattle.uug_talk.specs.Texts.{Heard, Passing, Open, Whole, Holds, is_whole, w
 use Rattle.uug_session.specs.declared.greeting.Greeting.{Greeting}
 use Rattle.uug_session.specs.EndStep.{hailing, text_found, long_text_found}
 use Rattle.uug_session.specs.Finding.{finds, behind_byte, behind_long_text, text_finding, finding, found_with, LeavesFewer}
-use Rattle.uug_session.specs.HearingLaws.{HearingLaws}
+use Rattle.uug_session.specs.Code.HearingLaws.{HearingLaws}
 use Rattle.uug_session.specs.Says.{start_byte}
 use Rattle.uug_session.specs.TextsHeld.{TextSearch, text_waits, text_stands, text_too_long, size_of_text, search_heard, search_text}
 use Rattle.uug_session.proofs.TextsHeldLemmas.{cut_at_text, found_waiting, nothing_heard}

@@ -4,7 +4,7 @@ use Rattle.std.proofs.lemmas.List.{append-nil}
 use Rattle.uug_link.specs.Entries.{EntryValue}
 use Rattle.uug_session.specs.EndStep.{Stage, hailing, linked, ended}
 use Rattle.uug_session.specs.Engine.{CountsFaults, entry_of}
-use Rattle.uug_session.specs.Holdings.{Holdings}
+use Rattle.uug_conversation.specs.Holdings.{Holdings}
 use Rattle.uug_session.specs.Node.{NodeState, IsAsBefore, TakesShown, effect_of, event_of, offered, offered_at, searched, searched_at, texts_searched}
 use Rattle.uug_session.specs.NodeCalls.{Beside, HaveNoTimeout, IsMadeOfCalls, KeepsNothing, Make, NodeCall, offers, looks, takes, refuses, times_out, refuses_timeout, clears, all_offered, taken_in}
 use Rattle.uug_session.specs.TextsHeld.{TextSearch, text_waits, text_stands, text_too_long, search_text}

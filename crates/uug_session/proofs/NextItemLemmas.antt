@@ -6,7 +6,7 @@ use Rattle.uug_session.specs.declared.end.End.TheVariants as ends
 use Rattle.uug_session.specs.declared.greeting.Greeting.{Greeting}
 use Rattle.uug_session.specs.declared.item.Item.{Item}
 use Rattle.uug_session.specs.EndStep.{Stage, hailing, linked, ended}
-use Rattle.uug_session.specs.ItemLaws.{ItemLaws}
+use Rattle.uug_session.specs.Code.ItemLaws.{ItemLaws}
 use Rattle.uug_session.specs.Node.{HasRoom, ItemValue, LeavesRoom, NodeState, ShowsItem, bad_item, bytes_at, item_size, packet_item, searched, searched_at, shown_item, shown_size_at, text_item, texts_searched}
 use Rattle.uug_session.specs.ShownItems.{HoldsNoItem, IsFirstItem, IsShown, NothingStands, PassesNoiseAt, PassesNoiseOnLink, StandsNext}
 use Rattle.uug_session.specs.TextsHeld.{ShowsText, TextSearch, TextsHeld, after_text_search, search_text, size_of_text, text_stands, text_too_long, text_waits}

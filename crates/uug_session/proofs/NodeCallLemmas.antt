@@ -9,8 +9,8 @@ use Rattle.uug_session.specs.Arriving.{Hearer, takes_piece}
 use Rattle.uug_session.specs.EndStep.{Stage, hailing, linked, ended, Emitted, time_ran_out, unmoved}
 use Rattle.uug_session.specs.Engine.{CountsFaults, Does, EngineState, HasFailed, bare, end_of, entry_of, with_outbox}
 use Rattle.uug_session.specs.Finding.{finding, finds_nothing}
-use Rattle.uug_session.specs.Holdings.{Kept, Holdings}
-use Rattle.uug_session.specs.ItemLaws.{ItemLaws}
+use Rattle.uug_conversation.specs.Holdings.{Kept, Holdings}
+use Rattle.uug_session.specs.Code.ItemLaws.{ItemLaws}
 use Rattle.uug_session.specs.Node.{NodeState, ItemValue, text_item, packet_item, bad_item, IsAsBefore, IsLeft, bytes_at, effect_of, offered_at, texts_searched, searched}
 use Rattle.uug_session.specs.NodeArriving.{GoesOn, IsAtRest, NodeEnd, hearer_of, node_taker}
 use Rattle.uug_session.specs.NodeCalls.{Adds, Beside, HaveNoTimeout, HoldsTheSame, NodeCall, offers as offers_call, looks, takes, refuses, times_out, refuses_timeout, clears, KeepsNothing, Makes, Make, all_offered, taken_in, ShowsWhatIsFound}

@@ -11,13 +11,13 @@ use Rattle.uug_session.specs.Arriving.{Taker, Came, holds, takes_all}
 use Rattle.uug_session.specs.EndStep.{hailing, linked, ended, Emitted, EndEffect, Identity, begins_link, greeted_so, long_text_found, packets, says_text, text_found}
 use Rattle.uug_session.specs.Finding.{text_finding, behind_long_text, FindingLaws, LeavesFewer}
 use Rattle.uug_session.specs.Greeting.{first_texts, greeting_at_first, number_by, text_came}
-use Rattle.uug_session.specs.HearingLaws.{HearingLaws}
-use Rattle.uug_session.specs.Holdings.{Holdings}
+use Rattle.uug_session.specs.Code.HearingLaws.{HearingLaws}
+use Rattle.uug_conversation.specs.Holdings.{Holdings}
 use Rattle.uug_session.specs.NodeArriving.{NodeEnd, node_taker}
-use Rattle.uug_session.specs.Talk.{Talk}
+use Rattle.uug_conversation.specs.Talk.{Talk}
 use Rattle.uug_session.specs.TextsFound.{FindsText}
 use Rattle.uug_session.specs.TextsHeld.{TextSearch, text_waits, text_stands, text_too_long, size_of_text, search_text}
-use Rattle.uug_session.specs.Turns.{Side, caller, called}
+use Rattle.uug_conversation.specs.Turns.{Side, caller, called}
 use Rattle.uug_session.specs.WholeGreeting.{Greets, GreetingRun, GreetsBy, greeting_run, saying_first, step_behind, texts_came}
 use Rattle.uug_talk.specs.Texts.{Passing}
 use Rattle.uug_session.proofs.ArrivingLemmas.{found_event}

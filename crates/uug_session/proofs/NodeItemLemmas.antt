@@ -15,15 +15,15 @@ use Rattle.uug_session.specs.Arriving.{Taker, held_in, holds, takes_all, takes_p
 use Rattle.uug_session.specs.EndStep.{Stage, hailing, linked, ended, EndState, Emitted, EndEffect, Identity, text_found, packet_found_whole, broken_found, bad_came, behind_link, message_of, packet_came, takes_by, talks_by}
 use Rattle.uug_session.specs.Engine.{Does, EngineState, end_of, with_stage}
 use Rattle.uug_session.specs.Finding.{Finding, finds, finds_packet, text_finding, item_finding, finding, found_with, LeavesFewer}
-use Rattle.uug_session.specs.Holdings.{Kept, Holdings}
-use Rattle.uug_session.specs.ItemLaws.{ItemLaws}
-use Rattle.uug_session.specs.Keeper.{Keeper}
+use Rattle.uug_conversation.specs.Holdings.{Kept, Holdings}
+use Rattle.uug_session.specs.Code.ItemLaws.{ItemLaws}
+use Rattle.uug_conversation.specs.Keeper.{Keeper}
 use Rattle.uug_session.specs.Node.{NodeState, ItemValue, text_item, packet_item, bad_item, ShowsItem, TakesItem, TakesShown, IsAsBefore, IsLeft, bytes_at, held_bytes, item_size, struck_jobs, texts_searched, searched, effect_of, event_of}
 use Rattle.uug_session.specs.NodeArriving.{NodeEnd, with_effect, node_taker, GoesOn, IsAtRest}
 use Rattle.uug_session.specs.NodeCalls.{ShowsWhatIsFound}
-use Rattle.uug_session.specs.OwnRequests.{KeepsWhatItAskedFor}
-use Rattle.uug_session.specs.Talk.{Talk, end_keeper}
-use Rattle.uug_session.specs.Talking.{talk_of}
+use Rattle.uug_conversation.specs.OwnRequests.{KeepsWhatItAskedFor}
+use Rattle.uug_conversation.specs.Talk.{Talk, end_keeper}
+use Rattle.uug_conversation.specs.Talking.{talk_of}
 use Rattle.uug_session.specs.TextsHeld.{TextsHeld, TextSearch, text_waits, text_stands, text_too_long, search_text, ShowsText}
 use Rattle.uug_session.proofs.ArrivingLemmas.{held_fewer, held_same, found_event, found_packet}
 use Rattle.uug_session.proofs.PacketSearchLemmas.{Within, search_within, IsFoundAgain, search_again, read_stands}

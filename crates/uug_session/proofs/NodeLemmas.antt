@@ -15,12 +15,12 @@ use Rattle.uug_session.specs.declared.greeting.Greeting.{Greeting}
 use Rattle.uug_session.specs.EndStep.{Stage, hailing, linked, EndEffect, EndState, Emitted, EndEvent, Identity, begins_link, behind_greeting, greeted_so, packet_found_whole, stage_step, text_found}
 use Rattle.uug_session.specs.Engine.{Does, EngineState, TakesUp, bare, end_of}
 use Rattle.uug_session.specs.Greeting.{number_by, text_came}
-use Rattle.uug_session.specs.Holdings.{Kept, Holdings}
+use Rattle.uug_conversation.specs.Holdings.{Kept, Holdings}
 use Rattle.uug_session.specs.Node.{NodeState, ShowsItem, TakesItem, IsLeft, text_item, packet_item, bad_item, effect_of}
-use Rattle.uug_session.specs.Talk.{Talk, end_keeper}
-use Rattle.uug_session.specs.Talking.{Talking, talk_of}
+use Rattle.uug_conversation.specs.Talk.{Talk, end_keeper}
+use Rattle.uug_conversation.specs.Talking.{Talking, talk_of}
 use Rattle.uug_session.specs.TextsHeld.{TextsHeld, ShowsText}
-use Rattle.uug_session.specs.Turns.{Side, caller, called}
+use Rattle.uug_conversation.specs.Turns.{Side, caller, called}
 
 pub shows_bad : (stage : Stage) (texts : TextsHeld) (packets : Reading) (f : Found) → linked ≡ stage → f ≡ founds.Bad
     → Shows (item_of f) packets → ShowsItem stage texts packets bad_item

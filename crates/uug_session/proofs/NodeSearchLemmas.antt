@@ -11,8 +11,8 @@ use Rattle.uug_session.specs.Arriving.{all_taken, held_in, holds, takes_all, tak
 use Rattle.uug_session.specs.EndStep.{Stage, hailing, linked, ended, Emitted, Identity, long_text_found}
 use Rattle.uug_session.specs.Engine.{EngineState, with_stage}
 use Rattle.uug_session.specs.Finding.{finds_nothing, finds, text_finding, item_finding, finding, found_with, behind_long_text}
-use Rattle.uug_session.specs.Holdings.{Kept, Holdings}
-use Rattle.uug_session.specs.ItemLaws.{ItemLaws}
+use Rattle.uug_conversation.specs.Holdings.{Kept, Holdings}
+use Rattle.uug_session.specs.Code.ItemLaws.{ItemLaws}
 use Rattle.uug_session.specs.Node.{NodeState, accepted, accepted_at, bytes_at, held_bytes, item_size, offered_at, offered, struck_jobs, texts_searched, searched_at, searched}
 use Rattle.uug_session.specs.NodeArriving.{NodeEnd, node_taker, hearer_of, GoesOn, TakesAll, IsAtRest}
 use Rattle.uug_session.specs.TextsHeld.{TextsHeld, TextSearch, text_waits, text_stands, text_too_long, size_of_text, search_text}

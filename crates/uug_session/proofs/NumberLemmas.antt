@@ -16,8 +16,8 @@ use Rattle.uug_session.specs.declared.greeting.Greeted.TheVariants.{GoesOn, Link
 use Rattle.uug_session.specs.declared.greeting.Greeting.{Greeting}
 use Rattle.uug_session.specs.EndStep.{Stage, hailing, linked, ended, Emitted, EndEvent, EndState, Identity, text_found, long_text_found, packet_found_whole, broken_found, time_ran_out, line_lost, begins_link, behind_link, end_step, greeted_so, hailing_step, late_link, linked_step, message_of, rises_at, stage_step, takes_by, talks_by}
 use Rattle.uug_session.specs.Greeting.{GreetingStep, begins_with, goes_on, is_expected, name_in_caller_text, number_by, number_came, offers_g, risen, text_came, timed_out as greeting_timed_out}
-use Rattle.uug_session.specs.Keeper.{Keeper}
-use Rattle.uug_session.specs.Turns.{Side, caller, called}
+use Rattle.uug_conversation.specs.Keeper.{Keeper}
+use Rattle.uug_conversation.specs.Turns.{Side, caller, called}
 use Rattle.uug_session.specs.WholeGreeting.{GreetingRun, Greets, IsRefusal, has_let_in, step_behind, texts_came}
 
 -- ---- on the link

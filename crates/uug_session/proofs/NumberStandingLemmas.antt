@@ -20,15 +20,15 @@ use Rattle.uug_session.specs.EndStep.{Stage, hailing, linked, ended, Emitted, En
 use Rattle.uug_session.specs.Engine.{BeginsSession, Does, EngineState, bare, end_of, hung_up, stage_late, with_stage}
 use Rattle.uug_session.specs.Finding.{Finding, finds_nothing, finds, finds_packet, finding}
 use Rattle.uug_session.specs.Greeting.{GreetingStep, begins_with, came_for, is_expected, name_in_caller_text, number_by, number_came, offers_g, risen, text_came, timed_out as greeting_timed_out}
-use Rattle.uug_session.specs.Holdings.{Kept, Holdings}
-use Rattle.uug_session.specs.Jobs.{Lists}
-use Rattle.uug_session.specs.Keeper.{Keeper}
+use Rattle.uug_conversation.specs.Holdings.{Kept, Holdings}
+use Rattle.uug_conversation.specs.Jobs.{Lists}
+use Rattle.uug_conversation.specs.Keeper.{Keeper}
 use Rattle.uug_session.specs.Node.{NodeState, effect_of}
 use Rattle.uug_session.specs.NodeArriving.{NodeEnd, TakesAll, fails_first, fails_later, hearer_of, node_taker, with_effect}
 use Rattle.uug_session.specs.NumberStanding.{EndsWithNumber, KeepsNumber, NumberStands, number_while}
-use Rattle.uug_session.specs.Talk.{end_keeper}
-use Rattle.uug_session.specs.Talking.{Talking, talking_has_parted}
-use Rattle.uug_session.specs.Turns.{Side, caller, called}
+use Rattle.uug_conversation.specs.Talk.{end_keeper}
+use Rattle.uug_conversation.specs.Talking.{Talking, talking_has_parted}
+use Rattle.uug_conversation.specs.Turns.{Side, caller, called}
 use Rattle.uug_session.specs.WholeGreeting.{IsRefusal}
 use Rattle.uug_session.proofs.KeeperLemmas.{end_in}
 

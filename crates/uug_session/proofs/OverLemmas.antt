@@ -9,9 +9,9 @@ use Rattle.uug_session.specs.declared.greeting.Greeted.{Greeted}
 use Rattle.uug_session.specs.declared.greeting.Greeted.TheVariants.{GoesOn, LinkBegins, Ended}
 use Rattle.uug_session.specs.EndStep.{says_text, EndEvent, EndState, Emitted, Identity, Sending, Stage, text_found, long_text_found, packet_found_whole, broken_found, time_ran_out, line_lost, hailing, linked, ended, begins_link, begins_session, behind_link, closes_by, end_step, first_link, goes_on, greeted_so, is_up, late_link, message_of, sends, speaks_by, stage_step, takes_by, talks_by}
 use Rattle.uug_session.specs.Greeting.{number_by, text_came, long_text_came, timed_out as greeting_timed_out}
-use Rattle.uug_session.specs.Keeper.{Keeper}
+use Rattle.uug_conversation.specs.Keeper.{Keeper}
 use Rattle.uug_session.specs.Sending.{HasClosedWhereItIsOver, GoesOnAt}
-use Rattle.uug_session.specs.Turns.{Side, caller, called}
+use Rattle.uug_conversation.specs.Turns.{Side, caller, called}
 use Rattle.uug_session.proofs.RoomLemmas.{begun_is_down, halted_is_down, late_effect}
 
 -- a link that is down is no case of it

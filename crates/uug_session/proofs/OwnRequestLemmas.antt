@@ -9,24 +9,24 @@ use Rattle.uug_talk.specs.declared.order.Order.TheVariants as order
 use Rattle.uug_talk.specs.Answer.{answer_of}
 use Rattle.uug_talk.specs.Gathering.{Kind, OfCommand, OfFile, Gathering, limit_of}
 use Rattle.uug_talk.specs.Order.{order_of}
-use Rattle.uug_session.specs.declared.awaits.Awaits.{Awaits}
-use Rattle.uug_session.specs.declared.awaits.Awaits.TheVariants as awaits
-use Rattle.uug_session.specs.declared.job.Job.{Job}
-use Rattle.uug_session.specs.declared.job.Job.TheVariants as job
-use Rattle.uug_session.specs.declared.verdict.Verdict.{Verdict}
-use Rattle.uug_session.specs.declared.verdict.Verdict.TheVariants.{Yes, Never, Later}
+use Rattle.uug_conversation.specs.declared.awaits.Awaits.{Awaits}
+use Rattle.uug_conversation.specs.declared.awaits.Awaits.TheVariants as awaits
+use Rattle.uug_conversation.specs.declared.job.Job.{Job}
+use Rattle.uug_conversation.specs.declared.job.Job.TheVariants as job
+use Rattle.uug_conversation.specs.declared.verdict.Verdict.{Verdict}
+use Rattle.uug_conversation.specs.declared.verdict.Verdict.TheVariants.{Yes, Never, Later}
 use Rattle.uug_session.specs.Arriving.{Hearer, Came, takes_piece}
-use Rattle.uug_session.specs.Choice.{Choice, choice, fetched_by, send_choice}
+use Rattle.uug_conversation.specs.Choice.{Choice, choice, fetched_by, send_choice}
 use Rattle.uug_session.specs.EndStep.{EndState, Identity, EndEvent, end_step}
 use Rattle.uug_session.specs.Engine.{EngineState, end_of}
-use Rattle.uug_session.specs.Holdings.{File, Kept, Holdings, to_give}
-use Rattle.uug_session.specs.Jobs.{Lists, pass, fail, move_first, moved, moved_once}
-use Rattle.uug_session.specs.Machine.{State, Reply, goes_on, on_send, on_request, on_hang_up, on_order, on_given_file_done, on_last_hang_up, sends_file, on_send_yes, on_send_answer, on_sent_job_done, on_request_answer, on_hang_up_answer, on_nothing_more, on_text, on_sent_file, on_asked_file, on_file_of, on_file, on_whole, on_gathered, on_part, gathered_with, opening, step}
+use Rattle.uug_conversation.specs.Holdings.{File, Kept, Holdings, to_give}
+use Rattle.uug_conversation.specs.Jobs.{Lists, pass, fail, move_first, moved, moved_once}
+use Rattle.uug_conversation.specs.Machine.{State, Reply, goes_on, on_send, on_request, on_hang_up, on_order, on_given_file_done, on_last_hang_up, sends_file, on_send_yes, on_send_answer, on_sent_job_done, on_request_answer, on_hang_up_answer, on_nothing_more, on_text, on_sent_file, on_asked_file, on_file_of, on_file, on_whole, on_gathered, on_part, gathered_with, opening, step}
 use Rattle.uug_session.specs.Node.{NodeState, effect_of, struck_jobs}
 use Rattle.uug_session.specs.NodeArriving.{NodeEnd, TakesAll, hearer_of, node_taker}
-use Rattle.uug_session.specs.OwnRequests.{OwnRequestEntries, none, not_asked_for, asked_for, sent, KeepsWhatItAskedFor}
-use Rattle.uug_session.specs.Talk.{Talk, end_keeper, opened_with, taking}
-use Rattle.uug_session.specs.Turns.{Side, caller, called, Said, the_answer}
+use Rattle.uug_conversation.specs.OwnRequests.{OwnRequestEntries, none, not_asked_for, asked_for, sent, KeepsWhatItAskedFor}
+use Rattle.uug_conversation.specs.Talk.{Talk, end_keeper, opened_with, taking}
+use Rattle.uug_conversation.specs.Turns.{Side, caller, called, Said, the_answer}
 use Rattle.uug_session.proofs.KeeperLemmas.{piece_keeps, step_keeps, talk_in}
 
 -- ---- from one time to a later one

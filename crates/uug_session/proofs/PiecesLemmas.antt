@@ -7,7 +7,7 @@ use Rattle.uug_session.specs.declared.greeting.Greeted.{Greeted}
 use Rattle.uug_session.specs.declared.greeting.Greeted.TheVariants.{GoesOn, LinkBegins, Ended}
 use Rattle.uug_session.specs.declared.greeting.Greeting.{Greeting}
 use Rattle.uug_session.specs.Greeting.{greeting_at_first, first_texts, number_by, text_came}
-use Rattle.uug_session.specs.Turns.{Side}
+use Rattle.uug_conversation.specs.Turns.{Side}
 use Rattle.uug_session.specs.WholeGreeting.{GreetingRun, GreetsBy, Greets, IsOver, run_behind, behind_text, step_behind, texts_came}
 use Rattle.uug_session.proofs.WholeGreetingLemmas.{StreamLaws, OneFirstText, one_rest}
 

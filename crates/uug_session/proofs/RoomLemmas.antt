@@ -14,12 +14,12 @@ use Rattle.uug_session.specs.declared.greeting.Greeted.TheVariants.{GoesOn, Link
 use Rattle.uug_session.specs.EndStep.{says_text, EndEffect, EndEvent, EndState, Emitted, Identity, Sending, Stage, text_found, long_text_found, packet_found_whole, broken_found, time_ran_out, line_lost, hailing, linked, ended, begins_link, behind_link, closes_by, end_step, goes_on, greeted_so, has_room, is_up, late_link, message_of, sends, sends_by, sends_next, sends_up_to, speaks_by, stage_step, takes_by, talks_by, begins_session, first_link}
 use Rattle.uug_session.specs.Greeting.{number_by, text_came, long_text_came, timed_out as greeting_timed_out}
 use Rattle.uug_session.specs.Engine.{Does, EngineState, end_of}
-use Rattle.uug_session.specs.Holdings.{Holdings, Kept}
-use Rattle.uug_session.specs.Keeper.{Keeper}
+use Rattle.uug_conversation.specs.Holdings.{Holdings, Kept}
+use Rattle.uug_conversation.specs.Keeper.{Keeper}
 use Rattle.uug_session.specs.Node.{effect_of}
-use Rattle.uug_session.specs.Talk.{Talk, end_keeper}
+use Rattle.uug_conversation.specs.Talk.{Talk, end_keeper}
 use Rattle.uug_session.specs.Sending.{HasSaidWhatItCan, NodeHasSaidWhatItCan, SaidAt}
-use Rattle.uug_session.specs.Turns.{Side, caller, called}
+use Rattle.uug_conversation.specs.Turns.{Side, caller, called}
 
 -- ---- where there is no room
 
@@ -183,11 +183,11 @@ abbrev pub late_effect : (lasts : Bool) → State → Effect
 late_effect lasts s =
     if lasts
     then record {
-      state = record s { timeouts = s.timeouts + 1; told = false };
+      state = record s { timeouts = s.timeouts + 1; told = 0 };
       emitted = repeated s.role s.phase s;
       outcome = nothing;
     }
-    else answers (record s { phase = Halted; timeouts = TIMEOUTS_MAX; told = false }) close gave_up
+    else answers (record s { phase = Halted; timeouts = TIMEOUTS_MAX; told = 0 }) close gave_up
 
 late_room_by : (lasts : Bool) (s : State) → has_room s ≡ false → has_room (late_effect lasts s).state ≡ false
 late_room_by true s none = none

@@ -3,20 +3,20 @@ use Rattle.std.proofs.Common.{◌≡◌, ℕ, List, [], ◌∷◌, ◌++◌, sym
 use Rattle.std.proofs.lemmas.List.{append-nil}
 use Rattle.std.proofs.lemmas.List.Sorted.{IsPermutation-refl, IsPermutation-sym, IsPermutation-trans, IsPermutation-append_left, IsPermutation-middle}
 use Rattle.std.specs.Prelude.{IsPermutation}
-use Rattle.uug_session.specs.declared.job.Job.{Job}
+use Rattle.uug_conversation.specs.declared.job.Job.{Job}
 use Rattle.uug_session.specs.Arriving.{Hearer, Came, takes_piece}
 use Rattle.uug_session.specs.EndStep.{EndState, Identity, EndEvent, end_step}
 use Rattle.uug_session.specs.Engine.{EngineState, end_of}
-use Rattle.uug_session.specs.Holdings.{Kept, Holdings}
-use Rattle.uug_session.specs.Jobs.{Lists, Move, pass, strike, fail, moved, moved_once}
-use Rattle.uug_session.specs.Machine as machine
+use Rattle.uug_conversation.specs.Holdings.{Kept, Holdings}
+use Rattle.uug_conversation.specs.Jobs.{Lists, Move, pass, strike, fail, moved, moved_once}
+use Rattle.uug_conversation.specs.Machine as machine
 use Rattle.uug_session.specs.Node.{NodeState, effect_of}
 use Rattle.uug_session.specs.NodeArriving.{NodeEnd, GoesOn, TakesAll, hearer_of, node_taker}
-use Rattle.uug_session.specs.Sharing.{OnlyMoves, HaveSameJobs, all_jobs}
-use Rattle.uug_session.specs.Talk.{Talk, end_keeper, opened_with, taking}
-use Rattle.uug_session.specs.Turns.{Side}
+use Rattle.uug_conversation.specs.Sharing.{OnlyMoves, HaveSameJobs, all_jobs}
+use Rattle.uug_conversation.specs.Talk.{Talk, end_keeper, opened_with, taking}
+use Rattle.uug_conversation.specs.Turns.{Side}
 use Rattle.uug_session.proofs.KeeperLemmas.{piece_keeps, step_keeps, talk_in}
-use Rattle.uug_session.proofs.MachineMoveLemmas.{after_opening, after_step, stays, then_moves}
+use Rattle.uug_conversation.proofs.MachineMoveLemmas.{after_opening, after_step, stays, then_moves}
 
 -- ---- moves
 

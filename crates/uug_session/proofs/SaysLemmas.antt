@@ -3,17 +3,17 @@ use Rattle.std.proofs.Common.{◌≡◌, inl, inr, ◌⊎◌, ℕ, ◌<◌, ◌�
 use Rattle.std.proofs.lemmas.Bool.Decides.{nat_tests}
 use Rattle.uug_link.specs.declared.limits.TheConstants.{WINDOW_MAX}
 use Rattle.uug_link.specs.State.{State, HasRoom}
-use Rattle.uug_session.specs.declared.reaction.Saying.{Saying}
+use Rattle.uug_conversation.specs.declared.reaction.Saying.{Saying}
 use Rattle.uug_session.specs.EndStep.{EndState, Stage, hailing, linked, ended, has_room, is_up}
 use Rattle.uug_session.specs.Engine.{EngineState, Spoken, after_sends, spoken_of}
-use Rattle.uug_session.specs.Holdings.{Holdings, Kept}
+use Rattle.uug_conversation.specs.Holdings.{Holdings, Kept}
 use Rattle.uug_session.specs.Node.{IsAsBefore, NodeState, offered, offered_at, searched, searched_at, texts_searched}
-use Rattle.uug_session.specs.Outgoing.{Outgoing, is_silent, outgoing_messages}
+use Rattle.uug_conversation.specs.Outgoing.{Outgoing, is_silent, outgoing_messages}
 use Rattle.uug_session.specs.Sending.{SaysWhatItCan}
 use Rattle.uug_session.specs.TextsHeld.{TextSearch, text_too_long, text_waits, text_stands, search_text}
-use Rattle.uug_session.specs.Talk.{Talk, end_keeper, first_of, is_empty}
-use Rattle.uug_session.specs.Talking.{talk_of}
-use Rattle.uug_session.proofs.OutgoingLemmas.{silent_is_empty}
+use Rattle.uug_conversation.specs.Talk.{Talk, end_keeper, first_of, is_empty}
+use Rattle.uug_conversation.specs.Talking.{talk_of}
+use Rattle.uug_conversation.proofs.OutgoingLemmas.{silent_is_empty}
 use Rattle.uug_session.proofs.RoomLemmas.{said_up_to}
 
 room_by : (up : Bool) (n w : ℕ) → up ≡ true → n < w → (if up then nat_lt n w else false) ≡ true

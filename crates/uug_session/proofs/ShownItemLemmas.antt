@@ -14,7 +14,7 @@ use Rattle.uug_session.specs.declared.greeting.Greeting.{Greeting}
 use Rattle.uug_session.specs.EndStep.{Stage, hailing, linked, ended, text_found}
 use Rattle.uug_session.specs.Engine.{EngineState}
 use Rattle.uug_session.specs.Finding.{Finding, behind_long_text, finding, finds, finds_nothing, finds_packet, item_finding, text_finding}
-use Rattle.uug_session.specs.ItemLaws.{ItemLaws}
+use Rattle.uug_session.specs.Code.ItemLaws.{ItemLaws}
 use Rattle.uug_session.specs.Node.{ItemValue, NodeState, ShowsItem, bad_item, bytes_at, item_size, packet_item, searched, searched_at, shown_size_at, text_item, texts_searched}
 use Rattle.uug_session.specs.ShownItems.{IsShown, ItemFound, NothingFound, finding_of, is_too_long, waits}
 use Rattle.uug_session.specs.TextsHeld.{ShowsText, TextSearch, TextsHeld, after_text_search, search_text, size_of_text, text_stands, text_too_long, text_waits}

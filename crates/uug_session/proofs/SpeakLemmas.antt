@@ -9,12 +9,12 @@ use Rattle.uug_link.specs.Entries.{EntryValue}
 use Rattle.uug_link.specs.State.{State, HasRoom, IsUp}
 use Rattle.uug_session.specs.EndStep.{Sending, closes_by, has_room, is_up, sending_nothing, sends_by, sends_next, sends_up_to, speaks_by}
 use Rattle.uug_session.specs.Engine.{EngineState, Spoken, after_sends, after_speaking, spoken_of, spoken_with}
-use Rattle.uug_session.specs.Holdings.{Kept, Holdings}
-use Rattle.uug_session.specs.Keeper.{Keeper}
-use Rattle.uug_session.specs.Runs.{is_over}
-use Rattle.uug_session.specs.Talk.{Talk, behind_first, end_keeper, first_of, has_parted_by, is_through, talk_has_parted, with_first_sent}
-use Rattle.uug_session.specs.Talking.{Talking, talk_of, talking_has_parted, talking_is_through}
-use Rattle.uug_session.proofs.OutgoingLemmas.{silent_is_empty}
+use Rattle.uug_conversation.specs.Holdings.{Kept, Holdings}
+use Rattle.uug_conversation.specs.Keeper.{Keeper}
+use Rattle.uug_conversation.specs.Runs.{is_over}
+use Rattle.uug_conversation.specs.Talk.{Talk, behind_first, end_keeper, first_of, has_parted_by, is_through, talk_has_parted, with_first_sent}
+use Rattle.uug_conversation.specs.Talking.{Talking, talk_of, talking_has_parted, talking_is_through}
+use Rattle.uug_conversation.proofs.OutgoingLemmas.{silent_is_empty}
 
 -- ---- whether there is room
 

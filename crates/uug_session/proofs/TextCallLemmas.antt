@@ -3,7 +3,7 @@ use Rattle.std.proofs.Common.{◌≡◌, ◌≢◌, ℕ, ◌-◌, List, [], ◌�
 use Rattle.std.proofs.lemmas.List.{append-nil, take-append-drop, take-append-le}
 use Rattle.uug_talk.specs.StreamTexts.{TooLong, StandBefore, texts_of, no_text}
 use Rattle.uug_talk.specs.Texts.{IsFirstText, Passing, Whole, hear}
-use Rattle.uug_session.specs.HearingLaws.{HearingLaws}
+use Rattle.uug_session.specs.Code.HearingLaws.{HearingLaws}
 use Rattle.uug_session.specs.TextCalls.{TextCall, pushed, searched, showed, dropped, Makes, Make, all_accepted, all_dropped}
 use Rattle.uug_session.specs.TextsFound.{ReadsAs, with_texts, FindsText, Passed, Taken}
 use Rattle.uug_session.specs.TextsHeld.{TextsHeld, nothing_held, TextSearch, text_waits, text_stands, text_too_long, size_of_text, search_text, after_text_search, ShowsText, shown_text}

@@ -4,7 +4,7 @@ use Rattle.std.proofs.lemmas.List.{append-nil, drop_at, take_all, same_from_push
 use Rattle.std.proofs.lemmas.List.Elements.{All-nil}
 use Rattle.uug_talk.specs.StreamTexts.{StreamTexts, TextsEnd, Rest, TooLong, StandBefore, EndsAs, HasTexts, texts_of, with_text, no_text}
 use Rattle.uug_talk.specs.Texts.{IsUnsettled, IsFirstText, Heard, Passing, Open, Whole, Holds, is_whole, waiting_of, hear}
-use Rattle.uug_session.specs.HearingLaws.{HearingLaws}
+use Rattle.uug_session.specs.Code.HearingLaws.{HearingLaws}
 use Rattle.uug_session.specs.Says.{start_byte}
 use Rattle.uug_session.specs.TextsFound.{EndsBehind, ReadsAs, with_texts, FindsText, FindsNone, Passed}
 use Rattle.uug_session.specs.TextsHeld.{TextSearch, text_waits, text_stands, text_too_long, size_of_text, search_heard, search_text}

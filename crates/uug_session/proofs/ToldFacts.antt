@@ -1,17 +1,17 @@
 -- How far the two ends of a worked conversation are, place by place, worked out by hand: what each says next, whether HY was
 -- sent or taken, and whether all is over. An end tells it that has things of earlier sessions, and so do its two numbers.
 use Rattle.std.proofs.Common.{◌≡◌, ℕ, Bool, true, false, List, [], ◌∷◌, ◌++◌, codes, Option, Some, None, refl}
-use Rattle.uug_session.specs.Count.{count_keeper}
-use Rattle.uug_session.specs.Holdings.{Kept}
-use Rattle.uug_session.specs.Keeper.{Keeper}
-use Rattle.uug_session.specs.Party.{Party}
-use Rattle.uug_session.specs.Talk.{end_keeper}
+use Rattle.uug_conversation.specs.Count.{count_keeper}
+use Rattle.uug_conversation.specs.Holdings.{Kept}
+use Rattle.uug_conversation.specs.Keeper.{Keeper}
+use Rattle.uug_conversation.specs.Party.{Party}
+use Rattle.uug_conversation.specs.Talk.{end_keeper}
 use Rattle.uug_session.specs.Told.{talk_behind, count_of_talker}
-use Rattle.uug_session.specs.Turns.{Side, caller, called}
+use Rattle.uug_conversation.specs.Turns.{Side, caller, called}
 use Rattle.uug_session.specs.TwoEnds.{Talker, first_talker, Act, sends, takes, after_act}
-use Rattle.uug_session.specs.View.{conversation_view, party}
-use Rattle.uug_session.proofs.ConversationFacts.{sender, taker}
-use Rattle.uug_session.proofs.FactParties.{no_exception, send_nothing, request, z, text}
+use Rattle.uug_conversation.specs.View.{conversation_view, party}
+use Rattle.uug_conversation.proofs.ConversationFacts.{sender, taker}
+use Rattle.uug_conversation.proofs.FactParties.{no_exception, send_nothing, request, z, text}
 
 pub record Place : Type 0 where
   pub next : Option (List ℕ)

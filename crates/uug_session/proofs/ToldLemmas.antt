@@ -1,14 +1,14 @@
 -- What an end keeps of a conversation is told by two numbers.
 use Rattle.std.proofs.Common.{◌≡◌, ◌↔◌, ℕ, zero, suc, ◌≤◌, Bool, true, false, ◌&&◌, ◌||◌, nat_lt, nat_le, if◌then◌else◌, List, [], ◌∷◌, length, take, drop, slice_get, None, refl, ap, ◌∙◌, arith}
-use Rattle.uug_session.specs.declared.awaits.Awaits.{Awaits}
-use Rattle.uug_session.specs.declared.awaits.Awaits.TheVariants as awaits
-use Rattle.uug_session.specs.Count.{message_before}
-use Rattle.uug_session.specs.Party.{Party}
-use Rattle.uug_session.specs.Runs.{is_over, has_parted}
-use Rattle.uug_session.specs.Talk.{first_of, is_empty, has_parted_by}
-use Rattle.uug_session.specs.Turns.{Side}
+use Rattle.uug_conversation.specs.declared.awaits.Awaits.{Awaits}
+use Rattle.uug_conversation.specs.declared.awaits.Awaits.TheVariants as awaits
+use Rattle.uug_conversation.specs.Count.{message_before}
+use Rattle.uug_conversation.specs.Party.{Party}
+use Rattle.uug_conversation.specs.Runs.{is_over, has_said_all}
+use Rattle.uug_conversation.specs.Talk.{first_of, is_empty, has_parted_by}
+use Rattle.uug_conversation.specs.Turns.{Side}
 use Rattle.uug_session.specs.TwoEnds.{Talker, IsTold}
-use Rattle.uug_session.specs.View.{Seen, says, hears, conversation_view, own_messages, others_messages, floor}
+use Rattle.uug_conversation.specs.View.{Seen, says, hears, conversation_view, own_messages, others_messages, floor}
 
 -- ---- what is said next
 
@@ -48,7 +48,7 @@ floor_within zero (hears bytes moves keeps ∷ v) = omega arith
 floor_within (suc k) (hears bytes moves keeps ∷ v) = floor_within k v
 
 parted_by : (awaited : Awaits) (none_waits : Bool) →
-    has_parted_by awaited none_waits ≡ is_over awaited || (has_parted awaited && none_waits)
+    has_parted_by awaited none_waits ≡ is_over awaited || (has_said_all awaited && none_waits)
 parted_by awaits.NothingMore none_waits = refl
 parted_by awaits.LastHangUp none_waits = refl
 parted_by _ none_waits = refl
@@ -72,6 +72,6 @@ parted_is me a b own others t =
     ap (has_parted_by own.state.awaits)
     (ap is_empty t.waiting_next ∙ none_waits_after (length own.sent) limit all (floor_within (length own.taken) v))
     ∙ parted_by own.state.awaits (nat_le limit (length own.sent))
-    ∙ all_out (is_over own.state.awaits) (has_parted own.state.awaits) (length own.sent) limit (length all)
+    ∙ all_out (is_over own.state.awaits) (has_said_all own.state.awaits) (length own.sent) limit (length all)
     (length own.taken) (length (others_messages v)) t.sent_to_floor (floor_within (length own.taken) v)
     t.stands.over t.stands.parted

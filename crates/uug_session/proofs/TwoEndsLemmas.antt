@@ -3,15 +3,15 @@ use Rattle.std.proofs.Common.{◌≡◌, ℕ, zero, suc, ◌≤◌, List, [], �
 use Rattle.std.proofs.lemmas.List.{append_assoc, length-append, take-append-drop}
 use Rattle.std.proofs.Math.Seq.{take-append_seam, drop-append_seam}
 use Rattle.uug_link.specs.TwoLinks.{IsFrontOf}
-use Rattle.uug_session.specs.Holdings.{Kept}
-use Rattle.uug_session.specs.Jobs.{Move}
-use Rattle.uug_session.specs.Machine.{step}
-use Rattle.uug_session.specs.Messages.{Message, conversation_messages}
-use Rattle.uug_session.specs.Party.{Party}
-use Rattle.uug_session.specs.Runs.{Progress, taking, taking_all, progress_after, progress_at, IsAt}
-use Rattle.uug_session.specs.Turns.{Side, caller, called, other, all_messages}
+use Rattle.uug_conversation.specs.Holdings.{Kept}
+use Rattle.uug_conversation.specs.Jobs.{Move}
+use Rattle.uug_conversation.specs.Machine.{step}
+use Rattle.uug_conversation.specs.Messages.{Message, conversation_messages}
+use Rattle.uug_conversation.specs.Party.{Party}
+use Rattle.uug_conversation.specs.Runs.{Progress, taking, taking_all, progress_after, progress_at, IsAt}
+use Rattle.uug_conversation.specs.Turns.{Side, caller, called, other, all_messages}
 use Rattle.uug_session.specs.TwoEnds.{Talker, progress_of, Two, sends, takes, after_act, Reached, at_first, after, IsTold}
-use Rattle.uug_session.specs.View.{Seen, seen, view, conversation_view, own_messages, others_messages, floor, party}
+use Rattle.uug_conversation.specs.View.{Seen, seen, view, conversation_view, own_messages, others_messages, floor, party}
 
 -- ---- what one end says the other hears
 

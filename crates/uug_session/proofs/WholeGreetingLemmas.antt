@@ -5,7 +5,7 @@ use Rattle.uug_talk.specs.StreamTexts.{StreamTexts, HasTexts, StandBefore, texts
 use Rattle.uug_talk.specs.Texts.{IsFirstText}
 use Rattle.uug_session.specs.declared.greeting.Greeting.{Greeting}
 use Rattle.uug_session.specs.Greeting.{greeting_at_first, first_texts}
-use Rattle.uug_session.specs.Turns.{Side}
+use Rattle.uug_conversation.specs.Turns.{Side}
 use Rattle.uug_session.specs.WholeGreeting.{GreetingRun, GreetsBy, Greets, texts_came, greeting_run, saying_first, whole_greeting}
 
 -- what is needed of the texts of a stream, as the laws of the crate below give it

@@ -15,8 +15,8 @@ use Rattle.uug_session.specs.declared.greeting.Greeted.{Greeted}
 use Rattle.uug_session.specs.declared.greeting.Greeted.TheVariants.{GoesOn, LinkBegins, Ended}
 use Rattle.uug_session.specs.declared.greeting.Greeting.{Greeting}
 use Rattle.uug_session.specs.Greeting.{GreetingStep, greeting_at_first, first_texts, number_by, text_came, long_text_came, timed_out as greeting_timed_out}
-use Rattle.uug_session.specs.Keeper.{Keeper}
-use Rattle.uug_session.specs.Turns.{Side, caller, called}
+use Rattle.uug_conversation.specs.Keeper.{Keeper}
+use Rattle.uug_conversation.specs.Turns.{Side, caller, called}
 
 -- how far an end's session has come
 pub data Stage : Type 0 where

@@ -6,18 +6,18 @@ use Rattle.uug_link.specs.Follows.{written}
 use Rattle.uug_link.specs.State.{State, IsUp}
 use Rattle.uug_link.specs.Terms.{size_of_code}
 use Rattle.uug_packet.specs.Packet.{PacketValue}
-use Rattle.uug_session.specs.declared.awaits.Awaits.TheVariants as awaits
+use Rattle.uug_conversation.specs.declared.awaits.Awaits.TheVariants as awaits
 use Rattle.uug_session.specs.declared.end.End.TheVariants as ends
 use Rattle.uug_session.specs.declared.stage.Stage.{Stage as CodeStage}
 use Rattle.uug_session.specs.declared.stage.Stage.TheVariants.{Hailing, Linked, Ended}
 use Rattle.uug_session.specs.EndStep.{Stage, hailing, linked, ended, EndState, Emitted, says_text, sends_packet, EndEffect, Identity, Sending, behind_greeting, begins_session, first_link, how_it_ends, is_up, late, packet_came, sends_up_to, speaks_by, unmoved}
 use Rattle.uug_session.specs.Greeting.{timed_out}
-use Rattle.uug_session.specs.Holdings.{Kept, Holdings}
-use Rattle.uug_session.specs.Jobs.{Lists, at_start, pending}
-use Rattle.uug_session.specs.Machine.{between}
+use Rattle.uug_conversation.specs.Holdings.{Kept, Holdings}
+use Rattle.uug_conversation.specs.Jobs.{Lists, at_start, pending}
+use Rattle.uug_conversation.specs.Machine.{between}
 use Rattle.uug_session.specs.Says.{entry_of_text}
-use Rattle.uug_session.specs.Talk.{Talk, end_keeper}
-use Rattle.uug_session.specs.Talking.{Talking, talk_of}
+use Rattle.uug_conversation.specs.Talk.{Talk, end_keeper}
+use Rattle.uug_conversation.specs.Talking.{Talking, talk_of}
 
 pub record EngineState : Type 0 where
   pub identity : Identity
@@ -146,6 +146,10 @@ packet_effect h kept device_failed p engine =
 -- the device failed between these counts of faults, of which the greatest stands
 abbrev pub HasFailed : (most faults faults_after : ℕ) → Type 0
 HasFailed most faults faults_after = (faults < faults_after) ⊎ (faults ≡ most)
+
+-- where a spool's count of faults stands at its greatest
+abbrev pub faults_max : ℕ
+faults_max = 18446744073709551615
 
 -- How the count of faults went, by whether the device failed: it rises where that did, and only there.
 abbrev pub CountsFaults : (most faults faults_after : ℕ) → (device_failed : Bool) → Type 0

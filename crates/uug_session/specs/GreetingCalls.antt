@@ -9,7 +9,7 @@ use Rattle.uug_session.specs.declared.greeting.Greeting.{Greeting}
 use Rattle.uug_session.specs.EndStep.{EndEffect, Identity, behind_greeting, hailing}
 use Rattle.uug_session.specs.Engine.{entry_of}
 use Rattle.uug_session.specs.Greeting.{GreetingStep, long_text_came, passes_over, text_came, timed_out}
-use Rattle.uug_session.specs.Holdings.{Holdings}
+use Rattle.uug_conversation.specs.Holdings.{Holdings}
 use Rattle.uug_session.specs.Node.{NodeState}
 use Rattle.uug_session.specs.NodeCalls.{Beside, Make, NodeCall, looks, takes, times_out, taken_in}
 use Rattle.uug_session.specs.TextsFound.{Taken}

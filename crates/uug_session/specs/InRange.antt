@@ -6,8 +6,8 @@ use Rattle.uug_link.specs.State.{State, IsFresh, IsUp}
 use Rattle.uug_link.specs.Terms.{size_of_code}
 use Rattle.uug_packet.specs.WellFormed.{IsWellFormed}
 use Rattle.uug_session.specs.EndStep.{EndEvent, packet_found_whole, EndState, Emitted, says_text, sends_packet, Stage, hailing}
-use Rattle.uug_session.specs.Talk.{Talk}
-use Rattle.uug_session.specs.Turns.{Side, caller}
+use Rattle.uug_conversation.specs.Talk.{Talk}
+use Rattle.uug_conversation.specs.Turns.{Side, caller}
 
 -- a text goes out framed; a packet is one
 abbrev pub CanBeWritten : Emitted → Type 0

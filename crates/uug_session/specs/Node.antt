@@ -6,14 +6,14 @@ use Rattle.uug_reader.specs.Reading.{Reading, Shows}
 use Rattle.uug_reader.specs.Search.{after_search}
 use Rattle.uug_reader.specs.declared.reader.TheConstants.{READER_SIZE}
 use Rattle.uug_session.specs.declared.item.Item.{Item}
-use Rattle.uug_session.specs.declared.job.Job.{Job}
+use Rattle.uug_conversation.specs.declared.job.Job.{Job}
 use Rattle.uug_session.specs.declared.item.Item.TheVariants as items
 use Rattle.uug_session.specs.declared.node.Node.{Node}
 use Rattle.uug_session.specs.declared.end.End.TheVariants as ends
 use Rattle.uug_session.specs.EndStep.{Stage, hailing, linked, ended, EndEffect, EndEvent, text_found, packet_found_whole, broken_found, end_step, unmoved}
 use Rattle.uug_session.specs.Engine.{EngineState, Does, end_of, with_stage}
-use Rattle.uug_session.specs.Holdings.{Kept, Holdings}
-use Rattle.uug_session.specs.Talk.{Talk, end_keeper}
+use Rattle.uug_conversation.specs.Holdings.{Kept, Holdings}
+use Rattle.uug_conversation.specs.Talk.{Talk, end_keeper}
 use Rattle.uug_session.specs.TextsHeld.{TextsHeld, TextSearch, ShowsText, text_too_long, text_waits, text_stands, after_text_search, search_text}
 
 pub record NodeState : Type 0 where

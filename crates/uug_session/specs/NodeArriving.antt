@@ -4,10 +4,10 @@ use Rattle.uug_session.specs.Arriving.{Taker, Hearer, all_taken, takes_piece}
 use Rattle.uug_session.specs.EndStep.{EndState, Emitted, EndEffect, Identity, packet_found_whole, end_step}
 use Rattle.uug_session.specs.Engine.{end_of, entry_of}
 use Rattle.uug_session.specs.Finding.{finds_nothing, finding}
-use Rattle.uug_session.specs.Holdings.{Kept, Holdings}
+use Rattle.uug_conversation.specs.Holdings.{Kept, Holdings}
 use Rattle.uug_session.specs.Node.{NodeState, held_bytes, struck_jobs}
-use Rattle.uug_session.specs.OwnRequests.{KeepsWhatItAskedFor}
-use Rattle.uug_session.specs.Talk.{Talk, end_keeper}
+use Rattle.uug_conversation.specs.OwnRequests.{KeepsWhatItAskedFor}
+use Rattle.uug_conversation.specs.Talk.{Talk, end_keeper}
 
 -- ---- what takes up what is found
 

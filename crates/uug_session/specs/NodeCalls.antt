@@ -6,9 +6,9 @@ use Rattle.uug_reader.specs.Cut.{Item}
 use Rattle.uug_reader.specs.Search.{search_of, standing}
 use Rattle.uug_session.specs.EndStep.{unmoved}
 use Rattle.uug_session.specs.Engine.{CountsFaults, Does, EngineState, bare, stage_late, with_outbox}
-use Rattle.uug_session.specs.Holdings.{Kept, Holdings}
+use Rattle.uug_conversation.specs.Holdings.{Kept, Holdings}
 use Rattle.uug_session.specs.Node.{NodeState, IsAsBefore, TakesShown, offered, searched}
-use Rattle.uug_session.specs.Talking.{talking_has_parted}
+use Rattle.uug_conversation.specs.Talking.{talking_has_parted}
 
 -- a node beside its spool: what that has kept, and how often its device has failed
 pub record Beside : Type 0 where

@@ -8,13 +8,13 @@ use Rattle.uug_session.specs.Arriving.{Hearer, all_taken, takes_piece}
 use Rattle.uug_session.specs.EndStep.{hailing, ended, Emitted, EndEffect, Identity, begins_link, first_link, greeted_so, says_text}
 use Rattle.uug_session.specs.Engine.{BeginsSession, HasFailed, entry_of}
 use Rattle.uug_session.specs.Finding.{finding, finds_nothing}
-use Rattle.uug_session.specs.Holdings.{Kept, Holdings}
-use Rattle.uug_session.specs.Jobs.{Lists}
+use Rattle.uug_conversation.specs.Holdings.{Kept, Holdings}
+use Rattle.uug_conversation.specs.Jobs.{Lists}
 use Rattle.uug_session.specs.Node.{NodeState, held_bytes}
 use Rattle.uug_session.specs.NodeArriving.{NodeEnd, TakesAll, hearer_of, node_taker}
 use Rattle.uug_session.specs.Says.{entry_of_text}
 use Rattle.uug_session.specs.Sessions.{HoldsNothing}
-use Rattle.uug_session.specs.Talk.{Talk, unopened}
+use Rattle.uug_conversation.specs.Talk.{Talk, unopened}
 use Rattle.uug_session.specs.WholeGreeting.{GreetingRun}
 
 -- what a node is beside its spool when its session has come to this, and only this was emitted

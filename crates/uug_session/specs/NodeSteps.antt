@@ -4,7 +4,7 @@ use Rattle.std.specs.Prelude.{◌≡◌, ◌≤◌, ℕ, List, [], ◌∷◌, �
 use Rattle.uug_link.specs.Entries.{EntryValue}
 use Rattle.uug_session.specs.EndStep.{time_ran_out}
 use Rattle.uug_session.specs.Engine.{Does, HasFailed, end_of, with_outbox}
-use Rattle.uug_session.specs.Holdings.{Holdings}
+use Rattle.uug_conversation.specs.Holdings.{Holdings}
 use Rattle.uug_session.specs.Node.{NodeState, effect_of}
 use Rattle.uug_session.specs.NodeArriving.{GoesOn}
 use Rattle.uug_session.specs.NodeCalls.{Beside, HoldsTheSame, NodeCall, offers, times_out}

@@ -3,9 +3,9 @@ use Rattle.std.specs.Prelude.{◌≡◌, true, false, List, [], None, ◌⊎◌,
 use Rattle.uug_link.specs.State.{State, HasRoom}
 use Rattle.uug_session.specs.EndStep.{EndState, Stage, hailing, linked, ended, has_room, is_up}
 use Rattle.uug_session.specs.Engine.{EngineState, end_of}
-use Rattle.uug_session.specs.Holdings.{Holdings, Kept}
-use Rattle.uug_session.specs.Keeper.{Keeper}
-use Rattle.uug_session.specs.Talk.{end_keeper}
+use Rattle.uug_conversation.specs.Holdings.{Holdings, Kept}
+use Rattle.uug_conversation.specs.Keeper.{Keeper}
+use Rattle.uug_conversation.specs.Talk.{end_keeper}
 
 -- by how far its session is: the link is not up in the greeting; on a link that is up the window lets no message more out,
 -- or none waits to be sent

@@ -1,10 +1,10 @@
 -- How an end in a session is told by two numbers, whatever it has brought from earlier ones (this project's profile).
 use Rattle.std.specs.Prelude.{ℕ, true, List, ◌++◌, length}
-use Rattle.uug_session.specs.declared.job.Job.{Job}
-use Rattle.uug_session.specs.Count.{Count}
-use Rattle.uug_session.specs.EarlierJobs.{state_behind}
-use Rattle.uug_session.specs.Holdings.{Kept}
-use Rattle.uug_session.specs.Talk.{Talk}
+use Rattle.uug_conversation.specs.declared.job.Job.{Job}
+use Rattle.uug_conversation.specs.Count.{Count}
+use Rattle.uug_conversation.specs.EarlierJobs.{state_behind}
+use Rattle.uug_conversation.specs.Holdings.{Kept}
+use Rattle.uug_conversation.specs.Talk.{Talk}
 use Rattle.uug_session.specs.TwoEnds.{Talker}
 
 -- what it keeps once its link is up, where these jobs were struck and failed and these files kept before, and its messages

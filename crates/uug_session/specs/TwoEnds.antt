@@ -2,12 +2,12 @@
 -- Nothing is said of when it does (this project's profile).
 use Rattle.std.specs.Prelude.{◌≡◌, ℕ, ◌≤◌, List, [], ◌∷◌, ◌++◌, length, take, drop}
 use Rattle.uug_link.specs.TwoLinks.{IsFrontOf}
-use Rattle.uug_session.specs.Holdings.{Kept}
-use Rattle.uug_session.specs.Machine.{State, Reply, step}
-use Rattle.uug_session.specs.Party.{Party}
-use Rattle.uug_session.specs.Runs.{Progress, opened, progress_at, IsAt}
-use Rattle.uug_session.specs.Turns.{Side, caller, called, other, all_messages}
-use Rattle.uug_session.specs.View.{conversation_view, own_messages, others_messages, floor, party}
+use Rattle.uug_conversation.specs.Holdings.{Kept}
+use Rattle.uug_conversation.specs.Machine.{State, Reply, step}
+use Rattle.uug_conversation.specs.Party.{Party}
+use Rattle.uug_conversation.specs.Runs.{Progress, opened, progress_at, IsAt}
+use Rattle.uug_conversation.specs.Turns.{Side, caller, called, other, all_messages}
+use Rattle.uug_conversation.specs.View.{conversation_view, own_messages, others_messages, floor, party}
 
 -- one end: its machine and what it has kept, its messages that wait to be sent, those that were sent, and those of the
 -- other end that it has taken

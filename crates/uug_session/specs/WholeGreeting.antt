@@ -12,7 +12,7 @@ use Rattle.uug_session.specs.declared.greeting.Greeted.TheVariants.{GoesOn, Link
 use Rattle.uug_session.specs.declared.greeting.Greeting.{Greeting}
 use Rattle.uug_session.specs.Greeting.{greeting_at_first, first_texts, long_text_came, number_by, text_came}
 use Rattle.uug_session.specs.Says.{written_text}
-use Rattle.uug_session.specs.Turns.{Side, caller, called}
+use Rattle.uug_conversation.specs.Turns.{Side, caller, called}
 
 -- what an end says, one text after another, what becomes of its greeting, how many texts it used for that, and the number
 -- of its conversations that it then keeps

@@ -9,9 +9,9 @@ ghost use Rattle.uug_session.specs.Sending.{SaysWhatItCan};
 
 use crate::arriving_laws::item_laws;
 use crate::node::Node;
-use crate::spool::Spool;
 use std::alloc::{AllocError, Allocator};
 use thiserror::Error;
+use uug_conversation::Spool;
 
 /// There was no memory to take up all of a piece.
 #[derive(Clone, Copy, Debug, PartialEq, Eq, Error)]

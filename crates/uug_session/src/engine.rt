@@ -7,28 +7,23 @@ ghost use Rattle.uug_link.specs.Step.{step, packet_found, timed_out, to_close, t
 ghost use Rattle.uug_packet.specs.Packet.{shown};
 ghost use Rattle.uug_session.specs.Engine.{BeginsSession, CountsFaults, Does, IsHailing, StandsStill, TakesUp, after_sends, after_speaking, all_ahead, bare, end_of, entry_of, hung_up, packet_effect, spoken_of, stage_late, stage_of, with_number, with_outbox, with_stage};
 ghost use Rattle.uug_session.specs.EndStep.{bad_came, begins_link, ended, final_text, first_link, first_stage, first_words, greeted_so, hailing, hailing_step, how_it_ends, late, leave, linked, message_of, text_found, unmoved};
-ghost use Rattle.uug_session.specs.Jobs.{pending};
-ghost use Rattle.uug_session.specs.Party.{HasNames};
+ghost use Rattle.uug_conversation.specs.Jobs.{pending};
+ghost use Rattle.uug_conversation.specs.Party.{HasNames};
 ghost use Rattle.uug_session.specs.Sending.{SaysWhatItCan};
-ghost use Rattle.uug_session.specs.Side.{side_of};
-ghost use Rattle.uug_session.specs.Talk.{end_keeper};
+ghost use Rattle.uug_conversation.specs.Side.{side_of};
+ghost use Rattle.uug_conversation.specs.Talk.{end_keeper};
 ghost use Rattle.uug_session.specs.Phases.{phase_at, timeouts_in};
-ghost use Rattle.uug_session.specs.Talking.{talk_of, talking_has_parted};
+ghost use Rattle.uug_conversation.specs.Talking.{talk_of, talking_has_parted};
 
-use crate::dialogue::Dialogue;
 use crate::end::End;
 use crate::greeting::{Greeted, Greeting, number_behind};
-use crate::outgoing::SAYINGS_MAX;
+use crate::greeting_text::say;
 use crate::phase::Phase;
 use crate::place::Place;
-use crate::queue::Queue;
-use crate::saying::say;
-use crate::side::Side;
-use crate::spool::Spool;
 use crate::stage::Stage;
-use crate::whole_file::FileFault;
 use std::alloc::{AllocError, Allocator};
 use std::marker::Model;
+use uug_conversation::{Dialogue, FileFault, Queue, SAYINGS_MAX, Side, Spool};
 use uug_link::laws::what_a_link_answers;
 use uug_link::{Announce, Link, LinkFault, Outbox, Outcome, TIMEOUTS_MAX, WINDOW_MAX};
 use uug_packet::Packet;
@@ -54,7 +49,7 @@ pub(crate) struct Engine<A: Allocator> {
 impl<A: Allocator> Model for Engine<A> {
     ghost use Rattle.uug_link.specs.Announced.{announced};
     ghost use Rattle.uug_session.specs.Engine.{EngineState, IsReady, stage_of};
-    ghost use Rattle.uug_session.specs.Side.{side_of};
+    ghost use Rattle.uug_conversation.specs.Side.{side_of};
 
     ghost Value = { EngineState };
 
@@ -523,6 +518,13 @@ impl<A: Allocator + Copy> Engine<A> {
         }
     }
 
+    /// Whether it is quiet on repeats.
+    pub(crate) fn is_quiet(&self) -> bool
+        ensures { result ≡ self.now.link.own.quiet }
+    {
+        self.link.is_quiet()
+    }
+
     /// What was emitted and not yet cleared.
     pub(crate) fn outbox(&self) -> &Outbox<A>
         ensures { result.now ≡ self.now.outbox }
@@ -568,7 +570,7 @@ impl<A: Allocator + Copy> Engine<A> {
         alloc: A,
         side: Side,
         place: Place,
-        mut queue: Queue<A>,
+        queue: Queue<A>,
         mut outbox: Outbox<A>,
     ) -> Self
         requires spare { 1 ≤ outbox.spare }
@@ -577,7 +579,6 @@ impl<A: Allocator + Copy> Engine<A> {
             place.number
             (all_ahead queue) outbox.entries result }
     {
-        queue.restart();
         let greeting = first_greeting(side, &place.me, &mut outbox);
         Engine {
             side,

@@ -7,8 +7,8 @@ ghost use Rattle.uug_talk.specs.Call.{call_text, number_in_call};
 ghost use Rattle.uug_talk.specs.Words.{is_space};
 
 use crate::end::End;
+use crate::greeting_text::{say, say_both, say_name};
 use crate::place::Place;
-use crate::saying::{say, say_both, say_name};
 use std::alloc::{AllocError, Allocator};
 use uug_link::{Outbox, TIMEOUTS_MAX};
 use uug_talk::{Name, caller_number, write_call};

@@ -1,57 +1,36 @@
-//! A UUCP session: the conversation of two ends, and one end of it.
+//! One end of a UUCP session: its greeting, its link and its conversation.
 #![tactic(auto)]
 
 mod arrive;
 pub mod arriving_laws;
-mod awaits;
-mod backlog;
-mod choice;
-pub mod conversation_laws;
-mod dialogue;
 mod end;
 pub mod end_laws;
 mod engine;
 mod greeting;
 pub mod greeting_laws;
+mod greeting_text;
 mod item;
-mod job;
 pub mod laws;
-mod machine;
-mod memory_spool;
 mod node;
 pub mod node_laws;
-mod outgoing;
-mod part;
 mod phase;
 mod place;
-mod queue;
-mod reaction;
-mod saying;
 pub mod sending_laws;
 mod sessions;
-mod side;
-mod spool;
 mod stage;
-mod stored;
-pub mod stored_laws;
 pub mod text_laws;
 mod texts;
 pub mod told_laws;
-mod verdict;
-mod whole_file;
 
 pub use arrive::Unfinished;
-pub use awaits::Awaits;
 pub use end::End;
 pub use greeting::{AwaitedText, Greeted, Greeting, Led};
 pub use item::Item;
-pub use job::Job;
-pub use memory_spool::MemorySpool;
 pub use node::Node;
 pub use phase::Phase;
 pub use place::Place;
-pub use queue::{JOBS_MAX, Queue, QueueFault};
 pub use sessions::NotMade;
-pub use spool::{FileView, KeepFault, Spool};
-pub use stored::Stored;
-pub use verdict::Verdict;
+pub use uug_conversation::{
+    Awaits, FileView, JOBS_MAX, Job, KeepFault, MemorySpool, Queue, QueueFault, Spool, Stored,
+    Verdict,
+};

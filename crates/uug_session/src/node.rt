@@ -3,17 +3,17 @@ ghost use Rattle.std.specs.Prelude.{OnOk, OnErr, IfOk, IfSome, IsNone, MatchOpti
 ghost use Rattle.uug_link.specs.Step.{step, timed_out};
 ghost use Rattle.uug_session.specs.Engine.{CountsFaults, Does, IsEnded, IsHailing, bare, hung_up};
 ghost use Rattle.uug_session.specs.Engine.{stage_late, with_number, with_outbox, with_stage};
-ghost use Rattle.uug_session.specs.Jobs.{pending};
+ghost use Rattle.uug_conversation.specs.Jobs.{pending};
 ghost use Rattle.uug_session.specs.Node.{node_of, spool_of, accepted, held_bytes, item_size};
 ghost use Rattle.uug_session.specs.Node.{offered, searched, shown_item};
 ghost use Rattle.uug_session.specs.Node.{HasRoom, IsAsBefore, LeavesRoom, TakesShown};
 ghost use Rattle.uug_session.specs.ShownItems.{HoldsNoItem, IsFirstItem, IsShown};
 ghost use Rattle.uug_session.specs.ShownItems.{PassesNoiseOnLink};
 ghost use Rattle.uug_session.specs.NodeLoan.{EndsFound};
-ghost use Rattle.uug_session.specs.Party.{HasNames};
+ghost use Rattle.uug_conversation.specs.Party.{HasNames};
 ghost use Rattle.uug_session.specs.Phases.{phase_at, timeouts_in};
 ghost use Rattle.uug_session.specs.Sending.{SaysWhatItCan};
-ghost use Rattle.uug_session.specs.Talking.{talking_has_parted};
+ghost use Rattle.uug_conversation.specs.Talking.{talking_has_parted};
 ghost use Rattle.std.specs.Borrow.{sem};
 ghost use Rattle.uug_session.specs.EndStep.{hailing, linked, unmoved};
 
@@ -22,12 +22,11 @@ use crate::engine::Engine;
 use crate::greeting::Greeting;
 use crate::item::Item;
 use crate::phase::Phase;
-use crate::queue::Queue;
-use crate::spool::Spool;
 use crate::stage::Stage;
 use crate::text_laws::text_search_finds_the_first;
 use crate::texts::Texts;
 use std::alloc::{AllocError, Allocator};
+use uug_conversation::{Queue, Spool};
 use uug_link::{Outbox, TIMEOUTS_MAX, WINDOW_MAX};
 use uug_reader::{Found, READER_SIZE, Reader};
 
@@ -263,6 +262,13 @@ impl<S: Spool, A: Allocator + Copy> Node<S, A> {
         ensures most { result ≤ TIMEOUTS_MAX }
     {
         self.engine.timeouts()
+    }
+
+    /// Whether it is quiet on repeats.
+    pub fn is_quiet(&self) -> bool
+        ensures { result ≡ (node_of self.now).engine.link.own.quiet }
+    {
+        self.engine.is_quiet()
     }
 
     /// What was emitted and not yet cleared.

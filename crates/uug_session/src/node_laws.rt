@@ -2,18 +2,18 @@
 ghost use Rattle.std.specs.Prelude.{◌≡◌, ℕ, List, Option};
 ghost use Rattle.uug_link.specs.Announced.{Announced};
 ghost use Rattle.uug_link.specs.Entries.{EntryValue};
-ghost use Rattle.uug_session.specs.declared.job.Job.{Job};
+ghost use Rattle.uug_conversation.specs.declared.job.Job.{Job};
 ghost use Rattle.uug_session.specs.Engine.{BeginsSession, Does, EngineState, HasFailed, all_ahead, bare, end_of, entry_of, hung_up, stage_late, with_stage};
 ghost use Rattle.uug_session.specs.EndStep.{EndEvent, Identity, begins_session, line_lost, time_ran_out, unmoved};
-ghost use Rattle.uug_session.specs.Holdings.{Holdings, Kept};
-ghost use Rattle.uug_session.specs.Jobs.{Lists};
+ghost use Rattle.uug_conversation.specs.Holdings.{Holdings, Kept};
+ghost use Rattle.uug_conversation.specs.Jobs.{Lists};
 ghost use Rattle.uug_session.specs.Node.{NodeState, effect_of, struck_jobs};
 ghost use Rattle.uug_session.specs.NodeArriving.{GoesOn, TakesAll};
 ghost use Rattle.uug_session.specs.NumberStanding.{KeepsNumber, NumberStands};
-ghost use Rattle.uug_session.specs.OwnRequests.{KeepsWhatItAskedFor};
-ghost use Rattle.uug_session.specs.Sharing.{HaveSameJobs, OnlyMoves, all_jobs};
-ghost use Rattle.uug_session.specs.Talk.{unopened};
-ghost use Rattle.uug_session.specs.Talking.{talking_has_parted};
+ghost use Rattle.uug_conversation.specs.OwnRequests.{KeepsWhatItAskedFor};
+ghost use Rattle.uug_conversation.specs.Sharing.{HaveSameJobs, OnlyMoves, all_jobs};
+ghost use Rattle.uug_conversation.specs.Talk.{unopened};
+ghost use Rattle.uug_conversation.specs.Talking.{talking_has_parted};
 
 /// What is told of a call without the spool is the end's step beside it.
 pub fn calls_are_steps()

@@ -4,8 +4,8 @@ ghost use Rattle.uug_link.specs.Announced.{Announced};
 ghost use Rattle.uug_link.specs.declared.limits.TheConstants.{WINDOW_MAX};
 ghost use Rattle.uug_session.specs.EndStep.{EndEvent, EndState, Identity, begins_session, end_step};
 ghost use Rattle.uug_session.specs.Engine.{Does, EngineState, end_of};
-ghost use Rattle.uug_session.specs.Holdings.{Holdings, Kept};
-ghost use Rattle.uug_session.specs.Keeper.{Keeper};
+ghost use Rattle.uug_conversation.specs.Holdings.{Holdings, Kept};
+ghost use Rattle.uug_conversation.specs.Keeper.{Keeper};
 ghost use Rattle.uug_session.specs.Node.{effect_of};
 ghost use Rattle.uug_session.specs.Sending.{HasClosedWhereItIsOver, HasSaidWhatItCan, NodeHasSaidWhatItCan};
 

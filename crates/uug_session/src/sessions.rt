@@ -5,20 +5,18 @@ ghost use Rattle.uug_session.specs.Engine.{BeginsSession, Does, IsEnded, all_ahe
 ghost use Rattle.uug_session.specs.EndStep.{unmoved};
 ghost use Rattle.uug_session.specs.Node.{node_of, spool_of};
 ghost use Rattle.uug_session.specs.Sessions.{HoldsNothing};
-ghost use Rattle.uug_session.specs.Side.{side_of};
+ghost use Rattle.uug_conversation.specs.Side.{side_of};
 ghost use Rattle.uug_session.specs.TextsHeld.{nothing_held};
-ghost use Rattle.uug_session.specs.Turns.{caller, called};
+ghost use Rattle.uug_conversation.specs.Turns.{caller, called};
 
 use crate::engine::Engine;
 use crate::node::Node;
 use crate::place::Place;
-use crate::queue::Queue;
-use crate::side::Side;
-use crate::spool::Spool;
 use crate::texts::Texts;
 use std::alloc::{AllocError, Allocator};
 use std::fmt;
 use thiserror::Error;
+use uug_conversation::{Queue, Side, Spool};
 use uug_link::Outbox;
 use uug_reader::Reader;
 

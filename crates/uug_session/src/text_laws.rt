@@ -1,6 +1,6 @@
 //! Laws of the search for texts in the bytes of the greeting. The functions do nothing.
 ghost use Rattle.std.specs.Prelude.{◌≡◌, ◌↔◌, ℕ, List, [], ◌∷◌, ◌++◌, drop};
-ghost use Rattle.uug_session.specs.HearingLaws.{HearingLaws};
+ghost use Rattle.uug_session.specs.Code.HearingLaws.{HearingLaws};
 ghost use Rattle.uug_session.specs.TextCalls.{TextCall, Makes, Make, dropped, all_accepted, all_dropped};
 ghost use Rattle.uug_session.specs.TextsFound.{ReadsAs, FindsText, FindsNone, Taken, with_texts};
 ghost use Rattle.uug_session.specs.TextsHeld.{TextsHeld, nothing_held, text_waits, text_stands, text_too_long, search_text, ShowsText, shown_text, size_of_text};

@@ -1,16 +1,16 @@
 //! Laws of how an end of a conversation is told by two numbers. The functions do nothing.
 ghost use Rattle.std.specs.Prelude.{◌≡◌, ℕ, List, [], false};
-ghost use Rattle.uug_session.specs.declared.job.Job.{Job};
-ghost use Rattle.uug_session.specs.Count.{count_keeper};
-ghost use Rattle.uug_session.specs.EarlierJobs.{behind};
-ghost use Rattle.uug_session.specs.Holdings.{Kept};
-ghost use Rattle.uug_session.specs.Jobs.{at_start};
-ghost use Rattle.uug_session.specs.Party.{Party};
-ghost use Rattle.uug_session.specs.Talk.{end_keeper, opened_with, taking, unopened, with_first_sent};
+ghost use Rattle.uug_conversation.specs.declared.job.Job.{Job};
+ghost use Rattle.uug_conversation.specs.Count.{count_keeper};
+ghost use Rattle.uug_conversation.specs.EarlierJobs.{behind};
+ghost use Rattle.uug_conversation.specs.Holdings.{Kept};
+ghost use Rattle.uug_conversation.specs.Jobs.{at_start};
+ghost use Rattle.uug_conversation.specs.Party.{Party};
+ghost use Rattle.uug_conversation.specs.Talk.{end_keeper, opened_with, taking, unopened, with_first_sent};
 ghost use Rattle.uug_session.specs.Told.{count_of_talker, talk_behind};
-ghost use Rattle.uug_session.specs.Turns.{Side};
+ghost use Rattle.uug_conversation.specs.Turns.{Side};
 ghost use Rattle.uug_session.specs.TwoEnds.{IsTold, Talker, after_act, first_talker, sends, takes};
-ghost use Rattle.uug_session.specs.View.{conversation_view, party};
+ghost use Rattle.uug_conversation.specs.View.{conversation_view, party};
 
 use crate::end_laws::earlier_jobs_change_nothing;
 

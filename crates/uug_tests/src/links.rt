@@ -5,6 +5,7 @@
 
 mod fields;
 mod outboxes;
+mod repeats;
 mod runs;
 
 use crate::assertions::{assert_same, assert_so};

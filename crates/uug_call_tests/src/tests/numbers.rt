@@ -5,6 +5,7 @@ use super::memory_text::MemoryText;
 use super::scenes::{AMPLE, CLEAN};
 use super::scripted_line::ScriptedLine;
 use super::{MemorySeat, Nobody, called, caller, noise};
+use crate::tests::assertions::{assert_same, assert_same_at};
 use std::alloc::Global;
 use std::process::Abort;
 use std::test::Fail;
@@ -166,13 +167,11 @@ fn make_call(rt: &impl Abort, alloc: Global, call: &Call<'_>) -> Result<(), Fail
         &mut Nobody,
         &mut output,
     );
-    assert_eq!(rt; answer, left.answer);
-    assert_eq!(rt;
-        (end.jobs.text(), end.number.text()),
-        (left.jobs, left.number)
-    );
-    assert_eq!(rt; output.bytes(), left.report);
-    assert_eq!(rt; line.other().node().number(), left.other);
+    assert_same(rt, answer, left.answer);
+    assert_same(rt, end.jobs.text(), left.jobs);
+    assert_same(rt, end.number.text(), left.number);
+    assert_same(rt, output.bytes(), left.report);
+    assert_same(rt, line.other().node().number(), left.other);
     Ok(())
 }
 
@@ -186,12 +185,12 @@ fn calls_keep_their_number(rt: HostRuntime) -> Result<(), Fail> {
 
 #[test]
 fn reads_the_number_of_a_file(rt: HostRuntime) {
-    for (text, number) in TEXTS {
-        assert_eq!(rt; read_number_text(text), number, "in {text:?}");
+    for (place, (text, number)) in TEXTS.into_iter().enumerate() {
+        assert_same_at(&rt, read_number_text(text), number, place);
         let at_start = number_at_start(Some(text), true);
-        assert_eq!(rt; at_start, number.map(Some).ok_or(ToolFault::Number));
+        assert_same(&rt, at_start, number.map(Some).ok_or(ToolFault::Number));
     }
-    assert_eq!(rt; number_line(70).as_slice(), b"70\n".as_slice());
-    assert_eq!(rt; number_at_start(None, true), Ok(Some(0)));
-    assert_eq!(rt; number_at_start(None, false), Ok(None));
+    assert_same(&rt, number_line(70).as_slice(), b"70\n".as_slice());
+    assert_same(&rt, number_at_start(None, true), Ok(Some(0)));
+    assert_same(&rt, number_at_start(None, false), Ok(None));
 }

@@ -1,6 +1,7 @@
 //! Sessions of a caller with one job, at lines of many manners.
 
 use super::{Left, Manner, Other, play};
+use crate::tests::assertions::{assert_same, assert_same_at, assert_so};
 use std::alloc::Global;
 use std::process::Abort;
 use std::test::Fail;
@@ -100,8 +101,8 @@ const SCENES: &[(&[u8], Manner, u64, Left)] = &[
 #[test]
 fn sessions_end_as_they_should(rt: HostRuntime) -> Result<(), Fail> {
     let alloc = rt.alloc();
-    for (bytes, manner, most, expected) in SCENES {
-        assert_eq!(rt; play(alloc, bytes, *manner, *most)?, *expected);
+    for (place, (bytes, manner, most, expected)) in SCENES.iter().enumerate() {
+        assert_same_at(&rt, play(alloc, bytes, *manner, *most)?, *expected, place);
     }
     Ok(())
 }
@@ -115,14 +116,14 @@ fn assert_failing(rt: &impl Abort, alloc: Global, fails_at: usize) -> Result<(),
         fails_at,
     };
     let left = play(alloc, LONG, manner, AMPLE)?;
-    assert_eq!(rt; left.answer, Err(TurnFault::Line));
-    assert_eq!(rt; left.pending.saturating_add(left.struck), 1);
-    assert!(rt; left.struck <= left.kept);
+    assert_same(rt, left.answer, Err(TurnFault::Line));
+    assert_same(rt, left.pending.saturating_add(left.struck), 1);
+    assert_so(rt, left.struck <= left.kept);
     let is_over = match left.phase {
         Phase::Ended(End::Done | End::HungUp) => true,
         _ => false,
     };
-    assert!(rt; is_over);
+    assert_so(rt, is_over);
     Ok(())
 }
 

@@ -1,8 +1,8 @@
 //! A device that fails once.
 
 ghost use Rattle.std.specs.Prelude.{[], map};
-ghost use Rattle.uug_session.specs.MemoryHoldings.{holdings_of, kept_of, no_holdings};
-ghost use Rattle.uug_session.specs.StoredModes.{modes_in_range};
+ghost use Rattle.uug_conversation.specs.MemoryHoldings.{holdings_of, kept_of, no_holdings};
+ghost use Rattle.uug_conversation.specs.Code.StoredModes.{modes_in_range};
 
 use super::line::{Event, Hand, Line};
 use super::script::Wire::{Close, Rr};

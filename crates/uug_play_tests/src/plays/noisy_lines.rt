@@ -1,13 +1,14 @@
 //! What an end may count on over any line, checked on reports of noisy lines.
 ghost use Rattle.std.specs.Prelude.{◌<◌};
+ghost use Rattle.uug_line.specs.Settled.{CanSettle};
 
 use crate::assertions::assert_so_at;
 use std::alloc::Global;
 use std::process::Abort;
 use std::test::Fail;
-use uug_line::{EndReport, Event, Report, Side, run, settle};
+use uug_line::{EndReport, Event, LineVerdict, Report, Side, run, settle};
 use uug_script::read_script;
-use uug_session::{FileView, Job, MemorySpool, Node, Spool, Stored};
+use uug_session::{End as SessionEnd, FileView, Job, MemorySpool, Node, Phase, Spool, Stored};
 use uug_talk::Name;
 
 /// How many lists of events there are.
@@ -15,6 +16,12 @@ const LISTS: u32 = 100;
 
 /// How many events are in each.
 const EVENTS: u32 = 240;
+
+/// More bytes than are ever on the line.
+const ALL: u32 = 100_000;
+
+/// So often all that is on the line comes to both ends, once it is clean.
+const TURNS: u32 = 160;
 
 const WINDOWS: [u8; 3] = [1, 2, 7];
 
@@ -96,14 +103,32 @@ fn windows_of_list(list: usize) -> (u8, u8) {
     (WINDOWS[list % 3], WINDOWS[list / 3 % 3])
 }
 
-/// The report of the list of this number, with these events.
-fn report_with(alloc: Global, list: u32, events: &[Event]) -> Result<Report<Global>, Fail> {
+/// The lines that make neither end quiet on repeats, the caller, the called end, and both.
+const QUIET_LINES: [&str; 4] = [
+    "",
+    "quiet caller\n",
+    "quiet called\n",
+    "quiet caller\nquiet called\n",
+];
+
+/// The lines that say in the list of this number which ends are quiet on repeats.
+fn quiet_in_list(list: u32) -> &'static str {
+    QUIET_LINES[list as usize / 5 % 4]
+}
+
+/// The report of the list of this number, with these events, and with ends that are quiet on repeats as these lines say.
+fn report_with(
+    alloc: Global,
+    list: u32,
+    quiet: &str,
+    events: &[Event],
+) -> Result<Report<Global>, Fail> {
     let (caller, called) = windows_of_list(list as usize);
     let (small, large) = (SIZES[list as usize % 2], SIZES[list as usize / 2 % 2]);
     let mut text = String::new(alloc);
     write!(
         text,
-        "caller a {caller} {small}\ncalled b {called} {large}\n{JOBS}"
+        "caller a {caller} {small}\ncalled b {called} {large}\n{quiet}{JOBS}"
     )?;
     let script = read_script(alloc, text.as_bytes())?;
     Ok(run(alloc, script.setup, events)?)
@@ -112,16 +137,49 @@ fn report_with(alloc: Global, list: u32, events: &[Event]) -> Result<Report<Glob
 /// The report of the list of this number.
 fn report_of_list(alloc: Global, list: u32) -> Result<Report<Global>, Fail> {
     let events = events_of_list(alloc, list)?;
-    report_with(alloc, list, events.as_slice())
+    report_with(alloc, list, quiet_in_list(list), events.as_slice())
 }
 
-/// The report of the list of this number, and then all is lost that is on the line.
-fn report_up_to_silence(alloc: Global, list: u32) -> Result<Report<Global>, Fail> {
+/// The events of the list of this number, and then all is lost that is on the line.
+fn events_up_to_silence(alloc: Global, list: u32) -> Result<Vec<Event>, Fail> {
     let mut events = events_of_list(alloc, list)?;
     for side in [Side::Caller, Side::Called] {
-        events.push(Event::Drop { side, n: 100_000 })?;
+        events.push(Event::Drop { side, n: ALL })?;
     }
-    report_with(alloc, list, events.as_slice())
+    Ok(events)
+}
+
+/// The same, and then both ends wait too long, and what they emit comes, again and again.
+fn events_up_to_the_end(alloc: Global, list: u32) -> Result<Vec<Event>, Fail> {
+    let mut events = events_up_to_silence(alloc, list)?;
+    for turn in 0..TURNS {
+        if turn % 8 == 0 {
+            events.push(Event::Timeout { side: Side::Caller })?;
+            events.push(Event::Timeout { side: Side::Called })?;
+        }
+        events.push(Event::Pass {
+            side: Side::Called,
+            n: ALL,
+        })?;
+        events.push(Event::Pass {
+            side: Side::Caller,
+            n: ALL,
+        })?;
+    }
+    Ok(events)
+}
+
+/// The report of the list of this number as far as all is lost that is on the line, with ends that are quiet on repeats as
+/// these lines say.
+fn report_up_to_silence(alloc: Global, list: u32, quiet: &str) -> Result<Report<Global>, Fail> {
+    let events = events_up_to_silence(alloc, list)?;
+    report_with(alloc, list, quiet, events.as_slice())
+}
+
+/// The report of the same list with a clean line behind it.
+fn report_up_to_the_end(alloc: Global, list: u32, quiet: &str) -> Result<Report<Global>, Fail> {
+    let events = events_up_to_the_end(alloc, list)?;
+    report_with(alloc, list, quiet, events.as_slice())
 }
 
 fn is_front(front: &[Vec<u8>], whole: &[Vec<u8>]) -> bool {
@@ -173,12 +231,21 @@ fn keeps_promises(report: &Report<Global>, caller: u8, called: u8) -> bool {
         && is_stored(report.called(), report.caller())
 }
 
-/// Plays the list of this number. How many jobs of the caller were done.
-fn struck_in_list(rt: &(impl Abort + AllocGlobal), list: u32) -> Result<usize, Fail> {
+/// Plays the list of this number. Whether both ends kept each promise, and how many jobs of the caller were done.
+fn play_list(alloc: Global, list: u32) -> Result<(bool, usize), Fail> {
     let (caller, called) = windows_of_list(list as usize);
-    let report = report_of_list(rt.alloc(), list)?;
-    assert_so_at(rt, keeps_promises(&report, caller, called), list);
-    Ok(report.caller().queue().struck().len())
+    let report = report_of_list(alloc, list)?;
+    Ok((
+        keeps_promises(&report, caller, called),
+        report.caller().queue().struck().len(),
+    ))
+}
+
+/// How many jobs of the caller were done in the list of this number.
+fn struck_in_list(rt: &(impl Abort + AllocGlobal), list: u32) -> Result<usize, Fail> {
+    let (is_right, struck) = play_list(rt.alloc(), list)?;
+    assert_so_at(rt, is_right, list);
+    Ok(struck)
 }
 
 #[test]
@@ -196,20 +263,37 @@ fn has_no_job_left(end: &End) -> bool {
     end.queue().pending().is_empty()
 }
 
+/// Whether both ends kept each promise, and have no job left.
+fn is_over(report: &Report<Global>, caller: u8, called: u8) -> bool {
+    keeps_promises(report, caller, called)
+        && has_no_job_left(report.caller())
+        && has_no_job_left(report.called())
+}
+
+/// Whether all is over, as it should be, where the report is settled.
+fn settles_well(alloc: Global, report: Report<Global>, list: u32) -> Result<bool, Fail>
+    requires { CanSettle report }
+{
+    let (caller, called) = windows_of_list(list as usize);
+    let settled = settle(alloc, report)?;
+    Ok(is_over(&settled, caller, called))
+}
+
+/// Settles the list of this number where it may. Whether all is over then, as it should be.
+fn settle_list(alloc: Global, list: u32) -> Result<Option<bool>, Fail> {
+    let report = report_up_to_silence(alloc, list, "")?;
+    if !report.can_settle() {
+        return Ok(None);
+    }
+    Ok(Some(settles_well(alloc, report, list)?))
+}
+
 /// Settles the list of this number where it may. Whether it may.
 fn settles_list(rt: &(impl Abort + AllocGlobal), list: u32) -> Result<bool, Fail> {
-    let (caller, called) = windows_of_list(list as usize);
-    let report = report_up_to_silence(rt.alloc(), list)?;
-    if !report.can_settle() {
+    let Some(is_right) = settle_list(rt.alloc(), list)? else {
         return Ok(false);
-    }
-    let settled = settle(rt.alloc(), report)?;
-    assert_so_at(rt, keeps_promises(&settled, caller, called), list);
-    assert_so_at(
-        rt,
-        has_no_job_left(settled.caller()) && has_no_job_left(settled.called()),
-        list,
-    );
+    };
+    assert_so_at(rt, is_right, list);
     Ok(true)
 }
 
@@ -222,5 +306,55 @@ fn settles_after_noise(rt: HostRuntime) -> Result<(), Fail> {
         }
     }
     assert_so_at(&rt, settled >= 10, settled);
+    Ok(())
+}
+
+/// Whether the end talks, holds no part of a packet, and may wait some time more.
+fn talks(end: &End) -> bool {
+    matches!(end.phase(), Phase::Talking) && end.waiting() == 0 && end.timeouts() <= 5
+}
+
+fn is_done(end: &End) -> bool {
+    matches!(end.phase(), Phase::Ended(SessionEnd::Done)) && has_no_job_left(end)
+}
+
+/// Whether both ends talk, and no packet was found that was not sent.
+fn may_finish(report: &Report<Global>) -> bool {
+    report.verdict() == LineVerdict::Clean && talks(report.caller()) && talks(report.called())
+}
+
+/// Whether both ends talk where the list of this number ends in silence.
+fn may_finish_list(alloc: Global, list: u32, quiet: &str) -> Result<bool, Fail> {
+    let report = report_up_to_silence(alloc, list, quiet)?;
+    Ok(may_finish(&report))
+}
+
+/// Whether both ends are done where the line is clean behind the list of this number.
+fn is_done_behind_list(alloc: Global, list: u32, quiet: &str) -> Result<bool, Fail> {
+    let report = report_up_to_the_end(alloc, list, quiet)?;
+    Ok(is_done(report.caller()) && is_done(report.called()))
+}
+
+/// Goes on from the list of this number on a line that is clean, where both ends talk. Whether they do.
+fn finishes_list(rt: &(impl Abort + AllocGlobal), list: u32) -> Result<bool, Fail> {
+    let quiet = quiet_in_list(list);
+    if !may_finish_list(rt.alloc(), list, quiet)? {
+        return Ok(false);
+    }
+    let is_done = is_done_behind_list(rt.alloc(), list, quiet)?;
+    assert_so_at(rt, is_done, list);
+    Ok(true)
+}
+
+// what is proved only where neither end is quiet on repeats
+#[test]
+fn finishes_after_noise_whichever_end_is_quiet(rt: HostRuntime) -> Result<(), Fail> {
+    let mut finished = 0usize;
+    for list in 0..LISTS {
+        if finishes_list(&rt, list)? {
+            finished = finished.saturating_add(1);
+        }
+    }
+    assert_so_at(&rt, finished >= 10, finished);
     Ok(())
 }

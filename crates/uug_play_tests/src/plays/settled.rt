@@ -23,7 +23,7 @@ const LOST_SEVEN_TIMES: &str =
     timeout caller\ndrop called 1000\ntimeout caller\ndrop called 1000\ntimeout caller\ndrop called 1000\n";
 
 /// Scripts, and why their runs may not settle, if so.
-const SCRIPTS: [(&str, Option<Unsettled>); 8] = [
+const SCRIPTS: [(&str, Option<Unsettled>); 9] = [
     (LOST, None),
     (LOST_SEVEN_TIMES, None),
     // seven times
@@ -33,6 +33,11 @@ const SCRIPTS: [(&str, Option<Unsettled>); 8] = [
          timeout caller\ndrop called 1000\ntimeout caller\ndrop called 1000\ntimeout caller\ndrop called 1000\n\
          timeout caller\ndrop called 1000\n",
         Some(Unsettled::Late(Side::Caller)),
+    ),
+    // an end is quiet on repeats
+    (
+        "caller a 2 32\ncalled b 2 32\nquiet called\nfile caller x 0644 -\nsend caller x y u\nflow 5\ndrop called 1000\n",
+        Some(Unsettled::Quiet(Side::Called)),
     ),
     // both sessions are over
     (

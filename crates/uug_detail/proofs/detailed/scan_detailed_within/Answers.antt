@@ -1,7 +1,7 @@
 use Rattle.std.proofs.Common.{rules, ◌++◌, take, string_bytes, arith, subst, length-take}
 use Rattle.std.proofs.lemmas.Result.{on_ok_weaker}
 use Rattle.uug_tool.specs.Streams.{Appends}
-use Rattle.uug_detail.specs.Noise.{AddsParts}
+use Rattle.uug_detail.specs.Code.Noise.{AddsParts}
 use Rattle.uug_detail.proofs.ScanLemmas.{Progress-start, Progress-piece, AppendsDetailed-end, begins}
 use Rattle.uug_detail.proofs.detailed.scan_detailed_within.Goals as goal
 

@@ -1,7 +1,7 @@
 use Rattle.std.proofs.Common.{◌≡◌, ◌+◌, ◌*◌, ◌≤◌, [], length, string_bytes}
 use Rattle.uug_packet.specs.Waits.{Waits}
 use Rattle.uug_tool.specs.declared.scan.TheConstants.{PIECE_SIZE}
-use Rattle.uug_detail.specs.Noise.{Holds, end_of}
+use Rattle.uug_detail.specs.Code.Noise.{Holds, end_of}
 use Rattle.uug_detail.proofs.ScanLemmas.{Progress}
 use Rattle.uug_detail.proofs.detailed.scan_detailed_within.Given as goal
 

@@ -1,5 +1,5 @@
 use Rattle.std.proofs.Common.{◌≡◌, ◌+◌, ◌-◌, ◌≤◌, drop, length, string_bytes}
-use Rattle.uug_detail.specs.Noise.{AddsParts, Holds, end_of}
+use Rattle.uug_detail.specs.Code.Noise.{AddsParts, Holds, end_of}
 use Rattle.uug_detail.proofs.parts.add_parts.Given as goal
 
 -- what was passed was told

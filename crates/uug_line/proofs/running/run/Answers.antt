@@ -7,7 +7,7 @@ use Rattle.uug_line.specs.Headline.{AllKeptToWindows, AllTookFronts, StaysInFron
 use Rattle.uug_line.specs.OfBytes.{IsOfBytes}
 use Rattle.uug_line.specs.Run.{first_run}
 use Rattle.uug_line.specs.RunKeeper.{by_themselves}
-use Rattle.uug_line.specs.RunParts.{run_parts}
+use Rattle.uug_line.specs.RunValue.{run_value}
 use Rattle.uug_line.specs.Setup.{setup_of}
 use Rattle.uug_line.specs.Spelled.{GiveAsSetUp}
 use Rattle.uug_line.specs.World.{report_of_ends, run_of_ends}
@@ -26,7 +26,7 @@ into_report-requires g c =
     let events = c.args.events.now in
     let types = c.look_at_setup.ensures in
     let verdict = c.in_ok-verdict.verdict in
-    let parts = run_parts c.go_through.new.self in
+    let parts = run_value c.go_through.new.self in
     let ended = c.in_ok-verdict.ensures setup (first_run by_themselves setup) c.in_ok-run.ensures in
     record {
       some_run = record {
@@ -45,7 +45,7 @@ returns g c =
     let types = c.look_at_setup.ensures in
     let sound = types.sound in
     let verdict = c.in_ok-verdict.verdict in
-    let parts = run_parts c.go_through.new.self in
+    let parts = run_value c.go_through.new.self in
     let ended = c.in_ok-verdict.ensures setup (first_run by_themselves setup) c.in_ok-run.ensures in
     let told = ap (λ (report : WholeReport). report.told) c.in_ok-report.ensures in
     let ends = told ∙ told_by_ends setup events verdict parts ended in

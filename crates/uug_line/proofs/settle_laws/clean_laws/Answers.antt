@@ -1,7 +1,7 @@
 use Rattle.std.specs.Prelude.{◌≤◌, length}
 use Rattle.uug_link.specs.TwoLinks.{AlwaysOfTwo}
 use Rattle.uug_session.proofs.ArrivingLemmas.{takes_first}
-use Rattle.uug_session.specs.Count.{Count}
+use Rattle.uug_conversation.specs.Count.{Count}
 use Rattle.uug_line.specs.LineEnd.{LineEnd}
 use Rattle.uug_line.proofs.CleanFinds.{found_first}
 use Rattle.uug_line.proofs.settle_laws.clean_laws.Goals as goal
@@ -18,6 +18,7 @@ returns c =
       counted = c.what_two_links_emit_arrives.ensures.counted;
       unacked = c.two_links_run_as_the_machine.ensures.unacked;
       window = c.two_links_run_as_the_machine.ensures.window;
+      own = c.two_links_run_as_the_machine.ensures.own;
       passed = passed;
       written = c.what_two_links_emit_arrives.ensures.written;
       phases = c.what_a_link_answers.ensures.phases;

@@ -2,7 +2,7 @@ use Rattle.std.proofs.Common.{◌++◌, List, ap, subst, sym}
 use Rattle.uug_line.specs.declared.event.Event.{Event}
 use Rattle.uug_line.specs.Belongings.{SetupValue}
 use Rattle.uug_line.specs.OfSomeRun.{IsRunOf}
-use Rattle.uug_line.specs.RunParts.{run_parts}
+use Rattle.uug_line.specs.RunValue.{run_value}
 use Rattle.uug_line.specs.Settle.{events_of}
 use Rattle.uug_line.specs.Settled.{SettlesInto}
 use Rattle.uug_line.specs.WholeReport.{WholeReport}
@@ -15,7 +15,7 @@ finish-requires g c =
     record {
       setup = some.setup;
       events = some.events;
-      may = may_finish some.setup some.events c.args.report (run_parts c.into_run-run.result) some.is c.requires
+      may = may_finish some.setup some.events c.args.report (run_value c.into_run-run.result) some.is c.requires
           (c.into_run-run.ensures.same some.is.left.parts some.is.left.shown);
     }
 
@@ -25,8 +25,8 @@ into_report-requires g c =
     let setup = some.setup in
     let events = some.events in
     let sound = some.is.types.sound in
-    let parts = run_parts c.finish.new.self in
-    let may = may_finish setup events c.args.report (run_parts c.into_run-run.result) some.is c.requires
+    let parts = run_value c.finish.new.self in
+    let may = may_finish setup events c.args.report (run_value c.into_run-run.result) some.is c.requires
     (c.into_run-run.ensures.same some.is.left.parts some.is.left.shown) in
     let finished = c.in_ok-finish.ensures setup events may in
     let into = settles_into setup events parts (record {
@@ -44,12 +44,12 @@ into_report-requires g c =
 pub returns : goal.returns
 returns g c =
     let some = c.into_run-run.ensures.of_a_run in
-    let parts = run_parts c.finish.new.self in
+    let parts = run_value c.finish.new.self in
     let settled = c.in_ok-settled.ensures in
     let world : (setup : SetupValue) (events : List Event) → IsRunOf setup events c.args.report →
     SettlesInto setup events c.in_ok-settled.settled =
     λ setup events is.
-    let may = may_finish setup events c.args.report (run_parts c.into_run-run.result) is c.requires
+    let may = may_finish setup events c.args.report (run_value c.into_run-run.result) is c.requires
     (c.into_run-run.ensures.same is.left.parts is.left.shown) in
     subst (λ (report : WholeReport). SettlesInto setup events report) (sym settled)
     (settles_into setup events parts (record {

@@ -1,8 +1,8 @@
 use Rattle.std.proofs.Common.{All, subst}
 use Rattle.uug_link.specs.Terms.{IsWindow}
-use Rattle.uug_session.specs.Party.{HasNames}
-use Rattle.uug_session.specs.StoredBytes.{stored_bytes}
-use Rattle.uug_session.specs.StoredModes.{modes_in_range}
+use Rattle.uug_conversation.specs.Party.{HasNames}
+use Rattle.uug_session.specs.Code.StoredBytes.{stored_bytes}
+use Rattle.uug_conversation.specs.Code.StoredModes.{modes_in_range}
 use Rattle.uug_talk.specs.Name.{IsName}
 use Rattle.uug_line.proofs.ByteLemmas.{name_bytes}
 use Rattle.uug_line.proofs.soundness.look_at_end.Goals as goal

@@ -1,5 +1,5 @@
 use Rattle.uug_link.proofs.SimulatedSteps.{LawsBelow}
-use Rattle.uug_link.proofs.TwoLinksRuns.{machine_runs, fronts, within, windows, sizes}
+use Rattle.uug_link.proofs.TwoLinksRuns.{machine_runs, fronts, within, windows, owns, sizes}
 use Rattle.uug_link.proofs.laws.two_links_run_as_the_machine.Goals as goal
 
 pub returns : goal.returns
@@ -20,6 +20,7 @@ returns c =
       machine = machine_runs law;
       front = fronts law;
       unacked = within law;
+      own = owns law;
       window = windows law;
       size = sizes law;
     }

@@ -1,5 +1,5 @@
 use Rattle.std.proofs.Common.{◌≡◌, map, drop}
-use Rattle.uug_session.specs.MemoryHoldings.{first_named, kept_of}
+use Rattle.uug_conversation.specs.MemoryHoldings.{first_named, kept_of}
 use Rattle.uug_pair.proofs.folder_spool.first_named.Given as goal
 
 abbrev pub invariant-loop-file : goal.invariant-loop-file

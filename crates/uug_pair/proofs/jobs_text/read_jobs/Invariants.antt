@@ -1,5 +1,5 @@
 use Rattle.std.proofs.Common.{◌≡◌, ◌+◌, ◌≤◌, [], length}
-use Rattle.uug_session.specs.Jobs.{at_start}
+use Rattle.uug_conversation.specs.Jobs.{at_start}
 use Rattle.uug_script.specs.Lines.{lines}
 use Rattle.uug_pair.specs.JobsText.{jobs_from, jobs_of}
 use Rattle.uug_pair.proofs.jobs_text.read_jobs.Given as goal

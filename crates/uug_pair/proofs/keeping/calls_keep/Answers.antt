@@ -2,12 +2,12 @@ use Rattle.std.proofs.Common.{◌≡◌, List, sym, ap, subst}
 use Rattle.std.proofs.lemmas.List.Sorted.{IsPermutation-refl, IsPermutation-trans}
 use Rattle.uug_session.specs.EndStep.{time_ran_out}
 use Rattle.uug_session.specs.Engine.{end_of}
-use Rattle.uug_session.specs.Jobs.{Lists}
+use Rattle.uug_conversation.specs.Jobs.{Lists}
 use Rattle.uug_session.specs.Node.{NodeState, effect_of, struck_jobs}
-use Rattle.uug_session.specs.OwnRequests.{KeepsWhatItAskedFor}
-use Rattle.uug_session.specs.Sharing.{HaveSameJobs, OnlyMoves, all_jobs}
-use Rattle.uug_session.specs.Talk.{Talk}
-use Rattle.uug_session.specs.Talking.{Talking}
+use Rattle.uug_conversation.specs.OwnRequests.{KeepsWhatItAskedFor}
+use Rattle.uug_conversation.specs.Sharing.{HaveSameJobs, OnlyMoves, all_jobs}
+use Rattle.uug_conversation.specs.Talk.{Talk}
+use Rattle.uug_conversation.specs.Talking.{Talking}
 use Rattle.uug_pair.proofs.keeping.calls_keep.Goals as goal
 
 abbrev lists_of : NodeState → Lists

@@ -1,7 +1,7 @@
 use Rattle.std.proofs.Common.{ap, ℕ, subst, sym, ◌∙◌}
 use Rattle.circular_buffer.specs.Buffer.{Buffer}
 use Rattle.uug_reader.specs.Finding.{PassesNoise}
-use Rattle.uug_reader.specs.Place.{left, StandsBeside}
+use Rattle.uug_reader.specs.Code.Place.{left, StandsBeside}
 use Rattle.uug_reader.proofs.PlaceLemmas.{found_exactly, shown_exactly, shown_stands}
 use Rattle.uug_reader.proofs.ScanLemmas.{Finds-none}
 use Rattle.uug_reader.proofs.ring.find_first.Goals as goal

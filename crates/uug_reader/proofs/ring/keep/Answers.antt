@@ -3,7 +3,7 @@ use Rattle.uug_packet.specs.Number.{number_of}
 use Rattle.uug_packet.specs.Packet.{carry}
 use Rattle.uug_reader.specs.declared.place.Place.{Place}
 use Rattle.uug_reader.specs.Cut.{found}
-use Rattle.uug_reader.specs.Place.{item_at, item_beside, LiesIn}
+use Rattle.uug_reader.specs.Code.Place.{item_at, item_beside, LiesIn}
 use Rattle.uug_reader.proofs.PlaceLemmas.{kept}
 use Rattle.uug_reader.proofs.ring.keep.Goals as goal
 

@@ -3,7 +3,7 @@ use Rattle.std.proofs.lemmas.Bool.Decides.{nat_tests}
 use Rattle.std.proofs.lemmas.List.{take_rest}
 use Rattle.uug_reader.specs.declared.place.Standing.{Standing}
 use Rattle.uug_reader.specs.Finding.{PassesNoise}
-use Rattle.uug_reader.specs.Place.{IsFirst, item_at, item_beside, StandsBeside, StandsThere}
+use Rattle.uug_reader.specs.Code.Place.{IsFirst, item_at, item_beside, StandsBeside, StandsThere}
 use Rattle.uug_reader.proofs.PlaceLemmas.{laid, nothing_in_piece, passes_joined, passes_piece, stands_in_piece, stands_joined}
 use Rattle.uug_reader.proofs.ring.search_pieces.Goals as goal
 

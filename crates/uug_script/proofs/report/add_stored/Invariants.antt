@@ -1,5 +1,5 @@
 use Rattle.std.proofs.Common.{◌≡◌, ◌++◌, map, drop, string_bytes}
-use Rattle.uug_session.specs.MemoryHoldings.{kept_of}
+use Rattle.uug_conversation.specs.MemoryHoldings.{kept_of}
 use Rattle.uug_script.specs.ReportText.{stored_text}
 use Rattle.uug_script.proofs.report.add_stored.Given as goal
 

@@ -1,5 +1,5 @@
 use Rattle.std.proofs.Common.{None, false}
-use Rattle.uug_session.specs.declared.verdict.Verdict.TheVariants as verdicts
+use Rattle.uug_conversation.specs.declared.verdict.Verdict.TheVariants as verdicts
 use Rattle.uug_session.proofs.NodeSearchLemmas.{searched_rests}
 use Rattle.uug_session.proofs.ShownItemLemmas.{item_found, nothing_found, one_item}
 use Rattle.uug_session.proofs.arriving_laws.a_search_shows_what_is_found.Goals as goal

@@ -1,4 +1,4 @@
-use Rattle.uug_session.proofs.EarlierJobLemmas.{start_behind, opening_behind, step_behind}
+use Rattle.uug_conversation.proofs.EarlierJobLemmas.{start_behind, opening_behind, step_behind}
 use Rattle.uug_session.proofs.end_laws.earlier_jobs_change_nothing.Goals as goal
 
 pub returns-clause-start : goal.returns-clause-start

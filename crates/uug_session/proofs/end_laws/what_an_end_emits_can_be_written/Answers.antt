@@ -1,4 +1,4 @@
-use Rattle.uug_session.proofs.FitLemmas.{MessagesFit}
+use Rattle.uug_conversation.proofs.FitLemmas.{MessagesFit}
 use Rattle.uug_session.proofs.InRangeLemmas.{LinkLaws, end_begins, end_emits, end_stays, first_words_can}
 use Rattle.uug_session.proofs.end_laws.what_an_end_emits_can_be_written.Goals as goal
 

@@ -1,6 +1,6 @@
 use Rattle.std.proofs.Common.{[], ap}
-use Rattle.uug_session.specs.Jobs.{at_start}
-use Rattle.uug_session.specs.Talk.{replied}
+use Rattle.uug_conversation.specs.Jobs.{at_start}
+use Rattle.uug_conversation.specs.Talk.{replied}
 use Rattle.uug_session.proofs.told_laws.an_end_keeps_what_it_brought.Goals as goal
 
 pub returns-clause-opens : goal.returns-clause-opens

@@ -1,8 +1,8 @@
 use Rattle.std.proofs.Common.{ap, ◌∙◌}
-use Rattle.uug_session.specs.MemoryHoldings.{held_by}
+use Rattle.uug_conversation.specs.MemoryHoldings.{held_by}
 use Rattle.uug_session.specs.Node.{node_of}
-use Rattle.uug_line.specs.Jottings.{jotted}
-use Rattle.uug_line.specs.Live.{Parts, parts_of}
+use Rattle.uug_line.specs.JournalValue.{journal_value}
+use Rattle.uug_line.specs.Live.{LiveEndValue, live_end_value}
 use Rattle.uug_line.proofs.EndCallLemmas.{begun_again}
 use Rattle.uug_line.proofs.live_end.LiveEnd.call_again.Goals as goal
 
@@ -11,6 +11,6 @@ returns-clause-begun g c =
     let laws = c.line_laws.ensures in
     let old = c.args.self.now in
     let node = c.call_again.new.self in
-    let called : Parts = record { node = node_of node; spool = held_by node.spool; jottings = jotted c.replace-journal.new.dest; line = c.clear.new.self } in
-    begun_again laws (parts_of old) called (parts_of c.note_call.new.self) c.requires.ordered c.in_ok-call_again.ensures.session
-    c.in_ok-call_again.ensures.nothing_held (ap held_by c.call_again.ensures.spool) (ap jotted c.replace-journal.ensures.after ∙ c.new.ensures) c.clear.ensures c.in_ok-note_call.ensures
+    let called : LiveEndValue = record { node = node_of node; spool = held_by node.spool; journal = journal_value c.replace-journal.new.dest; line = c.clear.new.self } in
+    begun_again laws (live_end_value old) called (live_end_value c.note_call.new.self) c.requires.ordered c.in_ok-call_again.ensures.session
+    c.in_ok-call_again.ensures.nothing_held (ap held_by c.call_again.ensures.spool) (ap journal_value c.replace-journal.ensures.after ∙ c.new.ensures) c.clear.ensures c.in_ok-note_call.ensures

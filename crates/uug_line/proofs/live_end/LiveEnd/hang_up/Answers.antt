@@ -1,8 +1,8 @@
 use Rattle.std.proofs.Common.{refl, ap}
-use Rattle.uug_session.specs.MemoryHoldings.{held_by}
+use Rattle.uug_conversation.specs.MemoryHoldings.{held_by}
 use Rattle.uug_session.specs.Node.{node_of}
-use Rattle.uug_line.specs.Jottings.{jotted}
-use Rattle.uug_line.specs.Live.{Parts, parts_of}
+use Rattle.uug_line.specs.JournalValue.{journal_value}
+use Rattle.uug_line.specs.Live.{LiveEndValue, live_end_value}
 use Rattle.uug_line.proofs.EndCallLemmas.{hung_up_so}
 use Rattle.uug_line.proofs.live_end.LiveEnd.hang_up.Goals as goal
 
@@ -11,12 +11,12 @@ returns g c =
     let laws = c.line_laws.ensures in
     let old = c.args.self.now in
     let node = c.hang_up.new.self in
-    let called : Parts = record {
+    let called : LiveEndValue = record {
       node = node_of node;
       spool = held_by node.spool;
-      jottings = jotted old.journal;
+      journal = journal_value old.journal;
       line = old.line;
     } in
     hung_up_so laws.reads laws.in_range laws.steps
-    (parts_of old) called (parts_of c.note_call.new.self) c.requires.ordered c.requires.room
+    (live_end_value old) called (live_end_value c.note_call.new.self) c.requires.ordered c.requires.room
     c.hang_up.ensures.stage (ap held_by c.hang_up.ensures.spool) refl refl c.in_ok-note_call.ensures

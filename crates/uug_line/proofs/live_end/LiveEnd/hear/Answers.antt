@@ -1,10 +1,10 @@
 use Rattle.std.proofs.Common.{◌-◌, Bool, length, take, drop, refl, ap, subst, arith}
 use Rattle.std.proofs.lemmas.Bool.Decides.{nat_tests}
 use Rattle.std.proofs.lemmas.List.{take_rest}
-use Rattle.uug_session.specs.MemoryHoldings.{held_by}
+use Rattle.uug_conversation.specs.MemoryHoldings.{held_by}
 use Rattle.uug_session.specs.Node.{node_of}
-use Rattle.uug_line.specs.Jottings.{jotted}
-use Rattle.uug_line.specs.Live.{Parts, TakesItems, parts_of}
+use Rattle.uug_line.specs.JournalValue.{journal_value}
+use Rattle.uug_line.specs.Live.{LiveEndValue, TakesItems, live_end_value}
 use Rattle.uug_line.specs.Shown.{lists_in}
 use Rattle.uug_line.proofs.PieceLemmas.{all_parted, hears_all, hears_some, part_is, part_within, parted, still_hears}
 use Rattle.uug_line.proofs.live_end.LiveEnd.hear.Goals as goal
@@ -17,15 +17,15 @@ returns-then-not-branch g c =
     let count = c.offer-count.result in
     let rest = c.loop-self.rest.now in
     let behind = take (length rest - count) (drop count rest) in
-    let mid : Parts = record { node = node_of node; spool = held_by node.spool; jottings = jotted now.journal; line = now.line } in
-    let new = parts_of c.take_all.new.self in
+    let mid : LiveEndValue = record { node = node_of node; spool = held_by node.spool; journal = journal_value now.journal; line = now.line } in
+    let new = live_end_value c.take_all.new.self in
     let last = c.offer.new.self in
-    let filled : Parts = record { node = node_of last; spool = held_by last.spool; jottings = new.jottings; line = new.line } in
-    let part = part_is (parts_of now) mid (take count rest) c.offer-count.ensures.bytes (ap held_by c.offer-count.ensures.spool) refl refl in
+    let filled : LiveEndValue = record { node = node_of last; spool = held_by last.spool; journal = new.journal; line = new.line } in
+    let part = part_is (live_end_value now) mid (take count rest) c.offer-count.ensures.bytes (ap held_by c.offer-count.ensures.spool) refl refl in
     hears_some c.line_laws.ensures others c.args.piece.now rest (take count rest) behind c.offer.result
-    (parts_of c.args.self.now) (parts_of now) mid new filled
+    (live_end_value c.args.self.now) (live_end_value now) mid new filled
     (parted count rest behind (take_rest rest count)) part c.loop-self.invariant
-    (part_within (parts_of now) mid count rest c.loop-self.invariant.room c.offer-count.ensures.count part)
+    (part_within (live_end_value now) mid count rest c.loop-self.invariant.room c.offer-count.ensures.count part)
     (subst (λ (b : Bool). TakesItems b others mid new) c.if-not-branch.true c.in_ok-take_all.ensures)
     c.offer.ensures.count
     (part_is new filled (take c.offer.result behind) c.offer.ensures.bytes (ap held_by c.offer.ensures.spool) refl refl)
@@ -37,11 +37,11 @@ returns-then-is_empty g c =
     let node = c.offer-count.new.self in
     let count = c.offer-count.result in
     let rest = c.loop-self.rest.now in
-    let mid : Parts = record { node = node_of node; spool = held_by node.spool; jottings = jotted now.journal; line = now.line } in
-    let new = parts_of c.take_all.new.self in
-    hears_all c.line_laws.ensures others c.args.piece.now rest (take count rest) (parts_of c.args.self.now) (parts_of now) mid new
+    let mid : LiveEndValue = record { node = node_of node; spool = held_by node.spool; journal = journal_value now.journal; line = now.line } in
+    let new = live_end_value c.take_all.new.self in
+    hears_all c.line_laws.ensures others c.args.piece.now rest (take count rest) (live_end_value c.args.self.now) (live_end_value now) mid new
     (all_parted count rest (take (length rest - count) (drop count rest)) (take_rest rest count) (grind (arith, nat_tests, c.if-is_empty.ensures)))
-    (part_is (parts_of now) mid (take count rest) c.offer-count.ensures.bytes (ap held_by c.offer-count.ensures.spool) refl refl)
+    (part_is (live_end_value now) mid (take count rest) c.offer-count.ensures.bytes (ap held_by c.offer-count.ensures.spool) refl refl)
     c.loop-self.invariant
     (subst (λ (b : Bool). TakesItems b others mid new) c.if-not-branch.false c.in_ok-take_all.ensures)
 
@@ -52,10 +52,10 @@ loop-self-preserved g c =
     let node = c.offer-count.new.self in
     let count = c.offer-count.result in
     let rest = c.loop-self.rest.now in
-    let mid : Parts = record { node = node_of node; spool = held_by node.spool; jottings = jotted now.journal; line = now.line } in
-    let new = parts_of c.take_all.new.self in
+    let mid : LiveEndValue = record { node = node_of node; spool = held_by node.spool; journal = journal_value now.journal; line = now.line } in
+    let new = live_end_value c.take_all.new.self in
     still_hears c.line_laws.ensures others c.args.piece.now rest (take count rest) (take (length rest - count) (drop count rest))
-    (parts_of c.args.self.now) (parts_of now) mid new (parted count rest (take (length rest - count) (drop count rest)) (take_rest rest count))
-    (part_is (parts_of now) mid (take count rest) c.offer-count.ensures.bytes (ap held_by c.offer-count.ensures.spool) refl refl)
+    (live_end_value c.args.self.now) (live_end_value now) mid new (parted count rest (take (length rest - count) (drop count rest)) (take_rest rest count))
+    (part_is (live_end_value now) mid (take count rest) c.offer-count.ensures.bytes (ap held_by c.offer-count.ensures.spool) refl refl)
     c.loop-self.invariant
     (subst (λ (b : Bool). TakesItems b others mid new) c.if-not-branch.false c.in_ok-take_all.ensures)

@@ -1,6 +1,6 @@
 use Rattle.std.proofs.Common.{subst}
 use Rattle.uug_line.specs.declared.live_end.Taking.{Taking}
-use Rattle.uug_line.specs.Live.{TakesNext, parts_of}
+use Rattle.uug_line.specs.Live.{TakesNext, live_end_value}
 use Rattle.uug_line.specs.Shown.{lists_in}
 use Rattle.uug_line.proofs.PieceLemmas.{still_takes, then_all, then_stopped}
 use Rattle.uug_line.proofs.live_end.LiveEnd.take_all.Goals as goal
@@ -8,20 +8,20 @@ use Rattle.uug_line.proofs.live_end.LiveEnd.take_all.Goals as goal
 pub loop-preserved : goal.loop-preserved
 loop-preserved g c =
     let others = lists_in c.args.others.now in
-    let new = parts_of c.take_next.new.self in
-    still_takes others (parts_of c.args.self.now) (parts_of c.loop.self) new c.loop.invariant
-    (subst (λ (t : Taking). TakesNext t others (parts_of c.loop.self) new) c.in-Goes.is c.in_ok-take_next.ensures)
+    let new = live_end_value c.take_next.new.self in
+    still_takes others (live_end_value c.args.self.now) (live_end_value c.loop.self) new c.loop.invariant
+    (subst (λ (t : Taking). TakesNext t others (live_end_value c.loop.self) new) c.in-Goes.is c.in_ok-take_next.ensures)
 
 pub returns-in-Waits : goal.returns-in-Waits
 returns-in-Waits g c =
     let others = lists_in c.args.others.now in
-    let new = parts_of c.take_next.new.self in
-    then_all others (parts_of c.args.self.now) (parts_of c.loop.self) new c.loop.invariant
-    (subst (λ (t : Taking). TakesNext t others (parts_of c.loop.self) new) c.in-Waits.is c.in_ok-take_next.ensures)
+    let new = live_end_value c.take_next.new.self in
+    then_all others (live_end_value c.args.self.now) (live_end_value c.loop.self) new c.loop.invariant
+    (subst (λ (t : Taking). TakesNext t others (live_end_value c.loop.self) new) c.in-Waits.is c.in_ok-take_next.ensures)
 
 pub returns-in-Stops : goal.returns-in-Stops
 returns-in-Stops g c =
     let others = lists_in c.args.others.now in
-    let new = parts_of c.take_next.new.self in
-    then_stopped others (parts_of c.args.self.now) (parts_of c.loop.self) new c.loop.invariant
-    (subst (λ (t : Taking). TakesNext t others (parts_of c.loop.self) new) c.in-Stops.is c.in_ok-take_next.ensures)
+    let new = live_end_value c.take_next.new.self in
+    then_stopped others (live_end_value c.args.self.now) (live_end_value c.loop.self) new c.loop.invariant
+    (subst (λ (t : Taking). TakesNext t others (live_end_value c.loop.self) new) c.in-Stops.is c.in_ok-take_next.ensures)

@@ -1,12 +1,12 @@
 use Rattle.std.proofs.Common.{length}
 use Rattle.uug_session.specs.Node.{held_bytes, node_of}
-use Rattle.uug_line.specs.Live.{StillTakes, parts_of}
+use Rattle.uug_line.specs.Live.{StillTakes, live_end_value}
 use Rattle.uug_line.specs.Shown.{lists_in}
 use Rattle.uug_line.proofs.live_end.LiveEnd.take_all.Given as goal
 
 -- what is still held is to be taken up
 abbrev pub invariant-loop : goal.invariant-loop
-invariant-loop g l = StillTakes (lists_in l.others) (parts_of l.fn.self) (parts_of l.self)
+invariant-loop g l = StillTakes (lists_in l.others) (live_end_value l.fn.self) (live_end_value l.self)
 
 abbrev pub decreases-loop : goal.decreases-loop
 decreases-loop g l = length (held_bytes (node_of l.self.node))

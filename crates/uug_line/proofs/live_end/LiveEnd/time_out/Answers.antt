@@ -1,8 +1,8 @@
 use Rattle.std.proofs.Common.{refl, ap}
-use Rattle.uug_session.specs.MemoryHoldings.{held_by}
+use Rattle.uug_conversation.specs.MemoryHoldings.{held_by}
 use Rattle.uug_session.specs.Node.{node_of}
-use Rattle.uug_line.specs.Jottings.{jotted}
-use Rattle.uug_line.specs.Live.{Parts, parts_of}
+use Rattle.uug_line.specs.JournalValue.{journal_value}
+use Rattle.uug_line.specs.Live.{LiveEndValue, live_end_value}
 use Rattle.uug_line.proofs.EndCallLemmas.{timed_out_so}
 use Rattle.uug_line.proofs.live_end.LiveEnd.time_out.Goals as goal
 
@@ -11,12 +11,12 @@ returns g c =
     let laws = c.line_laws.ensures in
     let old = c.args.self.now in
     let node = c.on_timeout.new.self in
-    let called : Parts = record {
+    let called : LiveEndValue = record {
       node = node_of node;
       spool = held_by node.spool;
-      jottings = jotted old.journal;
+      journal = journal_value old.journal;
       line = old.line;
     } in
     timed_out_so laws.reads laws.in_range laws.steps
-    (parts_of old) called (parts_of c.note_call.new.self) c.requires.ordered c.requires.room
+    (live_end_value old) called (live_end_value c.note_call.new.self) c.requires.ordered c.requires.room
     c.in_ok-on_timeout.ensures.ok c.on_timeout.ensures.bytes.0 c.on_timeout.ensures.bytes.1 (ap held_by c.on_timeout.ensures.spool) refl refl c.in_ok-note_call.ensures

@@ -1,11 +1,11 @@
-use Rattle.uug_line.specs.Live.{parts_of, told_of}
+use Rattle.uug_line.specs.Live.{live_end_value, told_of}
 use Rattle.uug_line.proofs.RunLemmas.{one_more_shown}
 use Rattle.uug_line.proofs.running.RunSoFar.call_again.Goals as goal
 
 pub returns : goal.returns
 returns g c =
-    let lost_caller = parts_of c.hang_up.new.self in
-    let lost_called = parts_of c.hang_up-2.new.self in
+    let lost_caller = live_end_value c.hang_up.new.self in
+    let lost_called = live_end_value c.hang_up-2.new.self in
     record {
       lost_caller = lost_caller;
       lost_called = lost_called;

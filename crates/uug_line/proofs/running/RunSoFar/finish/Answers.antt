@@ -1,6 +1,6 @@
 use Rattle.std.proofs.Common.{◌∙◌, ℕ, ◌≤◌, subst, sym, true≢false}
-use Rattle.uug_line.specs.Settling.{AreOver, parts_weight}
-use Rattle.uug_line.specs.RunParts.{run_parts}
+use Rattle.uug_line.specs.Code.Settling.{AreOver, parts_weight}
+use Rattle.uug_line.specs.RunValue.{run_value}
 use Rattle.uug_line.proofs.CleanLoop.{begins_so, goes_nearer, is_finished, less_left}
 use Rattle.uug_line.proofs.running.RunSoFar.finish.Goals as goal
 
@@ -11,7 +11,7 @@ prove-unreachable-requires g c =
     let may = c.requires.may in
     let first =
     begins_so setup (λ es. c.a_run_is_the_world.ensures.run setup es may.types.sound) events c.in_ok-all_sent.all_sent
-    (run_parts c.args.self.now) (run_parts c.time_out.new.self) (run_parts c.time_out-2.new.self) (run_parts c.round.new.self) may
+    (run_value c.args.self.now) (run_value c.time_out.new.self) (run_value c.time_out-2.new.self) (run_value c.round.new.self) may
     (c.rounds_lead_to_the_end.ensures setup events may.types may.settles) c.in_ok-time_out.ensures c.in_ok-time_out-2.ensures
     c.in_ok-all_sent.ensures in
     true≢false (sym first.clean ∙ c.if-prove.true)
@@ -19,7 +19,7 @@ prove-unreachable-requires g c =
 pub loop-alloc-init : goal.loop-alloc-init
 loop-alloc-init g c = λ setup events may.
     (begins_so setup (λ es. c.a_run_is_the_world.ensures.run setup es may.types.sound) events c.in_ok-all_sent.all_sent
-    (run_parts c.args.self.now) (run_parts c.time_out.new.self) (run_parts c.time_out-2.new.self) (run_parts c.round.new.self) may
+    (run_value c.args.self.now) (run_value c.time_out.new.self) (run_value c.time_out-2.new.self) (run_value c.round.new.self) may
     (c.rounds_lead_to_the_end.ensures setup events may.types may.settles) c.in_ok-time_out.ensures c.in_ok-time_out-2.ensures
     c.in_ok-all_sent.ensures).near
 
@@ -28,11 +28,11 @@ prove-unreachable-requires-in-loop-alloc g c =
     let setup = c.requires.setup in
     let events = c.requires.events in
     let may = c.requires.may in
-    let old = run_parts c.loop-alloc.self in
+    let old = run_value c.loop-alloc.self in
     let not_over : AreOver old → ⊥ = λ over. true≢false (sym (c.is_over.ensures.1 over) ∙ c.loop-alloc-test.true) in
     let next =
     goes_nearer setup (λ es. c.a_run_is_the_world.ensures.run setup es may.types.sound) events c.in_ok-all_sent-2.all_sent
-    old (run_parts c.round-in-loop-alloc.new.self) (c.loop-alloc.invariant setup events may) not_over c.in_ok-all_sent-2.ensures in
+    old (run_value c.round-in-loop-alloc.new.self) (c.loop-alloc.invariant setup events may) not_over c.in_ok-all_sent-2.ensures in
     true≢false (sym next.clean ∙ c.if-prove-2.true)
 
 pub loop-alloc-smaller : goal.loop-alloc-smaller
@@ -40,8 +40,8 @@ loop-alloc-smaller g c =
     let setup = c.requires.setup in
     let events = c.requires.events in
     let may = c.requires.may in
-    let old = run_parts c.loop-alloc.self in
-    let new = run_parts c.round-in-loop-alloc.new.self in
+    let old = run_value c.loop-alloc.self in
+    let new = run_value c.round-in-loop-alloc.new.self in
     let not_over : AreOver old → ⊥ = λ over. true≢false (sym (c.is_over.ensures.1 over) ∙ c.loop-alloc-test.true) in
     let next =
     goes_nearer setup (λ es. c.a_run_is_the_world.ensures.run setup es may.types.sound) events c.in_ok-all_sent-2.all_sent
@@ -52,12 +52,12 @@ loop-alloc-smaller g c =
 
 pub loop-alloc-preserved : goal.loop-alloc-preserved
 loop-alloc-preserved g c = λ setup events may.
-    let old = run_parts c.loop-alloc.self in
+    let old = run_value c.loop-alloc.self in
     let not_over : AreOver old → ⊥ = λ over. true≢false (sym (c.is_over.ensures.1 over) ∙ c.loop-alloc-test.true) in
     (goes_nearer setup (λ es. c.a_run_is_the_world.ensures.run setup es may.types.sound) events c.in_ok-all_sent-2.all_sent
-    old (run_parts c.round-in-loop-alloc.new.self) (c.loop-alloc.invariant setup events may) not_over c.in_ok-all_sent-2.ensures).near
+    old (run_value c.round-in-loop-alloc.new.self) (c.loop-alloc.invariant setup events may) not_over c.in_ok-all_sent-2.ensures).near
 
 pub returns : goal.returns
 returns g c = λ setup events may.
-    is_finished setup (λ es. c.a_run_is_the_world.ensures.run setup es may.types.sound) events (run_parts c.loop-alloc.self)
+    is_finished setup (λ es. c.a_run_is_the_world.ensures.run setup es may.types.sound) events (run_value c.loop-alloc.self)
     (c.loop-alloc.invariant setup events may) (c.is_over.ensures.0 c.loop-alloc-test.false)

@@ -1,7 +1,7 @@
 use Rattle.std.proofs.Common.{◌∙◌, List, ap, subst, sym}
 use Rattle.uug_session.specs.Node.{node_of}
-use Rattle.uug_line.specs.Jottings.{jotted}
-use Rattle.uug_line.specs.Live.{parts_of, told_of}
+use Rattle.uug_line.specs.JournalValue.{journal_value}
+use Rattle.uug_line.specs.Live.{live_end_value, told_of}
 use Rattle.uug_line.specs.OfSomeRun.{IsOfSomeRun}
 use Rattle.uug_line.specs.Report.{told_by}
 use Rattle.uug_line.specs.Shown.{held_at, owned_by, spool_of, stands_so}
@@ -16,9 +16,9 @@ invariant_of-result g c =
     let caller = run.caller.node in
     let called = run.called.node in
     let sessions = one_more_shown run.past.items c.push.new.self.items c.into_report.result c.into_report-2.result
-    (told_of (parts_of run.caller)) (told_of (parts_of run.called)) c.in_ok-push.ensures.items
-    (c.into_report.ensures ∙ ap (told_by (jotted run.caller.journal)) c.phase-caller_phase.ensures)
-    (c.into_report-2.ensures ∙ ap (told_by (jotted run.called.journal)) c.phase-called_phase.ensures) in (
+    (told_of (live_end_value run.caller)) (told_of (live_end_value run.called)) c.in_ok-push.ensures.items
+    (c.into_report.ensures ∙ ap (told_by (journal_value run.caller.journal)) c.phase-caller_phase.ensures)
+    (c.into_report-2.ensures ∙ ap (told_by (journal_value run.called.journal)) c.phase-called_phase.ensures) in (
       subst (λ (told : List (AtBoth SpelledEnd)). IsOfSomeRun (record {
         told = record {
           sessions = told;

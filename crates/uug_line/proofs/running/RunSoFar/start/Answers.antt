@@ -1,9 +1,9 @@
 use Rattle.std.proofs.Common.{ap, refl}
 use Rattle.uug_link.specs.Announced.{announced}
 use Rattle.uug_session.specs.Engine.{all_ahead}
-use Rattle.uug_session.specs.MemoryHoldings.{held_by}
-use Rattle.uug_session.specs.Turns.{caller, called}
-use Rattle.uug_line.specs.Live.{parts_of}
+use Rattle.uug_conversation.specs.MemoryHoldings.{held_by}
+use Rattle.uug_conversation.specs.Turns.{caller, called}
+use Rattle.uug_line.specs.Live.{live_end_value}
 use Rattle.uug_line.specs.Setup.{setup_of}
 use Rattle.uug_line.proofs.RunLemmas.{begun_as, sessions_none, starts_as}
 use Rattle.uug_line.proofs.running.RunSoFar.start.Goals as goal
@@ -13,8 +13,8 @@ returns g c =
     let setup = c.args.setup in
     let first = c.place_of-caller_place in
     let next = c.place_of-called_place in
-    let first_parts = parts_of c.in_ok-start_caller.field-0 in
-    let next_parts = parts_of c.in_ok-start_called.field-0 in
+    let first_parts = live_end_value c.in_ok-start_caller.field-0 in
+    let next_parts = live_end_value c.in_ok-start_called.field-0 in
     starts_as (setup_of setup) (held_by setup.caller.spool) (held_by setup.called.spool) _
     (sessions_none c.new.result.items c.new.ensures.items) refl refl refl refl
     (begun_as caller first.result.me first.result.peer setup.caller.name setup.called.name (announced first.result.announce) (announced setup.caller.announce)

@@ -1,6 +1,6 @@
 use Rattle.std.proofs.Common.{rules, map}
-use Rattle.uug_session.specs.MemoryHoldings.{kept_of}
-use Rattle.uug_session.specs.Holdings.{kept_file}
+use Rattle.uug_conversation.specs.MemoryHoldings.{kept_of}
+use Rattle.uug_conversation.specs.Holdings.{kept_file}
 use Rattle.uug_pair.proofs.FolderLemmas.{kept_is_placed}
 use Rattle.uug_pair.proofs.folder_spool.FolderSpoolSpool.keep.Goals as goal
 

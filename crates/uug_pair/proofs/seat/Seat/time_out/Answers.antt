@@ -1,7 +1,7 @@
 use Rattle.std.proofs.Common.{ap, ◌∙◌}
 use Rattle.uug_session.specs.EndStep.{EndState}
 use Rattle.uug_session.specs.Node.{node_of}
-use Rattle.uug_session.specs.Talking.{Talking}
+use Rattle.uug_conversation.specs.Talking.{Talking}
 use Rattle.uug_pair.specs.Seats.{seated}
 use Rattle.uug_pair.proofs.seat.Seat.time_out.Goals as goal
 

@@ -1,18 +1,19 @@
-use Rattle.std.proofs.Common.{◌≡◌, ℕ, Bool, false, ◌++◌, map, subst, ap, ◌∙◌, refl, Err, Ok}
+use Rattle.std.proofs.Common.{◌≡◌, ℕ, Bool, false, ◌++◌, map, subst, sym, ap, ◌∙◌, refl, Err, Ok}
 use Rattle.uug_link.specs.Announced.{announced}
 use Rattle.uug_link.specs.declared.outcome.LinkFault.{LinkFault}
 use Rattle.uug_link.specs.declared.outcome.Outcome.{Outcome}
 use Rattle.uug_link.specs.Follows.{Follows, answered}
+use Rattle.uug_link.specs.Outcomes.{MovesPhase}
 use Rattle.uug_link.specs.State.{State}
-use Rattle.uug_link.specs.Step.{Effect, step, packet_found, nothing, up, closed, halted}
+use Rattle.uug_link.specs.Step.{Effect, OutcomeValue, step, packet_found, nothing, up, closed, halted}
 use Rattle.uug_link.specs.Terms.{size_of_code}
 use Rattle.uug_packet.specs.Packet.{shown}
 use Rattle.uug_session.specs.declared.end.End.TheVariants as ends
 use Rattle.uug_session.specs.EndStep.{ends_so, goes_on, leave, message_of}
 use Rattle.uug_session.specs.Engine.{Does, EngineState, end_of, entry_of, packet_effect, stage_of}
-use Rattle.uug_session.specs.Side.{side_of}
-use Rattle.uug_session.specs.Talk.{Talk, end_keeper, opened_with}
-use Rattle.uug_session.specs.Talking.{talk_of}
+use Rattle.uug_conversation.specs.Side.{side_of}
+use Rattle.uug_conversation.specs.Talk.{Talk, end_keeper, opened_with}
+use Rattle.uug_conversation.specs.Talking.{talk_of}
 use Rattle.uug_session.proofs.EngineLemmas.{by_outcome, ends_does, goes_on_does}
 use Rattle.uug_session.proofs.SpeakLemmas.{has_parted_told}
 use Rattle.uug_session.proofs.engine.Engine.hear.Goals as goal
@@ -82,6 +83,18 @@ returns-in-Err-Halted-clause-does g c =
     (by_outcome (end_keeper b.identity.side h) b.identity false halted e (message_of p) (talk_of h kept b.talking) (end_of h kept after) b after told.outcome
     (goes_on_does h kept false e b m after told.state told.emitted
     (ap (λ (x : EngineState). x.stage) c.self.view_is ∙ c.requires.linked) refl refl refl c.speak-in-Err-Halted.ensures.spoken c.speak-in-Err-Halted.ensures.still))
+
+-- the answer Up tells that the link is up
+pub size-size-requires : goal.size-size-requires
+size-size-requires g c =
+    let i = c.self.inside in
+    let p = shown c.args.packet.now in
+    let e : Effect = step i.link (packet_found p) in
+    let told = subst (λ (o : Outcome). Follows e i.link c.on_packet.new.self i.outbox c.on_packet.new.out (answered (Ok o)))
+    c.in-Ok-Up.field-0-is c.in-Ok-Up.ensures in
+    let moves = subst (λ (o : OutcomeValue). MovesPhase o i.link.phase e.state.phase) (sym told.outcome)
+    (c.what_a_link_answers.ensures.phases i.link (packet_found p) tt) in
+    ap (λ (s : State). s.phase) told.state ∙ moves.1
 
 pub returns-in-Ok-Up-clause-does : goal.returns-in-Ok-Up-clause-does
 returns-in-Ok-Up-clause-does g c =

@@ -5,9 +5,9 @@ use Rattle.uug_link.specs.Follows.{Follows, answered, written}
 use Rattle.uug_link.specs.Step.{Effect, step, bad_found, nothing}
 use Rattle.uug_session.specs.EndStep.{bad_came}
 use Rattle.uug_session.specs.Engine.{Does, EngineState, end_of, stage_of}
-use Rattle.uug_session.specs.Side.{side_of}
-use Rattle.uug_session.specs.Talk.{end_keeper}
-use Rattle.uug_session.specs.Talking.{talk_of}
+use Rattle.uug_conversation.specs.Side.{side_of}
+use Rattle.uug_conversation.specs.Talk.{end_keeper}
+use Rattle.uug_conversation.specs.Talking.{talk_of}
 use Rattle.uug_session.proofs.EngineLemmas.{by_outcome, goes_on_does}
 use Rattle.uug_session.proofs.engine.Engine.on_bad.Goals as goal
 

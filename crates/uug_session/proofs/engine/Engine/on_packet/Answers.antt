@@ -1,8 +1,8 @@
 use Rattle.std.proofs.Common.{◌∙◌, false, subst, sym, refl, true≢false}
 use Rattle.uug_link.specs.Announced.{announced}
 use Rattle.uug_packet.specs.Packet.{shown}
-use Rattle.uug_session.specs.Engine.{CountsFaults, EngineState, TakesUp, stage_of}
-use Rattle.uug_session.specs.Side.{side_of}
+use Rattle.uug_session.specs.Engine.{CountsFaults, EngineState, TakesUp, stage_of, faults_max}
+use Rattle.uug_conversation.specs.Side.{side_of}
 use Rattle.uug_session.proofs.EngineLemmas.{hears_reserved, talk_reserved}
 use Rattle.uug_session.proofs.engine.Engine.on_packet.Goals as goal
 
@@ -32,7 +32,7 @@ returns-else-takes-clause-ok g c =
       number = b.number;
     } in
     let room = c.in_ok-reserve-2.ensures in
-    subst (λ (x : EngineState). TakesUp h kept kept (CountsFaults 18446744073709551615 faults faults) p x c.hear.new.self false) c.self.view_is
-    (hears_reserved h kept (CountsFaults 18446744073709551615 faults faults) p b m c.hear.new.self refl refl refl refl
+    subst (λ (x : EngineState). TakesUp h kept kept (CountsFaults faults_max faults faults) p x c.hear.new.self false) c.self.view_is
+    (hears_reserved h kept (CountsFaults faults_max faults faults) p b m c.hear.new.self refl refl refl refl
     (talk_reserved h kept i.dialogue c.reserve-2.new.self room.opened room.machine room.size room.sayings room.offset)
     c.in_ok-reserve.ensures.entries (λ is. true≢false (sym (c.takes.ensures.1 is) ∙ c.if-takes.false)) refl c.hear.ensures.does)

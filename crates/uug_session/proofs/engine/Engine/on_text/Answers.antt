@@ -6,7 +6,7 @@ use Rattle.uug_session.specs.EndStep.{behind_greeting, greeted_so, says_text}
 use Rattle.uug_session.specs.Engine.{Does, EngineState, bare, stage_of}
 use Rattle.uug_session.specs.Greeting.{GreetingStep, number_by, text_came}
 use Rattle.uug_session.specs.Says.{entry_of_text}
-use Rattle.uug_session.specs.Side.{side_of}
+use Rattle.uug_conversation.specs.Side.{side_of}
 use Rattle.uug_session.proofs.EngineLemmas.{greeted_does}
 use Rattle.uug_session.proofs.engine.Engine.on_text.Goals as goal
 

@@ -5,8 +5,8 @@ use Rattle.uug_link.specs.Follows.{Follows, answered, written}
 use Rattle.uug_link.specs.Step.{Effect, step, timed_out, nothing}
 use Rattle.uug_session.specs.EndStep.{late}
 use Rattle.uug_session.specs.Engine.{Does, EngineState, bare, stage_of}
-use Rattle.uug_session.specs.Side.{side_of}
-use Rattle.uug_session.specs.Talking.{talking_has_parted}
+use Rattle.uug_conversation.specs.Side.{side_of}
+use Rattle.uug_conversation.specs.Talking.{talking_has_parted}
 use Rattle.uug_session.proofs.EngineLemmas.{late_by, quiet_does}
 use Rattle.uug_session.proofs.engine.Engine.repeat.Goals as goal
 

@@ -1,7 +1,7 @@
 use Rattle.std.proofs.Common.{◌≡◌, ◌-◌, ◌+◌, ℕ, zero, suc, ap, refl, sym, ◌∙◌, arith}
 use Rattle.uug_link.specs.declared.limits.TheConstants.{WINDOW_MAX}
 use Rattle.uug_session.specs.Engine.{after_sends}
-use Rattle.uug_session.specs.Talking.{talk_of}
+use Rattle.uug_conversation.specs.Talking.{talk_of}
 use Rattle.uug_session.proofs.SaysLemmas.{sends_say}
 use Rattle.uug_session.proofs.SpeakLemmas.{stays_so}
 use Rattle.uug_session.proofs.engine.Engine.send_all.Goals as goal

@@ -2,9 +2,9 @@ use Rattle.std.proofs.Common.{sym, ◌∙◌, ap}
 use Rattle.uug_link.specs.Announced.{announced}
 use Rattle.uug_session.specs.EndStep.{has_room}
 use Rattle.uug_session.specs.Engine.{EngineState, after_sends, stage_of}
-use Rattle.uug_session.specs.Side.{side_of}
-use Rattle.uug_session.specs.Talk.{end_keeper}
-use Rattle.uug_session.specs.Talking.{talk_of}
+use Rattle.uug_conversation.specs.Side.{side_of}
+use Rattle.uug_conversation.specs.Talk.{end_keeper}
+use Rattle.uug_conversation.specs.Talking.{talk_of}
 use Rattle.uug_session.proofs.SpeakLemmas.{room_told, no_room, stays_so, says_nothing_more}
 use Rattle.uug_session.proofs.engine.Engine.send_next.Goals as goal
 

@@ -1,7 +1,7 @@
 use Rattle.std.proofs.Common.{sym, ap, ◌∙◌}
 use Rattle.uug_session.specs.Engine.{EngineState}
 use Rattle.uug_session.specs.EndStep.{is_up}
-use Rattle.uug_session.specs.Talking.{talking_is_through}
+use Rattle.uug_conversation.specs.Talking.{talking_is_through}
 use Rattle.uug_session.proofs.SpeakLemmas.{goes_on_open, says_nothing_down, up_from, up_told}
 use Rattle.uug_session.proofs.engine.Engine.speak.Goals as goal
 

@@ -7,12 +7,12 @@ use Rattle.uug_link.specs.Step.{Effect, step, packet_found, to_close}
 use Rattle.uug_packet.specs.Packet.{shown}
 use Rattle.uug_session.specs.declared.end.End.TheVariants as ends
 use Rattle.uug_session.specs.EndStep.{Identity, ends_so, goes_on, leave, message_of, then_closes}
-use Rattle.uug_session.specs.Engine.{CountsFaults, Does, EngineState, TakesUp, after_speaking, end_of, entry_of, spoken_of, stage_of}
-use Rattle.uug_session.specs.Holdings.{Holdings, Kept}
-use Rattle.uug_session.specs.Runs.{is_bad}
-use Rattle.uug_session.specs.Side.{side_of}
-use Rattle.uug_session.specs.Talk.{Talk, asks_spool, end_keeper, taking}
-use Rattle.uug_session.specs.Talking.{Talking, talk_of}
+use Rattle.uug_session.specs.Engine.{CountsFaults, Does, EngineState, TakesUp, after_speaking, end_of, entry_of, spoken_of, stage_of, faults_max}
+use Rattle.uug_conversation.specs.Holdings.{Holdings, Kept}
+use Rattle.uug_conversation.specs.Runs.{is_bad}
+use Rattle.uug_conversation.specs.Side.{side_of}
+use Rattle.uug_conversation.specs.Talk.{Talk, asks_spool, end_keeper, taking}
+use Rattle.uug_conversation.specs.Talking.{Talking, talk_of}
 use Rattle.uug_session.proofs.EngineLemmas.{closed_behind, ends_does, goes_on_does, taken_bad, taken_failed, taken_well, takes_up}
 use Rattle.uug_session.proofs.SpeakLemmas.{has_parted_told}
 use Rattle.uug_session.proofs.engine.Engine.take.Goals as goal
@@ -22,7 +22,7 @@ returns-then-is_bad-clause-ok g c =
     let h = g.S.Spool.holdings c.args.spool.now in
     let kept = g.S.Spool.kept c.args.spool.now in
     let kept_after = g.S.Spool.kept c.take.new.spool in
-    let counts = CountsFaults 18446744073709551615 (g.S.Spool.faults c.args.spool.now) (g.S.Spool.faults c.take.new.spool) in
+    let counts = CountsFaults faults_max (g.S.Spool.faults c.args.spool.now) (g.S.Spool.faults c.take.new.spool) in
     let p = shown c.args.packet.now in
     let i = c.self.inside in
     let b : EngineState = record {
@@ -70,7 +70,7 @@ returns-else-is_bad-clause-ok g c =
     let h = g.S.Spool.holdings c.args.spool.now in
     let kept = g.S.Spool.kept c.args.spool.now in
     let kept_after = g.S.Spool.kept c.take.new.spool in
-    let counts = CountsFaults 18446744073709551615 (g.S.Spool.faults c.args.spool.now) (g.S.Spool.faults c.take.new.spool) in
+    let counts = CountsFaults faults_max (g.S.Spool.faults c.args.spool.now) (g.S.Spool.faults c.take.new.spool) in
     let p = shown c.args.packet.now in
     let i = c.self.inside in
     let b : EngineState = record {
@@ -111,7 +111,7 @@ returns-in-Err-Device-clause-ok g c =
     let h = g.S.Spool.holdings c.args.spool.now in
     let kept = g.S.Spool.kept c.args.spool.now in
     let kept_after = g.S.Spool.kept c.take.new.spool in
-    let counts = CountsFaults 18446744073709551615 (g.S.Spool.faults c.args.spool.now) (g.S.Spool.faults c.take.new.spool) in
+    let counts = CountsFaults faults_max (g.S.Spool.faults c.args.spool.now) (g.S.Spool.faults c.take.new.spool) in
     let p = shown c.args.packet.now in
     let i = c.self.inside in
     let b : EngineState = record {

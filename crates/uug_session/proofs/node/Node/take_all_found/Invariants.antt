@@ -1,5 +1,5 @@
 use Rattle.std.proofs.Common.{◌≡◌, ◌≤◌, [], length}
-use Rattle.uug_session.specs.Engine.{HasFailed}
+use Rattle.uug_session.specs.Engine.{HasFailed, faults_max}
 use Rattle.uug_session.specs.Node.{held_bytes, node_of}
 use Rattle.uug_session.specs.NodeArriving.{GoesOn}
 use Rattle.uug_session.specs.NodeCalls.{IsMadeOfCalls, beside}
@@ -9,8 +9,8 @@ use Rattle.uug_session.proofs.node.Node.take_all_found.Given as goal
 abbrev pub invariant-loop : goal.invariant-loop
 invariant-loop g l = record {
   goes_on : GoesOn (g.S.Spool.holdings l.fn.self.spool) (g.S.Spool.kept l.fn.self.spool) (g.S.Spool.kept l.self.spool)
-      (HasFailed 18446744073709551615 (g.S.Spool.faults l.fn.self.spool) (g.S.Spool.faults l.self.spool)) [] (node_of l.fn.self) (node_of l.self);
-  made : IsMadeOfCalls (g.S.Spool.holdings l.fn.self.spool) 18446744073709551615 []
+      (HasFailed faults_max (g.S.Spool.faults l.fn.self.spool) (g.S.Spool.faults l.self.spool)) [] (node_of l.fn.self) (node_of l.self);
+  made : IsMadeOfCalls (g.S.Spool.holdings l.fn.self.spool) faults_max []
       (beside (node_of l.fn.self) (g.S.Spool.kept l.fn.self.spool) (g.S.Spool.faults l.fn.self.spool))
       (beside (node_of l.self) (g.S.Spool.kept l.self.spool) (g.S.Spool.faults l.self.spool));
   says : SaysWhatItCan (node_of l.fn.self).engine → SaysWhatItCan (node_of l.self).engine;

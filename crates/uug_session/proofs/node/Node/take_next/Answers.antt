@@ -1,5 +1,5 @@
 use Rattle.std.proofs.Common.{ap, refl, subst, sym, ◌<◌, ◌≤◌, ◌∙◌, [], length}
-use Rattle.uug_session.specs.Engine.{CountsFaults, HasFailed}
+use Rattle.uug_session.specs.Engine.{CountsFaults, HasFailed, faults_max}
 use Rattle.uug_session.specs.Sending.{SaysWhatItCan}
 use Rattle.uug_session.specs.Node.{IsAsBefore, NodeState, TakesShown, held_bytes, node_of}
 use Rattle.uug_session.specs.NodeArriving.{GoesOn}
@@ -42,7 +42,7 @@ returns-in_err-take_found-clause-says g c says =
 
 takes : (g : _) (c : goal.In_ok-take_found g)
     → GoesOn (g.S.Spool.holdings c.args.self.now.spool) (g.S.Spool.kept c.args.self.now.spool) (g.S.Spool.kept c.take_found.new.self.spool)
-    (HasFailed 18446744073709551615 (g.S.Spool.faults c.args.self.now.spool) (g.S.Spool.faults c.take_found.new.self.spool))
+    (HasFailed faults_max (g.S.Spool.faults c.args.self.now.spool) (g.S.Spool.faults c.take_found.new.self.spool))
     [] (node_of c.args.self.now) (node_of c.take_found.new.self)
     × (length (held_bytes (node_of c.take_found.new.self)) < length (held_bytes (node_of c.args.self.now)))
 takes g c =
@@ -50,11 +50,11 @@ takes g c =
     let found = c.search.new.self in
     let new = c.take_found.new.self in
     takes_next c.item_laws.ensures (g.S.Spool.holdings old.spool) (g.S.Spool.kept old.spool) (g.S.Spool.kept new.spool)
-    (CountsFaults 18446744073709551615 (g.S.Spool.faults old.spool) (g.S.Spool.faults new.spool))
-    (HasFailed 18446744073709551615 (g.S.Spool.faults old.spool) (g.S.Spool.faults new.spool)) (λ failed. failed)
+    (CountsFaults faults_max (g.S.Spool.faults old.spool) (g.S.Spool.faults new.spool))
+    (HasFailed faults_max (g.S.Spool.faults old.spool) (g.S.Spool.faults new.spool)) (λ failed. failed)
     (node_of old) (node_of found) (node_of new) c.in_ok-take_found.field-0 c.search.ensures.found
     (subst (λ s. TakesShown (g.S.Spool.holdings s) (g.S.Spool.kept s) (g.S.Spool.kept new.spool)
-    (CountsFaults 18446744073709551615 (g.S.Spool.faults s) (g.S.Spool.faults new.spool)) (node_of found) (node_of new) c.in_ok-take_found.field-0)
+    (CountsFaults faults_max (g.S.Spool.faults s) (g.S.Spool.faults new.spool)) (node_of found) (node_of new) c.in_ok-take_found.field-0)
     c.search.ensures.spool c.in_ok-take_found.ensures.taken)
 
 pub returns-clause-goes_on : goal.returns-clause-goes_on
@@ -67,7 +67,7 @@ pub returns-then-is_none-clause-made : goal.returns-then-is_none-clause-made
 returns-then-is_none-clause-made g c =
     let old = c.args.self.now in
     let found = c.search.new.self in
-    looked_made (g.S.Spool.holdings old.spool) 18446744073709551615
+    looked_made (g.S.Spool.holdings old.spool) faults_max
     (beside (node_of old) (g.S.Spool.kept old.spool) (g.S.Spool.faults old.spool))
     (beside (node_of found) (g.S.Spool.kept found.spool) (g.S.Spool.faults found.spool))
     c.search.ensures.found
@@ -82,9 +82,9 @@ returns-in_err-take_found-clause-made g c =
     let first = beside (node_of old) (g.S.Spool.kept old.spool) (g.S.Spool.faults old.spool) in
     let middle = beside (node_of found) (g.S.Spool.kept old.spool) (g.S.Spool.faults old.spool) in
     let last = beside (node_of new) (g.S.Spool.kept new.spool) (g.S.Spool.faults new.spool) in
-    made_of_both h 18446744073709551615 [] [] first middle last
-    (looked_made h 18446744073709551615 first middle c.search.ensures.found (record { kept = refl; faults = refl }))
-    (refused_made h 18446744073709551615 middle last
+    made_of_both h faults_max [] [] first middle last
+    (looked_made h faults_max first middle c.search.ensures.found (record { kept = refl; faults = refl }))
+    (refused_made h faults_max middle last
     (c.in_err-take_found.ensures.faults ∙ ap (g.S.Spool.faults) c.search.ensures.spool)
     (subst (λ s. IsAsBefore (g.S.Spool.holdings s) (g.S.Spool.kept s) (g.S.Spool.kept new.spool) (node_of found) (node_of new))
     c.search.ensures.spool c.in_err-take_found.ensures.err))
@@ -98,10 +98,10 @@ returns-clause-made g c =
     let first = beside (node_of old) (g.S.Spool.kept old.spool) (g.S.Spool.faults old.spool) in
     let middle = beside (node_of found) (g.S.Spool.kept old.spool) (g.S.Spool.faults old.spool) in
     let last = beside (node_of new) (g.S.Spool.kept new.spool) (g.S.Spool.faults new.spool) in
-    made_of_both h 18446744073709551615 [] [] first middle last
-    (looked_made h 18446744073709551615 first middle c.search.ensures.found (record { kept = refl; faults = refl }))
-    (took_made h 18446744073709551615 c.in_ok-take_found.field-0 middle last
+    made_of_both h faults_max [] [] first middle last
+    (looked_made h faults_max first middle c.search.ensures.found (record { kept = refl; faults = refl }))
+    (took_made h faults_max c.in_ok-take_found.field-0 middle last
     (subst (λ s. g.S.Spool.faults s ≤ g.S.Spool.faults new.spool) c.search.ensures.spool c.take_found.ensures.count)
     (subst (λ s. TakesShown (g.S.Spool.holdings s) (g.S.Spool.kept s) (g.S.Spool.kept new.spool)
-    (CountsFaults 18446744073709551615 (g.S.Spool.faults s) (g.S.Spool.faults new.spool)) (node_of found) (node_of new) c.in_ok-take_found.field-0)
+    (CountsFaults faults_max (g.S.Spool.faults s) (g.S.Spool.faults new.spool)) (node_of found) (node_of new) c.in_ok-take_found.field-0)
     c.search.ensures.spool c.in_ok-take_found.ensures.taken))

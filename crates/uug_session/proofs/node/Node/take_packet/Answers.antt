@@ -1,6 +1,6 @@
 use Rattle.std.proofs.Common.{drop}
 use Rattle.uug_packet.specs.Packet.{shown}
-use Rattle.uug_session.specs.Engine.{CountsFaults}
+use Rattle.uug_session.specs.Engine.{CountsFaults, faults_max}
 use Rattle.uug_session.specs.Node.{NodeState, node_of, packet_item}
 use Rattle.uug_session.proofs.NodeLemmas.{reading_is, shows_packet, takes_packet}
 use Rattle.uug_session.proofs.node.Node.take_packet.Goals as goal
@@ -13,7 +13,7 @@ returns-in_ok-took-in-Some-Packet g c =
     let after : NodeState = record { engine = c.on_packet.new.self; texts = n.texts; packets = c.drop_found.new.self } in
     let t =
     takes_packet (g.S.Spool.holdings n.spool) (g.S.Spool.kept n.spool) (g.S.Spool.kept c.on_packet.new.spool)
-    (CountsFaults 18446744073709551615 (g.S.Spool.faults n.spool) (g.S.Spool.faults c.on_packet.new.spool))
+    (CountsFaults faults_max (g.S.Spool.faults n.spool) (g.S.Spool.faults c.on_packet.new.spool))
     (shown p) before after c.in_ok-took-in-Some-Packet.took
     c.requires.linked (shows_packet n.packets n.texts c.in-Some-Packet.field-0 p c.in-Some-Packet.field-0-is c.in-Some-Packet.ensures)
     c.in_ok-took-in-Some-Packet.ensures.ok

@@ -1,5 +1,5 @@
 use Rattle.std.proofs.Common.{drop, refl, ◌∙◌}
-use Rattle.uug_session.specs.Engine.{CountsFaults}
+use Rattle.uug_session.specs.Engine.{CountsFaults, faults_max}
 use Rattle.uug_session.specs.Node.{NodeState, node_of, text_item}
 use Rattle.uug_session.proofs.NodeLemmas.{all_pushed, reading_is, takes_text, texts_held_is}
 use Rattle.uug_session.proofs.node.Node.take_text.Goals as goal
@@ -10,7 +10,7 @@ returns-clause-ok g c =
     let before = node_of n in
     let text = c.in-Some.text.now in
     let after : NodeState = record { engine = c.on_text.new.self; texts = c.drop_found.new.self; packets = c.push.new.self } in
-    let counts = CountsFaults 18446744073709551615 (g.S.Spool.faults n.spool) (g.S.Spool.faults n.spool) in
+    let counts = CountsFaults faults_max (g.S.Spool.faults n.spool) (g.S.Spool.faults n.spool) in
     let t =
     takes_text (g.S.Spool.holdings n.spool) (g.S.Spool.kept n.spool) counts c.args.greeting text before after
     c.requires.hailing c.in-Some.ensures.shows c.in_ok-on_text.ensures.ok (

@@ -1,0 +1,180 @@
+//! What is told to somebody who sees the messages of two ends. The clauses say what is counted; these rows say what is told
+//! of jobs.
+
+use crate::tests::assertions::assert_same_at;
+use arrayvec::ArrayVec;
+use std::alloc::Global;
+use std::test::Fail;
+use uug_follow::{Journal, News, Observer, Outcome, Way};
+use uug_packet::{PACKET_MAX, Packet, Seq, encode};
+
+/// How many jobs began, and how they ended, with all bytes of their files.
+#[derive(Clone, Copy, Debug, PartialEq, Eq)]
+struct Notes {
+    begun: u8,
+    done: u8,
+    refused: u8,
+    put_off: u8,
+    bytes: u64,
+}
+
+impl Journal for Notes {
+    fn note(&mut self, news: &News) {
+        match news {
+            News::Begins(_) => self.begun = self.begun.saturating_add(1),
+            News::Ends(_, outcome, bytes) => {
+                self.bytes = self.bytes.saturating_add(*bytes);
+                match outcome {
+                    Outcome::Done => self.done = self.done.saturating_add(1),
+                    Outcome::Never => self.refused = self.refused.saturating_add(1),
+                    Outcome::Later => self.put_off = self.put_off.saturating_add(1),
+                }
+            }
+        }
+    }
+}
+
+/// A message that goes one way.
+type Said = (Way, &'static [u8]);
+
+const SEND: Said = (Way::Out, b"S x y u - x 0644\0");
+
+const REQUEST: Said = (Way::Out, b"R x y u -\0");
+
+const OTHERS_REQUEST: Said = (Way::In, b"R x y u -\0");
+
+const NOTHING: Notes = Notes {
+    begun: 0,
+    done: 0,
+    refused: 0,
+    put_off: 0,
+    bytes: 0,
+};
+
+const REFUSED: Notes = Notes {
+    begun: 1,
+    done: 0,
+    refused: 1,
+    put_off: 0,
+    bytes: 0,
+};
+
+const PUT_OFF: Notes = Notes {
+    begun: 1,
+    done: 0,
+    refused: 0,
+    put_off: 1,
+    bytes: 0,
+};
+
+/// A job is done whose file has five bytes.
+const DONE: Notes = Notes {
+    begun: 1,
+    done: 1,
+    refused: 0,
+    put_off: 0,
+    bytes: 5,
+};
+
+/// What goes over the line, and what is then told.
+const ROWS: &[(&[Said], Notes)] = &[
+    (&[], NOTHING),
+    // the bytes of a file, and the empty message that ends it
+    (
+        &[
+            SEND,
+            (Way::In, b"SY\0"),
+            (Way::Out, b"abc"),
+            (Way::Out, b"CN"),
+            (Way::Out, b""),
+            (Way::In, b"CY\0"),
+        ],
+        DONE,
+    ),
+    // those of a request come the other way
+    (
+        &[
+            REQUEST,
+            (Way::In, b"RY 0644\0"),
+            (Way::In, b"abcde"),
+            (Way::In, b""),
+            (Way::Out, b"CY\0"),
+        ],
+        DONE,
+    ),
+    (
+        &[
+            OTHERS_REQUEST,
+            (Way::Out, b"RY 0644\0"),
+            (Way::Out, b"abcde"),
+            (Way::Out, b""),
+            (Way::In, b"CYM\0"),
+        ],
+        DONE,
+    ),
+    (&[SEND, (Way::In, b"SN2\0")], REFUSED),
+    (&[REQUEST, (Way::In, b"RN2\0")], REFUSED),
+    (&[SEND, (Way::In, b"SN4\0")], PUT_OFF),
+    // an answer to no job, and no text
+    (&[(Way::In, b"CY\0")], NOTHING),
+    (
+        &[
+            (Way::In, b"hello\0"),
+            (Way::Out, b"H\0"),
+            (Way::In, b"HY\0"),
+        ],
+        NOTHING,
+    ),
+];
+
+/// Follows these messages, each of them in a packet of its own.
+fn follow(alloc: Global, said: &[Said]) -> Result<Notes, Fail> {
+    let mut observer = Observer::new(alloc)?;
+    let mut notes = NOTHING;
+    let (mut outward, mut inward) = (FIRST, FIRST);
+    let mut packet = ArrayVec::new();
+    for (way, message) in said {
+        let seq = match way {
+            Way::Out => step(&mut outward),
+            Way::In => step(&mut inward),
+        };
+        write_packet(seq, message, &mut packet);
+        observer.see(*way, packet.as_slice(), &mut notes);
+    }
+    Ok(notes)
+}
+
+/// The first data packet of a link has this number.
+const FIRST: u8 = 1;
+
+/// The number, after which the next one comes.
+fn step(next: &mut u8) -> u8 {
+    let seq = *next % 8;
+    *next = (seq + 1) % 8;
+    seq
+}
+
+/// Writes the packet of this number, with the smallest field. A longer message is cut.
+fn write_packet(seq: u8, message: &[u8], out: &mut ArrayVec<u8, PACKET_MAX>) {
+    let (Some(seq), Some(ack)) = (Seq::new(seq % 8), Seq::new(0)) else {
+        return;
+    };
+    let message = &message[..message.len().min(32)];
+    encode(
+        &Packet::Carry {
+            seq,
+            ack,
+            k: 1,
+            message,
+        },
+        out,
+    );
+}
+
+#[test]
+fn jobs_are_told_as_they_begin_and_end(rt: HostRuntime) -> Result<(), Fail> {
+    for (place, (said, notes)) in ROWS.iter().enumerate() {
+        assert_same_at(&rt, follow(rt.alloc(), said)?, *notes, place);
+    }
+    Ok(())
+}

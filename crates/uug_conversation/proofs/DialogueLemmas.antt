@@ -1,0 +1,41 @@
+-- The dialogue of one end, as the part of it that the definitions keep.
+use Rattle.std.proofs.Common.{◌≡◌, ℕ, Bool, true, List, ◌++◌, Option, Some, sym, ap, ◌∙◌}
+use Rattle.uug_conversation.specs.declared.reaction.Reaction.{Reaction}
+use Rattle.uug_conversation.specs.Holdings.{Kept, Holdings}
+use Rattle.uug_conversation.specs.Machine.{State, Reply, between, step}
+use Rattle.uug_conversation.specs.Outgoing.{IsWithin, outgoing_messages, sayings_of}
+use Rattle.uug_conversation.specs.Reactions.{reply_of}
+use Rattle.uug_conversation.specs.Talk.{Talk, taking}
+use Rattle.uug_conversation.specs.Talking.{Talking, talk_of, told_as}
+use Rattle.uug_conversation.specs.Turns.{all_messages}
+use Rattle.uug_conversation.proofs.OutgoingLemmas.{said_behind}
+
+abbrev talk : Bool → State → (size : ℕ) → (waiting : List (List ℕ)) → List Kept → Talk
+talk o m size waiting kept = record { opened = o; machine = m; size = size; waiting = waiting; kept = kept }
+
+talk_is : (o o_is : Bool) (m m_is : State) (size : ℕ) (waiting waiting_is : List (List ℕ)) (kept kept_is : List Kept) →
+    o ≡ o_is → m ≡ m_is → waiting ≡ waiting_is → kept ≡ kept_is →
+    talk o m size waiting kept ≡ talk o_is m_is size waiting_is kept_is
+talk_is o o_is m m_is size waiting waiting_is kept kept_is e f w k = cc
+
+-- what a reaction leaves is what the machine replies
+pub taken_is : (h : Holdings) (kept kept_after : List Kept) (t t_after : Talking) (message : List ℕ) (told : Option Reaction)
+    (r : Reaction) (s_after : State) → t.opened ≡ true → told ≡ Some r →
+    step h t.machine message ≡ told_as h s_after told (step h t.machine message).keeps →
+    kept_after ≡ kept ++ (step h t.machine message).keeps →
+    t_after.opened ≡ t.opened → t_after.size ≡ t.size → t_after.machine ≡ between s_after.lists r.awaits →
+    IsWithin t.outgoing.sayings t.outgoing.offset →
+    t_after.outgoing.sayings ≡ t.outgoing.sayings ++ sayings_of r.says → t_after.outgoing.offset ≡ t.outgoing.offset →
+    talk_of h kept_after t_after ≡ taking h message (talk_of h kept t)
+taken_is h kept kept_after t t_after message told r s_after o n e k o_same s_same m w a f =
+    let reply : step h t.machine message ≡ reply_of h s_after.lists r (step h t.machine message).keeps =
+    e ∙ ap (λ z. told_as h s_after z (step h t.machine message).keeps) n in
+    let said = ap (λ z. outgoing_messages h z t_after.outgoing) s_same
+    ∙ said_behind h t.size t.outgoing t_after.outgoing r.says w a f
+    ∙ ap (λ (z : Reply). outgoing_messages h t.size t.outgoing ++ all_messages t.size z.says) (sym reply) in
+    ap (λ z. talk t_after.opened t_after.machine z (outgoing_messages h t_after.size t_after.outgoing) kept_after) s_same
+    ∙ talk_is t_after.opened true t_after.machine (step h t.machine message).state t.size
+    (outgoing_messages h t_after.size t_after.outgoing)
+    (outgoing_messages h t.size t.outgoing ++ all_messages t.size (step h t.machine message).says)
+    kept_after (kept ++ (step h t.machine message).keeps)
+    (o_same ∙ o) (m ∙ sym (ap (λ (z : Reply). z.state) reply)) said k

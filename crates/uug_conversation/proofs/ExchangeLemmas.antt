@@ -1,0 +1,282 @@
+-- The exchange of one job in front of what an end accords with: at the master's side, and at the slave's.
+use Rattle.std.proofs.Common.{◌≡◌, ℕ, ◌<◌, Bool, true, false, List, [], ◌∷◌, ◌++◌, Option, Some, None, refl, ap, ◌∙◌}
+use Rattle.uug_talk.specs.declared.answer.Answer.TheVariants as answer
+use Rattle.uug_talk.specs.declared.order.Order.TheVariants as order
+use Rattle.uug_conversation.specs.declared.awaits.Awaits.{Awaits}
+use Rattle.uug_conversation.specs.declared.awaits.Awaits.TheVariants as awaits
+use Rattle.uug_conversation.specs.declared.job.Job.{Job}
+use Rattle.uug_conversation.specs.declared.job.Job.TheVariants as job
+use Rattle.uug_conversation.specs.declared.verdict.Verdict.{Verdict}
+use Rattle.uug_conversation.specs.declared.verdict.Verdict.TheVariants.{Yes, Never, Later}
+use Rattle.uug_conversation.specs.Choice.{choice, fetched_by, send_choice}
+use Rattle.uug_conversation.specs.Conversation.{exchanges}
+use Rattle.uug_conversation.specs.Exchange.{send_exchange, request_exchange, exchange}
+use Rattle.uug_conversation.specs.Holdings.{File, Kept, Holdings, to_give, kept_as}
+use Rattle.uug_conversation.specs.Jobs.{Lists, Move, pass, strike, fail, moved, moved_once}
+use Rattle.uug_conversation.specs.Machine.{State, Reply, between, replies, kind_awaited, on_whole, keeps, chooses, goes_on, on_send, on_request, on_order, sends_file, on_request_answer, on_sent_file, on_asked_file}
+use Rattle.uug_conversation.specs.ReadBack.{IsReadBack, EachTurn}
+use Rattle.uug_conversation.specs.Turns.{Side, other, Said, the_order, the_answer, the_file, said_messages, all_messages, Turn}
+use Rattle.uug_conversation.proofs.TalkLaws.{GatherLaws}
+use Rattle.uug_conversation.proofs.TurnLemmas.{Fits, Open, said_kind, said_bytes, own_says, other_says}
+
+module _ (gathers : GatherLaws) (size_of : Side → ℕ) (positive : (side : Side) → 0 < size_of side) (me : Side) (h : Holdings) where
+  -- what an end replies accords with these turns
+  abbrev pub FitsReply : Reply → List Turn → Type 0
+  FitsReply r ts = Fits h size_of me r.state (all_messages (size_of me) r.says) ts
+
+  -- whatever became of the jobs before these
+  abbrev pub Masters : List Job → List Turn → Type 0
+  Masters jobs ts = (passed struck failed : List Job) →
+      FitsReply (goes_on h (record { passed = passed; ahead = jobs; struck = struck; failed = failed }) []) ts
+
+  abbrev pub lists : (passed jobs struck failed : List Job) → Lists
+  lists passed jobs struck failed = record { passed = passed; ahead = jobs; struck = struck; failed = failed }
+
+  pub say : {said : Said} {moves : List Move} {keeps : List Kept} {ts : List Turn} {s : State} {left : List (List ℕ)} →
+      IsReadBack said → Fits h size_of me s left ts →
+      Fits h size_of me s (said_messages (size_of me) said ++ left)
+      (record { speaker = me; said = said; moves = moves; keeps = keeps } ∷ ts)
+  say {said} {moves} {keeps} {ts} {s} {left} back fits =
+      own_says gathers size_of positive me h said moves keeps ts s left back fits.accords
+
+  -- a text or a file, by the reply to it
+  pub hear_text : {said : Said} {moves : List Move} {keeps : List Kept} {ts : List Turn} {l : Lists} {w : Awaits} {r : Reply} →
+      IsReadBack said → said_kind said ≡ kind_awaited w → Open w → on_whole (kind_awaited w) h w (said_bytes said) l ≡ r →
+      r.state.lists ≡ moved moves l → r.keeps ≡ keeps → FitsReply r ts →
+      Fits h size_of me (between l w) [] (record { speaker = other me; said = said; moves = moves; keeps = keeps } ∷ ts)
+  hear_text {said} {moves} {keeps} {ts} {l} {w} {r} back kind opened e lists_so keeps_so fits =
+      other_says gathers size_of positive me h said moves keeps ts l w back kind opened r e
+      (record { lists_moved = lists_so; kept = keeps_so }) fits
+
+  -- ---- Send, at the master's
+
+  send_offered : (source target user : List ℕ) (temp : Option (List ℕ)) (file : File) →
+      to_give h (fetched_by source temp) ≡ Some file → (verdict : Verdict) (immovable : Bool) →
+      (passed jobs struck failed : List Job) (ts : List Turn) →
+      EachTurn (λ t. IsReadBack t.said) (send_exchange me (other me) source target user temp (Some file) verdict immovable (choice h jobs).failing ts) →
+      Masters jobs ts →
+      FitsReply (replies (lists passed (job.Send source target user temp ∷ jobs) struck failed) awaits.SendAnswer
+      (the_order (order.Send source target user temp file.mode) ∷ []))
+      (send_exchange me (other me) source target user temp (Some file) verdict immovable (choice h jobs).failing ts)
+  send_offered source target user temp file e Never immovable passed jobs struck failed ts back rest =
+      let l = lists passed (job.Send source target user temp ∷ jobs) struck failed in
+      say back.0
+      (hear_text {r = goes_on h (moved_once fail l) []} back.1.0 refl (record { not_over = refl; not_bad = refl; not_parted = refl })
+      refl refl refl
+      (rest passed struck (failed ++ job.Send source target user temp ∷ [])))
+  send_offered source target user temp file e Later immovable passed jobs struck failed ts back rest =
+      let l = lists passed (job.Send source target user temp ∷ jobs) struck failed in
+      say back.0
+      (hear_text {r = goes_on h (moved_once pass l) []} back.1.0 refl (record { not_over = refl; not_bad = refl; not_parted = refl })
+      refl refl refl
+      (rest (passed ++ job.Send source target user temp ∷ []) struck failed))
+  send_offered source target user temp file e Yes false passed jobs struck failed ts back rest =
+      let l = lists passed (job.Send source target user temp ∷ jobs) struck failed in
+      say back.0
+      (hear_text {r = replies l awaits.SentFileDone (the_file file.bytes ∷ [])} back.1.0 refl
+      (record { not_over = refl; not_bad = refl; not_parted = refl })
+      (ap (λ f. sends_file f l) e) refl refl
+      (say back.1.1.0
+      (hear_text {r = goes_on h (moved_once strike l) []} back.1.1.1.0 refl (record { not_over = refl; not_bad = refl; not_parted = refl })
+      refl refl refl
+      (rest passed (struck ++ job.Send source target user temp ∷ []) failed))))
+  send_offered source target user temp file e Yes true passed jobs struck failed ts back rest =
+      let l = lists passed (job.Send source target user temp ∷ jobs) struck failed in
+      say back.0
+      (hear_text {r = replies l awaits.SentFileDone (the_file file.bytes ∷ [])} back.1.0 refl
+      (record { not_over = refl; not_bad = refl; not_parted = refl })
+      (ap (λ f. sends_file f l) e) refl refl
+      (say back.1.1.0
+      (hear_text {r = goes_on h (moved_once fail l) []} back.1.1.1.0 refl (record { not_over = refl; not_bad = refl; not_parted = refl })
+      refl refl refl
+      (rest passed struck (failed ++ job.Send source target user temp ∷ [])))))
+
+  send_as_master : (source target user : List ℕ) (temp : Option (List ℕ)) (found : Option File) →
+      to_give h (fetched_by source temp) ≡ found → (verdict : Verdict) (immovable : Bool) →
+      (passed jobs struck failed : List Job) (ts : List Turn) →
+      EachTurn (λ t. IsReadBack t.said) (send_exchange me (other me) source target user temp found verdict immovable (choice h jobs).failing ts) →
+      Masters jobs ts →
+      FitsReply (chooses (send_choice source target user temp found (choice h jobs))
+      (lists passed (job.Send source target user temp ∷ jobs) struck failed) [])
+      (send_exchange me (other me) source target user temp found verdict immovable (choice h jobs).failing ts)
+  send_as_master source target user temp None e verdict immovable passed jobs struck failed ts back rest =
+      rest passed struck (failed ++ job.Send source target user temp ∷ [])
+  send_as_master source target user temp (Some file) e verdict immovable passed jobs struck failed ts back rest =
+      send_offered source target user temp file e verdict immovable passed jobs struck failed ts back rest
+
+  -- ---- Request, at the master's
+
+  request_as_master : (source target user : List ℕ) (found : Option File) (immovable : Bool) → h.immovable target ≡ immovable →
+      (passed jobs struck failed : List Job) (ts : List Turn) →
+      EachTurn (λ t. IsReadBack t.said) (request_exchange me (other me) source target user found immovable (choice h jobs).failing ts) →
+      Masters jobs ts →
+      FitsReply (replies (lists passed (job.Request source target user ∷ jobs) struck failed) awaits.RequestAnswer
+      (the_order (order.Request source target user) ∷ []))
+      (request_exchange me (other me) source target user found immovable (choice h jobs).failing ts)
+  request_as_master source target user None immovable e passed jobs struck failed ts back rest =
+      let l = lists passed (job.Request source target user ∷ jobs) struck failed in
+      say back.0
+      (hear_text {r = goes_on h (moved_once fail l) []} back.1.0 refl (record { not_over = refl; not_bad = refl; not_parted = refl })
+      refl refl refl
+      (rest passed struck (failed ++ job.Request source target user ∷ [])))
+  request_as_master source target user (Some file) false e passed jobs struck failed ts back rest =
+      let l = lists passed (job.Request source target user ∷ jobs) struck failed in
+      say back.0
+      (hear_text {r = replies l (awaits.AskedFile file.mode) []} back.1.0 refl
+      (record { not_over = refl; not_bad = refl; not_parted = refl })
+      (ap (λ a. on_request_answer h a l) back.1.0.1) refl refl
+      (hear_text {r = keeps (kept_as target file) (goes_on h (moved_once strike l) (the_answer answer.DoneYes ∷ []))} back.1.1.0 refl
+      (record { not_over = refl; not_bad = refl; not_parted = refl })
+      (ap (λ i. on_asked_file h i (kept_as target file) l) e) refl refl
+      (say back.1.1.1.0 (rest passed (struck ++ job.Request source target user ∷ []) failed))))
+  request_as_master source target user (Some file) true e passed jobs struck failed ts back rest =
+      let l = lists passed (job.Request source target user ∷ jobs) struck failed in
+      say back.0
+      (hear_text {r = replies l (awaits.AskedFile file.mode) []} back.1.0 refl
+      (record { not_over = refl; not_bad = refl; not_parted = refl })
+      (ap (λ a. on_request_answer h a l) back.1.0.1) refl refl
+      (hear_text {r = goes_on h (moved_once fail l) (the_answer answer.DoneNever ∷ [])} back.1.1.0 refl
+      (record { not_over = refl; not_bad = refl; not_parted = refl })
+      (ap (λ i. on_asked_file h i (kept_as target file) l) e) refl refl
+      (say back.1.1.1.0 (rest passed struck (failed ++ job.Request source target user ∷ [])))))
+
+  -- ---- all jobs of a master, at its side
+
+  job_as_master : (others : Holdings) (j : Job) (jobs : List Job) (ts : List Turn) →
+      EachTurn (λ t. IsReadBack t.said) (exchange me (other me) h others j (choice h jobs).failing ts) →
+      Masters jobs ts → Masters (j ∷ jobs) (exchange me (other me) h others j (choice h jobs).failing ts)
+  job_as_master others (job.Send source target user temp) jobs ts back rest passed struck failed =
+      send_as_master source target user temp (to_give h (fetched_by source temp)) refl (others.verdict target)
+      (others.immovable target) passed jobs struck failed ts back rest
+  job_as_master others (job.Request source target user) jobs ts back rest passed struck failed =
+      request_as_master source target user (to_give others source) (h.immovable target) refl passed jobs struck failed ts back rest
+
+  behind_send : (master slave : Side) (source target user : List ℕ) (temp : Option (List ℕ)) (found : Option File)
+      (verdict : Verdict) (immovable : Bool) (next : List Move) (ts : List Turn) →
+      EachTurn (λ t. IsReadBack t.said) (send_exchange master slave source target user temp found verdict immovable next ts) →
+      EachTurn (λ t. IsReadBack t.said) ts
+  behind_send master slave source target user temp None verdict immovable next ts back = back
+  behind_send master slave source target user temp (Some file) Never immovable next ts back = back.1.1
+  behind_send master slave source target user temp (Some file) Later immovable next ts back = back.1.1
+  behind_send master slave source target user temp (Some file) Yes false next ts back = back.1.1.1.1
+  behind_send master slave source target user temp (Some file) Yes true next ts back = back.1.1.1.1
+
+  behind_request : (master slave : Side) (source target user : List ℕ) (found : Option File)
+      (immovable : Bool) (next : List Move) (ts : List Turn) →
+      EachTurn (λ t. IsReadBack t.said) (request_exchange master slave source target user found immovable next ts) →
+      EachTurn (λ t. IsReadBack t.said) ts
+  behind_request master slave source target user None immovable next ts back = back.1.1
+  behind_request master slave source target user (Some file) false next ts back = back.1.1.1.1
+  behind_request master slave source target user (Some file) true next ts back = back.1.1.1.1
+
+  behind_exchange : (master slave : Side) (own others : Holdings) (j : Job) (next : List Move) (ts : List Turn) →
+      EachTurn (λ t. IsReadBack t.said) (exchange master slave own others j next ts) → EachTurn (λ t. IsReadBack t.said) ts
+  behind_exchange master slave own others (job.Send source target user temp) next ts back =
+      behind_send master slave source target user temp (to_give own (fetched_by source temp)) (others.verdict target)
+      (others.immovable target) next ts back
+  behind_exchange master slave own others (job.Request source target user) next ts back =
+      behind_request master slave source target user (to_give others source) (own.immovable target) next ts back
+
+  pub behind_exchanges : (master slave : Side) (own others : Holdings) (jobs : List Job) (ts : List Turn) →
+      EachTurn (λ t. IsReadBack t.said) (exchanges master slave own others jobs ts) → EachTurn (λ t. IsReadBack t.said) ts
+  behind_exchanges master slave own others [] ts back = back
+  behind_exchanges master slave own others (j ∷ jobs) ts back =
+      behind_exchanges master slave own others jobs ts
+      (behind_exchange master slave own others j (choice own jobs).failing (exchanges master slave own others jobs ts) back)
+
+  pub as_master : (others : Holdings) (jobs : List Job) (ts : List Turn) →
+      EachTurn (λ t. IsReadBack t.said) (exchanges me (other me) h others jobs ts) →
+      Masters [] ts → Masters jobs (exchanges me (other me) h others jobs ts)
+  as_master others [] ts back rest = rest
+  as_master others (j ∷ jobs) ts back rest =
+      job_as_master others j jobs (exchanges me (other me) h others jobs ts) back
+      (as_master others jobs ts
+      (behind_exchange me (other me) h others j (choice h jobs).failing (exchanges me (other me) h others jobs ts) back) rest)
+
+  -- ---- Send, at the slave's
+
+  send_as_slave : (source target user : List ℕ) (temp : Option (List ℕ)) (found : Option File) →
+      (verdict : Verdict) → h.verdict target ≡ verdict → (immovable : Bool) → h.immovable target ≡ immovable →
+      (next : List Move) (l : Lists) (ts : List Turn) →
+      EachTurn (λ t. IsReadBack t.said) (send_exchange (other me) me source target user temp found verdict immovable next ts) →
+      Fits h size_of me (between l awaits.Order) [] ts →
+      Fits h size_of me (between l awaits.Order) []
+      (send_exchange (other me) me source target user temp found verdict immovable next ts)
+  send_as_slave source target user temp None verdict v immovable i next l ts back rest = rest
+  send_as_slave source target user temp (Some file) Never v immovable i next l ts back rest =
+      hear_text {r = replies l awaits.Order (the_answer answer.SendNever ∷ [])} back.0 refl
+      (record { not_over = refl; not_bad = refl; not_parted = refl })
+      (ap (λ a. on_order h a l) back.0.1 ∙ ap (λ z. on_send z target file.mode l) v) refl refl
+      (say back.1.0 rest)
+  send_as_slave source target user temp (Some file) Later v immovable i next l ts back rest =
+      hear_text {r = replies l awaits.Order (the_answer answer.SendLater ∷ [])} back.0 refl
+      (record { not_over = refl; not_bad = refl; not_parted = refl })
+      (ap (λ a. on_order h a l) back.0.1 ∙ ap (λ z. on_send z target file.mode l) v) refl refl
+      (say back.1.0 rest)
+  send_as_slave source target user temp (Some file) Yes v false i next l ts back rest =
+      hear_text {r = replies l (awaits.SentFile target file.mode) (the_answer answer.SendYes ∷ [])} back.0 refl
+      (record { not_over = refl; not_bad = refl; not_parted = refl })
+      (ap (λ a. on_order h a l) back.0.1 ∙ ap (λ z. on_send z target file.mode l) v) refl refl
+      (say back.1.0
+      (hear_text {r = keeps (kept_as target file) (replies l awaits.Order (the_answer answer.DoneYes ∷ []))} back.1.1.0 refl
+      (record { not_over = refl; not_bad = refl; not_parted = refl })
+      (ap (λ z. on_sent_file z (kept_as target file) l) i) refl refl
+      (say back.1.1.1.0 rest)))
+  send_as_slave source target user temp (Some file) Yes v true i next l ts back rest =
+      hear_text {r = replies l (awaits.SentFile target file.mode) (the_answer answer.SendYes ∷ [])} back.0 refl
+      (record { not_over = refl; not_bad = refl; not_parted = refl })
+      (ap (λ a. on_order h a l) back.0.1 ∙ ap (λ z. on_send z target file.mode l) v) refl refl
+      (say back.1.0
+      (hear_text {r = replies l awaits.Order (the_answer answer.DoneNever ∷ [])} back.1.1.0 refl
+      (record { not_over = refl; not_bad = refl; not_parted = refl })
+      (ap (λ z. on_sent_file z (kept_as target file) l) i) refl refl
+      (say back.1.1.1.0 rest)))
+
+  -- ---- Request, at the slave's
+
+  request_as_slave : (source target user : List ℕ) (found : Option File) → to_give h source ≡ found → (immovable : Bool) →
+      (next : List Move) (l : Lists) (ts : List Turn) →
+      EachTurn (λ t. IsReadBack t.said) (request_exchange (other me) me source target user found immovable next ts) →
+      Fits h size_of me (between l awaits.Order) [] ts →
+      Fits h size_of me (between l awaits.Order) [] (request_exchange (other me) me source target user found immovable next ts)
+  request_as_slave source target user None e immovable next l ts back rest =
+      hear_text {r = replies l awaits.Order (the_answer answer.GiveNever ∷ [])} back.0 refl
+      (record { not_over = refl; not_bad = refl; not_parted = refl })
+      (ap (λ a. on_order h a l) back.0.1 ∙ ap (λ f. on_request f l) e) refl refl
+      (say back.1.0 rest)
+  request_as_slave source target user (Some file) e false next l ts back rest =
+      hear_text {r = replies l awaits.GivenFileDone (the_answer (answer.GiveYes file.mode) ∷ the_file file.bytes ∷ [])} back.0 refl
+      (record { not_over = refl; not_bad = refl; not_parted = refl })
+      (ap (λ a. on_order h a l) back.0.1 ∙ ap (λ f. on_request f l) e) refl refl
+      (say back.1.0 (say back.1.1.0
+      (hear_text {r = replies l awaits.Order []} back.1.1.1.0 refl
+      (record { not_over = refl; not_bad = refl; not_parted = refl }) refl refl refl rest)))
+  request_as_slave source target user (Some file) e true next l ts back rest =
+      hear_text {r = replies l awaits.GivenFileDone (the_answer (answer.GiveYes file.mode) ∷ the_file file.bytes ∷ [])} back.0 refl
+      (record { not_over = refl; not_bad = refl; not_parted = refl })
+      (ap (λ a. on_order h a l) back.0.1 ∙ ap (λ f. on_request f l) e) refl refl
+      (say back.1.0 (say back.1.1.0
+      (hear_text {r = replies l awaits.Order []} back.1.1.1.0 refl
+      (record { not_over = refl; not_bad = refl; not_parted = refl }) refl refl refl rest)))
+
+  -- ---- all jobs of the other end, at the slave's side: its own jobs don't move
+
+  job_as_slave : (others : Holdings) (j : Job) (next : List Move) (l : Lists) (ts : List Turn) →
+      EachTurn (λ t. IsReadBack t.said) (exchange (other me) me others h j next ts) →
+      Fits h size_of me (between l awaits.Order) [] ts →
+      Fits h size_of me (between l awaits.Order) [] (exchange (other me) me others h j next ts)
+  job_as_slave others (job.Send source target user temp) next l ts back rest =
+      send_as_slave source target user temp (to_give others (fetched_by source temp)) (h.verdict target) refl
+      (h.immovable target) refl next l ts back rest
+  job_as_slave others (job.Request source target user) next l ts back rest =
+      request_as_slave source target user (to_give h source) refl (others.immovable target) next l ts back rest
+
+  pub as_slave : (others : Holdings) (jobs : List Job) (l : Lists) (ts : List Turn) →
+      EachTurn (λ t. IsReadBack t.said) (exchanges (other me) me others h jobs ts) →
+      Fits h size_of me (between l awaits.Order) [] ts →
+      Fits h size_of me (between l awaits.Order) [] (exchanges (other me) me others h jobs ts)
+  as_slave others [] l ts back rest = rest
+  as_slave others (j ∷ jobs) l ts back rest =
+      job_as_slave others j (choice others jobs).failing l (exchanges (other me) me others h jobs ts) back
+      (as_slave others jobs l ts
+      (behind_exchange (other me) me others h j (choice others jobs).failing (exchanges (other me) me others h jobs ts) back) rest)

@@ -1,0 +1,215 @@
+-- Whatever comes, an end only moves its jobs from one list to another.
+use Rattle.std.proofs.Common.{ℕ, nat_lt, Bool, true, false, List, [], ◌∷◌, ◌++◌, length, Option, Some, None, Result, Ok, Err, refl, sym, ap, ◌∙◌, arith}
+use Rattle.uug_talk.specs.declared.answer.Answer.{Answer}
+use Rattle.uug_talk.specs.declared.answer.Answer.TheVariants as answer
+use Rattle.uug_talk.specs.declared.error.BadText.{BadText}
+use Rattle.uug_talk.specs.declared.order.Order.{Order}
+use Rattle.uug_talk.specs.declared.order.Order.TheVariants as order
+use Rattle.uug_talk.specs.Answer.{answer_of}
+use Rattle.uug_talk.specs.Gathering.{Kind, OfCommand, OfFile, Gathering, limit_of}
+use Rattle.uug_talk.specs.Order.{order_of}
+use Rattle.uug_conversation.specs.declared.awaits.Awaits.{Awaits}
+use Rattle.uug_conversation.specs.declared.awaits.Awaits.TheVariants as awaits
+use Rattle.uug_conversation.specs.declared.job.Job.{Job}
+use Rattle.uug_conversation.specs.declared.job.Job.TheVariants as job
+use Rattle.uug_conversation.specs.declared.verdict.Verdict.{Verdict}
+use Rattle.uug_conversation.specs.Choice.{choice, fetched_by}
+use Rattle.uug_conversation.specs.Holdings.{File, Kept, Holdings, to_give}
+use Rattle.uug_conversation.specs.Jobs.{Lists, at_start, pending, Move, pass, strike, fail, moved, moved_once}
+use Rattle.uug_conversation.specs.Machine.{State, goes_on, on_send, on_request, on_hang_up, on_order, on_given_file_done, on_last_hang_up, sends_file, on_send_yes, on_send_answer, on_sent_file_done, on_sent_job_done, on_request_answer, on_hang_up_answer, on_nothing_more, on_text, on_sent_file, on_asked_file, on_file_of, on_file, on_whole, on_gathered, on_part, gathered_with, opening, step}
+use Rattle.uug_conversation.specs.Party.{Party}
+use Rattle.uug_conversation.specs.Runs.{Progress, taking, taking_all, opened, progress_after}
+use Rattle.uug_conversation.specs.Sharing.{AreShared, OnlyMoves}
+use Rattle.uug_conversation.specs.Turns.{Side, caller, called, Said, the_answer}
+use Rattle.uug_conversation.proofs.SharingLemmas.{moved-append, moved_are_shared}
+
+pub stays : (l : Lists) → OnlyMoves l l
+stays l = record { moves = []; are = refl }
+
+one_move : (move : Move) (l : Lists) → OnlyMoves l (moved_once move l)
+one_move move l = record { moves = move ∷ []; are = refl }
+
+chooses : (h : Holdings) (l : Lists) (before : List Said) → OnlyMoves l (goes_on h l before).state.lists
+chooses h l before = record { moves = (choice h l.ahead).failing; are = refl }
+
+moves_and_chooses : (move : Move) (h : Holdings) (l : Lists) (before : List Said) → OnlyMoves l (goes_on h (moved_once move l) before).state.lists
+moves_and_chooses move h l before = record { moves = move ∷ (choice h (moved_once move l).ahead).failing; are = refl }
+
+-- ---- commands
+
+after_send : (v : Verdict) (target : List ℕ) (mode : ℕ) (l : Lists) → OnlyMoves l (on_send v target mode l).state.lists
+after_send v target mode l = grind (arith, stays)
+
+after_request : (file : Option File) (l : Lists) → OnlyMoves l (on_request file l).state.lists
+after_request file l = grind (arith, stays)
+
+after_hang_up : (next : Option Order) (moves : List Move) (l : Lists) → OnlyMoves l (on_hang_up next (moved moves l)).state.lists
+after_hang_up None moves l = record { moves = moves; are = refl }
+after_hang_up (Some next) moves l = record { moves = moves; are = refl }
+
+after_order : (h : Holdings) (r : Result Order BadText) (l : Lists) → OnlyMoves l (on_order h r l).state.lists
+after_order h (Ok (order.Send source target user temp mode)) l = after_send (h.verdict target) target mode l
+after_order h (Ok (order.Request source target user)) l = after_request (to_give h source) l
+after_order h (Ok order.HangUp) l = after_hang_up (choice h l.ahead).next (choice h l.ahead).failing l
+after_order h (Err fault) l = stays l
+
+-- ---- answers
+
+after_given_file : (r : Result Answer BadText) (l : Lists) → OnlyMoves l (on_given_file_done r l).state.lists
+after_given_file r l = grind (arith, stays)
+
+after_last_hang_up : (r : Result Answer BadText) (l : Lists) → OnlyMoves l (on_last_hang_up r l).state.lists
+after_last_hang_up r l = grind (arith, stays)
+
+after_sends_file : (file : Option File) (l : Lists) → OnlyMoves l (sends_file file l).state.lists
+after_sends_file file l = grind (arith, stays)
+
+after_send_yes : (h : Holdings) (jobs : List Job) (l : Lists) → OnlyMoves l (on_send_yes h jobs l).state.lists
+after_send_yes h [] l = stays l
+after_send_yes h (job.Send source target user temp ∷ jobs) l = after_sends_file (to_give h (fetched_by source temp)) l
+after_send_yes h (job.Request source target user ∷ jobs) l = stays l
+
+after_send_answer : (h : Holdings) (r : Result Answer BadText) (l : Lists) → OnlyMoves l (on_send_answer h r l).state.lists
+after_send_answer h (Ok answer.SendYes) l = after_send_yes h l.ahead l
+after_send_answer h (Ok answer.SendNever) l = moves_and_chooses fail h l []
+after_send_answer h (Ok answer.SendLater) l = moves_and_chooses pass h l []
+after_send_answer h (Ok (answer.GiveYes mode)) l = stays l
+after_send_answer h (Ok answer.GiveNever) l = stays l
+after_send_answer h (Ok answer.GiveLater) l = stays l
+after_send_answer h (Ok answer.DoneYes) l = stays l
+after_send_answer h (Ok answer.DoneYesMaster) l = stays l
+after_send_answer h (Ok answer.DoneNever) l = stays l
+after_send_answer h (Ok answer.DoneLater) l = stays l
+after_send_answer h (Ok answer.HangYes) l = stays l
+after_send_answer h (Ok answer.HangNo) l = stays l
+after_send_answer h (Err fault) l = stays l
+
+after_sent_file : (h : Holdings) (r : Result Answer BadText) (l : Lists) → OnlyMoves l (on_sent_file_done h r l).state.lists
+after_sent_file h (Ok answer.SendYes) l = stays l
+after_sent_file h (Ok answer.SendNever) l = stays l
+after_sent_file h (Ok answer.SendLater) l = stays l
+after_sent_file h (Ok (answer.GiveYes mode)) l = stays l
+after_sent_file h (Ok answer.GiveNever) l = stays l
+after_sent_file h (Ok answer.GiveLater) l = stays l
+after_sent_file h (Ok answer.DoneYes) l = moves_and_chooses strike h l []
+after_sent_file h (Ok answer.DoneYesMaster) l = one_move strike l
+after_sent_file h (Ok answer.DoneNever) l = moves_and_chooses fail h l []
+after_sent_file h (Ok answer.DoneLater) l = moves_and_chooses pass h l []
+after_sent_file h (Ok answer.HangYes) l = stays l
+after_sent_file h (Ok answer.HangNo) l = stays l
+after_sent_file h (Err fault) l = stays l
+
+after_sent_job : (h : Holdings) (jobs : List Job) (r : Result Answer BadText) (l : Lists) → OnlyMoves l (on_sent_job_done h jobs r l).state.lists
+after_sent_job h [] r l = stays l
+after_sent_job h (job.Send source target user temp ∷ jobs) r l = after_sent_file h r l
+after_sent_job h (job.Request source target user ∷ jobs) r l = stays l
+
+after_request_answer : (h : Holdings) (r : Result Answer BadText) (l : Lists) → OnlyMoves l (on_request_answer h r l).state.lists
+after_request_answer h (Ok answer.SendYes) l = stays l
+after_request_answer h (Ok answer.SendNever) l = stays l
+after_request_answer h (Ok answer.SendLater) l = stays l
+after_request_answer h (Ok (answer.GiveYes mode)) l = stays l
+after_request_answer h (Ok answer.GiveNever) l = moves_and_chooses fail h l []
+after_request_answer h (Ok answer.GiveLater) l = moves_and_chooses pass h l []
+after_request_answer h (Ok answer.DoneYes) l = stays l
+after_request_answer h (Ok answer.DoneYesMaster) l = stays l
+after_request_answer h (Ok answer.DoneNever) l = stays l
+after_request_answer h (Ok answer.DoneLater) l = stays l
+after_request_answer h (Ok answer.HangYes) l = stays l
+after_request_answer h (Ok answer.HangNo) l = stays l
+after_request_answer h (Err fault) l = stays l
+
+after_hang_up_answer : (r : Result Answer BadText) (l : Lists) → OnlyMoves l (on_hang_up_answer r l).state.lists
+after_hang_up_answer r l = grind (arith, stays)
+
+after_nothing_more : (r : Result Answer BadText) (l : Lists) → OnlyMoves l (on_nothing_more r l).state.lists
+after_nothing_more r l = grind (arith, stays)
+
+after_text : (h : Holdings) (a : Awaits) (text : List ℕ) (l : Lists) → OnlyMoves l (on_text h a text l).state.lists
+after_text h awaits.Order text l = after_order h (order_of text) l
+after_text h awaits.GivenFileDone text l = after_given_file (answer_of text) l
+after_text h awaits.LastHangUp text l = after_last_hang_up (answer_of text) l
+after_text h awaits.SendAnswer text l = after_send_answer h (answer_of text) l
+after_text h awaits.SentFileDone text l = after_sent_job h l.ahead (answer_of text) l
+after_text h awaits.RequestAnswer text l = after_request_answer h (answer_of text) l
+after_text h awaits.HangUpAnswer text l = after_hang_up_answer (answer_of text) l
+after_text h awaits.NothingMore text l = after_nothing_more (answer_of text) l
+after_text h (awaits.SentFile target mode) text l = stays l
+after_text h (awaits.AskedFile mode) text l = stays l
+after_text h awaits.Bad text l = stays l
+
+-- ---- files
+
+after_kept : (immovable : Bool) (file : Kept) (l : Lists) → OnlyMoves l (on_sent_file immovable file l).state.lists
+after_kept immovable file l = grind (arith, stays)
+
+after_asked : (h : Holdings) (immovable : Bool) (file : Kept) (l : Lists) → OnlyMoves l (on_asked_file h immovable file l).state.lists
+after_asked h false file l = moves_and_chooses strike h l (the_answer answer.DoneYes ∷ [])
+after_asked h true file l = moves_and_chooses fail h l (the_answer answer.DoneNever ∷ [])
+
+after_file_of : (h : Holdings) (jobs : List Job) (mode : ℕ) (bytes : List ℕ) (l : Lists) → OnlyMoves l (on_file_of h jobs mode bytes l).state.lists
+after_file_of h [] mode bytes l = stays l
+after_file_of h (job.Send source target user temp ∷ jobs) mode bytes l = stays l
+after_file_of h (job.Request source target user ∷ jobs) mode bytes l =
+    after_asked h (h.immovable target) (record { name = target; mode = mode; bytes = bytes }) l
+
+after_file : (h : Holdings) (a : Awaits) (bytes : List ℕ) (l : Lists) → OnlyMoves l (on_file h a bytes l).state.lists
+after_file h (awaits.SentFile target mode) bytes l =
+    after_kept (h.immovable target) (record { name = target; mode = mode; bytes = bytes }) l
+after_file h (awaits.AskedFile mode) bytes l = after_file_of h l.ahead mode bytes l
+after_file h awaits.Order bytes l = stays l
+after_file h awaits.GivenFileDone bytes l = stays l
+after_file h awaits.LastHangUp bytes l = stays l
+after_file h awaits.SendAnswer bytes l = stays l
+after_file h awaits.SentFileDone bytes l = stays l
+after_file h awaits.RequestAnswer bytes l = stays l
+after_file h awaits.HangUpAnswer bytes l = stays l
+after_file h awaits.NothingMore bytes l = stays l
+after_file h awaits.Bad bytes l = stays l
+
+-- ---- messages
+
+after_whole : (kind : Kind) (h : Holdings) (a : Awaits) (bytes : List ℕ) (l : Lists) → OnlyMoves l (on_whole kind h a bytes l).state.lists
+after_whole OfCommand h a bytes l = after_text h a bytes l
+after_whole OfFile h a bytes l = after_file h a bytes l
+
+after_gathered : (whole : Bool) (kind : Kind) (h : Holdings) (s : State) (bytes : List ℕ) → OnlyMoves s.lists (on_gathered whole kind h s bytes).state.lists
+after_gathered false kind h s bytes = stays s.lists
+after_gathered true kind h s bytes = after_whole kind h s.awaits bytes s.lists
+
+after_part : (too_long : Bool) (g : Gathering) (h : Holdings) (s : State) → OnlyMoves s.lists (on_part too_long g h s).state.lists
+after_part true g h s = stays s.lists
+after_part false g h s = after_gathered g.whole g.kind h s g.bytes
+
+pub after_step : (h : Holdings) (s : State) (message : List ℕ) → OnlyMoves s.lists (step h s message).state.lists
+after_step h s message =
+    let g : Gathering = gathered_with s message in
+    after_part (nat_lt (limit_of g.kind) (length g.bytes)) g h s
+
+-- ---- from the start
+
+pub then_moves : (first second third : Lists) → OnlyMoves first second → OnlyMoves second third → OnlyMoves first third
+then_moves first second third h k = record {
+  moves = h.moves ++ k.moves;
+  are = k.are ∙ ap (moved k.moves) h.are ∙ sym (moved-append h.moves k.moves first);
+}
+
+pub after_opening : (me : Side) (h : Holdings) (l : Lists) → OnlyMoves l (opening me h l).state.lists
+after_opening caller h l = chooses h l []
+after_opening called h l = stays l
+
+after_all : (p : Party) (progress : Progress) (messages : List (List ℕ)) → OnlyMoves progress.state.lists (taking_all p progress messages).state.lists
+after_all p progress [] = stays progress.state.lists
+after_all p progress (message ∷ messages) =
+    then_moves progress.state.lists (taking p progress message).state.lists (taking_all p (taking p progress message) messages).state.lists
+    (after_step p.holdings progress.state message) (after_all p (taking p progress message) messages)
+
+-- whatever the other end says, each job is in exactly one list
+pub jobs_are_shared : (me : Side) (p : Party) (messages : List (List ℕ))
+    → AreShared p.jobs (pending (progress_after me p messages).state.lists)
+    (progress_after me p messages).state.lists.struck (progress_after me p messages).state.lists.failed
+jobs_are_shared me p messages =
+    let h : OnlyMoves (at_start p.jobs [] []) (progress_after me p messages).state.lists =
+    then_moves (at_start p.jobs [] []) (opened me p).state.lists (progress_after me p messages).state.lists
+    (after_opening me p.holdings (at_start p.jobs [] [])) (after_all p (opened me p) messages) in
+    rw h.are (moved_are_shared p.jobs h.moves)

@@ -1,0 +1,215 @@
+-- Whatever one end's machine says can be written.
+use Rattle.std.proofs.Common.{◌≡◌, ℕ, Bool, true, false, List, [], ◌∷◌, ◌++◌, Option, Some, None, Result, Ok, Err, All, refl, subst}
+use Rattle.std.proofs.lemmas.List.Elements.{All-nil, All-cons}
+use Rattle.uug_talk.specs.declared.answer.Answer.{Answer}
+use Rattle.uug_talk.specs.declared.answer.Answer.TheVariants as answer
+use Rattle.uug_talk.specs.declared.error.BadText.{BadText}
+use Rattle.uug_talk.specs.declared.order.Order.{Order}
+use Rattle.uug_talk.specs.declared.order.Order.TheVariants as order
+use Rattle.uug_talk.specs.Answer.{IsWritten, answer_of}
+use Rattle.uug_talk.specs.Order.{HasMode, order_of}
+use Rattle.uug_conversation.specs.declared.awaits.Awaits.{Awaits}
+use Rattle.uug_conversation.specs.declared.awaits.Awaits.TheVariants as awaits
+use Rattle.uug_conversation.specs.declared.job.Job.{Job}
+use Rattle.uug_conversation.specs.declared.job.Job.TheVariants as job
+use Rattle.uug_conversation.specs.declared.reaction.Reaction.{Reaction}
+use Rattle.uug_conversation.specs.declared.reaction.Saying.{Saying}
+use Rattle.uug_conversation.specs.declared.reaction.Saying.TheVariants as saying
+use Rattle.uug_conversation.specs.declared.reaction.Says.{Says}
+use Rattle.uug_conversation.specs.declared.reaction.Says.TheVariants.{Nothing, One, Two}
+use Rattle.uug_conversation.specs.declared.verdict.Verdict.{Verdict}
+use Rattle.uug_conversation.specs.declared.verdict.Verdict.TheVariants.{Yes, Never, Later}
+use Rattle.uug_conversation.specs.Choice.{Choice, choice, fetched_by, send_choice}
+use Rattle.uug_conversation.specs.Holdings.{File, Kept, Holdings, AreModes, to_give}
+use Rattle.uug_conversation.specs.Jobs.{Lists, pass, strike, fail, moved, moved_once}
+use Rattle.uug_conversation.specs.Machine.{Reply, goes_on, order_or_hang_up, on_send, on_request, on_hang_up, on_order, on_given_file_done, on_last_hang_up, sends_file, on_send_yes, on_send_answer, on_sent_file_done, on_sent_job_done, on_request_answer, on_hang_up_answer, on_nothing_more, on_text, on_sent_file, on_asked_file, on_file_of, on_file}
+use Rattle.uug_conversation.specs.Outgoing.{IsSayable, sayings_of}
+use Rattle.uug_conversation.specs.Reactions.{all_said, reply_of, said_before, said_by}
+use Rattle.uug_conversation.specs.Turns.{Said, the_order, the_answer, the_file}
+use Rattle.uug_conversation.proofs.ReadBackLemmas.{given_mode}
+
+abbrev CanBeSaid : Said → Type 0
+CanBeSaid (the_order order) = HasMode order
+CanBeSaid (the_answer answer) = IsWritten answer
+CanBeSaid (the_file bytes) = Unit {0}
+
+abbrev CanAllBeSaid : List Said → Type 0
+CanAllBeSaid [] = Unit {0}
+CanAllBeSaid (said ∷ more) = CanBeSaid said × CanAllBeSaid more
+
+-- ---- what a machine says
+
+commanded : (before : List Said) (next : Order) → CanAllBeSaid before → HasMode next → CanAllBeSaid (before ++ the_order next ∷ [])
+commanded [] next b m = (m, tt)
+commanded (said ∷ before) next b m = (b.0, commanded before next b.1 m)
+
+abbrev HasModeChosen : Option Order → Type 0
+HasModeChosen None = Unit {0}
+HasModeChosen (Some next) = HasMode next
+
+hang_up_has : (next : Option Order) → HasModeChosen next → HasMode (order_or_hang_up next)
+hang_up_has None m = tt
+hang_up_has (Some next) m = m
+
+module _ (h : Holdings) (modes : AreModes h) where
+  send_has : (source target user : List ℕ) (temp : Option (List ℕ)) (found : Option File) (behind : Choice) →
+      to_give h (fetched_by source temp) ≡ found → HasModeChosen behind.next →
+      HasModeChosen (send_choice source target user temp found behind).next
+  send_has source target user temp None behind e m = m
+  send_has source target user temp (Some file) behind e m = given_mode h (fetched_by source temp) file modes e
+
+  choice_has : (jobs : List Job) → HasModeChosen (choice h jobs).next
+  choice_has [] = tt
+  choice_has (job.Send source target user temp ∷ jobs) =
+      send_has source target user temp (to_give h (fetched_by source temp)) (choice h jobs) refl (choice_has jobs)
+  choice_has (job.Request source target user ∷ jobs) = tt
+
+  going_on : (l : Lists) (before : List Said) → CanAllBeSaid before → CanAllBeSaid (goes_on h l before).says
+  going_on l before b =
+      commanded before (order_or_hang_up (choice h l.ahead).next) b (hang_up_has (choice h l.ahead).next (choice_has l.ahead))
+
+  taking_send : (verdict : Verdict) (target : List ℕ) (mode : ℕ) (l : Lists) → CanAllBeSaid (on_send verdict target mode l).says
+  taking_send Yes target mode l = (tt, tt)
+  taking_send Never target mode l = (tt, tt)
+  taking_send Later target mode l = (tt, tt)
+
+  taking_request : (source : List ℕ) (found : Option File) (l : Lists) → to_give h source ≡ found → CanAllBeSaid (on_request found l).says
+  taking_request source None l e = (tt, tt)
+  taking_request source (Some file) l e = (given_mode h source file modes e, (tt, tt))
+
+  taking_hang_up : (next : Option Order) (l : Lists) → HasModeChosen next → CanAllBeSaid (on_hang_up next l).says
+  taking_hang_up None l m = (tt, tt)
+  taking_hang_up (Some next) l m = (tt, (m, tt))
+
+  taking_order : (read : Result Order BadText) (l : Lists) → CanAllBeSaid (on_order h read l).says
+  taking_order (Ok (order.Send source target user temp mode)) l = taking_send (h.verdict target) target mode l
+  taking_order (Ok (order.Request source target user)) l = taking_request source (to_give h source) l refl
+  taking_order (Ok order.HangUp) l =
+      taking_hang_up (choice h l.ahead).next (moved (choice h l.ahead).failing l) (choice_has l.ahead)
+  taking_order (Err fault) l = tt
+
+  given_file_done : (read : Result Answer BadText) (l : Lists) → CanAllBeSaid (on_given_file_done read l).says
+  given_file_done (Ok answer.DoneYes) l = tt
+  given_file_done (Ok answer.DoneYesMaster) l = tt
+  given_file_done (Ok answer.DoneNever) l = tt
+  given_file_done (Ok answer.DoneLater) l = tt
+  given_file_done _ l = tt
+
+  last_hang_up : (read : Result Answer BadText) (l : Lists) → CanAllBeSaid (on_last_hang_up read l).says
+  last_hang_up (Ok answer.HangYes) l = tt
+  last_hang_up _ l = tt
+
+  file_sent : (found : Option File) (l : Lists) → CanAllBeSaid (sends_file found l).says
+  file_sent None l = tt
+  file_sent (Some file) l = (tt, tt)
+
+  send_yes : (jobs : List Job) (l : Lists) → CanAllBeSaid (on_send_yes h jobs l).says
+  send_yes (job.Send source target user temp ∷ jobs) l = file_sent (to_give h (fetched_by source temp)) l
+  send_yes _ l = tt
+
+  send_answer : (read : Result Answer BadText) (l : Lists) → CanAllBeSaid (on_send_answer h read l).says
+  send_answer (Ok answer.SendYes) l = send_yes l.ahead l
+  send_answer (Ok answer.SendNever) l = going_on (moved_once fail l) [] tt
+  send_answer (Ok answer.SendLater) l = going_on (moved_once pass l) [] tt
+  send_answer _ l = tt
+
+  sent_file_done : (read : Result Answer BadText) (l : Lists) → CanAllBeSaid (on_sent_file_done h read l).says
+  sent_file_done (Ok answer.DoneYes) l = going_on (moved_once strike l) [] tt
+  sent_file_done (Ok answer.DoneYesMaster) l = (tt, tt)
+  sent_file_done (Ok answer.DoneNever) l = going_on (moved_once fail l) [] tt
+  sent_file_done (Ok answer.DoneLater) l = going_on (moved_once pass l) [] tt
+  sent_file_done _ l = tt
+
+  sent_job_done : (jobs : List Job) (read : Result Answer BadText) (l : Lists) → CanAllBeSaid (on_sent_job_done h jobs read l).says
+  sent_job_done (job.Send source target user temp ∷ jobs) read l = sent_file_done read l
+  sent_job_done _ read l = tt
+
+  request_answer : (read : Result Answer BadText) (l : Lists) → CanAllBeSaid (on_request_answer h read l).says
+  request_answer (Ok (answer.GiveYes mode)) l = tt
+  request_answer (Ok answer.GiveNever) l = going_on (moved_once fail l) [] tt
+  request_answer (Ok answer.GiveLater) l = going_on (moved_once pass l) [] tt
+  request_answer _ l = tt
+
+  hang_up_answer : (read : Result Answer BadText) (l : Lists) → CanAllBeSaid (on_hang_up_answer read l).says
+  hang_up_answer (Ok answer.HangYes) l = (tt, tt)
+  hang_up_answer (Ok answer.HangNo) l = tt
+  hang_up_answer _ l = tt
+
+  nothing_more : (read : Result Answer BadText) (l : Lists) → CanAllBeSaid (on_nothing_more read l).says
+  nothing_more (Ok answer.HangYes) l = tt
+  nothing_more _ l = tt
+
+  taking_text : (awaited : Awaits) (text : List ℕ) (l : Lists) → CanAllBeSaid (on_text h awaited text l).says
+  taking_text awaits.Order text l = taking_order (order_of text) l
+  taking_text awaits.GivenFileDone text l = given_file_done (answer_of text) l
+  taking_text awaits.LastHangUp text l = last_hang_up (answer_of text) l
+  taking_text awaits.SendAnswer text l = send_answer (answer_of text) l
+  taking_text awaits.SentFileDone text l = sent_job_done l.ahead (answer_of text) l
+  taking_text awaits.RequestAnswer text l = request_answer (answer_of text) l
+  taking_text awaits.HangUpAnswer text l = hang_up_answer (answer_of text) l
+  taking_text awaits.NothingMore text l = nothing_more (answer_of text) l
+  taking_text _ text l = tt
+
+  sent_file : (immovable : Bool) (file : Kept) (l : Lists) → CanAllBeSaid (on_sent_file immovable file l).says
+  sent_file false file l = (tt, tt)
+  sent_file true file l = (tt, tt)
+
+  asked_file : (immovable : Bool) (file : Kept) (l : Lists) → CanAllBeSaid (on_asked_file h immovable file l).says
+  asked_file false file l = going_on (moved_once strike l) (the_answer answer.DoneYes ∷ []) (tt, tt)
+  asked_file true file l = going_on (moved_once fail l) (the_answer answer.DoneNever ∷ []) (tt, tt)
+
+  file_of : (jobs : List Job) (mode : ℕ) (bytes : List ℕ) (l : Lists) → CanAllBeSaid (on_file_of h jobs mode bytes l).says
+  file_of (job.Request source target user ∷ jobs) mode bytes l =
+      asked_file (h.immovable target) (record { name = target; mode = mode; bytes = bytes }) l
+  file_of _ mode bytes l = tt
+
+  taking_file : (awaited : Awaits) (bytes : List ℕ) (l : Lists) → CanAllBeSaid (on_file h awaited bytes l).says
+  taking_file (awaits.SentFile target mode) bytes l =
+      sent_file (h.immovable target) (record { name = target; mode = mode; bytes = bytes }) l
+  taking_file (awaits.AskedFile mode) bytes l = file_of l.ahead mode bytes l
+  taking_file _ bytes l = tt
+
+-- ---- what the code says
+
+of_said : (h : Holdings) (s : Saying) → CanBeSaid (said_by h s) → IsSayable s
+of_said h (saying.Order order) m = m
+of_said h (saying.Answer answer) w = w
+of_said h (saying.File name) u = tt
+
+of_all_said : (h : Holdings) (says : Says) → CanAllBeSaid (all_said h says) → All IsSayable (sayings_of says)
+of_all_said h Nothing c = All-nil IsSayable
+of_all_said h (One first) c = All-cons IsSayable first [] (of_said h first c.0) (All-nil IsSayable)
+of_all_said h (Two first next) c =
+    All-cons IsSayable first (next ∷ []) (of_said h first c.0)
+    (All-cons IsSayable next [] (of_said h next c.1.0) (All-nil IsSayable))
+
+-- the reply is this reaction's
+of_reply : (h : Holdings) (reply : Reply) (l_after : Lists) (r : Reaction) (keeps : List Kept) →
+    reply ≡ reply_of h l_after r keeps → CanAllBeSaid reply.says → All IsSayable (sayings_of r.says)
+of_reply h reply l_after r keeps e c = of_all_said h r.says (subst (λ (z : Reply). CanAllBeSaid z.says) e c)
+
+pub text_is_sayable : (h : Holdings) → AreModes h → (awaited : Awaits) (text : List ℕ) (l l_after : Lists) (r : Reaction)
+    (keeps : List Kept) → on_text h awaited text l ≡ reply_of h l_after r keeps → All IsSayable (sayings_of r.says)
+text_is_sayable h modes awaited text l l_after r keeps e =
+    of_reply h (on_text h awaited text l) l_after r keeps e (taking_text h modes awaited text l)
+
+pub file_is_sayable : (h : Holdings) → AreModes h → (awaited : Awaits) (bytes : List ℕ) (l l_after : Lists) (r : Reaction)
+    (keeps : List Kept) → on_file h awaited bytes l ≡ reply_of h l_after r keeps → All IsSayable (sayings_of r.says)
+file_is_sayable h modes awaited bytes l l_after r keeps e =
+    of_reply h (on_file h awaited bytes l) l_after r keeps e (taking_file h modes awaited bytes l)
+
+-- an answer that can be written, or none
+abbrev pub IsWrittenBefore : Option Answer → Type 0
+IsWrittenBefore None = Unit {0}
+IsWrittenBefore (Some before) = IsWritten before
+
+answer_before : (before : Option Answer) → IsWrittenBefore before → CanAllBeSaid (said_before before)
+answer_before None w = tt
+answer_before (Some before) w = (w, tt)
+
+pub command_is_sayable : (h : Holdings) → AreModes h → (before : Option Answer) → IsWrittenBefore before → (l l_after : Lists)
+    (r : Reaction) (keeps : List Kept) → goes_on h l (said_before before) ≡ reply_of h l_after r keeps →
+    All IsSayable (sayings_of r.says)
+command_is_sayable h modes before w l l_after r keeps e =
+    of_reply h (goes_on h l (said_before before)) l_after r keeps e
+    (going_on h modes l (said_before before) (answer_before before w))

@@ -1,0 +1,75 @@
+-- The turns of one job (Taylor UUCP manual, "UUCP Protocol"; what becomes of the job is this project's profile). In
+-- each table `next` is what fails when the master then chooses its next job, and `rest` is what comes behind.
+use Rattle.std.specs.Prelude.{ℕ, Bool, true, false, List, [], ◌∷◌, Option, Some, None}
+use Rattle.uug_talk.specs.declared.answer.Answer.TheVariants as answer
+use Rattle.uug_talk.specs.declared.order.Order.TheVariants as order
+use Rattle.uug_conversation.specs.declared.job.Job.{Job}
+use Rattle.uug_conversation.specs.declared.job.Job.TheVariants as job
+use Rattle.uug_conversation.specs.declared.verdict.Verdict.{Verdict}
+use Rattle.uug_conversation.specs.declared.verdict.Verdict.TheVariants.{Yes, Never, Later}
+use Rattle.uug_conversation.specs.Choice.{fetched_by}
+use Rattle.uug_conversation.specs.Holdings.{File, Holdings, to_give, kept_as}
+use Rattle.uug_conversation.specs.Jobs.{Move, pass, strike, fail}
+use Rattle.uug_conversation.specs.Turns.{Side, the_order, the_answer, the_file, Turn, plain, moving}
+
+-- the hearer keeps the file that it was given
+abbrev pub keeping : Side → (target : List ℕ) → File → List Move → Turn
+keeping speaker target file moves =
+    record { speaker = speaker; said = the_file file.bytes; moves = moves; keeps = kept_as target file ∷ [] }
+
+-- ---- Send, by the master's file, and by what the slave's spool says of the target: its verdict, and whether a file
+-- can't be put in its place there
+
+abbrev pub send_exchange : (master slave : Side) → (source target user : List ℕ) (temp : Option (List ℕ))
+    → Option File → Verdict → (immovable : Bool) → (next : List Move) → (rest : List Turn) → List Turn
+-- no file: no turn
+send_exchange master slave source target user temp None verdict immovable next rest = rest
+-- S; SN2: failed
+send_exchange master slave source target user temp (Some file) Never immovable next rest =
+    plain master (the_order (order.Send source target user temp file.mode)) ∷
+    moving slave (the_answer answer.SendNever) (fail ∷ next) ∷ rest
+-- S; SN4: pending
+send_exchange master slave source target user temp (Some file) Later immovable next rest =
+    plain master (the_order (order.Send source target user temp file.mode)) ∷
+    moving slave (the_answer answer.SendLater) (pass ∷ next) ∷ rest
+-- S; SY; file; CY: struck
+send_exchange master slave source target user temp (Some file) Yes false next rest =
+    plain master (the_order (order.Send source target user temp file.mode)) ∷
+    plain slave (the_answer answer.SendYes) ∷
+    keeping master target file [] ∷
+    moving slave (the_answer answer.DoneYes) (strike ∷ next) ∷ rest
+-- S; SY; file; CN5: failed
+send_exchange master slave source target user temp (Some file) Yes true next rest =
+    plain master (the_order (order.Send source target user temp file.mode)) ∷
+    plain slave (the_answer answer.SendYes) ∷
+    plain master (the_file file.bytes) ∷
+    moving slave (the_answer answer.DoneNever) (fail ∷ next) ∷ rest
+
+-- ---- Request, by the slave's file, and by whether a file can't be put in the target's place at the master
+
+abbrev pub request_exchange : (master slave : Side) → (source target user : List ℕ)
+    → Option File → (immovable : Bool) → (next : List Move) → (rest : List Turn) → List Turn
+-- R; RN2: failed
+request_exchange master slave source target user None immovable next rest =
+    plain master (the_order (order.Request source target user)) ∷
+    moving slave (the_answer answer.GiveNever) (fail ∷ next) ∷ rest
+-- R; RY; file; CY: struck
+request_exchange master slave source target user (Some file) false next rest =
+    plain master (the_order (order.Request source target user)) ∷
+    plain slave (the_answer (answer.GiveYes file.mode)) ∷
+    keeping slave target file (strike ∷ next) ∷
+    plain master (the_answer answer.DoneYes) ∷ rest
+-- R; RY; file; CN5: failed
+request_exchange master slave source target user (Some file) true next rest =
+    plain master (the_order (order.Request source target user)) ∷
+    plain slave (the_answer (answer.GiveYes file.mode)) ∷
+    moving slave (the_file file.bytes) (fail ∷ next) ∷
+    plain master (the_answer answer.DoneNever) ∷ rest
+
+-- the turns of one job, by what the master holds (`own`) and what the slave holds (`others`)
+abbrev pub exchange : (master slave : Side) → (own others : Holdings) → Job → (next : List Move) → (rest : List Turn) → List Turn
+exchange master slave own others (job.Send source target user temp) next rest =
+    send_exchange master slave source target user temp
+    (to_give own (fetched_by source temp)) (others.verdict target) (others.immovable target) next rest
+exchange master slave own others (job.Request source target user) next rest =
+    request_exchange master slave source target user (to_give others source) (own.immovable target) next rest

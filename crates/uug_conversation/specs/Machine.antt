@@ -1,0 +1,236 @@
+-- One end of a conversation, which doesn't know the other's jobs or holdings: what it does with each message that it
+-- takes (Taylor UUCP manual, "UUCP Protocol"; what becomes of a job, and what is out of turn, is this project's profile).
+use Rattle.std.specs.Prelude.{ℕ, nat_lt, Bool, true, false, List, [], ◌∷◌, ◌++◌, length, Option, Some, None, Result, Ok, Err}
+use Rattle.uug_talk.specs.declared.answer.Answer.{Answer}
+use Rattle.uug_talk.specs.declared.answer.Answer.TheVariants as answer
+use Rattle.uug_talk.specs.declared.error.BadText.{BadText}
+use Rattle.uug_talk.specs.declared.order.Order.{Order}
+use Rattle.uug_talk.specs.declared.order.Order.TheVariants as order
+use Rattle.uug_talk.specs.Answer.{answer_of}
+use Rattle.uug_talk.specs.Gathering.{Kind, OfCommand, OfFile, Gathering, with_message, limit_of}
+use Rattle.uug_talk.specs.Order.{order_of}
+use Rattle.uug_conversation.specs.declared.awaits.Awaits.{Awaits}
+use Rattle.uug_conversation.specs.declared.awaits.Awaits.TheVariants as awaits
+use Rattle.uug_conversation.specs.declared.job.Job.{Job}
+use Rattle.uug_conversation.specs.declared.job.Job.TheVariants as job
+use Rattle.uug_conversation.specs.declared.verdict.Verdict.{Verdict}
+use Rattle.uug_conversation.specs.declared.verdict.Verdict.TheVariants.{Yes, Never, Later}
+use Rattle.uug_conversation.specs.Choice.{Choice, choice, fetched_by}
+use Rattle.uug_conversation.specs.Holdings.{File, Kept, Holdings, to_give}
+use Rattle.uug_conversation.specs.Jobs.{Lists, pass, strike, fail, moved, moved_once}
+use Rattle.uug_conversation.specs.Turns.{Side, caller, called, Said, the_order, the_answer, the_file}
+
+pub record State : Type 0 where
+  pub lists : Lists
+  pub awaits : Awaits
+  -- the text or file that comes, as far as it has come
+  pub gathered : List ℕ
+
+-- the state that comes next, what the end says then, and what it keeps
+pub record Reply : Type 0 where
+  pub state : State
+  pub says : List Said
+  pub keeps : List Kept
+
+abbrev pub between : Lists → Awaits → State
+between l next = record { lists = l; awaits = next; gathered = [] }
+
+abbrev pub replies : Lists → Awaits → List Said → Reply
+replies l next said = record { state = between l next; says = said; keeps = [] }
+
+-- what fits no turn
+abbrev pub out_of_turn : Lists → Reply
+out_of_turn l = replies l awaits.Bad []
+
+-- ---- the master's next command
+
+-- H where no job is left
+abbrev pub order_or_hang_up : Option Order → Order
+order_or_hang_up None = order.HangUp
+order_or_hang_up (Some next) = next
+
+abbrev pub awaits_answer_to : Order → Awaits
+awaits_answer_to (order.Send source target user temp mode) = awaits.SendAnswer
+awaits_answer_to (order.Request source target user) = awaits.RequestAnswer
+awaits_answer_to order.HangUp = awaits.HangUpAnswer
+
+abbrev pub commands : Lists → (before : List Said) → Order → Reply
+commands l before next = replies l (awaits_answer_to next) (before ++ the_order next ∷ [])
+
+abbrev pub chooses : Choice → Lists → (before : List Said) → Reply
+chooses c l before = commands (moved c.failing l) before (order_or_hang_up c.next)
+
+-- the end chooses its next job, and says its command behind what it says before that
+abbrev pub goes_on : Holdings → Lists → (before : List Said) → Reply
+goes_on h l before = chooses (choice h l.ahead) l before
+
+-- ---- a slave takes a command
+
+-- S, by the verdict on its target
+abbrev pub on_send : Verdict → (target : List ℕ) → (mode : ℕ) → Lists → Reply
+on_send Yes target mode l = replies l (awaits.SentFile target mode) (the_answer answer.SendYes ∷ [])
+on_send Never target mode l = replies l awaits.Order (the_answer answer.SendNever ∷ [])
+on_send Later target mode l = replies l awaits.Order (the_answer answer.SendLater ∷ [])
+
+-- R, by the file that it asks for
+abbrev pub on_request : Option File → Lists → Reply
+on_request None l = replies l awaits.Order (the_answer answer.GiveNever ∷ [])
+on_request (Some file) l =
+    replies l awaits.GivenFileDone (the_answer (answer.GiveYes file.mode) ∷ the_file file.bytes ∷ [])
+
+-- H, by the choice of a job: where there is one, the roles are exchanged
+abbrev pub on_hang_up : Option Order → Lists → Reply
+on_hang_up None l = replies l awaits.LastHangUp (the_answer answer.HangYes ∷ [])
+on_hang_up (Some next) l = commands l (the_answer answer.HangNo ∷ []) next
+
+abbrev pub on_choice : Choice → Lists → Reply
+on_choice c l = on_hang_up c.next (moved c.failing l)
+
+abbrev pub on_order : Holdings → Result Order BadText → Lists → Reply
+on_order h (Ok (order.Send source target user temp mode)) l = on_send (h.verdict target) target mode l
+on_order h (Ok (order.Request source target user)) l = on_request (to_give h source) l
+on_order h (Ok order.HangUp) l = on_choice (choice h l.ahead) l
+on_order h (Err fault) l = out_of_turn l
+
+-- ---- a slave takes an answer
+
+-- what became of the file that it gave: whatever it is, the slave says nothing
+abbrev pub on_given_file_done : Result Answer BadText → Lists → Reply
+on_given_file_done (Ok answer.DoneYes) l = replies l awaits.Order []
+on_given_file_done (Ok answer.DoneYesMaster) l = replies l awaits.Order []
+on_given_file_done (Ok answer.DoneNever) l = replies l awaits.Order []
+on_given_file_done (Ok answer.DoneLater) l = replies l awaits.Order []
+on_given_file_done _ l = out_of_turn l
+
+abbrev pub on_last_hang_up : Result Answer BadText → Lists → Reply
+on_last_hang_up (Ok answer.HangYes) l = replies l awaits.NothingMore []
+on_last_hang_up _ l = out_of_turn l
+
+-- ---- a master takes an answer
+
+-- SY, by the job in front: its file goes out
+abbrev pub sends_file : Option File → Lists → Reply
+sends_file None l = out_of_turn l
+sends_file (Some file) l = replies l awaits.SentFileDone (the_file file.bytes ∷ [])
+
+abbrev pub on_send_yes : Holdings → List Job → Lists → Reply
+on_send_yes h (job.Send source target user temp ∷ jobs) l = sends_file (to_give h (fetched_by source temp)) l
+on_send_yes h _ l = out_of_turn l
+
+abbrev pub on_send_answer : Holdings → Result Answer BadText → Lists → Reply
+on_send_answer h (Ok answer.SendYes) l = on_send_yes h l.ahead l
+on_send_answer h (Ok answer.SendNever) l = goes_on h (moved_once fail l) []
+on_send_answer h (Ok answer.SendLater) l = goes_on h (moved_once pass l) []
+on_send_answer h _ l = out_of_turn l
+
+-- What became of the file that it sent. With CYM the other end wants to be master: no further job is chosen.
+abbrev pub on_sent_file_done : Holdings → Result Answer BadText → Lists → Reply
+on_sent_file_done h (Ok answer.DoneYes) l = goes_on h (moved_once strike l) []
+on_sent_file_done h (Ok answer.DoneYesMaster) l = commands (moved_once strike l) [] order.HangUp
+on_sent_file_done h (Ok answer.DoneNever) l = goes_on h (moved_once fail l) []
+on_sent_file_done h (Ok answer.DoneLater) l = goes_on h (moved_once pass l) []
+on_sent_file_done h _ l = out_of_turn l
+
+-- it is that of the job in front
+abbrev pub on_sent_job_done : Holdings → List Job → Result Answer BadText → Lists → Reply
+on_sent_job_done h (job.Send source target user temp ∷ jobs) read l = on_sent_file_done h read l
+on_sent_job_done h _ read l = out_of_turn l
+
+abbrev pub on_request_answer : Holdings → Result Answer BadText → Lists → Reply
+on_request_answer h (Ok (answer.GiveYes mode)) l = replies l (awaits.AskedFile mode) []
+on_request_answer h (Ok answer.GiveNever) l = goes_on h (moved_once fail l) []
+on_request_answer h (Ok answer.GiveLater) l = goes_on h (moved_once pass l) []
+on_request_answer h _ l = out_of_turn l
+
+-- where the roles are exchanged, the end is the slave then
+abbrev pub on_hang_up_answer : Result Answer BadText → Lists → Reply
+on_hang_up_answer (Ok answer.HangYes) l = replies l awaits.NothingMore (the_answer answer.HangYes ∷ [])
+on_hang_up_answer (Ok answer.HangNo) l = replies l awaits.Order []
+on_hang_up_answer _ l = out_of_turn l
+
+-- ---- the conversation is over: a further HY changes nothing
+
+abbrev pub on_nothing_more : Result Answer BadText → Lists → Reply
+on_nothing_more (Ok answer.HangYes) l = replies l awaits.NothingMore []
+on_nothing_more _ l = out_of_turn l
+
+-- ---- a whole text
+
+abbrev pub on_text : Holdings → Awaits → List ℕ → Lists → Reply
+on_text h awaits.Order text l = on_order h (order_of text) l
+on_text h awaits.GivenFileDone text l = on_given_file_done (answer_of text) l
+on_text h awaits.LastHangUp text l = on_last_hang_up (answer_of text) l
+on_text h awaits.SendAnswer text l = on_send_answer h (answer_of text) l
+on_text h awaits.SentFileDone text l = on_sent_job_done h l.ahead (answer_of text) l
+on_text h awaits.RequestAnswer text l = on_request_answer h (answer_of text) l
+on_text h awaits.HangUpAnswer text l = on_hang_up_answer (answer_of text) l
+on_text h awaits.NothingMore text l = on_nothing_more (answer_of text) l
+on_text h _ text l = out_of_turn l
+
+-- ---- a whole file, by whether it can't be put in its place
+
+abbrev pub keeps : Kept → Reply → Reply
+keeps file reply = record reply { keeps = file ∷ [] }
+
+-- the file that was sent to a slave
+abbrev pub on_sent_file : (immovable : Bool) → Kept → Lists → Reply
+on_sent_file false file l = keeps file (replies l awaits.Order (the_answer answer.DoneYes ∷ []))
+on_sent_file true file l = replies l awaits.Order (the_answer answer.DoneNever ∷ [])
+
+-- the file that a master asked for
+abbrev pub on_asked_file : Holdings → (immovable : Bool) → Kept → Lists → Reply
+on_asked_file h false file l = keeps file (goes_on h (moved_once strike l) (the_answer answer.DoneYes ∷ []))
+on_asked_file h true file l = goes_on h (moved_once fail l) (the_answer answer.DoneNever ∷ [])
+
+-- it is that of the job in front
+abbrev pub on_file_of : Holdings → List Job → (mode : ℕ) → (bytes : List ℕ) → Lists → Reply
+on_file_of h (job.Request source target user ∷ jobs) mode bytes l =
+    on_asked_file h (h.immovable target) (record { name = target; mode = mode; bytes = bytes }) l
+on_file_of h _ mode bytes l = out_of_turn l
+
+abbrev pub on_file : Holdings → Awaits → List ℕ → Lists → Reply
+on_file h (awaits.SentFile target mode) bytes l =
+    on_sent_file (h.immovable target) (record { name = target; mode = mode; bytes = bytes }) l
+on_file h (awaits.AskedFile mode) bytes l = on_file_of h l.ahead mode bytes l
+on_file h _ bytes l = out_of_turn l
+
+-- ---- one message
+
+-- whether a text or a file is awaited
+abbrev pub kind_awaited : Awaits → Kind
+kind_awaited (awaits.SentFile target mode) = OfFile
+kind_awaited (awaits.AskedFile mode) = OfFile
+kind_awaited _ = OfCommand
+
+abbrev pub on_whole : Kind → Holdings → Awaits → List ℕ → Lists → Reply
+on_whole OfCommand h awaited text l = on_text h awaited text l
+on_whole OfFile h awaited bytes l = on_file h awaited bytes l
+
+-- by whether the text or file is whole
+abbrev pub on_gathered : (whole : Bool) → Kind → Holdings → State → List ℕ → Reply
+on_gathered false kind h s bytes =
+    record { state = record { lists = s.lists; awaits = s.awaits; gathered = bytes }; says = []; keeps = [] }
+on_gathered true kind h s bytes = on_whole kind h s.awaits bytes s.lists
+
+-- by whether a text or file is past its limit with this message
+abbrev pub on_part : (too_long : Bool) → Gathering → Holdings → State → Reply
+on_part true g h s = out_of_turn s.lists
+on_part false g h s = on_gathered g.whole g.kind h s g.bytes
+
+-- what has come of the text or file, with one message more
+abbrev pub gathered_with : State → (message : List ℕ) → Gathering
+gathered_with s message =
+    with_message (record { kind = kind_awaited s.awaits; bytes = s.gathered; whole = false }) message
+
+abbrev pub on_gathering : Gathering → Holdings → State → Reply
+on_gathering g h s = on_part (nat_lt (limit_of g.kind) (length g.bytes)) g h s
+
+abbrev pub step : Holdings → State → (message : List ℕ) → Reply
+step h s message = on_gathering (gathered_with s message) h s
+
+-- ---- from the start
+
+-- when the link comes up the caller is master, and chooses its first job
+abbrev pub opening : Side → Holdings → Lists → Reply
+opening caller h l = goes_on h l []
+opening called h l = replies l awaits.Order []

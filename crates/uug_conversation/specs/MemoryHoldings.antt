@@ -1,0 +1,58 @@
+-- What a spool in memory has, and what it gives and accepts (this project's profile).
+use Rattle.std.specs.Prelude.{ℕ, Bool, List, [], ◌∷◌, map, Option, Some, None, if◌then◌else◌}
+use Rattle.std.specs.List.{list_any}
+use Rattle.std.specs.Str.{bytes_eq}
+use Rattle.uug_conversation.specs.declared.memory_spool.MemorySpool.{MemorySpool}
+use Rattle.uug_conversation.specs.declared.stored.Stored.{Stored}
+use Rattle.uug_conversation.specs.declared.verdict.Verdict.{Verdict}
+use Rattle.uug_conversation.specs.declared.verdict.Verdict.TheVariants.{Yes, Never, Later}
+use Rattle.uug_conversation.specs.Holdings.{File, Kept, Holdings}
+
+pub record MemoryHoldings : Type 0 where
+  -- the files that it has to give, in the order in which they were added
+  pub files : List Kept
+  -- the names that it never takes, takes later, and can't put in place
+  pub denied : List (List ℕ)
+  pub postponed : List (List ℕ)
+  pub immovable : List (List ℕ)
+  -- the files that it has kept, in the order in which it did
+  pub stored : List Kept
+
+abbrev pub no_holdings : MemoryHoldings
+no_holdings = record { files = []; denied = []; postponed = []; immovable = []; stored = [] }
+
+-- whether a name is among these
+abbrev pub has_name : List (List ℕ) → List ℕ → Bool
+has_name names name = list_any (λ n. bytes_eq n name) names
+
+-- of two files of one name the first counts
+abbrev pub first_named : List Kept → List ℕ → Option File
+first_named [] name = None
+first_named (f ∷ files) name =
+    if bytes_eq f.name name then Some (record { mode = f.mode; bytes = f.bytes }) else first_named files name
+
+-- a name both denied and later is denied
+abbrev pub verdict_on : (denied postponed : List (List ℕ)) → List ℕ → Verdict
+verdict_on denied postponed name =
+    if has_name denied name then Never else (if has_name postponed name then Later else Yes)
+
+abbrev pub holdings_of : MemoryHoldings → Holdings
+holdings_of m = record {
+  file = first_named m.files;
+  verdict = verdict_on m.denied m.postponed;
+  immovable = has_name m.immovable;
+}
+
+-- ---- how the program keeps them
+
+abbrev pub kept_of : {A : Type 0} → Stored A → Kept
+kept_of s = record { name = s.name; mode = s.mode; bytes = s.bytes.items }
+
+abbrev pub held_by : {A : Type 0} → MemorySpool A → MemoryHoldings
+held_by m = record {
+  files = map kept_of m.files.items;
+  denied = m.denied.items;
+  postponed = m.postponed.items;
+  immovable = m.immovable.items;
+  stored = map kept_of m.stored.items;
+}

@@ -1,0 +1,66 @@
+-- What an end has still to say, as places: turns, and how much of the first one was sent (this project's profile). A file
+-- is cut from what the spool lends when a message goes out, so an end holds no copy of it.
+use Rattle.std.specs.Prelude.{◌≡◌, ℕ, ◌≤◌, Bool, true, false, List, [], ◌∷◌, ◌++◌, length, drop, map}
+use Rattle.uug_talk.specs.Answer.{IsWritten, answer_text}
+use Rattle.uug_talk.specs.Chunks.{command_messages, file_messages}
+use Rattle.uug_talk.specs.Order.{HasMode, order_text}
+use Rattle.uug_conversation.specs.declared.reaction.Saying.{Saying}
+use Rattle.uug_conversation.specs.declared.reaction.Saying.TheVariants as saying
+use Rattle.uug_conversation.specs.declared.reaction.Says.{Says}
+use Rattle.uug_conversation.specs.declared.reaction.Says.TheVariants.{Nothing, One, Two}
+use Rattle.uug_conversation.specs.Holdings.{Holdings}
+use Rattle.uug_conversation.specs.Reactions.{said_by}
+use Rattle.uug_conversation.specs.Turns.{Said, the_order, the_answer, the_file, all_messages}
+
+pub record Outgoing : Type 0 where
+  -- what is to be said, in order
+  pub sayings : List Saying
+  -- so many bytes of the first one's text or file were sent
+  pub offset : ℕ
+  -- so many more find room without memory
+  pub room : ℕ
+
+-- the messages of a text or a file from an offset on
+abbrev pub messages_from : (size offset : ℕ) → Said → List (List ℕ)
+messages_from size offset (the_order order) = command_messages size (drop offset (order_text order))
+messages_from size offset (the_answer answer) = command_messages size (drop offset (answer_text answer))
+messages_from size offset (the_file bytes) = file_messages size (drop offset bytes)
+
+-- the messages that follow one, by whether it is the last
+abbrev pub unless_last : (is_last : Bool) → (behind : List (List ℕ)) → List (List ℕ)
+unless_last true behind = []
+unless_last false behind = behind
+
+-- the messages of these, and of the first one from an offset on
+abbrev pub messages_of : Holdings → (size offset : ℕ) → List Saying → List (List ℕ)
+messages_of h size offset [] = []
+messages_of h size offset (first ∷ more) =
+    messages_from size offset (said_by h first) ++ all_messages size (map (said_by h) more)
+
+-- the messages that are still to go out
+abbrev pub outgoing_messages : Holdings → (size : ℕ) → Outgoing → List (List ℕ)
+outgoing_messages h size out = messages_of h size out.offset out.sayings
+
+-- what is said at once
+abbrev pub sayings_of : Says → List Saying
+sayings_of Nothing = []
+sayings_of (One first) = first ∷ []
+sayings_of (Two first next) = first ∷ next ∷ []
+
+-- whether nothing is to be said
+abbrev pub is_silent : List Saying → Bool
+is_silent [] = true
+is_silent (first ∷ more) = false
+
+-- a command or an answer that can be written
+abbrev pub IsSayable : Saying → Type 0
+IsSayable (saying.Order order) = HasMode order
+IsSayable (saying.Answer answer) = IsWritten answer
+IsSayable (saying.File name) = Unit {0}
+
+-- the offset lies in the first text; where nothing is to be said, nothing of it was sent
+abbrev pub IsWithin : List Saying → (offset : ℕ) → Type 0
+IsWithin [] offset = offset ≡ 0
+IsWithin (saying.Order order ∷ more) offset = offset ≤ length (order_text order)
+IsWithin (saying.Answer answer ∷ more) offset = offset ≤ length (answer_text answer)
+IsWithin (saying.File name ∷ more) offset = Unit {0}

@@ -1,0 +1,51 @@
+-- The turns of a conversation (Taylor UUCP manual, "UUCP Protocol").
+use Rattle.std.specs.Prelude.{ℕ, List, [], ◌∷◌, ◌++◌}
+use Rattle.uug_talk.specs.declared.answer.Answer.{Answer}
+use Rattle.uug_talk.specs.declared.order.Order.{Order}
+use Rattle.uug_talk.specs.Answer.{answer_text}
+use Rattle.uug_talk.specs.Chunks.{command_messages, file_messages}
+use Rattle.uug_talk.specs.Order.{order_text}
+use Rattle.uug_conversation.specs.Holdings.{Kept}
+use Rattle.uug_conversation.specs.Jobs.{Move}
+
+-- the two ends of a session: the one that called, and the one that was called
+pub data Side : Type 0 where
+  caller : Side
+  called : Side
+
+abbrev pub other : Side → Side
+other caller = called
+other called = caller
+
+-- what is said in one turn
+pub data Said : Type 0 where
+  the_order : Order → Said
+  the_answer : Answer → Said
+  the_file : (bytes : List ℕ) → Said
+
+-- the messages in which it goes out, of this size
+abbrev pub said_messages : ℕ → Said → List (List ℕ)
+said_messages size (the_order order) = command_messages size (order_text order)
+said_messages size (the_answer answer) = command_messages size (answer_text answer)
+said_messages size (the_file bytes) = file_messages size bytes
+
+-- the messages of several turns of one end
+abbrev pub all_messages : ℕ → List Said → List (List ℕ)
+all_messages size [] = []
+all_messages size (said ∷ more) = said_messages size said ++ all_messages size more
+
+-- who says what, and what the hearer does when it has taken the last message of it: what becomes of its jobs, and
+-- what it keeps
+pub record Turn : Type 0 where
+  pub speaker : Side
+  pub said : Said
+  pub moves : List Move
+  pub keeps : List Kept
+
+-- the hearer does nothing but speak next
+abbrev pub plain : Side → Said → Turn
+plain speaker said = record { speaker = speaker; said = said; moves = []; keeps = [] }
+
+-- the hearer's jobs move
+abbrev pub moving : Side → Said → List Move → Turn
+moving speaker said moves = record { speaker = speaker; said = said; moves = moves; keeps = [] }

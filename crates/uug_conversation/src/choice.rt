@@ -1,0 +1,82 @@
+ghost use Rattle.std.specs.Prelude.{◌≡◌};
+ghost use Rattle.uug_conversation.specs.Choice.{choice, fetched_by};
+ghost use Rattle.uug_conversation.specs.FileView.{shown_file};
+ghost use Rattle.uug_conversation.specs.Holdings.{to_give};
+ghost use Rattle.uug_conversation.specs.Jobs.{moved};
+ghost use Rattle.uug_conversation.specs.Reactions.{offer, send_offer};
+
+use crate::job::Job;
+use crate::queue::Queue;
+use crate::spool::{FileView, Spool};
+use std::alloc::Allocator;
+use uug_talk::{FILE_MAX, Name, Order};
+
+/// The file of this name that may be sent, if there is one.
+pub(crate) fn to_give<'a, S: Spool>(spool: &'a S, name: &Name) -> Option<FileView<'a>>
+    ensures { shown_file result ≡ to_give (S.holdings spool.now) name.now }
+{
+    let file = spool.fetch(name)?;
+    if file.bytes.len() <= FILE_MAX {
+        Some(file)
+    } else {
+        None
+    }
+}
+
+/// The name by which the file of a Send job is fetched.
+pub(crate) fn fetched_by<'a>(source: &'a Name, temp: &'a Option<Name>) -> &'a Name
+    ensures { result.now ≡ fetched_by source.now temp.now }
+{
+    match temp {
+        Some(temp) => temp,
+        None => source,
+    }
+}
+
+/// The command for a job, if it can be offered.
+fn offer<S: Spool>(job: &Job, spool: &S) -> Option<Order>
+    ensures { result ≡ offer (S.holdings spool.now) job.now }
+{
+    match job {
+        Job::Send {
+            source,
+            target,
+            user,
+            temp,
+        } => {
+            let file = to_give(spool, fetched_by(source, temp))?;
+            Some(Order::Send {
+                source: *source,
+                target: *target,
+                user: *user,
+                temp: *temp,
+                mode: file.mode,
+            })
+        }
+        Job::Request {
+            source,
+            target,
+            user,
+        } => Some(Order::Request {
+            source: *source,
+            target: *target,
+            user: *user,
+        }),
+    }
+}
+
+/// Chooses the next job: those in front that can't be offered fail, and the command for the one behind them is the
+/// answer, if there is one.
+pub(crate) fn choose<A: Allocator, S: Spool>(queue: &mut Queue<A>, spool: &S) -> Option<Order>
+    ensures next { result ≡ (choice (S.holdings spool.now) queue.old.ahead).next }
+    ensures lists { queue.new
+        ≡ moved (choice (S.holdings spool.now) queue.old.ahead).failing queue.old }
+{
+    while let Some(job) = queue.first() {
+        if let Some(order) = offer(job, spool) {
+            return Some(order);
+        }
+        queue.fail_first();
+    }
+    None
+}

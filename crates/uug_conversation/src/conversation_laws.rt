@@ -1,0 +1,73 @@
+//! Laws of what a conversation is, in the terms of those who hold it. The functions do nothing.
+ghost use Rattle.std.specs.Prelude.{◌≡◌, ℕ, List, [], ◌∷◌, ◌++◌, All};
+ghost use Rattle.uug_packet.specs.Bytes.{AreBytes};
+ghost use Rattle.uug_conversation.specs.Alternation.{Alternate, BeginsWithCommand};
+ghost use Rattle.uug_conversation.specs.Choice.{choice};
+ghost use Rattle.uug_conversation.specs.Conversation.{conversation};
+ghost use Rattle.uug_conversation.specs.Entries.{KeepsWell};
+ghost use Rattle.uug_conversation.specs.HeldBytes.{HoldsBytes};
+ghost use Rattle.uug_conversation.specs.Holdings.{Holdings};
+ghost use Rattle.uug_conversation.specs.Jobs.{at_start, pending};
+ghost use Rattle.uug_conversation.specs.Offers.{commands_of, first_of, hanging_up, hang_up_answers, offered, until_hang_up};
+ghost use Rattle.uug_conversation.specs.Party.{HasNames, Party};
+ghost use Rattle.uug_conversation.specs.ReadBack.{EachTurn};
+ghost use Rattle.uug_conversation.specs.Runs.{progress_after};
+ghost use Rattle.uug_conversation.specs.Sharing.{AreShared};
+ghost use Rattle.uug_conversation.specs.Turns.{Side, called, caller};
+ghost use Rattle.uug_conversation.specs.View.{conversation_view, lists_after, own_messages, party};
+ghost use Rattle.uug_conversation.specs.declared.job.Job.{Job};
+ghost use Rattle.uug_talk.specs.declared.order.Order.TheVariants.{HangUp};
+
+/// No job is offered twice: each end asks for each of its jobs that can be offered, in their order, and then hangs up; a
+/// called end with no such job is never asked to.
+pub fn each_job_is_offered_once()
+    ensures caller { (a b : Party)
+        → commands_of caller (conversation a b) ≡ offered a.holdings a.jobs ++ HangUp ∷ [] }
+    ensures called { (a b : Party)
+        → commands_of called (conversation a b) ≡ until_hang_up (offered b.holdings b.jobs) }
+    // what a master chooses next is the first of it
+    ensures next { (h : Holdings) (jobs : List Job)
+        → (choice h jobs).next ≡ first_of (offered h jobs) }
+{}
+
+/// The roles are exchanged, by HN, exactly where the called end has a job to offer; in the end both agree to hang up.
+pub fn roles_are_exchanged_for_a_job()
+    ensures { (a b : Party)
+        → hang_up_answers (conversation a b) ≡ hanging_up (offered b.holdings b.jobs) }
+{}
+
+/// The caller speaks first. Then the two take turns, but that a file follows its RY, and a command the same end's CY,
+/// CN5 or HN.
+pub fn speakers_alternate()
+    ensures first { (a b : Party) → BeginsWithCommand caller (conversation a b) }
+    ensures then { (a b : Party) → Alternate (conversation a b) }
+{}
+
+/// What is kept is the file that was said in the turn, which a job asked for: with the job's target, and the mode and bytes
+/// that the giver's holdings have.
+pub fn entries_are_asked_for()
+    ensures { (a b : Party) → EachTurn (KeepsWell a b) (conversation a b) }
+{}
+
+/// Each job of an end is in exactly one list, as often as it was given, and each list has its jobs in the order in which
+/// they were given.
+pub fn jobs_are_in_one_list()
+    // whatever the other end says
+    ensures always { (me : Side) (p : Party) (taken : List (List ℕ))
+        → let l = (progress_after me p taken).state.lists in
+        AreShared p.jobs (pending l) l.struck l.failed }
+    // and in a conversation
+    ensures told { (me : Side) (a b : Party) (k : ℕ) → let jobs = (party me a b).jobs in
+        let l = lists_after me a b k in AreShared jobs (pending l) l.struck l.failed }
+    // so what holds of all jobs, as that their names are names, holds of all jobs of each list
+    ensures names { (jobs pending struck failed : List Job) → AreShared jobs pending struck failed
+        → All HasNames jobs
+        → All HasNames pending × All HasNames struck × All HasNames failed }
+{}
+
+/// What the two ends say is bytes, where the names of their jobs are names and their files hold bytes.
+pub fn messages_are_bytes()
+    ensures { (me : Side) (a b : Party) → All HasNames a.jobs → All HasNames b.jobs
+        → HoldsBytes a.holdings
+        → HoldsBytes b.holdings → All AreBytes (own_messages (conversation_view me a b)) }
+{}

@@ -1,0 +1,307 @@
+ghost use Rattle.std.specs.Prelude.{◌≡◌, ◌≢◌, ◌≤◌, ◌<◌, ◌⊎◌, ◌++◌, [], length, true, false, All, OnOk, OnErr, IfOk, IfErr, IfSome, IfNone, Some, None};
+ghost use Rattle.std.specs.Bool.{OnTrue, OnFalse};
+ghost use Rattle.uug_talk.specs.Gathering.{OfFile};
+ghost use Rattle.uug_conversation.specs.Jobs.{at_start, pending};
+ghost use Rattle.uug_conversation.specs.Machine.{between, kind_awaited, opening, step};
+ghost use Rattle.uug_conversation.specs.Outgoing.{IsSayable, sayings_of};
+ghost use Rattle.uug_conversation.specs.Party.{HasNames};
+ghost use Rattle.uug_conversation.specs.Reactions.{HasModeInRange, reply_of};
+ghost use Rattle.uug_conversation.specs.Runs.{is_bad};
+ghost use Rattle.uug_conversation.specs.Side.{side_of};
+ghost use Rattle.uug_conversation.specs.Talk.{asks_spool, first_of, opened_with, taking, with_first_sent};
+ghost use Rattle.uug_conversation.specs.Talking.{IsPart, state_of, talk_of, told_as, talking_has_parted, talking_is_through};
+
+use crate::awaits::Awaits;
+use crate::machine::{go_on, on_text};
+use crate::outgoing::{Outgoing, SAYINGS_MAX};
+use crate::queue::Queue;
+use crate::reaction::Reaction;
+use crate::side::Side;
+use crate::spool::Spool;
+use crate::whole_file::{FileFault, on_file};
+use std::alloc::{AllocError, Allocator};
+use std::marker::Model;
+use uug_talk::{BadText, Gather, MESSAGE_MAX, Message, Progress};
+
+/// One end's part of the conversation: its jobs, what it awaits, what has come of it, and what it has still to say. The
+/// files are a spool's, which stands beside it.
+#[derive(Drop)]
+pub struct Dialogue<A: Allocator> {
+    queue: Queue<A>,
+    awaits: Awaits,
+    /// The text or file that comes.
+    gather: Gather<A>,
+    /// Whether the link has come up in this session.
+    opened: bool,
+    /// The size of messages, once the link is up.
+    size: usize,
+    outgoing: Outgoing<A>,
+    alloc: A,
+}
+
+impl<A: Allocator> Model for Dialogue<A> {
+    ghost use Rattle.std.specs.Prelude.{◌≡◌, ◌≤◌, ◌<◌, true};
+    ghost use Rattle.uug_talk.specs.declared.chunks.TheConstants.{MESSAGE_MAX};
+    ghost use Rattle.uug_conversation.specs.Reactions.{HasModeInRange};
+    ghost use Rattle.uug_conversation.specs.Talking.{Talking, IsPart, state_of};
+
+    ghost Value = { Talking };
+
+    ghost view = { λ d. record {
+      opened = d.opened;
+      machine = state_of d.queue d.awaits d.gather;
+      size = d.size;
+      outgoing = d.outgoing;
+    } };
+
+    ghost invariant = { λ d. HasModeInRange d.awaits × IsPart d.awaits d.gather
+        × (d.size ≤ MESSAGE_MAX)
+        × (d.opened ≡ true → 0 < d.size) };
+}
+
+impl<A: Allocator + Copy> Dialogue<A> {
+    /// Before the link is up, with every pending job ahead. It takes no memory.
+    pub fn new(alloc: A, mut queue: Queue<A>) -> Self
+        ensures machine { result.machine
+            ≡ between (at_start (pending queue) queue.struck queue.failed) Awaits.Order }
+        ensures opened { result.opened ≡ false }
+        ensures size { result.size ≡ 0 }
+        ensures sayings { result.outgoing.sayings ≡ [] }
+        ensures offset { result.outgoing.offset ≡ 0 }
+    {
+        queue.restart();
+        Dialogue {
+            queue,
+            awaits: Awaits::Order,
+            gather: Gather::command(),
+            opened: false,
+            size: 0,
+            outgoing: Outgoing::new(alloc),
+            alloc,
+        }
+    }
+
+    /// A session starts: what was left of the last one is dropped, and every pending job is ahead.
+    pub fn restart(&mut self)
+        ensures machine { self.new.machine ≡ between (at_start (pending self.old.machine.lists)
+            self.old.machine.lists.struck self.old.machine.lists.failed) Awaits.Order }
+        ensures opened { self.new.opened ≡ false }
+        ensures size { self.new.size ≡ 0 }
+        ensures sayings { self.new.outgoing.sayings ≡ [] }
+        ensures offset { self.new.outgoing.offset ≡ 0 }
+    {
+        self.queue.restart();
+        self.awaits = Awaits::Order;
+        self.gather = Gather::command();
+        self.opened = false;
+        self.size = 0;
+        self.outgoing.clear();
+    }
+
+    /// Makes room for all that one message can bring to be said. All else stays.
+    pub fn reserve(&mut self) -> Result<(), AllocError>
+        ensures opened { self.new.opened ≡ self.old.opened }
+        ensures machine { self.new.machine ≡ self.old.machine }
+        ensures size { self.new.size ≡ self.old.size }
+        ensures sayings { self.new.outgoing.sayings ≡ self.old.outgoing.sayings }
+        ensures offset { self.new.outgoing.offset ≡ self.old.outgoing.offset }
+        ensures room { OnOk result (SAYINGS_MAX ≤ self.new.outgoing.room) }
+    {
+        self.outgoing.reserve()
+    }
+
+    /// The link has come up, and messages have at most this size.
+    pub fn open<S: Spool>(&mut self, side: Side, spool: &S, size: usize)
+        requires room { SAYINGS_MAX ≤ self.old.outgoing.room }
+        requires some { 0 < size }
+        requires fits { size ≤ MESSAGE_MAX }
+        ensures opened { talk_of (S.holdings spool.now) (S.kept spool.now) self.new
+            ≡ opened_with (side_of side) (S.holdings spool.now) size
+            (talk_of (S.holdings spool.now) (S.kept spool.now) self.old) }
+    {
+        let reaction = opening(&mut self.queue, spool, side);
+        self.opened = true;
+        self.size = size;
+        self.awaits = reaction.awaits;
+        self.gather = gather_for(&reaction.awaits, self.alloc);
+        self.outgoing.clear();
+        self.outgoing.say(reaction.says);
+    }
+
+    /// Takes the other end's next message. `Memory` and `Device` leave all as it was, and are the spool's where a file is
+    /// to be kept; `Device` comes there alone.
+    pub fn take<S: Spool>(&mut self, spool: &mut S, message: &[u8]) -> Result<(), FileFault>
+        requires room { SAYINGS_MAX ≤ self.old.outgoing.room }
+        requires opened { self.old.opened ≡ true }
+        ensures holdings { S.holdings spool.new ≡ S.holdings spool.old }
+        ensures taken { OnOk result (talk_of (S.holdings spool.old) (S.kept spool.new) self.new
+            ≡ taking (S.holdings spool.old) message.now
+            (talk_of (S.holdings spool.old) (S.kept spool.old) self.old)) }
+        ensures same { OnErr result (self.new ≡ self.old) }
+        ensures none_kept { OnErr result (S.kept spool.new ≡ S.kept spool.old) }
+        ensures stands { result ≢ Err FileFault.Device → S.faults spool.new ≡ S.faults spool.old }
+        ensures asked { result ≡ Err FileFault.Device
+            → asks_spool (S.holdings spool.old) self.old.machine message.now ≡ true }
+        ensures device { result ≡ Err FileFault.Device
+            → (S.faults spool.old < S.faults spool.new) ⊎ (S.faults spool.old ≡ u64.MAX) }
+        ensures count { S.faults spool.old ≤ S.faults spool.new }
+    {
+        let told = reaction_to(
+            &mut self.queue,
+            spool,
+            &self.awaits,
+            &mut self.gather,
+            message,
+        )?;
+        if let Some(reaction) = told {
+            self.awaits = reaction.awaits;
+            self.gather = gather_for(&reaction.awaits, self.alloc);
+            self.outgoing.say(reaction.says);
+        }
+        Ok(())
+    }
+
+    /// Puts the next message to go out into `message`, and says whether there was one. It is taken as sent.
+    pub fn take_message<S: Spool>(&mut self, spool: &S, message: &mut Message) -> bool
+        requires { self.old.opened ≡ true }
+        ensures first { OnTrue result (first_of (talk_of (S.holdings spool.now)
+            (S.kept spool.now) self.old).waiting ≡ Some message.new.items) }
+        ensures none { OnFalse result (first_of (talk_of (S.holdings spool.now)
+            (S.kept spool.now) self.old).waiting ≡ None) }
+        ensures sent { talk_of (S.holdings spool.now) (S.kept spool.now) self.new
+            ≡ with_first_sent (talk_of (S.holdings spool.now) (S.kept spool.now) self.old) }
+        ensures size { OnTrue result (length message.new.items ≤ self.old.size) }
+    {
+        self.outgoing.take_message(spool, self.size, message)
+    }
+
+    /// Whether what was taken fitted no turn.
+    pub fn is_bad(&self) -> bool
+        ensures { result ≡ is_bad self.now.machine.awaits }
+    {
+        matches!(self.awaits, Awaits::Bad)
+    }
+
+    /// Whether all is said and nothing more is to come.
+    pub fn is_through(&self) -> bool
+        ensures { result ≡ talking_is_through self.now }
+    {
+        matches!(self.awaits, Awaits::NothingMore) && self.outgoing.is_silent()
+    }
+
+    /// Whether HY was said or taken.
+    pub fn has_parted(&self) -> bool
+        ensures { result ≡ talking_has_parted self.now }
+    {
+        match self.awaits {
+            Awaits::NothingMore => true,
+            Awaits::LastHangUp => self.outgoing.is_silent(),
+            _ => false,
+        }
+    }
+
+    /// The jobs.
+    pub fn queue(&self) -> &Queue<A>
+        ensures jobs { result.now ≡ self.now.machine.lists }
+        ensures names { All HasNames (pending self.now.machine.lists) }
+    {
+        self.queue.pending();
+        &self.queue
+    }
+}
+
+/// What an end on this side does when the link has come up.
+fn opening<A: Allocator, S: Spool>(queue: &mut Queue<A>, spool: &S, side: Side) -> Reaction
+    ensures reply { opening (side_of side) (S.holdings spool.now) queue.old
+        ≡ reply_of (S.holdings spool.now) queue.new result [] }
+    ensures mode { HasModeInRange result.awaits }
+    ensures sayable { All IsSayable (sayings_of result.says) }
+{
+    match side {
+        Side::Caller => go_on(queue, spool, None),
+        Side::Called => Reaction::quiet(Awaits::Order),
+    }
+}
+
+/// Nothing has come yet of what is awaited.
+fn gather_for<A: Allocator + Copy>(awaits: &Awaits, alloc: A) -> Gather<A>
+    ensures kind { result.kind ≡ kind_awaited awaits.now }
+    ensures bytes { result.bytes ≡ [] }
+    ensures whole { result.whole ≡ false }
+{
+    if awaits.is_file() {
+        Gather::file(alloc)
+    } else {
+        Gather::command()
+    }
+}
+
+/// What an end does with a message of what it awaits: nothing where more of it is to come. `Memory` and `Device` leave
+/// all as it was.
+fn reaction_to<A: Allocator, S: Spool>(
+    queue: &mut Queue<A>,
+    spool: &mut S,
+    awaits: &Awaits,
+    gather: &mut Gather<A>,
+    message: &[u8],
+) -> Result<Option<Reaction>, FileFault>
+    requires mode { HasModeInRange awaits.now }
+    requires part { IsPart awaits.now gather.old }
+    ensures holdings { S.holdings spool.new ≡ S.holdings spool.old }
+    ensures reply { IfOk result (λ told. step (S.holdings spool.old)
+        (state_of queue.old awaits.now gather.old) message.now
+        ≡ told_as (S.holdings spool.old) (state_of queue.new awaits.now gather.new) told
+        (step (S.holdings spool.old) (state_of queue.old awaits.now gather.old)
+        message.now).keeps) }
+    ensures kept { OnOk result (S.kept spool.new ≡ S.kept spool.old
+        ++ (step (S.holdings spool.old) (state_of queue.old awaits.now gather.old)
+        message.now).keeps) }
+    ensures mode { IfOk result (λ told. IfSome told (λ reaction. HasModeInRange reaction.awaits)) }
+    ensures sayable { IfOk result (λ told.
+        IfSome told (λ reaction. All IsSayable (sayings_of reaction.says))) }
+    ensures more { IfOk result (λ told. IfNone told (IsPart awaits.now gather.new)) }
+    ensures jobs_stay { OnErr result (queue.new ≡ queue.old) }
+    ensures none_gathered { OnErr result (gather.new ≡ gather.old) }
+    ensures none_kept { OnErr result (S.kept spool.new ≡ S.kept spool.old) }
+    ensures stands { result ≢ Err FileFault.Device → S.faults spool.new ≡ S.faults spool.old }
+    ensures asked { result ≡ Err FileFault.Device → asks_spool (S.holdings spool.old)
+        (state_of queue.old awaits.now gather.old) message.now ≡ true }
+    ensures device { result ≡ Err FileFault.Device
+        → (S.faults spool.old < S.faults spool.new) ⊎ (S.faults spool.old ≡ u64.MAX) }
+    ensures count { S.faults spool.old ≤ S.faults spool.new }
+{
+    if awaits.is_file() && message.is_empty() {
+        let reaction = on_file(queue, spool, *awaits, gather.bytes())?;
+        return Ok(Some(reaction));
+    }
+    reaction_to_part(queue, spool, awaits, gather, message)
+}
+
+/// The same for a message that ends no file. The spool is not asked to keep one, so only `Memory` comes.
+fn reaction_to_part<A: Allocator, S: Spool>(
+    queue: &mut Queue<A>,
+    spool: &S,
+    awaits: &Awaits,
+    gather: &mut Gather<A>,
+    message: &[u8],
+) -> Result<Option<Reaction>, FileFault>
+    requires part { IsPart awaits.now gather.old }
+    requires no_end { kind_awaited awaits.now ≡ OfFile → message.now ≢ [] }
+    ensures reply { IfOk result (λ told. step (S.holdings spool.now)
+        (state_of queue.old awaits.now gather.old) message.now
+        ≡ told_as (S.holdings spool.now) (state_of queue.new awaits.now gather.new) told []) }
+    ensures mode { IfOk result (λ told. IfSome told (λ reaction. HasModeInRange reaction.awaits)) }
+    ensures sayable { IfOk result (λ told.
+        IfSome told (λ reaction. All IsSayable (sayings_of reaction.says))) }
+    ensures more { IfOk result (λ told. IfNone told (IsPart awaits.now gather.new)) }
+    ensures jobs_stay { OnErr result (queue.new ≡ queue.old) }
+    ensures none_gathered { OnErr result (gather.new ≡ gather.old) }
+    ensures memory { IfErr result (λ fault. fault ≡ FileFault.Memory) }
+{
+    match gather.push(message) {
+        Ok(Progress::More) => Ok(None),
+        Ok(Progress::Whole) => Ok(Some(on_text(queue, spool, *awaits, gather.bytes()))),
+        Err(BadText::Memory) => Err(FileFault::Memory),
+        Err(_) => Ok(Some(Reaction::out_of_turn())),
+    }
+}

@@ -1,0 +1,278 @@
+ghost use Rattle.std.specs.Prelude.{◌≡◌, ◌≤◌, [], IfOk};
+ghost use Rattle.uug_conversation.specs.Choice.{choice};
+ghost use Rattle.uug_conversation.specs.Jobs.{Lists, moved_once, pass, strike, fail};
+ghost use Rattle.uug_conversation.specs.Holdings.{Holdings};
+ghost use Rattle.uug_conversation.specs.Machine.{goes_on, on_send, on_request, on_hang_up, on_choice, on_order, on_given_file_done, on_last_hang_up, sends_file, on_send_yes, on_send_answer, on_sent_file_done, on_sent_job_done, on_request_answer, on_hang_up_answer, on_nothing_more, on_text};
+ghost use Rattle.uug_conversation.specs.Holdings.{to_give};
+ghost use Rattle.uug_conversation.specs.Reactions.{reply_of, said_before, HasModeInRange, HasModeAnswered};
+ghost use Rattle.uug_talk.specs.Order.{HasMode};
+ghost use Rattle.uug_talk.specs.declared.mode.TheConstants.{MODE_MAX};
+
+use crate::awaits::Awaits;
+use crate::choice::{choose, fetched_by, to_give};
+use crate::job::Job;
+use crate::queue::Queue;
+use crate::reaction::{Reaction, Saying, Says};
+use crate::spool::Spool;
+use crate::verdict::Verdict;
+use std::alloc::Allocator;
+use uug_talk::{Answer, BadText, Name, Order, read_answer, read_order};
+
+/// The end is master: it chooses its next job and says its command, behind an answer where there is one to give.
+pub(crate) fn go_on<A: Allocator, S: Spool>(
+    queue: &mut Queue<A>,
+    spool: &S,
+    before: Option<Answer>,
+) -> Reaction
+    ensures reply { goes_on (S.holdings spool.now) queue.old (said_before before)
+        ≡ reply_of (S.holdings spool.now) queue.new result [] }
+    ensures mode { HasModeInRange result.awaits }
+{
+    let order = choose(queue, spool).unwrap_or(Order::HangUp);
+    Reaction::commands(before, order)
+}
+
+/// What an end does with a whole text, by what it awaits.
+pub(crate) fn on_text<A: Allocator, S: Spool>(
+    queue: &mut Queue<A>,
+    spool: &S,
+    awaits: Awaits,
+    text: &[u8],
+) -> Reaction
+    ensures reply { on_text (S.holdings spool.now) awaits text.now queue.old
+        ≡ reply_of (S.holdings spool.now) queue.new result [] }
+    ensures mode { HasModeInRange result.awaits }
+{
+    match awaits {
+        Awaits::Order => on_order(queue, spool, &read_order(text)),
+        Awaits::GivenFileDone => on_given_file_done(read_answer(text)),
+        Awaits::LastHangUp => on_last_hang_up(read_answer(text)),
+        Awaits::SendAnswer => on_send_answer(queue, spool, read_answer(text)),
+        Awaits::SentFileDone => on_sent_job_done(queue, spool, read_answer(text)),
+        Awaits::RequestAnswer => on_request_answer(queue, spool, read_answer(text)),
+        Awaits::HangUpAnswer => on_hang_up_answer(read_answer(text)),
+        Awaits::NothingMore => on_nothing_more(read_answer(text)),
+        Awaits::SentFile { .. } | Awaits::AskedFile { .. } | Awaits::Bad => Reaction::out_of_turn(),
+    }
+}
+
+fn on_order<A: Allocator, S: Spool>(
+    queue: &mut Queue<A>,
+    spool: &S,
+    order: &Result<Order, BadText>,
+) -> Reaction
+    ensures reply { on_order (S.holdings spool.now) order.now queue.old
+        ≡ reply_of (S.holdings spool.now) queue.new result [] }
+    ensures mode { IfOk order.now (λ o. HasMode o) → HasModeInRange result.awaits }
+{
+    match order {
+        Ok(Order::Send { target, mode, .. }) => on_send(spool, *target, *mode),
+        Ok(Order::Request { source, .. }) => on_request(spool, *source),
+        Ok(Order::HangUp) => on_hang_up(choose(queue, spool)),
+        Err(_) => Reaction::out_of_turn(),
+    }
+}
+
+fn on_send<S: Spool>(spool: &S, target: Name, mode: u16) -> Reaction
+    ensures reply { (l : Lists) → on_send ((S.holdings spool.now).verdict target) target mode l
+        ≡ reply_of (S.holdings spool.now) l result [] }
+    ensures mode { mode ≤ MODE_MAX → HasModeInRange result.awaits }
+{
+    match spool.may_keep(&target) {
+        Verdict::Yes => Reaction::answers(Awaits::SentFile { target, mode }, Answer::SendYes),
+        Verdict::Never => Reaction::answers(Awaits::Order, Answer::SendNever),
+        Verdict::Later => Reaction::answers(Awaits::Order, Answer::SendLater),
+    }
+}
+
+fn on_request<S: Spool>(spool: &S, source: Name) -> Reaction
+    ensures reply { (l : Lists) → on_request (to_give (S.holdings spool.now) source) l
+        ≡ reply_of (S.holdings spool.now) l result [] }
+    ensures mode { HasModeInRange result.awaits }
+{
+    match to_give(spool, &source) {
+        Some(file) => Reaction {
+            awaits: Awaits::GivenFileDone,
+            says: Says::Two(
+                Saying::Answer(Answer::GiveYes(file.mode)),
+                Saying::File(source),
+            ),
+        },
+        None => Reaction::answers(Awaits::Order, Answer::GiveNever),
+    }
+}
+
+// The roles are exchanged where this end has a job to offer.
+fn on_hang_up(next: Option<Order>) -> Reaction
+    ensures reply { (h : Holdings) (l : Lists) → on_hang_up next l ≡ reply_of h l result [] }
+    ensures mode { HasModeInRange result.awaits }
+{
+    match next {
+        Some(order) => Reaction::commands(Some(Answer::HangNo), order),
+        None => Reaction::answers(Awaits::LastHangUp, Answer::HangYes),
+    }
+}
+
+fn on_given_file_done(answer: Result<Answer, BadText>) -> Reaction
+    ensures reply { (h : Holdings) (l : Lists)
+        → on_given_file_done answer l ≡ reply_of h l result [] }
+    ensures mode { HasModeInRange result.awaits }
+{
+    match answer {
+        Ok(Answer::DoneYes | Answer::DoneYesMaster | Answer::DoneNever | Answer::DoneLater) => {
+            Reaction::quiet(Awaits::Order)
+        }
+        _ => Reaction::out_of_turn(),
+    }
+}
+
+fn on_last_hang_up(answer: Result<Answer, BadText>) -> Reaction
+    ensures reply { (h : Holdings) (l : Lists) → on_last_hang_up answer l ≡ reply_of h l result [] }
+    ensures mode { HasModeInRange result.awaits }
+{
+    match answer {
+        Ok(Answer::HangYes) => Reaction::quiet(Awaits::NothingMore),
+        _ => Reaction::out_of_turn(),
+    }
+}
+
+fn on_send_answer<A: Allocator, S: Spool>(
+    queue: &mut Queue<A>,
+    spool: &S,
+    answer: Result<Answer, BadText>,
+) -> Reaction
+    ensures reply { on_send_answer (S.holdings spool.now) answer queue.old
+        ≡ reply_of (S.holdings spool.now) queue.new result [] }
+    ensures mode { HasModeInRange result.awaits }
+{
+    match answer {
+        Ok(Answer::SendYes) => on_send_yes(queue, spool),
+        Ok(Answer::SendNever) => {
+            queue.fail_first();
+            go_on(queue, spool, None)
+        }
+        Ok(Answer::SendLater) => {
+            queue.pass_first();
+            go_on(queue, spool, None)
+        }
+        _ => Reaction::out_of_turn(),
+    }
+}
+
+// The file of the job in front goes out.
+fn on_send_yes<A: Allocator, S: Spool>(queue: &Queue<A>, spool: &S) -> Reaction
+    ensures reply { on_send_yes (S.holdings spool.now) queue.now.ahead queue.now
+        ≡ reply_of (S.holdings spool.now) queue.now result [] }
+    ensures mode { HasModeInRange result.awaits }
+{
+    match queue.first() {
+        Some(Job::Send { source, temp, .. }) => send_file(spool, fetched_by(source, temp)),
+        _ => Reaction::out_of_turn(),
+    }
+}
+
+fn send_file<S: Spool>(spool: &S, name: &Name) -> Reaction
+    ensures reply { (l : Lists) → sends_file (to_give (S.holdings spool.now) name.now) l
+        ≡ reply_of (S.holdings spool.now) l result [] }
+    ensures mode { HasModeInRange result.awaits }
+{
+    match to_give(spool, name) {
+        Some(_) => Reaction {
+            awaits: Awaits::SentFileDone,
+            says: Says::One(Saying::File(*name)),
+        },
+        None => Reaction::out_of_turn(),
+    }
+}
+
+// The file that was sent is that of the job in front.
+fn on_sent_job_done<A: Allocator, S: Spool>(
+    queue: &mut Queue<A>,
+    spool: &S,
+    answer: Result<Answer, BadText>,
+) -> Reaction
+    ensures reply { on_sent_job_done (S.holdings spool.now) queue.old.ahead answer queue.old
+        ≡ reply_of (S.holdings spool.now) queue.new result [] }
+    ensures mode { HasModeInRange result.awaits }
+{
+    match queue.first() {
+        Some(Job::Send { .. }) => on_sent_file_done(queue, spool, answer),
+        _ => Reaction::out_of_turn(),
+    }
+}
+
+fn on_sent_file_done<A: Allocator, S: Spool>(
+    queue: &mut Queue<A>,
+    spool: &S,
+    answer: Result<Answer, BadText>,
+) -> Reaction
+    ensures reply { on_sent_file_done (S.holdings spool.now) answer queue.old
+        ≡ reply_of (S.holdings spool.now) queue.new result [] }
+    ensures mode { HasModeInRange result.awaits }
+{
+    match answer {
+        Ok(Answer::DoneYes) => {
+            queue.strike_first();
+            go_on(queue, spool, None)
+        }
+        Ok(Answer::DoneYesMaster) => {
+            queue.strike_first();
+            Reaction::commands(None, Order::HangUp)
+        }
+        Ok(Answer::DoneNever) => {
+            queue.fail_first();
+            go_on(queue, spool, None)
+        }
+        Ok(Answer::DoneLater) => {
+            queue.pass_first();
+            go_on(queue, spool, None)
+        }
+        _ => Reaction::out_of_turn(),
+    }
+}
+
+fn on_request_answer<A: Allocator, S: Spool>(
+    queue: &mut Queue<A>,
+    spool: &S,
+    answer: Result<Answer, BadText>,
+) -> Reaction
+    ensures reply { on_request_answer (S.holdings spool.now) answer queue.old
+        ≡ reply_of (S.holdings spool.now) queue.new result [] }
+    ensures mode { IfOk answer (λ a. HasModeAnswered a) → HasModeInRange result.awaits }
+{
+    match answer {
+        Ok(Answer::GiveYes(mode)) => Reaction::quiet(Awaits::AskedFile { mode }),
+        Ok(Answer::GiveNever) => {
+            queue.fail_first();
+            go_on(queue, spool, None)
+        }
+        Ok(Answer::GiveLater) => {
+            queue.pass_first();
+            go_on(queue, spool, None)
+        }
+        _ => Reaction::out_of_turn(),
+    }
+}
+
+// Where the roles are exchanged, this end is the slave then.
+fn on_hang_up_answer(answer: Result<Answer, BadText>) -> Reaction
+    ensures reply { (h : Holdings) (l : Lists)
+        → on_hang_up_answer answer l ≡ reply_of h l result [] }
+    ensures mode { HasModeInRange result.awaits }
+{
+    match answer {
+        Ok(Answer::HangYes) => Reaction::answers(Awaits::NothingMore, Answer::HangYes),
+        Ok(Answer::HangNo) => Reaction::quiet(Awaits::Order),
+        _ => Reaction::out_of_turn(),
+    }
+}
+
+fn on_nothing_more(answer: Result<Answer, BadText>) -> Reaction
+    ensures reply { (h : Holdings) (l : Lists) → on_nothing_more answer l ≡ reply_of h l result [] }
+    ensures mode { HasModeInRange result.awaits }
+{
+    match answer {
+        Ok(Answer::HangYes) => Reaction::quiet(Awaits::NothingMore),
+        _ => Reaction::out_of_turn(),
+    }
+}

@@ -1,0 +1,164 @@
+ghost use Rattle.std.specs.Prelude.{◌≡◌, ℕ, ◌≤◌, [], ◌∷◌, ◌++◌, map, OnOk, OnErr};
+ghost use Rattle.uug_conversation.specs.FileView.{shown_file};
+ghost use Rattle.uug_conversation.specs.Holdings.{kept_file};
+ghost use Rattle.uug_conversation.specs.MemoryHoldings.{no_holdings, has_name, first_named, holdings_of, kept_of, held_by};
+ghost use Rattle.uug_conversation.specs.Code.StoredModes.{modes_in_range};
+
+use crate::spool::{FileView, KeepFault, Spool};
+use crate::stored::Stored;
+use crate::verdict::Verdict;
+use std::alloc::{AllocError, Allocator};
+use uug_talk::{MODE_MAX, Name};
+
+/// A spool whose files are in memory.
+#[derive(Drop)]
+pub struct MemorySpool<A: Allocator> {
+    files: Vec<Stored<A>, A>,
+    denied: Vec<Name, A>,
+    postponed: Vec<Name, A>,
+    immovable: Vec<Name, A>,
+    stored: Vec<Stored<A>, A>,
+    alloc: A,
+}
+
+impl<A: Allocator + Copy> MemorySpool<A> {
+    /// A spool with no file, that takes every file. It takes no memory.
+    pub fn new(alloc: A) -> Self
+        ensures { held_by result ≡ no_holdings }
+    {
+        MemorySpool {
+            files: Vec::new(alloc),
+            denied: Vec::new(alloc),
+            postponed: Vec::new(alloc),
+            immovable: Vec::new(alloc),
+            stored: Vec::new(alloc),
+            alloc,
+        }
+    }
+
+    /// A file to give, of a mode of at most `MODE_MAX`. Of two files of one name the first counts.
+    pub fn add_file(&mut self, name: Name, mode: u16, bytes: &[u8]) -> Result<(), AllocError>
+        requires { mode ≤ MODE_MAX }
+        ensures ok { OnOk result (held_by self.new ≡
+            record (held_by self.old) {
+              files = (held_by self.old).files
+                  ++ kept_file name mode bytes.now ∷ [];
+            }) }
+        ensures err { OnErr result (held_by self.new ≡ held_by self.old) }
+    {
+        push_file(&mut self.files, self.alloc, name, mode, bytes)
+    }
+
+    /// A file of this name is never taken.
+    pub fn deny(&mut self, name: Name) -> Result<(), AllocError>
+        ensures ok { OnOk result (held_by self.new ≡
+            record (held_by self.old) { denied = (held_by self.old).denied ++ name ∷ [] }) }
+        ensures err { OnErr result (held_by self.new ≡ held_by self.old) }
+    {
+        self.denied.push(name)?;
+        Ok(())
+    }
+
+    /// A file of this name may be taken at another time, unless it is denied.
+    pub fn later(&mut self, name: Name) -> Result<(), AllocError>
+        ensures ok { OnOk result (held_by self.new ≡
+            record (held_by self.old) { postponed = (held_by self.old).postponed ++ name ∷ [] }) }
+        ensures err { OnErr result (held_by self.new ≡ held_by self.old) }
+    {
+        self.postponed.push(name)?;
+        Ok(())
+    }
+
+    /// A file of this name can't be put in its place.
+    pub fn immovable(&mut self, name: Name) -> Result<(), AllocError>
+        ensures ok { OnOk result (held_by self.new ≡
+            record (held_by self.old) { immovable = (held_by self.old).immovable ++ name ∷ [] }) }
+        ensures err { OnErr result (held_by self.new ≡ held_by self.old) }
+    {
+        self.immovable.push(name)?;
+        Ok(())
+    }
+
+    /// The files that were kept, in the order in which they were.
+    pub fn stored(&self) -> &[Stored<A>]
+        ensures { map kept_of result.now ≡ (held_by self.now).stored }
+    {
+        self.stored.as_slice()
+    }
+}
+
+impl<A: Allocator + Copy> Spool for MemorySpool<A> {
+    ghost holdings = { λ m. holdings_of (held_by m) };
+
+    ghost kept = { λ m. (held_by m).stored };
+
+    ghost faults = { λ _. 0 };
+
+    fn may_keep(&self, name: &Name) -> Verdict {
+        if has_name(self.denied.as_slice(), name) {
+            Verdict::Never
+        } else if has_name(self.postponed.as_slice(), name) {
+            Verdict::Later
+        } else {
+            Verdict::Yes
+        }
+    }
+
+    fn fetch(&self, name: &Name) -> Option<FileView<'_>> {
+        first_named(self.files.as_slice(), name)
+    }
+
+    fn keep(&mut self, name: &Name, mode: u16, bytes: &[u8]) -> Result<(), KeepFault> {
+        if has_name(self.immovable.as_slice(), name) {
+            return Err(KeepFault::Refused);
+        }
+        if push_file(&mut self.stored, self.alloc, *name, mode, bytes).is_err() {
+            return Err(KeepFault::Memory);
+        }
+        Ok(())
+    }
+
+    fn faults(&self) -> u64 {
+        0
+    }
+
+    ghost modes = { λ m. modes_in_range m.files.items };
+}
+
+fn has_name(names: &[Name], name: &Name) -> bool
+    ensures { result ≡ has_name names.now name.now }
+{
+    names.iter().any(|n| n.as_bytes() == name.as_bytes())
+}
+
+fn first_named<'a, A: Allocator>(files: &'a [Stored<A>], name: &Name) -> Option<FileView<'a>>
+    ensures { shown_file result ≡ first_named (map kept_of files.now) name.now }
+{
+    for file in files {
+        if file.name.as_bytes() == name.as_bytes() {
+            return Some(FileView {
+                mode: file.mode,
+                bytes: file.bytes.as_slice(),
+            });
+        }
+    }
+    None
+}
+
+fn push_file<A: Allocator>(
+    files: &mut Vec<Stored<A>, A>,
+    alloc: A,
+    name: Name,
+    mode: u16,
+    bytes: &[u8],
+) -> Result<(), AllocError>
+    requires { mode ≤ MODE_MAX }
+    ensures ok { OnOk result (map kept_of files.new.items ≡
+        map kept_of files.old.items ++ kept_file name mode bytes.now ∷ []) }
+    ensures err { OnErr result (files.new.items ≡ files.old.items) }
+{
+    files.reserve(1)?;
+    let bytes = bytes.to_vec(alloc)?;
+    files.push_reserved(Stored { name, mode, bytes });
+    Ok(())
+}

@@ -1,0 +1,94 @@
+ghost use Rattle.std.specs.Prelude.{◌≡◌, ◌≢◌, ◌+◌, ◌<◌, ◌≤◌, [], ◌∷◌, false, length, drop};
+ghost use Rattle.uug_talk.specs.Chunks.{IsCommandText, command_messages, file_messages};
+ghost use Rattle.uug_talk.specs.MessagesLeft.{messages_left};
+ghost use Rattle.uug_conversation.specs.Outgoing.{IsSayable, IsWithin, messages_from, unless_last};
+ghost use Rattle.uug_conversation.specs.Reactions.{said_by};
+
+use crate::choice::to_give;
+use crate::reaction::Saying;
+use crate::spool::Spool;
+use uug_talk::{
+    Chunks, FILE_MAX, MESSAGE_MAX, Message, command_goes_on, file_goes_on, messages_fit,
+    write_answer, write_order,
+};
+
+/// Puts the message of at most `size` bytes that stands at an offset in the text or file into `message`, and says whether
+/// it is the last.
+pub(crate) fn part_of<S: Spool>(
+    saying: &Saying,
+    spool: &S,
+    size: usize,
+    offset: usize,
+    message: &mut Message,
+) -> bool
+    requires sayable { IsSayable saying.now }
+    requires within { IsWithin (saying.now ∷ []) offset }
+    requires some { 0 < size }
+    requires fits { size ≤ MESSAGE_MAX }
+    ensures messages { messages_from size offset (said_by (S.holdings spool.now) saying.now)
+        ≡ message.new.items
+        ∷ unless_last result (messages_from size (offset + size)
+        (said_by (S.holdings spool.now) saying.now)) }
+    ensures size { length message.new.items ≤ size }
+    ensures next { result ≡ false → IsWithin (saying.now ∷ []) (offset + size) }
+    ensures limit { result ≡ false → offset < FILE_MAX }
+{
+    match saying {
+        Saying::Order(order) => part_of_text(&write_order(order), size, offset, message),
+        Saying::Answer(answer) => part_of_text(&write_answer(answer), size, offset, message),
+        Saying::File(name) => match to_give(spool, name) {
+            Some(file) => part_of_file(file.bytes, size, offset, message),
+            None => part_of_file(&[], size, offset, message),
+        },
+    }
+}
+
+fn part_of_text(text: &[u8], size: usize, offset: usize, message: &mut Message) -> bool
+    requires text { IsCommandText text.now }
+    requires within { offset ≤ length text.now }
+    requires some { 0 < size }
+    requires fits { size ≤ MESSAGE_MAX }
+    ensures messages { command_messages size (drop offset text.now)
+        ≡ message.new.items ∷ unless_last result
+        (command_messages size (drop (offset + size) text.now)) }
+    ensures size { length message.new.items ≤ size }
+    ensures next { result ≡ false → offset + size ≤ length text.now }
+{
+    command_goes_on();
+    messages_fit();
+    let rest = behind(text, offset);
+    first_into(&mut Chunks::command(rest, size), message);
+    rest.len() < size
+}
+
+fn part_of_file(bytes: &[u8], size: usize, offset: usize, message: &mut Message) -> bool
+    requires some { 0 < size }
+    requires fits { size ≤ MESSAGE_MAX }
+    ensures messages { file_messages size (drop offset bytes.now)
+        ≡ message.new.items ∷ unless_last result
+        (file_messages size (drop (offset + size) bytes.now)) }
+    ensures size { length message.new.items ≤ size }
+    ensures next { result ≡ false → offset < length bytes.now }
+{
+    file_goes_on();
+    messages_fit();
+    let rest = behind(bytes, offset);
+    first_into(&mut Chunks::file(rest, size), message);
+    rest.is_empty()
+}
+
+/// What stands behind so many bytes, which is nothing where there are fewer.
+fn behind(bytes: &[u8], offset: usize) -> &[u8]
+    ensures { result.now ≡ drop offset bytes.now }
+{
+    &bytes[offset.min(bytes.len())..]
+}
+
+fn first_into(chunks: &mut Chunks<'_>, message: &mut Message)
+    requires { messages_left chunks.old ≢ [] }
+    ensures { messages_left chunks.old ≡ message.new.items ∷ messages_left chunks.new }
+{
+    if !chunks.next_into(message) {
+        unreachable!();
+    }
+}

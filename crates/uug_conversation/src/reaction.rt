@@ -1,0 +1,79 @@
+ghost use Rattle.std.specs.Prelude.{◌≡◌};
+ghost use Rattle.uug_conversation.specs.Machine.{awaits_answer_to};
+ghost use Rattle.uug_conversation.specs.Reactions.{says_nothing, fits_no_turn, gives_answer, gives_order};
+
+use crate::awaits::Awaits;
+use uug_talk::{Answer, Name, Order};
+
+/// What is said in one turn. A file is told by the name under which the spool gives it.
+#[derive(Clone, Copy)]
+pub(crate) enum Saying {
+    Order(Order),
+    Answer(Answer),
+    File(Name),
+}
+
+/// What an end says when it has taken a text or a file.
+#[derive(Clone, Copy)]
+pub(crate) enum Says {
+    Nothing,
+    One(Saying),
+    Two(Saying, Saying),
+}
+
+/// What an end awaits when it has taken a text or a file, and what it says then.
+#[derive(Clone, Copy)]
+pub(crate) struct Reaction {
+    pub(crate) awaits: Awaits,
+    pub(crate) says: Says,
+}
+
+impl Reaction {
+    pub(crate) fn quiet(awaits: Awaits) -> Self
+        ensures { result ≡ says_nothing awaits }
+    {
+        Reaction {
+            awaits,
+            says: Says::Nothing,
+        }
+    }
+
+    pub(crate) fn out_of_turn() -> Self
+        ensures { result ≡ fits_no_turn }
+    {
+        Reaction::quiet(Awaits::Bad)
+    }
+
+    pub(crate) fn answers(awaits: Awaits, answer: Answer) -> Self
+        ensures { result ≡ gives_answer awaits answer }
+    {
+        Reaction {
+            awaits,
+            says: Says::One(Saying::Answer(answer)),
+        }
+    }
+
+    /// A command, behind an answer where there is one to give.
+    pub(crate) fn commands(before: Option<Answer>, order: Order) -> Self
+        ensures { result ≡ gives_order before order }
+    {
+        let says = match before {
+            Some(answer) => Says::Two(Saying::Answer(answer), Saying::Order(order)),
+            None => Says::One(Saying::Order(order)),
+        };
+        Reaction {
+            awaits: awaits_answer_to(&order),
+            says,
+        }
+    }
+}
+
+fn awaits_answer_to(order: &Order) -> Awaits
+    ensures { result ≡ awaits_answer_to order.now }
+{
+    match order {
+        Order::Send { .. } => Awaits::SendAnswer,
+        Order::Request { .. } => Awaits::RequestAnswer,
+        Order::HangUp => Awaits::HangUpAnswer,
+    }
+}

@@ -1,0 +1,63 @@
+-- What is counted of a few packets, so that a wrong definition does not check.
+use Rattle.std.proofs.Common.{◌≡◌, ℕ, List, [], ◌∷◌, codes, Some, None, refl}
+use Rattle.std.specs.Fmt.{digits}
+use Rattle.uug_packet.specs.Packet.{rj, rr, srj, control, carry}
+use Rattle.uug_reader.specs.Cut.{Item, found, bad}
+use Rattle.uug_follow.specs.Lines.{counts_line, news_line, progress_line}
+use Rattle.uug_follow.specs.Losses.{next_message, passed_with}
+use Rattle.uug_follow.specs.Watched.{nothing_yet}
+use Rattle.uug_follow.specs.declared.passed.Counts.{Counts}
+use Rattle.uug_follow.specs.declared.passed.Passed.{Passed}
+use Rattle.uug_follow.specs.declared.transfer.News.TheVariants.{Begins, Ends}
+use Rattle.uug_follow.specs.declared.transfer.Outcome.TheVariants.{Done}
+use Rattle.uug_follow.specs.declared.transfer.Transfer.{Transfer}
+use Rattle.uug_follow.specs.declared.transfer.Wish.TheVariants.{Send, Request}
+use Rattle.uug_follow.specs.declared.way.Way.TheVariants.{Out, In}
+
+abbrev packet : ℕ → Item
+packet seq = found (carry seq 0 2 (codes "hi"))
+
+abbrev after : List Item → Passed
+after items = passed_with nothing_yet.passed items
+
+abbrev of : (next rejects repeats damaged : ℕ) → Passed
+of next rejects repeats damaged =
+    record { next = next; counts = record { rejects = rejects; repeats = repeats; damaged = damaged } }
+
+record AreCounted : Type 0 where
+  in_order : after (packet 1 ∷ packet 2 ∷ []) ≡ of 3 0 0 0
+  twice : after (packet 1 ∷ packet 1 ∷ packet 2 ∷ []) ≡ of 3 0 1 0
+  past_a_gap : after (packet 2 ∷ packet 1 ∷ []) ≡ of 2 0 1 0
+  around : after (packet 1 ∷ packet 2 ∷ packet 3 ∷ packet 4 ∷ packet 5 ∷ packet 6 ∷ packet 7 ∷ packet 0 ∷ []) ≡ of 1 0 0 0
+  rejected : after (found (control (rj 3)) ∷ found (control (srj 3)) ∷ found (control (rr 3)) ∷ []) ≡ of 1 2 0 0
+  damaged : after (bad ∷ packet 1 ∷ bad ∷ []) ≡ of 2 0 0 2
+  told : next_message 1 (packet 1) ≡ Some (codes "hi")
+  told_before : next_message 2 (packet 1) ≡ None
+
+counted : AreCounted
+counted = record {
+  in_order = refl;
+  twice = refl;
+  past_a_gap = refl;
+  around = refl;
+  rejected = refl;
+  damaged = refl;
+  told = refl;
+  told_before = refl;
+}
+
+abbrev ours : Transfer
+ours = record { way = Out; wish = Send; source = codes "x"; target = codes "y" }
+
+abbrev theirs : Transfer
+theirs = record { way = In; wish = Request; source = codes "~/q"; target = codes "q" }
+
+record AreLines : Type 0 where
+  begins : news_line 3 0 (Begins ours) ≡ codes "uucpair: 3 s: send x y\n"
+  ends : news_line 12 9 (Ends theirs Done 400) ≡ codes "uucpair: 12 s: peer's request ~/q q: done 400 bytes in 9 s\n"
+  goes_on : progress_line 5 ours 64 ≡ codes "uucpair: 5 s: send x: 64 bytes"
+  all : counts_line (codes "wrote") 1234 (of 1 2 3 4).counts ≡ codes "uucpair: wrote 1234 bytes rejects 2 repeats 3 damaged 4\n"
+
+lines : AreLines
+unfolding digits
+lines = record { begins = refl; ends = refl; goes_on = refl; all = refl }

@@ -1,0 +1,84 @@
+//! The conversation of two ends, as somebody hears it who sees the messages of both.
+ghost use Rattle.std.specs.Prelude.{◌≡◌, length};
+ghost use Rattle.uug_follow.specs.Losses.{bytes_with};
+
+use crate::transfer::{News, Outcome, Transfer};
+use crate::way::Way;
+use uug_talk::{Answer, Order, read_answer, read_order};
+
+/// The job that is on, and how far its file has come.
+#[derive(Clone, Copy)]
+pub(crate) struct Exchange {
+    job: Option<Transfer>,
+    /// Which way a file goes now.
+    file: Option<Way>,
+    /// So many bytes of the job's file have passed, up to the greatest number that fits.
+    bytes: u64,
+}
+
+impl Exchange {
+    /// Nothing was said yet.
+    pub(crate) fn new() -> Self {
+        Exchange {
+            job: None,
+            file: None,
+            bytes: 0,
+        }
+    }
+
+    /// The job that is on, and how many bytes of its file have passed.
+    pub(crate) fn job(&self) -> Option<(Transfer, u64)> {
+        Some((self.job?, self.bytes))
+    }
+
+    /// Whether a file goes this way now, so that the next message is a part of it.
+    pub(crate) fn is_file(&self, way: Way) -> bool {
+        self.file == Some(way)
+    }
+
+    /// A message of a file has passed. An empty one ends it.
+    pub(crate) fn take_part(&mut self, message: &[u8])
+        ensures { self.new.bytes ≡ bytes_with self.old.bytes (length message.now) }
+    {
+        self.bytes = self.bytes.saturating_add(message.len() as u64);
+        if message.is_empty() {
+            self.file = None;
+        }
+    }
+
+    /// A whole text has passed this way.
+    pub(crate) fn take_text(&mut self, way: Way, text: &[u8]) -> Option<News> {
+        match read_order(text) {
+            Ok(order) => self.begin(way, &order),
+            Err(_) => self.take_answer(read_answer(text).ok()?),
+        }
+    }
+
+    /// One of the ends has said this.
+    fn begin(&mut self, way: Way, order: &Order) -> Option<News> {
+        self.job = Transfer::of(way, order);
+        self.bytes = 0;
+        let job = self.job?;
+        Some(News::Begins(job))
+    }
+
+    /// One of the ends has answered so.
+    fn take_answer(&mut self, answer: Answer) -> Option<News> {
+        match answer {
+            Answer::SendYes | Answer::GiveYes(_) => {
+                self.file = Some(self.job?.file_way());
+                None
+            }
+            Answer::DoneYes | Answer::DoneYesMaster => self.end(Outcome::Done),
+            Answer::SendNever | Answer::GiveNever | Answer::DoneNever => self.end(Outcome::Never),
+            Answer::SendLater | Answer::GiveLater | Answer::DoneLater => self.end(Outcome::Later),
+            Answer::HangYes | Answer::HangNo => None,
+        }
+    }
+
+    /// The job that is on has ended.
+    fn end(&mut self, outcome: Outcome) -> Option<News> {
+        let job = self.job.take()?;
+        Some(News::Ends(job, outcome, self.bytes))
+    }
+}

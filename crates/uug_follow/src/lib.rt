@@ -1,0 +1,15 @@
+//! Follows a session by the bytes that pass between its two ends: the jobs of both, and what was lost on the way.
+#![tactic(auto)]
+
+mod exchange;
+mod lines;
+mod observer;
+mod passed;
+mod transfer;
+mod way;
+
+pub use lines::{counts_line, news_line, progress_line};
+pub use observer::{Journal, Observer};
+pub use passed::{Counts, Passed};
+pub use transfer::{News, Outcome, Transfer, Wish};
+pub use way::Way;

@@ -1,0 +1,188 @@
+//! Somebody who sees the bytes of both ends, and tells of their jobs and losses. What is told of comes from the bytes
+//! alone: the ends neither know of it nor wait for it.
+ghost use Rattle.std.specs.Prelude.{◌≡◌, ◌<◌, ◌++◌, length, IfOk};
+ghost use Rattle.uug_packet.specs.Waits.{Waits};
+ghost use Rattle.uug_reader.specs.Cut.{Item};
+ghost use Rattle.uug_reader.specs.Reading.{Shows};
+ghost use Rattle.uug_reader.specs.declared.reader.TheConstants.{READER_SIZE};
+ghost use Rattle.uug_follow.specs.Losses.{AddsCounts, passed_after};
+ghost use Rattle.uug_follow.specs.Watched.{Sees, nothing_yet, passing};
+
+use crate::exchange::Exchange;
+use crate::passed::{Counts, Passed};
+use crate::transfer::{News, Transfer};
+use crate::way::Way;
+use std::alloc::{AllocError, Allocator};
+use std::marker::Model;
+use uug_reader::Reader;
+use uug_reader::laws::found_in_steps;
+use uug_talk::{Gather, Progress};
+
+/// Takes down what an observer tells.
+pub trait Journal {
+    /// A job has begun, or ended.
+    fn note(&mut self, news: &News);
+}
+
+/// The bytes that go one way.
+#[derive(Drop)]
+struct Stream<A: Allocator> {
+    reader: Reader<A>,
+    passed: Passed,
+    /// The command or answer that has begun.
+    text: Gather<A>,
+}
+
+impl<A: Allocator> Stream<A> {
+    fn new(alloc: A) -> Result<Self, AllocError>
+        ensures held { IfOk result (λ stream. stream.reader.bytes ≡ nothing_yet.held) }
+        ensures passed { IfOk result (λ stream. stream.passed ≡ nothing_yet.passed) }
+    {
+        Ok(Stream {
+            reader: Reader::new(alloc)?,
+            passed: Passed::new(),
+            text: Gather::command(),
+        })
+    }
+}
+
+/// Follows a session by the bytes that go both ways. A clause sees what has passed each way.
+#[derive(Drop)]
+pub struct Observer<A: Allocator> {
+    outward: Stream<A>,
+    inward: Stream<A>,
+    exchange: Exchange,
+}
+
+impl<A: Allocator> Model for Observer<A> {
+    ghost use Rattle.uug_follow.specs.Watched.{Watched};
+
+    ghost Value = { Watched };
+
+    ghost view = { λ o. record {
+      outward = record { held = o.outward.reader.bytes; passed = o.outward.passed };
+      inward = record { held = o.inward.reader.bytes; passed = o.inward.passed };
+    } };
+}
+
+impl<A: Allocator + Copy> Observer<A> {
+    /// One who has seen nothing. No other call takes memory, but for a text of a command that is longer than one packet.
+    pub fn new(alloc: A) -> Result<Self, AllocError>
+        ensures outward { IfOk result (λ observer. observer.outward ≡ nothing_yet) }
+        ensures inward { IfOk result (λ observer. observer.inward ≡ nothing_yet) }
+    {
+        Ok(Observer {
+            outward: Stream::new(alloc)?,
+            inward: Stream::new(alloc)?,
+            exchange: Exchange::new(),
+        })
+    }
+
+    /// These bytes go this way, after those before.
+    pub fn see<J: Journal>(&mut self, way: Way, piece: &[u8], journal: &mut J)
+        ensures { Sees way piece.now self.old self.new }
+    {
+        match way {
+            Way::Out => see_piece(&mut self.outward, &mut self.exchange, way, piece, journal),
+            Way::In => see_piece(&mut self.inward, &mut self.exchange, way, piece, journal),
+        }
+    }
+
+    /// What has gone this way.
+    pub fn counts(&self, way: Way) -> Counts
+        ensures { result ≡ (passing way self.now).passed.counts }
+    {
+        match way {
+            Way::Out => self.outward.passed.counts,
+            Way::In => self.inward.passed.counts,
+        }
+    }
+
+    /// The job that is on, and how many bytes of its file have passed.
+    pub fn job(&self) -> Option<(Transfer, u64)> {
+        self.exchange.job()
+    }
+}
+
+/// A piece goes one way.
+fn see_piece<A: Allocator, J: Journal>(
+    stream: &mut Stream<A>,
+    exchange: &mut Exchange,
+    way: Way,
+    piece: &[u8],
+    journal: &mut J,
+)
+    ensures counts { AddsCounts (stream.old.reader.bytes ++ piece.now) stream.new.reader.bytes
+        stream.old.passed stream.new.passed }
+    ensures waits { Waits stream.new.reader.bytes }
+{
+    found_in_steps();
+    let mut rest = piece;
+    take_found(stream, exchange, way, journal);
+    while !rest.is_empty() {
+        let count = stream.reader.push(rest);
+        rest = &rest[count..];
+        take_found(stream, exchange, way, journal);
+    }
+}
+
+/// Takes up all that is found in the bytes that are held.
+fn take_found<A: Allocator, J: Journal>(
+    stream: &mut Stream<A>,
+    exchange: &mut Exchange,
+    way: Way,
+    journal: &mut J,
+)
+    ensures counts { AddsCounts stream.old.reader.bytes stream.new.reader.bytes
+        stream.old.passed stream.new.passed }
+    ensures waits { Waits stream.new.reader.bytes }
+    ensures room { length stream.new.reader.bytes < READER_SIZE }
+{
+    found_in_steps();
+    while stream.reader.search() {
+        if let Some(news) = take_shown(stream, exchange, way) {
+            journal.note(&news);
+        }
+        stream.reader.drop_found();
+    }
+}
+
+/// Takes up the item that is shown.
+fn take_shown<A: Allocator>(
+    stream: &mut Stream<A>,
+    exchange: &mut Exchange,
+    way: Way,
+) -> Option<News>
+    requires { 0 < stream.old.reader.shown_size }
+    ensures reader { stream.new.reader ≡ stream.old.reader }
+    ensures passed { (item : Item) × Shows item stream.old.reader
+        × (stream.new.passed ≡ passed_after stream.old.passed item) }
+{
+    let found = stream.reader.showing()?;
+    let message = stream.passed.take(found)?;
+    take_message(&mut stream.text, exchange, way, message)
+}
+
+/// A message of a file, of a command or of an answer goes one way.
+fn take_message<A: Allocator>(
+    text: &mut Gather<A>,
+    exchange: &mut Exchange,
+    way: Way,
+    message: &[u8],
+) -> Option<News> {
+    if exchange.is_file(way) {
+        exchange.take_part(message);
+        return None;
+    }
+    if text.is_whole() {
+        *text = Gather::command();
+    }
+    match text.push(message) {
+        Ok(Progress::Whole) => exchange.take_text(way, text.bytes()),
+        Ok(Progress::More) => None,
+        Err(_) => {
+            *text = Gather::command();
+            None
+        }
+    }
+}

@@ -1,0 +1,5 @@
+pub mod ActsLemmas
+pub mod FrontLemmas
+pub mod ShownLemmas
+pub mod StandardFacts
+pub mod TextLemmas

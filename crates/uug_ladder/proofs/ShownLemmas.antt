@@ -1,0 +1,64 @@
+-- What is written of a script that is played and drawn.
+use Rattle.std.proofs.Common.{◌≡◌, ℕ, ◌<◌, List, [], ◌++◌, length, map, Result, Ok, Err, IfErr, IsErrAnd, ap, sym, subst, inr, ◌∙◌}
+use Rattle.std.proofs.lemmas.List.{length-map}
+use Rattle.uug_play.specs.Played.{IsPlayed, result_said}
+use Rattle.uug_script.specs.IsScript.{IsScript}
+use Rattle.uug_script.specs.ReportText.{report_text}
+use Rattle.uug_script.specs.Script.{ScriptSays}
+use Rattle.uug_script.specs.ScriptOf.{script_of}
+use Rattle.uug_tool.specs.declared.fault.ToolFault.{ToolFault}
+use Rattle.uug_tool.specs.declared.fault.ToolFault.TheVariants as faults
+use Rattle.uug_ladder.specs.declared.play.Drawn.TheVariants.{AsText, AsPicture}
+use Rattle.uug_ladder.specs.declared.rung.Fate.{Fate}
+use Rattle.uug_ladder.specs.declared.svg.TheConstants.{ROWS_MAX}
+use Rattle.uug_ladder.specs.Fronts.{IsLadderOf, ladder_said}
+use Rattle.uug_ladder.specs.LadderText.{ladder_text}
+use Rattle.uug_ladder.specs.Picture.{picture}
+use Rattle.uug_ladder.specs.Played.{IsShowingFault, IsShown, IsTooMuch}
+use Rattle.uug_ladder.specs.Rungs.{LadderValue, RungValue}
+use Rattle.uug_ladder.proofs.FrontLemmas.{one_saying}
+
+abbrev pub ReadsScripts : Type 0
+ReadsScripts = (text : List ℕ) (script : ScriptSays) → IsScript text script → script_of text ≡ Ok script
+
+-- the ladder is of what was played
+same_ladder : ReadsScripts → (script text : List ℕ) (status : ℕ) (ladder : LadderValue) → (played : IsPlayed script text status) →
+    IsLadderOf script ladder → ladder ≡ ladder_said played.says
+same_ladder reads script text status ladder played is =
+    is.ladder_is ∙ ap ladder_said (one_saying (script_of script) is.says played.says (reads script is.says is.script_is)
+    (reads script played.says played.script_is))
+
+pub text_shown : ReadsScripts → (script text all : List ℕ) (status : ℕ) (ladder : LadderValue) → IsPlayed script text status →
+    IsLadderOf script ladder → all ≡ text ++ ladder_text ladder → IsShown AsText script all status
+text_shown reads script text all status ladder played is a = record {
+  says = played.says;
+  script_is = played.script_is;
+  text_is = a ∙ ap (λ t. t ++ ladder_text ladder) played.text_is
+      ∙ ap (λ l. report_text (result_said played.says) ++ ladder_text l) (same_ladder reads script text status ladder played is);
+  status_is = played.status_is;
+}
+
+pub picture_shown : ReadsScripts → (script text before all : List ℕ) (status : ℕ) (ladder : LadderValue) → IsPlayed script text status →
+    IsLadderOf script ladder → before ≡ [] → all ≡ before ++ picture ladder → IsShown AsPicture script all status
+picture_shown reads script text before all status ladder played is none a = record {
+  says = played.says;
+  script_is = played.script_is;
+  text_is = a ∙ ap (λ t. t ++ picture ladder) none ∙ ap picture (same_ladder reads script text status ladder played is);
+  status_is = played.status_is;
+}
+
+-- a ladder with more rungs than a picture has rows
+pub has_many : {R : Type 0} (shown : R → RungValue) (script : List ℕ) (rungs : List R) (fates : List Fate) →
+    IsLadderOf script (record { rungs = map shown rungs; fates = fates }) → ROWS_MAX < length rungs → IsTooMuch script
+has_many shown script rungs fates is many = inr (record {
+  says = is.says;
+  script_is = is.script_is;
+  many = subst (λ (n : ℕ). ROWS_MAX < n) (sym (length-map rungs shown) ∙ ap (λ l. length l.rungs) is.ladder_is) many;
+})
+
+-- ---- a fault that is handed on by `?`
+
+pub memory_is_met : {T : Type 0} (script : List ℕ) (answer : Result T ToolFault) → IsErrAnd answer (λ fault. fault ≡ faults.Memory) →
+    IfErr answer (IsShowingFault script)
+memory_is_met script (Ok value) h = absurd h
+memory_is_met script (Err fault) h = subst (IsShowingFault script) (sym h) tt

@@ -1,0 +1,11 @@
+pub mod Acts
+pub mod Drawing
+pub mod Fronts
+pub mod Greeters
+pub mod Labels
+pub mod LadderText
+pub mod Moments
+pub mod Picture
+pub mod Played
+pub mod Rungs
+pub mod Way

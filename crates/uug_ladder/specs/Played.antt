@@ -1,0 +1,66 @@
+-- What is written of a script that is played and drawn (this project's profile).
+use Rattle.std.specs.Prelude.{◌≡◌, ◌⊎◌, ℕ, ◌<◌, ⊤, List, ◌++◌, length, Option, Result, Err}
+use Rattle.uug_play.specs.Played.{result_said}
+use Rattle.uug_script.specs.IsScript.{IsFirstBad, IsScript}
+use Rattle.uug_script.specs.ReportText.{report_text}
+use Rattle.uug_script.specs.Script.{ScriptSays}
+use Rattle.uug_tool.specs.Streams.{Appends}
+use Rattle.uug_tool.specs.declared.fault.ToolFault.{ToolFault}
+use Rattle.uug_tool.specs.declared.fault.ToolFault.TheVariants as tool_faults
+use Rattle.uug_play.specs.Numbers.{status_of_result}
+use Rattle.uug_ladder.specs.declared.play.Drawn.{Drawn}
+use Rattle.uug_ladder.specs.declared.play.Drawn.TheVariants.{AsText, AsPicture}
+use Rattle.uug_ladder.specs.declared.svg.TheConstants.{ROWS_MAX}
+use Rattle.uug_ladder.specs.Fronts.{IsTooLong, ladder_said}
+use Rattle.uug_ladder.specs.LadderText.{ladder_text}
+use Rattle.uug_ladder.specs.Picture.{picture}
+
+-- the report and the ladder behind it; or the picture alone
+abbrev pub shown_of : Drawn → ScriptSays → List ℕ
+shown_of AsText says = report_text (result_said says) ++ ladder_text (ladder_said says)
+shown_of AsPicture says = picture (ladder_said says)
+
+-- the text is a script, and this is written of what it says, and the status of its report
+pub record IsShown (how : Drawn) (script text : List ℕ) (status : ℕ) : Type 0 where
+  pub says : ScriptSays
+  pub script_is : IsScript script says
+  pub text_is : text ≡ shown_of how says
+  pub status_is : status ≡ status_of_result (result_said says)
+
+abbrev pub AppendsShown : Drawn → (script : List ℕ) → (status : ℕ) → Option (List ℕ) → Option (List ℕ) → Type 0
+AppendsShown how script status before after =
+    (text : List ℕ) × IsShown how script text status × Appends text before after
+
+-- the script has too many events, or its ladder too many rungs for a picture
+pub record HasManyRungs (script : List ℕ) : Type 0 where
+  pub says : ScriptSays
+  pub script_is : IsScript script says
+  pub many : ROWS_MAX < length (ladder_said says).rungs
+
+abbrev pub IsTooMuch : (script : List ℕ) → Type 0
+IsTooMuch script = IsTooLong script ⊎ HasManyRungs script
+
+-- the fault says why nothing is shown; out of memory is left open
+abbrev pub IsShowingFault : (script : List ℕ) → ToolFault → Type 0
+IsShowingFault script (tool_faults.Script line) = IsFirstBad script line
+IsShowingFault script tool_faults.Usage = IsTooMuch script
+IsShowingFault script tool_faults.Memory = ⊤
+IsShowingFault script _ = ⊥
+
+-- the faults of playing and drawing: those of devices, a bad script, one that is too much, and memory
+abbrev pub IsDrawingFault : ToolFault → Type 0
+IsDrawingFault tool_faults.Read = ⊤
+IsDrawingFault tool_faults.Write = ⊤
+IsDrawingFault tool_faults.Memory = ⊤
+IsDrawingFault (tool_faults.Script line) = ⊤
+IsDrawingFault tool_faults.Device = ⊤
+IsDrawingFault tool_faults.Usage = ⊤
+IsDrawingFault _ = ⊥
+
+-- the fact, where the answer comes before anything is written
+abbrev pub BeforeWriting : {T : Type 0} → Result T ToolFault → Type 0 → Type 0
+BeforeWriting (Err tool_faults.Read) P = P
+BeforeWriting (Err tool_faults.Device) P = P
+BeforeWriting (Err (tool_faults.Script line)) P = P
+BeforeWriting (Err tool_faults.Usage) P = P
+BeforeWriting answer P = ⊤

@@ -1,0 +1,27 @@
+ghost use Rattle.std.specs.Prelude.{◌≡◌};
+ghost use Rattle.uug_ladder.specs.declared.fault.LadderFault.TheVariants.{Memory as memory};
+
+use std::alloc::AllocError;
+use thiserror::Error;
+
+/// Why no ladder is drawn.
+#[derive(Clone, Copy, Debug, PartialEq, Eq, Error)]
+pub enum LadderFault {
+    /// The first bad line of the script, counted from 1.
+    #[error("bad script at line {0}")]
+    Script(usize),
+    /// The script has more than `EVENTS_MAX` events.
+    #[error("more than 1000 events")]
+    TooLong,
+    /// There is no memory for it.
+    #[error("out of memory")]
+    Memory,
+}
+
+impl From<AllocError> for LadderFault {
+    ghost from_gives = { λ _ fault. fault ≡ memory };
+
+    fn from(_refused: AllocError) -> LadderFault {
+        LadderFault::Memory
+    }
+}

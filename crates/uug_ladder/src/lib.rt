@@ -1,0 +1,27 @@
+//! A picture of the sessions of a script that is played: what each end sends and when, whether and when it arrives, and what
+//! else occurs at the ends; as a text, or as an SVG file.
+#![tactic(auto)]
+
+mod acts;
+mod drawing;
+mod end;
+mod fault;
+mod front;
+mod greeter;
+mod label;
+mod ladder;
+mod moment;
+mod play;
+mod rung;
+mod svg;
+mod text;
+mod way;
+
+pub use fault::LadderFault;
+pub use front::{EVENTS_MAX, draw};
+pub use label::add_label;
+pub use ladder::Ladder;
+pub use play::{Drawn, play_ladder};
+pub use rung::{Fate, Rung, What};
+pub use svg::{ROWS_MAX, add_svg};
+pub use text::add_ladder;

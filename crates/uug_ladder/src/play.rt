@@ -1,0 +1,109 @@
+//! A script played, with a picture of its sessions.
+ghost use Rattle.std.specs.Prelude.{◌≡◌, ℕ, ◌≤◌, IfErr, IfOk, IfSome, length, string_bytes};
+ghost use Rattle.std.specs.Io.KnownBytes.{Keeps};
+ghost use Rattle.uug_script.specs.IsScript.{IsFirstBad};
+ghost use Rattle.uug_play.specs.Played.{OnceRead};
+ghost use Rattle.uug_tool.specs.Streams.{ReadsAll};
+ghost use Rattle.uug_ladder.specs.Fronts.{IsLadderOf};
+ghost use Rattle.uug_ladder.specs.LadderText.{ladder_text};
+ghost use Rattle.uug_ladder.specs.Picture.{picture};
+ghost use Rattle.uug_ladder.specs.Played.{AppendsShown, BeforeWriting, IsDrawingFault, IsShowingFault, IsShown, IsTooMuch};
+ghost use Rattle.uug_ladder.specs.Rungs.{ladder_shown};
+
+use crate::fault::LadderFault;
+use crate::front::draw;
+use crate::ladder::Ladder;
+use crate::svg::{ROWS_MAX, add_svg};
+use crate::text::add_ladder;
+use std::alloc::Allocator;
+use uug_play::{Played, play_script, read_whole};
+use uug_script::laws::one_reading_of_scripts;
+use uug_tool::{Input, Output, READ_LIMIT, ToolFault, write_all};
+
+/// How a ladder is written.
+#[derive(Clone, Copy, Debug, PartialEq, Eq)]
+pub enum Drawn {
+    /// As a text, behind the report.
+    AsText,
+    /// As a picture, an SVG file, without the report.
+    AsPicture,
+}
+
+/// The ladder of a script.
+fn draw_script<A: Allocator + Copy>(alloc: A, script: &[u8]) -> Result<Ladder<A>, ToolFault>
+    ensures ladder { IfOk result (λ ladder. IsLadderOf script.now (ladder_shown ladder)) }
+    ensures fault { IfErr result (IsShowingFault script.now) }
+{
+    match draw(alloc, script) {
+        Ok(ladder) => Ok(ladder),
+        Err(LadderFault::Script(line)) => Err(ToolFault::Script(line)),
+        Err(LadderFault::TooLong) => Err(ToolFault::Usage),
+        Err(LadderFault::Memory) => Err(ToolFault::Memory),
+    }
+}
+
+/// The report and the text of the ladder.
+fn as_text<A: Allocator + Copy>(alloc: A, script: &[u8]) -> Result<Played<A>, ToolFault>
+    ensures shown { IfOk result (λ played.
+        IsShown Drawn.AsText script.now (string_bytes played.text) played.status) }
+    ensures fault { IfErr result (IsShowingFault script.now) }
+{
+    one_reading_of_scripts();
+    let Played { mut text, status } = play_script(alloc, script)?;
+    let ladder = draw_script(alloc, script)?;
+    add_ladder(alloc, &mut text, &ladder)?;
+    Ok(Played { text, status })
+}
+
+/// The picture of the ladder.
+fn as_picture<A: Allocator + Copy>(alloc: A, script: &[u8]) -> Result<Played<A>, ToolFault>
+    ensures shown { IfOk result (λ played.
+        IsShown Drawn.AsPicture script.now (string_bytes played.text) played.status) }
+    ensures fault { IfErr result (IsShowingFault script.now) }
+{
+    one_reading_of_scripts();
+    let Played { status, .. } = play_script(alloc, script)?;
+    let ladder = draw_script(alloc, script)?;
+    if ladder.rungs.len() > ROWS_MAX {
+        return Err(ToolFault::Usage);
+    }
+    let mut text = String::new(alloc);
+    add_svg(alloc, &mut text, &ladder)?;
+    Ok(Played { text, status })
+}
+
+fn show<A: Allocator + Copy>(alloc: A, script: &[u8], how: Drawn) -> Result<Played<A>, ToolFault>
+    ensures shown { IfOk result (λ played.
+        IsShown how script.now (string_bytes played.text) played.status) }
+    ensures fault { IfErr result (IsShowingFault script.now) }
+{
+    match how {
+        Drawn::AsText => as_text(alloc, script),
+        Drawn::AsPicture => as_picture(alloc, script),
+    }
+}
+
+/// Reads the input to its end as a script, plays it, and writes the report and behind it the ladder, or the picture of the
+/// ladder alone. The answer is the program's status, as `play_stream` gives it. Nothing is written before all was played.
+/// A script with more than `EVENTS_MAX` events, or a picture of more than `ROWS_MAX` rungs, is answered by `Usage`.
+pub fn play_ladder<A: Allocator + Copy, I: Input, O: Output>(
+    alloc: A,
+    input: &mut I,
+    output: &mut O,
+    how: Drawn,
+) -> Result<u8, ToolFault>
+    ensures whole { OnceRead result (ReadsAll (I.to_come input.old) (I.to_come input.new)) }
+    ensures shown { IfOk result (λ status. IfSome (I.to_come input.old)
+        (λ script. AppendsShown how script status (O.written output.old) (O.written output.new))) }
+    ensures script { (line : ℕ) → result ≡ Err (ToolFault.Script line)
+        → IfSome (I.to_come input.old) (λ script. IsFirstBad script line) }
+    ensures much { result ≡ Err ToolFault.Usage → IfSome (I.to_come input.old) IsTooMuch }
+    ensures nothing_written { BeforeWriting result
+        (Keeps (O.written output.old) (O.written output.new)) }
+    ensures no_other { IfErr result IsDrawingFault }
+{
+    let script = read_whole(alloc, input, READ_LIMIT)?;
+    let played = show(alloc, script.as_slice(), how)?;
+    write_all(output, played.text.as_bytes())?;
+    Ok(played.status)
+}

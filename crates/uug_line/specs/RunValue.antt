@@ -1,0 +1,143 @@
+-- How the program's run stands, in the terms of the definitions, and what its events do.
+use Rattle.std.specs.Prelude.{◌≡◌, ℕ, Bool, true, List, [], ◌∷◌, ◌++◌, map, take, drop}
+use Rattle.uug_session.specs.EndStep.{line_lost, time_ran_out}
+use Rattle.uug_session.specs.Node.{held_bytes}
+use Rattle.uug_line.specs.declared.event.Event.{Event}
+use Rattle.uug_line.specs.declared.event.Event.TheVariants.{Pass, Drop, Flip, Insert, Timeout, HangUp, Call}
+use Rattle.uug_line.specs.declared.running.RunSoFar.{RunSoFar}
+use Rattle.uug_line.specs.declared.side.Side.{Side}
+use Rattle.uug_line.specs.declared.side.Side.TheVariants.{Caller, Called}
+use Rattle.uug_line.specs.declared.verdict.LineVerdict.{LineVerdict}
+use Rattle.uug_line.specs.declared.verdict.LineVerdict.TheVariants.{Clean}
+use Rattle.uug_line.specs.Belongings.{Belongings, SetupValue, identity}
+use Rattle.uug_line.specs.Live.{BeginsAgain, HasRoom, HearsPiece, IsCalled, IsOrdered, LiveEndValue, Standing, hearer_of, line_end_of, live_end_value, standing_of, told_of}
+use Rattle.uug_line.specs.Told.{EndNow, SpelledEnd, SpelledReport}
+use Rattle.uug_line.specs.Run.{Run, end_at, flipped}
+use Rattle.uug_line.specs.Shown.{session_shown}
+use Rattle.uug_line.specs.Sides.{AtBoth, at, other}
+use Rattle.uug_line.specs.Spelled.{spelled_session}
+use Rattle.uug_line.specs.StillHeld.{HoldWhatIsLeft}
+use Rattle.uug_conversation.specs.Talk.{Talk}
+
+pub record RunValue : Type 0 where
+  -- what is told of the sessions that are over
+  pub past : List (AtBoth SpelledEnd)
+  pub caller : LiveEndValue
+  pub called : LiveEndValue
+
+abbrev pub run_value : {A : Type 0} → RunSoFar A → RunValue
+run_value r = record { past = map session_shown r.past.items; caller = live_end_value r.caller; called = live_end_value r.called }
+
+-- between two events
+pub record IsSteady (r : RunValue) : Type 0 where
+  pub caller_ordered : IsOrdered r.caller
+  pub caller_room : HasRoom r.caller
+  pub called_ordered : IsOrdered r.called
+  pub called_room : HasRoom r.called
+
+-- ---- what happens
+
+-- this happens at the side, and nothing else
+abbrev pub HappensAt : Side → (LiveEndValue → LiveEndValue → Type 0) → (old new : RunValue) → Type 0
+HappensAt Caller what old new = what old.caller new.caller × (new.called ≡ old.called) × (new.past ≡ old.past)
+HappensAt Called what old new = what old.called new.called × (new.caller ≡ old.caller) × (new.past ≡ old.past)
+
+-- the bytes that the end has emitted become others
+abbrev pub with_line : (List ℕ → List ℕ) → LiveEndValue → LiveEndValue
+with_line change e = record e { line = change e.line }
+
+abbrev pub ChangesLine : (List ℕ → List ℕ) → (old new : LiveEndValue) → Type 0
+ChangesLine change old new = new ≡ with_line change old
+
+-- the next bytes come to the side
+abbrev pub Passes : Side → (n : ℕ) → (all_sent : Bool) → (old new : RunValue) → Type 0
+Passes Caller n all_sent old new =
+    HearsPiece all_sent old.called.journal.packets (take n old.called.line) old.caller new.caller
+    × (new.called ≡ with_line (drop n) old.called) × (new.past ≡ old.past)
+Passes Called n all_sent old new =
+    HearsPiece all_sent old.caller.journal.packets (take n old.caller.line) old.called new.called
+    × (new.caller ≡ with_line (drop n) old.caller) × (new.past ≡ old.past)
+
+-- both ends hang up, and a new session begins
+pub record CallsAgain (old new : RunValue) : Type 0 where
+  pub lost_caller : LiveEndValue
+  pub lost_called : LiveEndValue
+  pub caller_lost : IsCalled line_lost old.caller lost_caller
+  pub called_lost : IsCalled line_lost old.called lost_called
+  pub caller : BeginsAgain lost_caller new.caller
+  pub called : BeginsAgain lost_called new.called
+  pub past : new.past ≡ old.past ++ record { at_caller = told_of lost_caller; at_called = told_of lost_called } ∷ []
+
+-- the answer is true, and this happens
+abbrev pub HappensClean : (all_sent : Bool) → Type 0 → Type 0
+HappensClean all_sent happens = (all_sent ≡ true) × happens
+
+abbrev pub Happens : Event → (all_sent : Bool) → (old new : RunValue) → Type 0
+Happens (Pass side n) all_sent old new = Passes side n all_sent old new
+Happens (Drop side n) all_sent old new = HappensClean all_sent (HappensAt (other side) (ChangesLine (drop n)) old new)
+Happens (Flip side mask) all_sent old new = HappensClean all_sent (HappensAt (other side) (ChangesLine (flipped mask)) old new)
+Happens (Insert side byte) all_sent old new =
+    HappensClean all_sent (HappensAt (other side) (ChangesLine (λ line. byte ∷ line)) old new)
+Happens (Timeout side) all_sent old new = HappensClean all_sent (HappensAt side (IsCalled time_ran_out) old new)
+Happens (HangUp side) all_sent old new = HappensClean all_sent (HappensAt side (IsCalled line_lost) old new)
+Happens Call all_sent old new = HappensClean all_sent (CallsAgain old new)
+
+-- the side that hears, where one does in the event
+abbrev pub hearing_side : Event → Side
+hearing_side (Pass side n) = side
+hearing_side _ = Caller
+
+-- ---- it is the run of the definitions
+
+abbrev pub standing_at : SetupValue → Side → Standing
+standing_at setup side = record {
+  identity = identity setup side;
+  own = (at side setup).own;
+  holdings = (at side setup).holdings;
+}
+
+pub record StandsAs (setup : SetupValue) (run : Run Talk) (r : RunValue) : Type 0 where
+  pub past : map spelled_session run.past ≡ r.past
+  pub caller : end_at Caller run ≡ hearer_of r.caller
+  pub called : end_at Called run ≡ hearer_of r.called
+  pub caller_standing : standing_of r.caller ≡ standing_at setup Caller
+  pub called_standing : standing_of r.called ≡ standing_at setup Called
+  pub steady : IsSteady r
+  pub clean : run.verdict ≡ Clean
+
+abbrev pub held_parts : RunValue → AtBoth (List ℕ)
+held_parts r = record { at_caller = held_bytes r.caller.node; at_called = held_bytes r.called.node }
+
+-- as it stops; of the bytes that were not taken up it holds those that fit
+pub record EndsAs (setup : SetupValue) (run : Run Talk) (verdict : LineVerdict) (r : RunValue) : Type 0 where
+  pub past : map spelled_session run.past ≡ r.past
+  pub caller : (end_at Caller run).end ≡ line_end_of r.caller
+  pub called : (end_at Called run).end ≡ line_end_of r.called
+  pub caller_standing : standing_of r.caller ≡ standing_at setup Caller
+  pub called_standing : standing_of r.called ≡ standing_at setup Called
+  pub caller_ordered : IsOrdered r.caller
+  pub called_ordered : IsOrdered r.called
+  pub verdict_is : run.verdict ≡ verdict
+  pub held : HoldWhatIsLeft run (held_parts r)
+
+-- ---- what is told of it
+
+abbrev pub owned_parts : LiveEndValue → Belongings
+owned_parts e =
+    record { lists = e.node.engine.talking.machine.lists; kept = e.spool.stored; number = e.node.engine.number }
+
+abbrev pub parts_now : LiveEndValue → EndNow
+parts_now e = record { stage = e.node.engine.stage; link = e.node.engine.link }
+
+abbrev pub told_in_all : RunValue → LineVerdict → SpelledReport
+told_in_all r verdict = record {
+  sessions = r.past ++ record { at_caller = told_of r.caller; at_called = told_of r.called } ∷ [];
+  ends = record { at_caller = parts_now r.caller; at_called = parts_now r.called };
+  belongings = record { at_caller = owned_parts r.caller; at_called = owned_parts r.called };
+  verdict = verdict;
+}
+
+-- all that the ends emitted stands on the line
+pub record AllIsSaid (r : RunValue) : Type 0 where
+  pub caller : r.caller.node.engine.outbox.entries ≡ []
+  pub called : r.called.node.engine.outbox.entries ≡ []

@@ -1,0 +1,145 @@
+//! Ladders of scripts. What this catches beyond the clauses: a wrong definition of what becomes of what is sent.
+
+use crate::assertions::{assert_same, assert_same_at};
+use std::alloc::Global;
+use std::process::Abort;
+use std::test::Fail;
+use uug_ladder::{Drawn, EVENTS_MAX, LadderFault, draw, play_ladder};
+use uug_refusal::Refusing;
+use uug_tool::{MemoryInput, MemoryOutput, ToolFault};
+
+/// What happens while the called end says its name, and the line of that.
+const TEXTS: [(&str, &str); 8] = [
+    (
+        "",
+        "start           ...---------------------------------------- TEXT Shere=b\n",
+    ),
+    (
+        "pass caller 8\n",
+        "start           ...---------------------------------------- TEXT Shere=b\n",
+    ),
+    // a byte is changed, or one that none is
+    (
+        "flip caller 01\npass caller 100\n",
+        "start           0 x---------------------------------------- TEXT Shere=b\n",
+    ),
+    (
+        "pass caller 8\nflip caller 80\npass caller 100\n",
+        "start           1 x---------------------------------------- TEXT Shere=b\n",
+    ),
+    // a byte is put into it
+    (
+        "pass caller 8\ninsert caller 41\npass caller 100\n",
+        "start           1 x---------------------------------------- TEXT Shere=b\n\
+         \x20   2  wrongname\n",
+    ),
+    // a part is lost; what is lost already is not lost again
+    (
+        "pass caller 2\ndrop caller 2\npass caller 2\ndrop caller 100\n",
+        "start           1 x---------------------------------------- TEXT Shere=b\n",
+    ),
+    (
+        "pass caller 2\ntimeout called\nhangup called\n",
+        "start           ...---------------------------------------- TEXT Shere=b\n\
+         \x20   1                                                       timeout\n\
+         \x20   2                                                       hangup\n\
+         \x20   2                                                       hungup\n",
+    ),
+    // the line breaks
+    (
+        "call\n",
+        "start           0 x---------------------------------------- TEXT Shere=b\n\
+         \x20   0  hungup\n\
+         \x20   0                                                       hungup\n\
+         session 2\n\
+         event  caller                                               called\n\
+         \x20   0           ...---------------------------------------- TEXT Shere=b\n",
+    ),
+];
+
+/// Two ends with nothing to do.
+const ENDS: &str = "caller a 2 32\ncalled b 2 32\n";
+
+/// How a session begins.
+const HEAD: &str =
+    "session 1\nevent  caller                                               called\n";
+
+/// The last lines of what is written of the ends under these events, which stand behind the head.
+fn lines_of(rt: &impl Abort, alloc: Global, events: &str) -> Result<String<Global>, Fail> {
+    let script = format!(in alloc; "{ENDS}{events}")?;
+    let mut output = MemoryOutput::new(alloc);
+    let mut input = MemoryInput::new(script.as_bytes());
+    assert_same_at(
+        rt,
+        play_ladder(alloc, &mut input, &mut output, Drawn::AsText),
+        Ok(1),
+        events,
+    );
+    let written = str::from_utf8(output.bytes())?;
+    let (_, lines) = written.split_once(HEAD).ok_or("a head")?;
+    Ok(String::from_str(alloc, lines)?)
+}
+
+#[test]
+fn draws_what_becomes_of_a_text(rt: HostRuntime) -> Result<(), Fail> {
+    for (events, lines) in TEXTS {
+        let seen = lines_of(&rt, rt.alloc(), events)?;
+        assert_same_at(&rt, seen.as_str(), lines, events);
+    }
+    Ok(())
+}
+
+/// A script with so many events.
+fn long(alloc: Global, events: usize) -> Result<String<Global>, Fail> {
+    let mut script = String::from_str(alloc, ENDS)?;
+    for _ in 0..events {
+        script.push_str("pass caller 0\n")?;
+    }
+    Ok(script)
+}
+
+/// Why a script with so many events has no ladder.
+fn refused(alloc: Global, events: usize) -> Result<Option<LadderFault>, Fail> {
+    let script = long(alloc, events)?;
+    Ok(draw(alloc, script.as_bytes()).err())
+}
+
+#[test]
+fn refuses_a_script_that_is_too_long(rt: HostRuntime) -> Result<(), Fail> {
+    assert_same(
+        &rt,
+        refused(rt.alloc(), EVENTS_MAX + 1)?,
+        Some(LadderFault::TooLong),
+    );
+    Ok(())
+}
+
+/// What is answered to a script of which so many requests for memory succeed, and whether all did.
+fn draw_within(alloc: Global, nth: u64, how: Drawn) -> (Result<u8, ToolFault>, bool, usize) {
+    let heap = Refusing::new(alloc, nth);
+    let mut output = MemoryOutput::new(alloc);
+    let mut input = MemoryInput::new(ENDS.as_bytes());
+    let result = play_ladder(&heap, &mut input, &mut output, how);
+    (result, heap.was_refused(), output.bytes().len())
+}
+
+/// Refuses each request in turn, after which nothing is written. How many requests there are.
+fn requests(rt: &impl Abort, alloc: Global, how: Drawn) -> Result<u64, Fail> {
+    for nth in 1..10_000 {
+        let (result, was_refused, written) = draw_within(alloc, nth, how);
+        if !was_refused {
+            assert_same(rt, result, Ok(1));
+            return Ok(nth - 1);
+        }
+        assert_same_at(rt, result, Err(ToolFault::Memory), nth);
+        assert_same_at(rt, written, 0, nth);
+    }
+    Err("a ladder that is never drawn".into())
+}
+
+#[test]
+fn passes_on_want_of_memory(rt: HostRuntime) -> Result<(), Fail> {
+    assert_same(&rt, requests(&rt, rt.alloc(), Drawn::AsText)? > 20, true);
+    assert_same(&rt, requests(&rt, rt.alloc(), Drawn::AsPicture)? > 20, true);
+    Ok(())
+}

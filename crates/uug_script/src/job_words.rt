@@ -1,0 +1,79 @@
+//! A job as the line of a script that gives it.
+ghost use Rattle.std.specs.Prelude.{◌≡◌, ◌∷◌, [], ◌++◌, OnOk, codes, string_bytes};
+ghost use Rattle.uug_talk.specs.Words.{joined};
+ghost use Rattle.uug_script.specs.Fields.{side_word};
+ghost use Rattle.uug_script.specs.JobWords.{job_text};
+
+use crate::report::side_word;
+use std::alloc::{AllocError, Allocator};
+use uug_line::Side;
+use uug_session::Job;
+use uug_talk::Name;
+
+/// Appends these five words, with a space between each two.
+fn add_words<A: Allocator>(
+    text: &mut String<A>,
+    first: &str,
+    side: Side,
+    source: &Name,
+    target: &Name,
+    user: &Name,
+) -> Result<(), AllocError>
+    ensures { OnOk result (string_bytes text.new ≡ string_bytes text.old
+        ++ joined (first.now ∷ side_word side ∷ source.now ∷ target.now ∷ user.now ∷ [])) }
+{
+    let side = side_word(side);
+    let source = source.as_str();
+    let target = target.as_str();
+    let user = user.as_str();
+    write!(text, "{first} {side} {source} {target} {user}")
+}
+
+/// Appends the words of a Send job's line, of whose file a copy of this name was made.
+fn add_copied<A: Allocator>(
+    text: &mut String<A>,
+    side: Side,
+    source: &Name,
+    target: &Name,
+    user: &Name,
+    temp: &Name,
+) -> Result<(), AllocError>
+    ensures { OnOk result (string_bytes text.new ≡ string_bytes text.old
+        ++ joined (codes "send" ∷ side_word side ∷ source.now ∷ target.now ∷ user.now ∷ temp.now ∷ [])) }
+{
+    let side = side_word(side);
+    let source = source.as_str();
+    let target = target.as_str();
+    let user = user.as_str();
+    let temp = temp.as_str();
+    write!(text, "send {side} {source} {target} {user} {temp}")
+}
+
+/// Appends the words of the line by which a script gives the job to the end on this side, with one space between each two.
+pub fn add_job_words<A: Allocator>(
+    text: &mut String<A>,
+    side: Side,
+    job: &Job,
+) -> Result<(), AllocError>
+    ensures { OnOk result (string_bytes text.new ≡ string_bytes text.old ++ job_text side job.now) }
+{
+    match job {
+        Job::Send {
+            source,
+            target,
+            user,
+            temp: Some(temp),
+        } => add_copied(text, side, source, target, user, temp),
+        Job::Send {
+            source,
+            target,
+            user,
+            temp: None,
+        } => add_words(text, "send", side, source, target, user),
+        Job::Request {
+            source,
+            target,
+            user,
+        } => add_words(text, "request", side, source, target, user),
+    }
+}

@@ -1,5 +1,0 @@
-use Rattle.uug_session.proofs.EntryLemmas.{each_keeps_well}
-use Rattle.uug_session.proofs.conversation_laws.entries_are_asked_for.Goals as goal
-
-pub returns : goal.returns
-returns c = each_keeps_well

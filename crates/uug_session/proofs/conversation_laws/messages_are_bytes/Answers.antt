@@ -1,5 +1,0 @@
-use Rattle.uug_session.proofs.SaidByteLemmas.{own_bytes}
-use Rattle.uug_session.proofs.conversation_laws.messages_are_bytes.Goals as goal
-
-pub returns : goal.returns
-returns c = own_bytes

@@ -1,5 +1,0 @@
-use Rattle.uug_session.proofs.OfferLemmas.{answers_to_hang_up}
-use Rattle.uug_session.proofs.conversation_laws.roles_are_exchanged_for_a_job.Goals as goal
-
-pub returns : goal.returns
-returns c = answers_to_hang_up

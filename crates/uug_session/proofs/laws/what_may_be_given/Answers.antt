@@ -1,8 +1,0 @@
-use Rattle.uug_session.proofs.LimitLemmas.{may_be_given, too_large}
-use Rattle.uug_session.proofs.laws.what_may_be_given.Goals as goal
-
-pub returns-clause-given : goal.returns-clause-given
-returns-clause-given c = may_be_given
-
-pub returns-clause-too_large : goal.returns-clause-too_large
-returns-clause-too_large c = too_large

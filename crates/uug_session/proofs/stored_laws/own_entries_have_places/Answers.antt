@@ -1,5 +1,0 @@
-use Rattle.uug_session.proofs.OwnEntryLemmas.{by_places}
-use Rattle.uug_session.proofs.stored_laws.own_entries_have_places.Goals as goal
-
-pub returns : goal.returns
-returns c = by_places

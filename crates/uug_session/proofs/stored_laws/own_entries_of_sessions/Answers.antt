@@ -1,8 +1,0 @@
-use Rattle.uug_session.proofs.OwnEntryLemmas.{more_jobs, of_sessions}
-use Rattle.uug_session.proofs.stored_laws.own_entries_of_sessions.Goals as goal
-
-pub returns-clause-joined : goal.returns-clause-joined
-returns-clause-joined c = of_sessions
-
-pub returns-clause-more_jobs : goal.returns-clause-more_jobs
-returns-clause-more_jobs c h jobs more givers receivers entries inside = more_jobs h jobs more inside givers receivers entries

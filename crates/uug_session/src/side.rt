@@ -1,8 +1,0 @@
-/// Which end of a session this is.
-#[derive(Clone, Copy, Debug, PartialEq, Eq)]
-pub(crate) enum Side {
-    /// The end that called.
-    Caller,
-    /// The end that was called.
-    Called,
-}
