@@ -164,21 +164,21 @@ row() {
         "$(sort -g "$work/rest_uucico" | head -n 1)"
 }
 
-# cut_off: a script that ends when about half of the bytes have come, with all lost that is on the line. Behind the lines
-# that set the ends up a third of the rest is enough, since more rounds are there than are needed.
+# cut_off SCRIPT PART: the script, which ends when about half of the bytes have come, with all lost that is on the line.
+# Behind the lines that set the ends up one PART of the rest is enough for that, since more rounds are there than are needed.
 cut_off() {
     local setup all
     setup=$(grep -c '^[cfs]' "$1")
     all=$(wc -l <"$1")
-    head -n $((setup + (all - setup) / 3)) "$1"
+    head -n $((setup + (all - setup) / $2)) "$1"
     printf 'drop called 1000000000\ndrop caller 1000000000\n'
 }
 
-# settle_row BYTES WINDOW SIZE EVERY: prints a line for each program that has the option.
+# settle_row BYTES WINDOW SIZE EVERY PART: prints a line for each program that has the option.
 settle_row() {
     local number
     "$work/make" "$1" "$2" "$3" "$4" >"$work/all"
-    cut_off "$work/all" >"$work/text"
+    cut_off "$work/all" "$5" >"$work/text"
     measure settle_round
     for number in "${!programs[@]}"; do
         has_settle "$number" || continue
@@ -209,5 +209,5 @@ row lossy $mb 7 64 50
 row lossy $mb 7 1024 50
 echo
 echo "line       bytes  packets   program  whole  played  settle   least                     instr"
-settle_row $mb 7 64 50
-settle_row $mb 7 1024 50
+settle_row $mb 7 64 50 3
+settle_row $mb 7 1024 50 6

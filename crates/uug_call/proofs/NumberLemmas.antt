@@ -7,7 +7,6 @@ use Rattle.uug_tool.specs.declared.fault.ToolFault.{ToolFault}
 use Rattle.uug_tool.specs.declared.fault.ToolFault.TheVariants as tool
 use Rattle.uug_pair.specs.declared.turn_fault.TurnFault.{TurnFault}
 use Rattle.uug_pair.specs.declared.turn_fault.TurnFault.TheVariants as turn
-use Rattle.uug_call.specs.Calling.{UnlessMemory}
 use Rattle.uug_call.specs.Hearing.{UnlessRefused}
 
 pub same : {a b : NodeState} → b ≡ a → KeepsNumber a.engine b.engine
@@ -26,14 +25,3 @@ pub later_unless : {T : Type 0} (r : Result T TurnFault) (a b c : EngineState) �
 later_unless (Ok value) a b c first second = later first second
 later_unless (Err turn.Line) a b c first second = later first second
 later_unless (Err turn.Memory) a b c first second = tt
-
-pub unless_memory : {T : Type 0} (r : Result T ToolFault) (P : Type 0) → P → UnlessMemory r P
-unless_memory (Ok value) P p = p
-unless_memory (Err tool.Read) P p = p
-unless_memory (Err tool.Write) P p = p
-unless_memory (Err tool.Memory) P p = tt
-unless_memory (Err (tool.Script line)) P p = p
-unless_memory (Err (tool.Jobs line)) P p = p
-unless_memory (Err tool.Number) P p = p
-unless_memory (Err tool.Device) P p = p
-unless_memory (Err tool.Usage) P p = p

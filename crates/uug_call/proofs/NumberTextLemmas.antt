@@ -43,7 +43,3 @@ no_line text e = ap number_of_lines e
 pub one_line : (text line behind : List ℕ) → lines text ≡ line ∷ lines behind → lines behind ≡ []
     → number_in text ≡ number_of NUMBER_MAX line
 one_line text line behind e f = ap number_of_lines (e ∙ ap (λ ls. line ∷ ls) f)
-
-pub more_lines : (text line behind next more : List ℕ) → lines text ≡ line ∷ lines behind → lines behind ≡ next ∷ lines more
-    → number_in text ≡ None
-more_lines text line behind next more e f = ap number_of_lines (e ∙ ap (λ ls. line ∷ ls) f)

@@ -1,6 +1,6 @@
 -- How one end at a real line finishes (this project's profile).
 use Rattle.std.specs.Prelude.{◌++◌, ℕ, List, Result, Ok, Err, if◌then◌else◌, ⊤}
-use Rattle.uug_line.specs.declared.side.Side.{Side}
+use Rattle.uug_conversation.specs.declared.side.Side.{Side}
 use Rattle.uug_session.specs.Node.{NodeState}
 use Rattle.uug_session.specs.declared.phase.Phase.{Phase}
 use Rattle.uug_tool.specs.declared.fault.ToolFault.{ToolFault}

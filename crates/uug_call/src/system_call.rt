@@ -117,32 +117,67 @@ where
         return Err(ToolFault::Usage);
     };
     let mut end = read_end(alloc, rt, task, terms.place)?;
-    match terms.line {
+    let result = talk_at(
+        alloc,
+        rt,
+        task.side,
+        terms.line,
+        terms.patience,
+        &mut end,
+        watcher,
+        output,
+    );
+    drop(end);
+    result
+}
+
+/// The end opens its line, and talks over it.
+fn talk_at<'a, A, R, W, O>(
+    alloc: A,
+    rt: &R,
+    side: Side,
+    line: LineName<'_>,
+    patience: Duration,
+    end: &mut SystemEnd<'a, R, A>,
+    watcher: &mut W,
+    output: &mut O,
+) -> Result<u8, ToolFault>
+where
+    A: Allocator + Copy,
+    R: Files<File = File> + Net,
+    W: Watcher,
+    O: Output,
+    ensures status { IfOk result (λ status. status ≤ 1) }
+    ensures write { result ≡ Err ToolFault.Write
+        → CountsFault (O.fault_count output.old) (O.fault_count output.new) }
+    ensures no_other { IfErr result IsCallFault }
+{
+    match line {
         LineName::Unix(path) => {
-            let stream = open_unix(rt, task.side, path, terms.patience);
+            let stream = open_unix(rt, side, path, patience);
             talk_over(
                 alloc,
-                task.side,
-                &mut end,
+                side,
+                end,
                 stream.map(StreamLine::new),
                 watcher,
                 output,
             )
         }
         LineName::Tcp(host, port) => {
-            let stream = open_tcp(rt, task.side, host, port, terms.patience);
+            let stream = open_tcp(rt, side, host, port, patience);
             talk_over(
                 alloc,
-                task.side,
-                &mut end,
+                side,
+                end,
                 stream.map(StreamLine::new),
                 watcher,
                 output,
             )
         }
         LineName::Device(path) => {
-            let line = DeviceLine::open(alloc, rt, path, terms.patience);
-            talk_over(alloc, task.side, &mut end, line, watcher, output)
+            let line = DeviceLine::open(alloc, rt, path, patience);
+            talk_over(alloc, side, end, line, watcher, output)
         }
     }
 }
@@ -220,21 +255,28 @@ fn make_end<'a, A: Allocator + Copy, R: Files>(
     files: Vec<Stored<A>, A>,
 ) -> Result<SystemEnd<'a, R, A>, AllocError> {
     let folder = SystemFolder::new(alloc, rt, dir)?;
+    let jobs_file = SystemText::new(alloc, rt, dir, "jobs")?;
+    let number_file = SystemText::new(alloc, rt, dir, "number")?;
     let spool = LocalNames::new(alloc, FolderSpool::new(alloc, files, folder));
     let made = match side {
         Side::Caller => Node::caller(alloc, place, jobs, spool),
         Side::Called => Node::called(alloc, place, jobs, spool),
     };
-    let Ok(node) = made else {
-        return Err(AllocError);
+    let node = match made {
+        Ok(node) => node,
+        Err(refused) => {
+            drop(refused);
+            return Err(AllocError);
+        }
     };
     let Some(mut noise) = Noise::new(None, None) else {
         unreachable!();
     };
+    let seat = Seat::new(alloc, node, &mut noise)?;
     Ok(CallEnd {
-        seat: Seat::new(alloc, node, &mut noise)?,
-        jobs: SystemText::new(alloc, rt, dir, "jobs")?,
-        number: SystemText::new(alloc, rt, dir, "number")?,
+        seat,
+        jobs: jobs_file,
+        number: number_file,
     })
 }
 

@@ -14,7 +14,9 @@ use Rattle.uug_conversation.specs.Exchange.{send_exchange, request_exchange}
 use Rattle.uug_conversation.specs.Holdings.{File, Holdings, to_give}
 use Rattle.uug_conversation.specs.Jobs.{Move, pass, strike, fail}
 use Rattle.uug_conversation.specs.Party.{Party}
-use Rattle.uug_conversation.specs.Turns.{Side, caller, called, other, Said, the_order, the_answer, Turn, plain, moving}
+use Rattle.uug_conversation.specs.Turns.{other, Said, the_order, the_answer, Turn, plain, moving}
+use Rattle.uug_conversation.specs.declared.side.Side.{Side}
+use Rattle.uug_conversation.specs.declared.side.Side.TheVariants.{Caller, Called}
 
 -- turns in which a master begins with a command, and then speakers alternate
 record AreMasters (master : Side) (ts : List Turn) : Type 0 where
@@ -86,25 +88,25 @@ exchanges_alternate master slave own others (job.Request source target user ∷ 
     (choice own jobs).failing (exchanges master slave own others jobs rest) s
     (exchanges_alternate master slave own others jobs rest s h)
 
-last_alternate : AreMasters called last_turns
+last_alternate : AreMasters Called last_turns
 last_alternate = record { begins = (refl, order.HangUp, refl); alternate = (inl refl, (inl refl, (tt, tt))) }
 
 hang_up_alternates : (next : Option Order) (moves : List Move) (a b : Party)
-    → AreMasters caller (record { speaker = caller; said = the_order order.HangUp; moves = moves; keeps = [] } ∷ after_hang_up next a b)
+    → AreMasters Caller (record { speaker = Caller; said = the_order order.HangUp; moves = moves; keeps = [] } ∷ after_hang_up next a b)
 hang_up_alternates None moves a b = record { begins = (refl, order.HangUp, refl); alternate = (inl refl, (inl refl, (tt, tt))) }
 hang_up_alternates (Some first) moves a b =
-    let h = exchanges_alternate called caller b.holdings a.holdings b.jobs last_turns (record { to_slave = refl; to_master = refl }) last_alternate in
+    let h = exchanges_alternate Called Caller b.holdings a.holdings b.jobs last_turns (record { to_slave = refl; to_master = refl }) last_alternate in
     record {
       begins = (refl, order.HangUp, refl);
-      alternate = (inl refl, (by_same (plain called (the_answer answer.HangNo)) (exchanges called caller b.holdings a.holdings b.jobs last_turns) (λ o. after_no) h.begins, h.alternate));
+      alternate = (inl refl, (by_same (plain Called (the_answer answer.HangNo)) (exchanges Called Caller b.holdings a.holdings b.jobs last_turns) (λ o. after_no) h.begins, h.alternate));
     }
 
-whole : (a b : Party) → AreMasters caller (conversation a b)
+whole : (a b : Party) → AreMasters Caller (conversation a b)
 whole a b =
-    exchanges_alternate caller called a.holdings b.holdings a.jobs (hang_up a b) (record { to_slave = refl; to_master = refl })
+    exchanges_alternate Caller Called a.holdings b.holdings a.jobs (hang_up a b) (record { to_slave = refl; to_master = refl })
     (hang_up_alternates (choice b.holdings b.jobs).next (choice b.holdings b.jobs).failing a b)
 
-pub caller_begins : (a b : Party) → BeginsWithCommand caller (conversation a b)
+pub caller_begins : (a b : Party) → BeginsWithCommand Caller (conversation a b)
 caller_begins a b = (whole a b).begins
 
 pub take_turns : (a b : Party) → Alternate (conversation a b)

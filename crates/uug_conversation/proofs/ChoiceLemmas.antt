@@ -1,11 +1,11 @@
 -- The choice of a job, job by job.
-use Rattle.std.proofs.Common.{◌≡◌, ℕ, ◌<◌, List, [], ◌∷◌, length, slice_get, Option, Some, None, refl, ap, ◌∙◌}
+use Rattle.std.proofs.Common.{◌≡◌, ℕ, List, [], ◌∷◌, slice_get, Option, Some, None, refl, ap, ◌∙◌}
 use Rattle.uug_talk.specs.declared.order.Order.{Order}
 use Rattle.uug_conversation.specs.declared.job.Job.{Job}
 use Rattle.uug_conversation.specs.declared.job.Job.TheVariants as job
 use Rattle.uug_conversation.specs.Choice.{Choice, choice, send_choice, offers, fetched_by}
 use Rattle.uug_conversation.specs.Holdings.{File, Holdings, to_give}
-use Rattle.uug_conversation.specs.Jobs.{Lists, moved, moved_once, fail}
+use Rattle.uug_conversation.specs.Jobs.{Lists, moved, fail}
 use Rattle.uug_conversation.specs.Reactions.{offer, send_offer}
 
 -- the choice by whether the first job can be offered
@@ -35,9 +35,3 @@ first_offered h l (i ∷ jobs) j o e f =
 pub is_offered : (h : Holdings) (l : Lists) (j : Job) (o : Order) → slice_get l.ahead 0 ≡ Some j →
     offer h j ≡ Some o → ((choice h l.ahead).next ≡ Some o) × (moved (choice h l.ahead).failing l ≡ l)
 is_offered h l j o e f = first_offered h l l.ahead j o e f
-
--- where it can't
-pub record IsPassedOn (h : Holdings) (l : Lists) : Type 0 where
-  pub next : (choice h (moved_once fail l).ahead).next ≡ (choice h l.ahead).next
-  pub lists : moved (choice h (moved_once fail l).ahead).failing (moved_once fail l) ≡ moved (choice h l.ahead).failing l
-  pub fewer : length (moved_once fail l).ahead < length l.ahead

@@ -3,7 +3,8 @@ use Rattle.std.proofs.Common.{◌≡◌, ℕ, ◌-◌, List, [], ◌∷◌, ◌+
 use Rattle.uug_conversation.specs.Holdings.{Kept}
 use Rattle.uug_conversation.specs.Jobs.{Lists}
 use Rattle.uug_conversation.specs.Party.{Party}
-use Rattle.uug_conversation.specs.Turns.{Side, caller, called}
+use Rattle.uug_conversation.specs.declared.side.Side.{Side}
+use Rattle.uug_conversation.specs.declared.side.Side.TheVariants.{Caller, Called}
 use Rattle.uug_conversation.specs.View.{conversation_view, own_messages, others_messages, floor, kept_after, lists_after}
 use Rattle.uug_conversation.proofs.FactParties.{Exception, no_exception, denied, put_off, fixed, end_with, q, x, y, z, empty_file, six_bytes, small_file, long_file, send, send_again, send_copy, send_nothing, request, text}
 
@@ -31,20 +32,20 @@ abbrev pub taker : Exception → Party
 taker exception = end_with [] q None exception
 
 pub record IsSent : Type 0 where
-  pub caller_says : said_by caller sender (taker no_exception) ≡
+  pub caller_says : said_by Caller sender (taker no_exception) ≡
       text (codes "S x y u - D.0 0644") ∷ [] ∷ text (codes "H") ∷ text (codes "HY") ∷ []
-  pub called_says : said_by called sender (taker no_exception) ≡
+  pub called_says : said_by Called sender (taker no_exception) ≡
       text (codes "SY") ∷ text (codes "CY") ∷ text (codes "HY") ∷ []
-  pub caller_floors : floors caller sender (taker no_exception) (0 ∷ 1 ∷ 2 ∷ 3 ∷ 4 ∷ []) ≡ 1 ∷ 2 ∷ 3 ∷ 4 ∷ 4 ∷ []
-  pub called_floors : floors called sender (taker no_exception) (0 ∷ 1 ∷ 2 ∷ 3 ∷ 4 ∷ []) ≡ 0 ∷ 1 ∷ 2 ∷ 3 ∷ 3 ∷ []
-  pub caller_lists : lists_at_end caller sender (taker no_exception) ≡ record nothing_done { struck = send ∷ [] }
-  pub not_before : lists_after caller sender (taker no_exception) 1 ≡ record nothing_done { ahead = send ∷ [] }
-  pub called_lists : lists_at_end called sender (taker no_exception) ≡ nothing_done
-  pub caller_keeps : kept_at_end caller sender (taker no_exception) ≡ []
-  pub called_keeps : kept_at_end called sender (taker no_exception) ≡ record { name = y; mode = 420; bytes = [] } ∷ []
-  pub with_the_file : kept_after 2 (conversation_view called sender (taker no_exception)) ≡
+  pub caller_floors : floors Caller sender (taker no_exception) (0 ∷ 1 ∷ 2 ∷ 3 ∷ 4 ∷ []) ≡ 1 ∷ 2 ∷ 3 ∷ 4 ∷ 4 ∷ []
+  pub called_floors : floors Called sender (taker no_exception) (0 ∷ 1 ∷ 2 ∷ 3 ∷ 4 ∷ []) ≡ 0 ∷ 1 ∷ 2 ∷ 3 ∷ 3 ∷ []
+  pub caller_lists : lists_at_end Caller sender (taker no_exception) ≡ record nothing_done { struck = send ∷ [] }
+  pub not_before : lists_after Caller sender (taker no_exception) 1 ≡ record nothing_done { ahead = send ∷ [] }
+  pub called_lists : lists_at_end Called sender (taker no_exception) ≡ nothing_done
+  pub caller_keeps : kept_at_end Caller sender (taker no_exception) ≡ []
+  pub called_keeps : kept_at_end Called sender (taker no_exception) ≡ record { name = y; mode = 420; bytes = [] } ∷ []
+  pub with_the_file : kept_after 2 (conversation_view Called sender (taker no_exception)) ≡
       record { name = y; mode = 420; bytes = [] } ∷ []
-  pub only_with_it : kept_after 1 (conversation_view called sender (taker no_exception)) ≡ []
+  pub only_with_it : kept_after 1 (conversation_view Called sender (taker no_exception)) ≡ []
 
 pub is_sent : IsSent
 is_sent = record {
@@ -64,15 +65,15 @@ is_sent = record {
 -- ---- the called end sends it: the roles are exchanged by HN
 
 pub record IsSentBack : Type 0 where
-  pub caller_says : said_by caller (taker no_exception) sender ≡
+  pub caller_says : said_by Caller (taker no_exception) sender ≡
       text (codes "H") ∷ text (codes "SY") ∷ text (codes "CY") ∷ text (codes "HY") ∷ []
-  pub called_says : said_by called (taker no_exception) sender ≡
+  pub called_says : said_by Called (taker no_exception) sender ≡
       text (codes "HN") ∷ text (codes "S x y u - D.0 0644") ∷ [] ∷ text (codes "H") ∷ text (codes "HY") ∷ []
-  pub called_floors : floors called (taker no_exception) sender (0 ∷ 1 ∷ 2 ∷ 3 ∷ 4 ∷ []) ≡ 0 ∷ 2 ∷ 3 ∷ 4 ∷ 5 ∷ []
-  pub caller_lists : lists_at_end caller (taker no_exception) sender ≡ nothing_done
-  pub called_lists : lists_at_end called (taker no_exception) sender ≡ record nothing_done { struck = send ∷ [] }
-  pub caller_keeps : kept_at_end caller (taker no_exception) sender ≡ record { name = y; mode = 420; bytes = [] } ∷ []
-  pub called_keeps : kept_at_end called (taker no_exception) sender ≡ []
+  pub called_floors : floors Called (taker no_exception) sender (0 ∷ 1 ∷ 2 ∷ 3 ∷ 4 ∷ []) ≡ 0 ∷ 2 ∷ 3 ∷ 4 ∷ 5 ∷ []
+  pub caller_lists : lists_at_end Caller (taker no_exception) sender ≡ nothing_done
+  pub called_lists : lists_at_end Called (taker no_exception) sender ≡ record nothing_done { struck = send ∷ [] }
+  pub caller_keeps : kept_at_end Caller (taker no_exception) sender ≡ record { name = y; mode = 420; bytes = [] } ∷ []
+  pub called_keeps : kept_at_end Called (taker no_exception) sender ≡ []
 
 pub is_sent_back : IsSentBack
 is_sent_back = record {
@@ -88,26 +89,26 @@ is_sent_back = record {
 -- ---- the called end refuses the file: for ever, or for this session, or because it can't be put in its place
 
 pub record IsRefused : Type 0 where
-  pub denied_caller : said_by caller sender (taker (denied y)) ≡
+  pub denied_caller : said_by Caller sender (taker (denied y)) ≡
       text (codes "S x y u - D.0 0644") ∷ text (codes "H") ∷ text (codes "HY") ∷ []
-  pub denied_called : said_by called sender (taker (denied y)) ≡ text (codes "SN2") ∷ text (codes "HY") ∷ []
-  pub denied_lists : lists_at_end caller sender (taker (denied y)) ≡ record nothing_done { failed = send ∷ [] }
-  pub denied_keeps : kept_at_end called sender (taker (denied y)) ≡ []
-  pub denied_called_lists : lists_at_end called sender (taker (denied y)) ≡ nothing_done
-  pub source_denied : lists_at_end caller sender (taker (denied x)) ≡ record nothing_done { struck = send ∷ [] }
-  pub later_caller : said_by caller sender (taker (put_off y)) ≡
+  pub denied_called : said_by Called sender (taker (denied y)) ≡ text (codes "SN2") ∷ text (codes "HY") ∷ []
+  pub denied_lists : lists_at_end Caller sender (taker (denied y)) ≡ record nothing_done { failed = send ∷ [] }
+  pub denied_keeps : kept_at_end Called sender (taker (denied y)) ≡ []
+  pub denied_called_lists : lists_at_end Called sender (taker (denied y)) ≡ nothing_done
+  pub source_denied : lists_at_end Caller sender (taker (denied x)) ≡ record nothing_done { struck = send ∷ [] }
+  pub later_caller : said_by Caller sender (taker (put_off y)) ≡
       text (codes "S x y u - D.0 0644") ∷ text (codes "H") ∷ text (codes "HY") ∷ []
-  pub later_called : said_by called sender (taker (put_off y)) ≡ text (codes "SN4") ∷ text (codes "HY") ∷ []
-  pub later_lists : lists_at_end caller sender (taker (put_off y)) ≡ record nothing_done { passed = send ∷ [] }
-  pub later_called_lists : lists_at_end called sender (taker (put_off y)) ≡ nothing_done
-  pub later_keeps : kept_at_end called sender (taker (put_off y)) ≡ []
-  pub immovable_caller : said_by caller sender (taker (fixed y)) ≡
+  pub later_called : said_by Called sender (taker (put_off y)) ≡ text (codes "SN4") ∷ text (codes "HY") ∷ []
+  pub later_lists : lists_at_end Caller sender (taker (put_off y)) ≡ record nothing_done { passed = send ∷ [] }
+  pub later_called_lists : lists_at_end Called sender (taker (put_off y)) ≡ nothing_done
+  pub later_keeps : kept_at_end Called sender (taker (put_off y)) ≡ []
+  pub immovable_caller : said_by Caller sender (taker (fixed y)) ≡
       text (codes "S x y u - D.0 0644") ∷ [] ∷ text (codes "H") ∷ text (codes "HY") ∷ []
-  pub immovable_called : said_by called sender (taker (fixed y)) ≡
+  pub immovable_called : said_by Called sender (taker (fixed y)) ≡
       text (codes "SY") ∷ text (codes "CN5") ∷ text (codes "HY") ∷ []
-  pub immovable_lists : lists_at_end caller sender (taker (fixed y)) ≡ record nothing_done { failed = send ∷ [] }
-  pub immovable_keeps : kept_at_end called sender (taker (fixed y)) ≡ []
-  pub immovable_called_lists : lists_at_end called sender (taker (fixed y)) ≡ nothing_done
+  pub immovable_lists : lists_at_end Caller sender (taker (fixed y)) ≡ record nothing_done { failed = send ∷ [] }
+  pub immovable_keeps : kept_at_end Called sender (taker (fixed y)) ≡ []
+  pub immovable_called_lists : lists_at_end Called sender (taker (fixed y)) ≡ nothing_done
 
 pub is_refused : IsRefused
 is_refused = record {
@@ -139,27 +140,27 @@ abbrev pub giver : Party
 giver = end_with [] q empty_file no_exception
 
 pub record IsAsked : Type 0 where
-  pub nothing_caller : said_by caller (asker no_exception) (taker no_exception) ≡
+  pub nothing_caller : said_by Caller (asker no_exception) (taker no_exception) ≡
       text (codes "R q y u -") ∷ text (codes "H") ∷ text (codes "HY") ∷ []
-  pub nothing_called : said_by called (asker no_exception) (taker no_exception) ≡
+  pub nothing_called : said_by Called (asker no_exception) (taker no_exception) ≡
       text (codes "RN2") ∷ text (codes "HY") ∷ []
-  pub nothing_lists : lists_at_end caller (asker no_exception) (taker no_exception) ≡
+  pub nothing_lists : lists_at_end Caller (asker no_exception) (taker no_exception) ≡
       record nothing_done { failed = request ∷ [] }
-  pub nothing_called_lists : lists_at_end called (asker no_exception) (taker no_exception) ≡ nothing_done
-  pub nothing_keeps : kept_at_end caller (asker no_exception) (taker no_exception) ≡ []
-  pub given_caller : said_by caller (asker no_exception) giver ≡
+  pub nothing_called_lists : lists_at_end Called (asker no_exception) (taker no_exception) ≡ nothing_done
+  pub nothing_keeps : kept_at_end Caller (asker no_exception) (taker no_exception) ≡ []
+  pub given_caller : said_by Caller (asker no_exception) giver ≡
       text (codes "R q y u -") ∷ text (codes "CY") ∷ text (codes "H") ∷ text (codes "HY") ∷ []
-  pub given_called : said_by called (asker no_exception) giver ≡
+  pub given_called : said_by Called (asker no_exception) giver ≡
       text (codes "RY 0644") ∷ [] ∷ text (codes "HY") ∷ []
-  pub given_floors : floors caller (asker no_exception) giver (0 ∷ 1 ∷ 2 ∷ 3 ∷ []) ≡ 1 ∷ 1 ∷ 3 ∷ 4 ∷ []
-  pub given_lists : lists_at_end caller (asker no_exception) giver ≡ record nothing_done { struck = request ∷ [] }
-  pub giver_lists : lists_at_end called (asker no_exception) giver ≡ nothing_done
-  pub given_keeps : kept_at_end caller (asker no_exception) giver ≡ record { name = y; mode = 420; bytes = [] } ∷ []
-  pub giver_keeps : kept_at_end called (asker no_exception) giver ≡ []
-  pub fixed_caller : said_by caller (asker (fixed y)) giver ≡
+  pub given_floors : floors Caller (asker no_exception) giver (0 ∷ 1 ∷ 2 ∷ 3 ∷ []) ≡ 1 ∷ 1 ∷ 3 ∷ 4 ∷ []
+  pub given_lists : lists_at_end Caller (asker no_exception) giver ≡ record nothing_done { struck = request ∷ [] }
+  pub giver_lists : lists_at_end Called (asker no_exception) giver ≡ nothing_done
+  pub given_keeps : kept_at_end Caller (asker no_exception) giver ≡ record { name = y; mode = 420; bytes = [] } ∷ []
+  pub giver_keeps : kept_at_end Called (asker no_exception) giver ≡ []
+  pub fixed_caller : said_by Caller (asker (fixed y)) giver ≡
       text (codes "R q y u -") ∷ text (codes "CN5") ∷ text (codes "H") ∷ text (codes "HY") ∷ []
-  pub fixed_lists : lists_at_end caller (asker (fixed y)) giver ≡ record nothing_done { failed = request ∷ [] }
-  pub fixed_keeps : kept_at_end caller (asker (fixed y)) giver ≡ []
+  pub fixed_lists : lists_at_end Caller (asker (fixed y)) giver ≡ record nothing_done { failed = request ∷ [] }
+  pub fixed_keeps : kept_at_end Caller (asker (fixed y)) giver ≡ []
 
 pub is_asked : IsAsked
 is_asked = record {
@@ -196,23 +197,23 @@ abbrev pub wide_text : List ℕ → List ℕ
 wide_text bytes = bytes ++ replicate (64 - length bytes) 0
 
 pub record IsBusy : Type 0 where
-  pub caller_says : said_by caller (wide busy_caller) busy_called ≡
+  pub caller_says : said_by Caller (wide busy_caller) busy_called ≡
       wide_text (codes "S z y u -C x 0600") ∷ replicate 64 7 ∷ replicate 6 7 ∷ [] ∷ wide_text (codes "R q y u -") ∷
       wide_text (codes "H") ∷ wide_text (codes "SY") ∷ wide_text (codes "CY") ∷ wide_text (codes "HY") ∷ []
-  pub called_says : said_by called (wide busy_caller) busy_called ≡
+  pub called_says : said_by Called (wide busy_caller) busy_called ≡
       text (codes "SY") ∷ text (codes "CY") ∷ text (codes "RN2") ∷ text (codes "HN") ∷ text (codes "S x z u - D.0 0644") ∷
       six_bytes ∷ [] ∷ text (codes "H") ∷ text (codes "HY") ∷ []
-  pub first_choice : lists_after caller (wide busy_caller) busy_called 0 ≡
+  pub first_choice : lists_after Caller (wide busy_caller) busy_called 0 ≡
       record nothing_done { ahead = send_copy ∷ request ∷ []; failed = send_nothing ∷ [] }
-  pub caller_lists : lists_at_end caller (wide busy_caller) busy_called ≡
+  pub caller_lists : lists_at_end Caller (wide busy_caller) busy_called ≡
       record nothing_done { struck = send_copy ∷ []; failed = send_nothing ∷ request ∷ [] }
-  pub no_choice_yet : lists_after called (wide busy_caller) busy_called 4 ≡
+  pub no_choice_yet : lists_after Called (wide busy_caller) busy_called 4 ≡
       record nothing_done { ahead = send_again ∷ send_nothing ∷ [] }
-  pub called_lists : lists_at_end called (wide busy_caller) busy_called ≡
+  pub called_lists : lists_at_end Called (wide busy_caller) busy_called ≡
       record nothing_done { struck = send_again ∷ []; failed = send_nothing ∷ [] }
-  pub caller_keeps : kept_at_end caller (wide busy_caller) busy_called ≡
+  pub caller_keeps : kept_at_end Caller (wide busy_caller) busy_called ≡
       record { name = z; mode = 420; bytes = six_bytes } ∷ []
-  pub called_keeps : kept_at_end called (wide busy_caller) busy_called ≡
+  pub called_keeps : kept_at_end Called (wide busy_caller) busy_called ≡
       record { name = y; mode = 384; bytes = replicate 70 7 } ∷ []
 
 pub is_busy : IsBusy

@@ -19,7 +19,9 @@ use Rattle.uug_conversation.specs.EarlierJobs.{behind, state_behind, reply_behin
 use Rattle.uug_conversation.specs.Holdings.{File, Kept, Holdings, to_give}
 use Rattle.uug_conversation.specs.Jobs.{Lists, at_start, Move, pass, strike, fail, move_first, moved, moved_once}
 use Rattle.uug_conversation.specs.Machine.{State, commands, order_or_hang_up, goes_on, on_send, on_request, on_hang_up, on_order, on_given_file_done, on_last_hang_up, sends_file, on_send_yes, on_send_answer, on_sent_file_done, on_sent_job_done, on_request_answer, on_hang_up_answer, on_nothing_more, on_text, keeps, on_sent_file, on_asked_file, on_file_of, on_file, on_whole, on_gathered, on_part, gathered_with, step, opening}
-use Rattle.uug_conversation.specs.Turns.{Side, caller, called, Said, the_answer}
+use Rattle.uug_conversation.specs.Turns.{Said, the_answer}
+use Rattle.uug_conversation.specs.declared.side.Side.{Side}
+use Rattle.uug_conversation.specs.declared.side.Side.TheVariants.{Caller, Called}
 
 pub start_behind : (jobs x y : List Job) → behind x y (at_start jobs [] []) ≡ at_start jobs x y
 start_behind jobs x y = ap₂ (at_start jobs) (append-nil x) (append-nil y)
@@ -210,5 +212,5 @@ step_behind h s message x y =
 
 pub opening_behind : (side : Side) (h : Holdings) (l : Lists) (x y : List Job) →
     opening side h (behind x y l) ≡ reply_behind x y (opening side h l)
-opening_behind caller h l x y = goes_on_behind x y h l []
-opening_behind called h l x y = refl
+opening_behind Caller h l x y = goes_on_behind x y h l []
+opening_behind Called h l x y = refl

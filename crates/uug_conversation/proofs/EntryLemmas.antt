@@ -14,7 +14,9 @@ use Rattle.uug_conversation.specs.Holdings.{File, Kept, Holdings, to_give, kept_
 use Rattle.uug_conversation.specs.Jobs.{Move, strike}
 use Rattle.uug_conversation.specs.Party.{Party}
 use Rattle.uug_conversation.specs.ReadBack.{EachTurn}
-use Rattle.uug_conversation.specs.Turns.{Side, caller, called, other, Turn}
+use Rattle.uug_conversation.specs.Turns.{other, Turn}
+use Rattle.uug_conversation.specs.declared.side.Side.{Side}
+use Rattle.uug_conversation.specs.declared.side.Side.TheVariants.{Caller, Called}
 use Rattle.uug_conversation.specs.View.{party}
 
 -- turns that keep nothing have the fact
@@ -80,25 +82,25 @@ one_kept a b side target file moves h =
     All-cons (IsWellKept a b (keeping side target file moves)) (kept_as target file) [] (record { said = refl; asked = h })
     (All-nil (IsWellKept a b (keeping side target file moves)))
 
-caller_job : (a b : Party) (j : Job) → Contains a.jobs j → OfJob (KeepsWell a b) caller called a.holdings b.holdings j
-caller_job a b (job.Send source target user temp) c = λ f e. one_kept a b caller target f [] (sent c e)
-caller_job a b (job.Request source target user) c = λ f moves e. one_kept a b called target f moves (requested c e)
+caller_job : (a b : Party) (j : Job) → Contains a.jobs j → OfJob (KeepsWell a b) Caller Called a.holdings b.holdings j
+caller_job a b (job.Send source target user temp) c = λ f e. one_kept a b Caller target f [] (sent c e)
+caller_job a b (job.Request source target user) c = λ f moves e. one_kept a b Called target f moves (requested c e)
 
-called_job : (a b : Party) (j : Job) → Contains b.jobs j → OfJob (KeepsWell a b) called caller b.holdings a.holdings j
-called_job a b (job.Send source target user temp) c = λ f e. one_kept a b called target f [] (sent c e)
-called_job a b (job.Request source target user) c = λ f moves e. one_kept a b caller target f moves (requested c e)
+called_job : (a b : Party) (j : Job) → Contains b.jobs j → OfJob (KeepsWell a b) Called Caller b.holdings a.holdings j
+called_job a b (job.Send source target user temp) c = λ f e. one_kept a b Called target f [] (sent c e)
+called_job a b (job.Request source target user) c = λ f moves e. one_kept a b Caller target f moves (requested c e)
 
 after_entries : (next : Option Order) (a b : Party) → EachTurn (KeepsWell a b) (after_hang_up next a b)
 after_entries None a b = (silent a b _ refl, (silent a b _ refl, tt))
 after_entries (Some first) a b = (
   silent a b _ refl,
-  exchanges_entries (KeepsWell a b) (silent a b) called caller b.holdings a.holdings b.jobs last_turns
+  exchanges_entries (KeepsWell a b) (silent a b) Called Caller b.holdings a.holdings b.jobs last_turns
       (λ i d l. called_job a b _ (All-contains_itself b.jobs i d l))
       (silent a b _ refl, (silent a b _ refl, (silent a b _ refl, tt))),
 )
 
 pub each_keeps_well : (a b : Party) → EachTurn (KeepsWell a b) (conversation a b)
 each_keeps_well a b =
-    exchanges_entries (KeepsWell a b) (silent a b) caller called a.holdings b.holdings a.jobs (hang_up a b)
+    exchanges_entries (KeepsWell a b) (silent a b) Caller Called a.holdings b.holdings a.jobs (hang_up a b)
     (λ i d l. caller_job a b _ (All-contains_itself a.jobs i d l))
     (silent a b _ refl, after_entries (choice b.holdings b.jobs).next a b)

@@ -15,11 +15,11 @@ use Rattle.uug_conversation.specs.Holdings.{File, Kept, Holdings, to_give, kept_
 use Rattle.uug_conversation.specs.Jobs.{Lists, Move, pass, strike, fail, moved, moved_once}
 use Rattle.uug_conversation.specs.Machine.{State, Reply, between, replies, kind_awaited, on_whole, keeps, chooses, goes_on, on_send, on_request, on_order, sends_file, on_request_answer, on_sent_file, on_asked_file}
 use Rattle.uug_conversation.specs.ReadBack.{IsReadBack, EachTurn}
-use Rattle.uug_conversation.specs.Turns.{Side, other, Said, the_order, the_answer, the_file, said_messages, all_messages, Turn}
-use Rattle.uug_conversation.proofs.TalkLaws.{GatherLaws}
+use Rattle.uug_conversation.specs.Turns.{other, Said, the_order, the_answer, the_file, said_messages, all_messages, Turn}
+use Rattle.uug_conversation.specs.declared.side.Side.{Side}
 use Rattle.uug_conversation.proofs.TurnLemmas.{Fits, Open, said_kind, said_bytes, own_says, other_says}
 
-module _ (gathers : GatherLaws) (size_of : Side → ℕ) (positive : (side : Side) → 0 < size_of side) (me : Side) (h : Holdings) where
+module _ (size_of : Side → ℕ) (positive : (side : Side) → 0 < size_of side) (me : Side) (h : Holdings) where
   -- what an end replies accords with these turns
   abbrev pub FitsReply : Reply → List Turn → Type 0
   FitsReply r ts = Fits h size_of me r.state (all_messages (size_of me) r.says) ts
@@ -37,7 +37,7 @@ module _ (gathers : GatherLaws) (size_of : Side → ℕ) (positive : (side : Sid
       Fits h size_of me s (said_messages (size_of me) said ++ left)
       (record { speaker = me; said = said; moves = moves; keeps = keeps } ∷ ts)
   say {said} {moves} {keeps} {ts} {s} {left} back fits =
-      own_says gathers size_of positive me h said moves keeps ts s left back fits.accords
+      own_says size_of positive me h said moves keeps ts s left back fits.accords
 
   -- a text or a file, by the reply to it
   pub hear_text : {said : Said} {moves : List Move} {keeps : List Kept} {ts : List Turn} {l : Lists} {w : Awaits} {r : Reply} →
@@ -45,7 +45,7 @@ module _ (gathers : GatherLaws) (size_of : Side → ℕ) (positive : (side : Sid
       r.state.lists ≡ moved moves l → r.keeps ≡ keeps → FitsReply r ts →
       Fits h size_of me (between l w) [] (record { speaker = other me; said = said; moves = moves; keeps = keeps } ∷ ts)
   hear_text {said} {moves} {keeps} {ts} {l} {w} {r} back kind opened e lists_so keeps_so fits =
-      other_says gathers size_of positive me h said moves keeps ts l w back kind opened r e
+      other_says size_of positive me h said moves keeps ts l w back kind opened r e
       (record { lists_moved = lists_so; kept = keeps_so }) fits
 
   -- ---- Send, at the master's

@@ -9,7 +9,9 @@ use Rattle.uug_talk.specs.Order.{order_text}
 use Rattle.uug_conversation.specs.Holdings.{Kept}
 use Rattle.uug_conversation.specs.Jobs.{Move}
 use Rattle.uug_conversation.specs.Messages.{Message, turn_messages, messages}
-use Rattle.uug_conversation.specs.Turns.{Side, caller, called, other, Said, the_order, the_answer, the_file, said_messages, Turn}
+use Rattle.uug_conversation.specs.Turns.{other, Said, the_order, the_answer, the_file, said_messages, Turn}
+use Rattle.uug_conversation.specs.declared.side.Side.{Side}
+use Rattle.uug_conversation.specs.declared.side.Side.TheVariants.{Caller, Called}
 use Rattle.uug_conversation.specs.View.{Seen, says, hears, view, floor, moves_after, kept_after}
 
 -- ---- nothing of the other's was taken
@@ -32,17 +34,17 @@ Claim = (moves others_moves : List Move) (kept others_kept : List Kept) → Type
 
 -- of the caller, and of the called end, when they have taken so many messages
 abbrev After : Claim → (j k : ℕ) → List Message → Type 0
-After Q j k ms = Q (moves_after j (view caller ms)) (moves_after k (view called ms))
-    (kept_after j (view caller ms)) (kept_after k (view called ms))
+After Q j k ms = Q (moves_after j (view Caller ms)) (moves_after k (view Called ms))
+    (kept_after j (view Caller ms)) (kept_after k (view Called ms))
 
 -- wherever each has taken at most what the other has said by then
 abbrev Always : Claim → List Message → Type 0
-Always Q ms = (j k : ℕ) → j ≤ floor k (view called ms) → k ≤ floor j (view caller ms) → After Q j k ms
+Always Q ms = (j k : ℕ) → j ≤ floor k (view Called ms) → k ≤ floor j (view Caller ms) → After Q j k ms
 
 -- the claim, seen from the master
 abbrev turned : Side → Claim → Claim
-turned caller Q moves others_moves kept others_kept = Q moves others_moves kept others_kept
-turned called Q moves others_moves kept others_kept = Q others_moves moves others_kept kept
+turned Caller Q moves others_moves kept others_kept = Q moves others_moves kept others_kept
+turned Called Q moves others_moves kept others_kept = Q others_moves moves others_kept kept
 
 -- the same of turns, by what the master and the slave have done
 pub record HoldsOf (sizes : Side → ℕ) (master : Side) (Q : Claim) (ts : List Turn) : Type 0 where
@@ -52,17 +54,17 @@ pub record HoldsOf (sizes : Side → ℕ) (master : Side) (Q : Claim) (ts : List
 
 caller_message : (Q : Claim) (bytes : List ℕ) (moves : List Move) (keeps : List Kept) (ms : List Message) → Q [] [] [] [] →
     Always (λ m o k p. Q m (moves ++ o) k (keeps ++ p)) ms →
-    Always Q (record { speaker = caller; bytes = bytes; moves = moves; keeps = keeps } ∷ ms)
+    Always Q (record { speaker = Caller; bytes = bytes; moves = moves; keeps = keeps } ∷ ms)
 caller_message Q bytes moves keeps ms first more zero zero p q =
-    subst₂ (λ m k. Q m [] k []) (sym (no_moves_at_first (view caller ms))) (sym (nothing_kept_at_first (view caller ms))) first
+    subst₂ (λ m k. Q m [] k []) (sym (no_moves_at_first (view Caller ms))) (sym (nothing_kept_at_first (view Caller ms))) first
 caller_message Q bytes moves keeps ms first more (suc j) zero p q = absurd (omega (arith, p))
 caller_message Q bytes moves keeps ms first more j (suc k) p q = more j k p (omega (arith, q))
 
 called_message : (Q : Claim) (bytes : List ℕ) (moves : List Move) (keeps : List Kept) (ms : List Message) → Q [] [] [] [] →
     Always (λ m o k p. Q (moves ++ m) o (keeps ++ k) p) ms →
-    Always Q (record { speaker = called; bytes = bytes; moves = moves; keeps = keeps } ∷ ms)
+    Always Q (record { speaker = Called; bytes = bytes; moves = moves; keeps = keeps } ∷ ms)
 called_message Q bytes moves keeps ms first more zero zero p q =
-    subst₂ (λ m k. Q [] m [] k) (sym (no_moves_at_first (view called ms))) (sym (nothing_kept_at_first (view called ms))) first
+    subst₂ (λ m k. Q [] m [] k) (sym (no_moves_at_first (view Called ms))) (sym (nothing_kept_at_first (view Called ms))) first
 called_message Q bytes moves keeps ms first more zero (suc k) p q = absurd (omega (arith, q))
 called_message Q bytes moves keeps ms first more (suc j) k p q = more j k (omega (arith, p)) q
 
@@ -70,22 +72,22 @@ called_message Q bytes moves keeps ms first more (suc j) k p q = more j k (omega
 
 caller_turn : (Q : Claim) (said : Said) (moves : List Move) (keeps : List Kept) (chunks : List (List ℕ)) (ms : List Message) →
     0 < length chunks → Q [] [] [] [] → Always (λ m o k p. Q m (moves ++ o) k (keeps ++ p)) ms →
-    Always Q (turn_messages (record { speaker = caller; said = said; moves = moves; keeps = keeps }) chunks ms)
+    Always Q (turn_messages (record { speaker = Caller; said = said; moves = moves; keeps = keeps }) chunks ms)
 caller_turn Q said moves keeps [] ms some first more = absurd (omega (arith, some))
 caller_turn Q said moves keeps (bytes ∷ []) ms some first more = caller_message Q bytes moves keeps ms first more
 caller_turn Q said moves keeps (bytes ∷ next ∷ chunks) ms some first more =
     caller_message Q bytes [] []
-    (turn_messages (record { speaker = caller; said = said; moves = moves; keeps = keeps }) (next ∷ chunks) ms) first
+    (turn_messages (record { speaker = Caller; said = said; moves = moves; keeps = keeps }) (next ∷ chunks) ms) first
     (caller_turn Q said moves keeps (next ∷ chunks) ms (omega arith) first more)
 
 called_turn : (Q : Claim) (said : Said) (moves : List Move) (keeps : List Kept) (chunks : List (List ℕ)) (ms : List Message) →
     0 < length chunks → Q [] [] [] [] → Always (λ m o k p. Q (moves ++ m) o (keeps ++ k) p) ms →
-    Always Q (turn_messages (record { speaker = called; said = said; moves = moves; keeps = keeps }) chunks ms)
+    Always Q (turn_messages (record { speaker = Called; said = said; moves = moves; keeps = keeps }) chunks ms)
 called_turn Q said moves keeps [] ms some first more = absurd (omega (arith, some))
 called_turn Q said moves keeps (bytes ∷ []) ms some first more = called_message Q bytes moves keeps ms first more
 called_turn Q said moves keeps (bytes ∷ next ∷ chunks) ms some first more =
     called_message Q bytes [] []
-    (turn_messages (record { speaker = called; said = said; moves = moves; keeps = keeps }) (next ∷ chunks) ms) first
+    (turn_messages (record { speaker = Called; said = said; moves = moves; keeps = keeps }) (next ∷ chunks) ms) first
     (called_turn Q said moves keeps (next ∷ chunks) ms (omega arith) first more)
 
 -- each turn has a message
@@ -106,45 +108,45 @@ some_message size (the_file bytes) = omega (arith, length-append (cut size bytes
 -- ---- turns
 
 pub no_turn : {sizes : Side → ℕ} {master : Side} {Q : Claim} → Q [] [] [] [] → HoldsOf sizes master Q []
-no_turn {sizes} {master = caller} {Q} first = record { always = λ j k p q. first }
-no_turn {sizes} {master = called} {Q} first = record { always = λ j k p q. first }
+no_turn {sizes} {master = Caller} {Q} first = record { always = λ j k p q. first }
+no_turn {sizes} {master = Called} {Q} first = record { always = λ j k p q. first }
 
 pub master_says : {sizes : Side → ℕ} {master : Side} {Q : Claim} {said : Said} {moves : List Move} {keeps : List Kept} {ts : List Turn} →
     Q [] [] [] [] → HoldsOf sizes master (λ m o k p. Q m (moves ++ o) k (keeps ++ p)) ts →
     HoldsOf sizes master Q (record { speaker = master; said = said; moves = moves; keeps = keeps } ∷ ts)
-master_says {sizes} {master = caller} {Q} {said} {moves} {keeps} {ts} first more = record {
-  always = caller_turn (turned caller Q) said moves keeps (said_messages (sizes caller) said) (messages sizes ts)
-      (some_message (sizes caller) said) first more.always;
+master_says {sizes} {master = Caller} {Q} {said} {moves} {keeps} {ts} first more = record {
+  always = caller_turn (turned Caller Q) said moves keeps (said_messages (sizes Caller) said) (messages sizes ts)
+      (some_message (sizes Caller) said) first more.always;
 }
-master_says {sizes} {master = called} {Q} {said} {moves} {keeps} {ts} first more = record {
-  always = called_turn (turned called Q) said moves keeps (said_messages (sizes called) said) (messages sizes ts)
-      (some_message (sizes called) said) first more.always;
+master_says {sizes} {master = Called} {Q} {said} {moves} {keeps} {ts} first more = record {
+  always = called_turn (turned Called Q) said moves keeps (said_messages (sizes Called) said) (messages sizes ts)
+      (some_message (sizes Called) said) first more.always;
 }
 
 pub slave_says : {sizes : Side → ℕ} {master : Side} {Q : Claim} {said : Said} {moves : List Move} {keeps : List Kept} {ts : List Turn} →
     Q [] [] [] [] → HoldsOf sizes master (λ m o k p. Q (moves ++ m) o (keeps ++ k) p) ts →
     HoldsOf sizes master Q (record { speaker = other master; said = said; moves = moves; keeps = keeps } ∷ ts)
-slave_says {sizes} {master = caller} {Q} {said} {moves} {keeps} {ts} first more = record {
-  always = called_turn (turned caller Q) said moves keeps (said_messages (sizes called) said) (messages sizes ts)
-      (some_message (sizes called) said) first more.always;
+slave_says {sizes} {master = Caller} {Q} {said} {moves} {keeps} {ts} first more = record {
+  always = called_turn (turned Caller Q) said moves keeps (said_messages (sizes Called) said) (messages sizes ts)
+      (some_message (sizes Called) said) first more.always;
 }
-slave_says {sizes} {master = called} {Q} {said} {moves} {keeps} {ts} first more = record {
-  always = caller_turn (turned called Q) said moves keeps (said_messages (sizes caller) said) (messages sizes ts)
-      (some_message (sizes caller) said) first more.always;
+slave_says {sizes} {master = Called} {Q} {said} {moves} {keeps} {ts} first more = record {
+  always = caller_turn (turned Called Q) said moves keeps (said_messages (sizes Caller) said) (messages sizes ts)
+      (some_message (sizes Caller) said) first more.always;
 }
 
 pub follows : {sizes : Side → ℕ} {master : Side} {Q R : Claim} {ts : List Turn} →
     ((m o : List Move) (k p : List Kept) → Q m o k p → R m o k p) → HoldsOf sizes master Q ts → HoldsOf sizes master R ts
-follows {sizes} {master = caller} {Q} {R} {ts} f h = record {
-  always = λ i j p q. f (moves_after i (view caller (messages sizes ts))) (moves_after j (view called (messages sizes ts)))
-      (kept_after i (view caller (messages sizes ts))) (kept_after j (view called (messages sizes ts))) (h.always i j p q);
+follows {sizes} {master = Caller} {Q} {R} {ts} f h = record {
+  always = λ i j p q. f (moves_after i (view Caller (messages sizes ts))) (moves_after j (view Called (messages sizes ts)))
+      (kept_after i (view Caller (messages sizes ts))) (kept_after j (view Called (messages sizes ts))) (h.always i j p q);
 }
-follows {sizes} {master = called} {Q} {R} {ts} f h = record {
-  always = λ i j p q. f (moves_after j (view called (messages sizes ts))) (moves_after i (view caller (messages sizes ts)))
-      (kept_after j (view called (messages sizes ts))) (kept_after i (view caller (messages sizes ts))) (h.always i j p q);
+follows {sizes} {master = Called} {Q} {R} {ts} f h = record {
+  always = λ i j p q. f (moves_after j (view Called (messages sizes ts))) (moves_after i (view Caller (messages sizes ts)))
+      (kept_after j (view Called (messages sizes ts))) (kept_after i (view Caller (messages sizes ts))) (h.always i j p q);
 }
 
 -- the called end's claim, seen by the caller
 pub from_called : {sizes : Side → ℕ} {Q : Claim} {ts : List Turn} →
-    HoldsOf sizes called Q ts → HoldsOf sizes caller (λ m o k p. Q o m p k) ts
+    HoldsOf sizes Called Q ts → HoldsOf sizes Caller (λ m o k p. Q o m p k) ts
 from_called h = record { always = h.always }

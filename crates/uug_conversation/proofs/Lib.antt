@@ -7,7 +7,7 @@ pub mod EarlierJobLemmas
 mod EntryLemmas
 mod ExchangeLemmas
 pub mod FactParties
-mod FirstLaw
+pub mod FirstLaw
 pub mod FitLemmas
 mod FrontLemmas
 mod LimitLemmas
@@ -16,13 +16,12 @@ mod MachineLemmas
 pub mod MachineMoveLemmas
 mod OfferLemmas
 pub mod OutgoingLemmas
-mod OwnEntryLemmas
+pub mod OwnEntryLemmas
 mod QueueLemmas
-mod ReadBackLemmas
-mod SaidByteLemmas
+pub mod ReadBackLemmas
+pub mod SaidByteLemmas
 mod SayableLemmas
-mod SharingLemmas
-mod StoredLemmas
-mod TalkLaws
+pub mod SharingLemmas
+pub mod StoredLemmas
 mod TurnLemmas
 mod WholeFileLemmas

@@ -12,7 +12,8 @@ use Rattle.uug_conversation.specs.Holdings.{Holdings}
 use Rattle.uug_conversation.specs.Jobs.{Lists, at_start}
 use Rattle.uug_conversation.specs.Machine.{State, Reply, between, replies, keeps, on_text, on_file, step, opening}
 use Rattle.uug_conversation.specs.Runs.{progress_after}
-use Rattle.uug_conversation.specs.Turns.{caller, called, the_order, the_answer, the_file}
+use Rattle.uug_conversation.specs.Turns.{the_order, the_answer, the_file}
+use Rattle.uug_conversation.specs.declared.side.Side.TheVariants.{Caller, Called}
 use Rattle.uug_conversation.proofs.FactParties.{Exception, no_exception, denied, put_off, fixed, holdings, end_with, q, x, y, z, u, six_bytes, small_file, send, send_again, send_nothing, request, text}
 
 -- has one file, x
@@ -241,12 +242,12 @@ messages = record {
 -- ---- the start, and a peer that wants to be master: after CYM no job is chosen, until the roles are exchanged back
 
 pub record AreStarts : Type 0 where
-  pub caller_start : opening caller has_x (ahead (send_nothing ∷ send ∷ [])) ≡
+  pub caller_start : opening Caller has_x (ahead (send_nothing ∷ send ∷ [])) ≡
       replies (at_start (send ∷ []) [] (send_nothing ∷ [])) awaits.SendAnswer (the_order order_of_first ∷ [])
-  pub caller_idle : opening caller has_x (ahead []) ≡ replies (ahead []) awaits.HangUpAnswer (the_order order.HangUp ∷ [])
-  pub called_start : opening called has_x (ahead (send_nothing ∷ send ∷ [])) ≡
+  pub caller_idle : opening Caller has_x (ahead []) ≡ replies (ahead []) awaits.HangUpAnswer (the_order order.HangUp ∷ [])
+  pub called_start : opening Called has_x (ahead (send_nothing ∷ send ∷ [])) ≡
       replies (ahead (send_nothing ∷ send ∷ [])) awaits.Order []
-  pub after_master : progress_after caller (end_with (send ∷ send_again ∷ []) x small_file no_exception)
+  pub after_master : progress_after Caller (end_with (send ∷ send_again ∷ []) x small_file no_exception)
       (text (codes "SY") ∷ text (codes "CYM") ∷ text (codes "HN") ∷ text (codes "H") ∷ []) ≡
       record {
         state = between first_struck awaits.SendAnswer;
@@ -254,7 +255,7 @@ pub record AreStarts : Type 0 where
             text (codes "S x z u - D.0 0644") ∷ [];
         kept = [];
       }
-  pub not_again : progress_after caller (end_with (send ∷ []) x small_file no_exception)
+  pub not_again : progress_after Caller (end_with (send ∷ []) x small_file no_exception)
       (text (codes "SY") ∷ text (codes "CN4") ∷ text (codes "HN") ∷ text (codes "H") ∷ text (codes "HY") ∷ []) ≡
       record {
         state = between (record { passed = send ∷ []; ahead = []; struck = []; failed = [] }) awaits.NothingMore;

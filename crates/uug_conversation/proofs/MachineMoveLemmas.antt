@@ -20,7 +20,9 @@ use Rattle.uug_conversation.specs.Machine.{State, goes_on, on_send, on_request, 
 use Rattle.uug_conversation.specs.Party.{Party}
 use Rattle.uug_conversation.specs.Runs.{Progress, taking, taking_all, opened, progress_after}
 use Rattle.uug_conversation.specs.Sharing.{AreShared, OnlyMoves}
-use Rattle.uug_conversation.specs.Turns.{Side, caller, called, Said, the_answer}
+use Rattle.uug_conversation.specs.Turns.{Said, the_answer}
+use Rattle.uug_conversation.specs.declared.side.Side.{Side}
+use Rattle.uug_conversation.specs.declared.side.Side.TheVariants.{Caller, Called}
 use Rattle.uug_conversation.proofs.SharingLemmas.{moved-append, moved_are_shared}
 
 pub stays : (l : Lists) → OnlyMoves l l
@@ -195,8 +197,8 @@ then_moves first second third h k = record {
 }
 
 pub after_opening : (me : Side) (h : Holdings) (l : Lists) → OnlyMoves l (opening me h l).state.lists
-after_opening caller h l = chooses h l []
-after_opening called h l = stays l
+after_opening Caller h l = chooses h l []
+after_opening Called h l = stays l
 
 after_all : (p : Party) (progress : Progress) (messages : List (List ℕ)) → OnlyMoves progress.state.lists (taking_all p progress messages).state.lists
 after_all p progress [] = stays progress.state.lists

@@ -14,7 +14,9 @@ use Rattle.uug_conversation.specs.Holdings.{File, Holdings, to_give}
 use Rattle.uug_conversation.specs.Jobs.{Move}
 use Rattle.uug_conversation.specs.Offers.{send_commands, job_commands, offered, first_of, if_spoken, commands_of, until_hang_up, hang_up_answers, hanging_up, HangUpAnswer}
 use Rattle.uug_conversation.specs.Party.{Party}
-use Rattle.uug_conversation.specs.Turns.{Side, caller, called, Turn}
+use Rattle.uug_conversation.specs.Turns.{Turn}
+use Rattle.uug_conversation.specs.declared.side.Side.{Side}
+use Rattle.uug_conversation.specs.declared.side.Side.TheVariants.{Caller, Called}
 
 -- ---- the choice is the first of what is offered
 
@@ -33,16 +35,16 @@ choice_is_first h (job.Request source target user ∷ jobs) = refl
 -- ---- commands
 
 if_spoken-nil : (me speaker : Side) → if_spoken {A = Order} me speaker [] ≡ []
-if_spoken-nil caller caller = refl
-if_spoken-nil caller called = refl
-if_spoken-nil called caller = refl
-if_spoken-nil called called = refl
+if_spoken-nil Caller Caller = refl
+if_spoken-nil Caller Called = refl
+if_spoken-nil Called Caller = refl
+if_spoken-nil Called Called = refl
 
 if_spoken-append : (me speaker : Side) (xs ys : List Order) → if_spoken me speaker xs ++ if_spoken me speaker ys ≡ if_spoken me speaker (xs ++ ys)
-if_spoken-append caller caller xs ys = refl
-if_spoken-append caller called xs ys = refl
-if_spoken-append called caller xs ys = refl
-if_spoken-append called called xs ys = refl
+if_spoken-append Caller Caller xs ys = refl
+if_spoken-append Caller Called xs ys = refl
+if_spoken-append Called Caller xs ys = refl
+if_spoken-append Called Called xs ys = refl
 
 send_exchange_commands : (me master slave : Side) (source target user : List ℕ) (temp : Option (List ℕ))
     (file : Option File) (verdict : Verdict) (immovable : Bool) (next : List Move) (rest : List Turn)
@@ -88,28 +90,28 @@ exchanges_commands me master slave own others (j ∷ jobs) rest =
     ∙ ap (λ cs. cs ++ commands_of me rest) (if_spoken-append me master (job_commands own j) (offered own jobs))
 
 after_commands : (me : Side) (orders : List Order) (next : Option Order) (a b : Party) → next ≡ first_of orders → orders ≡ offered b.holdings b.jobs
-    → commands_of me (after_hang_up next a b) ≡ if_spoken me called (until_hang_up orders)
-after_commands caller [] None a b e o = refl
-after_commands called [] None a b e o = refl
+    → commands_of me (after_hang_up next a b) ≡ if_spoken me Called (until_hang_up orders)
+after_commands Caller [] None a b e o = refl
+after_commands Called [] None a b e o = refl
 after_commands me [] (Some next) a b e o = absurd (cc)
 after_commands me (first ∷ orders) None a b e o = absurd (cc)
-after_commands caller (first ∷ orders) (Some next) a b e o =
-    exchanges_commands caller called caller b.holdings a.holdings b.jobs last_turns
-after_commands called (first ∷ orders) (Some next) a b e o =
-    exchanges_commands called called caller b.holdings a.holdings b.jobs last_turns
+after_commands Caller (first ∷ orders) (Some next) a b e o =
+    exchanges_commands Caller Called Caller b.holdings a.holdings b.jobs last_turns
+after_commands Called (first ∷ orders) (Some next) a b e o =
+    exchanges_commands Called Called Caller b.holdings a.holdings b.jobs last_turns
     ∙ ap (λ os. os ++ order.HangUp ∷ []) (sym o)
 
 -- the caller asks for what it has, and hangs up; the called end then does so where it has anything to ask for
-pub caller_commands : (a b : Party) → commands_of caller (conversation a b) ≡ offered a.holdings a.jobs ++ order.HangUp ∷ []
+pub caller_commands : (a b : Party) → commands_of Caller (conversation a b) ≡ offered a.holdings a.jobs ++ order.HangUp ∷ []
 caller_commands a b =
-    exchanges_commands caller caller called a.holdings b.holdings a.jobs (hang_up a b)
+    exchanges_commands Caller Caller Called a.holdings b.holdings a.jobs (hang_up a b)
     ∙ ap (λ os. offered a.holdings a.jobs ++ order.HangUp ∷ os)
-    (after_commands caller (offered b.holdings b.jobs) (choice b.holdings b.jobs).next a b (choice_is_first b.holdings b.jobs) refl)
+    (after_commands Caller (offered b.holdings b.jobs) (choice b.holdings b.jobs).next a b (choice_is_first b.holdings b.jobs) refl)
 
-pub called_commands : (a b : Party) → commands_of called (conversation a b) ≡ until_hang_up (offered b.holdings b.jobs)
+pub called_commands : (a b : Party) → commands_of Called (conversation a b) ≡ until_hang_up (offered b.holdings b.jobs)
 called_commands a b =
-    exchanges_commands called caller called a.holdings b.holdings a.jobs (hang_up a b)
-    ∙ after_commands called (offered b.holdings b.jobs) (choice b.holdings b.jobs).next a b (choice_is_first b.holdings b.jobs) refl
+    exchanges_commands Called Caller Called a.holdings b.holdings a.jobs (hang_up a b)
+    ∙ after_commands Called (offered b.holdings b.jobs) (choice b.holdings b.jobs).next a b (choice_is_first b.holdings b.jobs) refl
 
 -- ---- answers to H
 
@@ -148,10 +150,10 @@ after_answers [] None a b e = refl
 after_answers [] (Some order) a b e = absurd (cc)
 after_answers (first ∷ orders) None a b e = absurd (cc)
 after_answers (first ∷ orders) (Some order) a b e =
-    ap (λ (later : List HangUpAnswer). record { speaker = called; answer = answer.HangNo } ∷ later)
-    (exchanges_answers called caller b.holdings a.holdings b.jobs last_turns)
+    ap (λ (later : List HangUpAnswer). record { speaker = Called; answer = answer.HangNo } ∷ later)
+    (exchanges_answers Called Caller b.holdings a.holdings b.jobs last_turns)
 
 pub answers_to_hang_up : (a b : Party) → hang_up_answers (conversation a b) ≡ hanging_up (offered b.holdings b.jobs)
 answers_to_hang_up a b =
-    exchanges_answers caller called a.holdings b.holdings a.jobs (hang_up a b)
+    exchanges_answers Caller Called a.holdings b.holdings a.jobs (hang_up a b)
     ∙ after_answers (offered b.holdings b.jobs) (choice b.holdings b.jobs).next a b (choice_is_first b.holdings b.jobs)

@@ -8,8 +8,8 @@ use Rattle.uug_talk.specs.declared.gather.TheConstants.{FILE_MAX}
 use Rattle.uug_talk.specs.declared.mode.TheConstants.{MODE_MAX}
 use Rattle.uug_talk.specs.declared.order.Order.{Order}
 use Rattle.uug_talk.specs.declared.order.Order.TheVariants as order
-use Rattle.uug_talk.specs.Answer.{IsWritten}
-use Rattle.uug_talk.specs.Order.{AreNames, IsCopy, HasMode}
+use Rattle.uug_talk.specs.Answer.{IsWritten, answer_text}
+use Rattle.uug_talk.specs.Order.{AreNames, IsCopy, HasMode, order_text}
 use Rattle.uug_talk.specs.Order.{HasNames as OrderHasNames}
 use Rattle.uug_conversation.specs.declared.job.Job.{Job}
 use Rattle.uug_conversation.specs.declared.job.Job.TheVariants as job
@@ -22,9 +22,13 @@ use Rattle.uug_conversation.specs.Holdings.{File, Holdings, AreModes, to_give}
 use Rattle.uug_conversation.specs.Jobs.{Move}
 use Rattle.uug_conversation.specs.Party.{Party, HasNames, IsSound}
 use Rattle.uug_conversation.specs.ReadBack.{IsReadBack, EachTurn}
-use Rattle.uug_conversation.specs.Turns.{Side, caller, called, the_order, the_answer, Turn}
+use Rattle.uug_conversation.specs.Turns.{the_order, the_answer, Turn}
+use Rattle.uug_conversation.specs.declared.side.Side.{Side}
+use Rattle.uug_conversation.specs.declared.side.Side.TheVariants.{Caller, Called}
 use Rattle.uug_conversation.proofs.LimitLemmas.{given_file}
-use Rattle.uug_conversation.proofs.TalkLaws.{TextLaws}
+use Rattle.uug_talk.proofs.OrderLemmas.{order_of-spelled}
+use Rattle.uug_talk.proofs.AnswerLemmas.{answer_of-spelled}
+use Rattle.uug_talk.proofs.WriteLemmas.{IsCommandText-order, IsCommandText-answer, ReadsOrder-written, ReadsAnswer-written}
 
 -- ---- a file that is given is there, and not too large
 
@@ -36,92 +40,97 @@ given_mode h name file m e = m name file ((given_file (h.file name) file).0 e).0
 
 -- ---- texts
 
-module _ (laws : TextLaws) where
-  order_back : (order : Order) → OrderHasNames order → HasMode order → IsReadBack (the_order order)
-  order_back order n m = (laws.orders_are_commands order n m, laws.orders_are_read order n m)
+order_back : (order : Order) → OrderHasNames order → HasMode order → IsReadBack (the_order order)
+order_back order n m = (
+  IsCommandText-order (order_text order) order n refl,
+  order_of-spelled (order_text order) order (ReadsOrder-written (order_text order) order n m refl),
+)
 
-  answer_back : (answer : Answer) → IsWritten answer → IsReadBack (the_answer answer)
-  answer_back answer w = (laws.answers_are_commands answer w, laws.answers_are_read answer w)
+answer_back : (answer : Answer) → IsWritten answer → IsReadBack (the_answer answer)
+answer_back answer w = (
+  IsCommandText-answer (answer_text answer) answer w refl,
+  answer_of-spelled (answer_text answer) answer (ReadsAnswer-written (answer_text answer) answer w refl),
+)
 
-  -- ---- exchanges
+-- ---- exchanges
 
-  send_back : (master slave : Side) (source target user : List ℕ) (temp : Option (List ℕ)) (own : Holdings)
-      (found : Option File) → to_give own (fetched_by source temp) ≡ found → AreModes own →
-      AreNames source target user × IsCopy temp → (verdict : Verdict) (immovable : Bool) (next : List Move) (rest : List Turn) →
-      EachTurn (λ t. IsReadBack t.said) rest →
-      EachTurn (λ t. IsReadBack t.said) (send_exchange master slave source target user temp found verdict immovable next rest)
-  send_back master slave source target user temp own None e m n verdict immovable next rest r = r
-  send_back master slave source target user temp own (Some file) e m n Never immovable next rest r = (
-    order_back (order.Send source target user temp file.mode) n (given_mode own (fetched_by source temp) file m e),
-    (answer_back answer.SendNever tt, r),
-  )
-  send_back master slave source target user temp own (Some file) e m n Later immovable next rest r = (
-    order_back (order.Send source target user temp file.mode) n (given_mode own (fetched_by source temp) file m e),
-    (answer_back answer.SendLater tt, r),
-  )
-  send_back master slave source target user temp own (Some file) e m n Yes false next rest r = (
-    order_back (order.Send source target user temp file.mode) n (given_mode own (fetched_by source temp) file m e),
-    (answer_back answer.SendYes tt, (given_fits own (fetched_by source temp) file e, (answer_back answer.DoneYes tt, r))),
-  )
-  send_back master slave source target user temp own (Some file) e m n Yes true next rest r = (
-    order_back (order.Send source target user temp file.mode) n (given_mode own (fetched_by source temp) file m e),
-    (answer_back answer.SendYes tt, (given_fits own (fetched_by source temp) file e, (answer_back answer.DoneNever tt, r))),
-  )
+send_back : (master slave : Side) (source target user : List ℕ) (temp : Option (List ℕ)) (own : Holdings)
+    (found : Option File) → to_give own (fetched_by source temp) ≡ found → AreModes own →
+    AreNames source target user × IsCopy temp → (verdict : Verdict) (immovable : Bool) (next : List Move) (rest : List Turn) →
+    EachTurn (λ t. IsReadBack t.said) rest →
+    EachTurn (λ t. IsReadBack t.said) (send_exchange master slave source target user temp found verdict immovable next rest)
+send_back master slave source target user temp own None e m n verdict immovable next rest r = r
+send_back master slave source target user temp own (Some file) e m n Never immovable next rest r = (
+  order_back (order.Send source target user temp file.mode) n (given_mode own (fetched_by source temp) file m e),
+  (answer_back answer.SendNever tt, r),
+)
+send_back master slave source target user temp own (Some file) e m n Later immovable next rest r = (
+  order_back (order.Send source target user temp file.mode) n (given_mode own (fetched_by source temp) file m e),
+  (answer_back answer.SendLater tt, r),
+)
+send_back master slave source target user temp own (Some file) e m n Yes false next rest r = (
+  order_back (order.Send source target user temp file.mode) n (given_mode own (fetched_by source temp) file m e),
+  (answer_back answer.SendYes tt, (given_fits own (fetched_by source temp) file e, (answer_back answer.DoneYes tt, r))),
+)
+send_back master slave source target user temp own (Some file) e m n Yes true next rest r = (
+  order_back (order.Send source target user temp file.mode) n (given_mode own (fetched_by source temp) file m e),
+  (answer_back answer.SendYes tt, (given_fits own (fetched_by source temp) file e, (answer_back answer.DoneNever tt, r))),
+)
 
-  request_back : (master slave : Side) (source target user : List ℕ) (others : Holdings)
-      (found : Option File) → to_give others source ≡ found → AreModes others →
-      AreNames source target user → (immovable : Bool) (next : List Move) (rest : List Turn) →
-      EachTurn (λ t. IsReadBack t.said) rest →
-      EachTurn (λ t. IsReadBack t.said) (request_exchange master slave source target user found immovable next rest)
-  request_back master slave source target user others None e m n immovable next rest r =
-      (order_back (order.Request source target user) n tt, (answer_back answer.GiveNever tt, r))
-  request_back master slave source target user others (Some file) e m n false next rest r = (
-    order_back (order.Request source target user) n tt,
-    (
-      answer_back (answer.GiveYes file.mode) (given_mode others source file m e),
-      (given_fits others source file e, (answer_back answer.DoneYes tt, r)),
-    ),
-  )
-  request_back master slave source target user others (Some file) e m n true next rest r = (
-    order_back (order.Request source target user) n tt,
-    (
-      answer_back (answer.GiveYes file.mode) (given_mode others source file m e),
-      (given_fits others source file e, (answer_back answer.DoneNever tt, r)),
-    ),
-  )
+request_back : (master slave : Side) (source target user : List ℕ) (others : Holdings)
+    (found : Option File) → to_give others source ≡ found → AreModes others →
+    AreNames source target user → (immovable : Bool) (next : List Move) (rest : List Turn) →
+    EachTurn (λ t. IsReadBack t.said) rest →
+    EachTurn (λ t. IsReadBack t.said) (request_exchange master slave source target user found immovable next rest)
+request_back master slave source target user others None e m n immovable next rest r =
+    (order_back (order.Request source target user) n tt, (answer_back answer.GiveNever tt, r))
+request_back master slave source target user others (Some file) e m n false next rest r = (
+  order_back (order.Request source target user) n tt,
+  (
+    answer_back (answer.GiveYes file.mode) (given_mode others source file m e),
+    (given_fits others source file e, (answer_back answer.DoneYes tt, r)),
+  ),
+)
+request_back master slave source target user others (Some file) e m n true next rest r = (
+  order_back (order.Request source target user) n tt,
+  (
+    answer_back (answer.GiveYes file.mode) (given_mode others source file m e),
+    (given_fits others source file e, (answer_back answer.DoneNever tt, r)),
+  ),
+)
 
-  exchange_back : (master slave : Side) (own others : Holdings) → AreModes own → AreModes others →
-      (j : Job) → HasNames j → (next : List Move) (rest : List Turn) → EachTurn (λ t. IsReadBack t.said) rest →
-      EachTurn (λ t. IsReadBack t.said) (exchange master slave own others j next rest)
-  exchange_back master slave own others m k (job.Send source target user temp) n next rest r =
-      send_back master slave source target user temp own (to_give own (fetched_by source temp)) refl m n
-      (others.verdict target) (others.immovable target) next rest r
-  exchange_back master slave own others m k (job.Request source target user) n next rest r =
-      request_back master slave source target user others (to_give others source) refl k n (own.immovable target) next rest r
+exchange_back : (master slave : Side) (own others : Holdings) → AreModes own → AreModes others →
+    (j : Job) → HasNames j → (next : List Move) (rest : List Turn) → EachTurn (λ t. IsReadBack t.said) rest →
+    EachTurn (λ t. IsReadBack t.said) (exchange master slave own others j next rest)
+exchange_back master slave own others m k (job.Send source target user temp) n next rest r =
+    send_back master slave source target user temp own (to_give own (fetched_by source temp)) refl m n
+    (others.verdict target) (others.immovable target) next rest r
+exchange_back master slave own others m k (job.Request source target user) n next rest r =
+    request_back master slave source target user others (to_give others source) refl k n (own.immovable target) next rest r
 
-  exchanges_back : (master slave : Side) (own others : Holdings) → AreModes own → AreModes others →
-      (jobs : List Job) → All HasNames jobs → (rest : List Turn) → EachTurn (λ t. IsReadBack t.said) rest →
-      EachTurn (λ t. IsReadBack t.said) (exchanges master slave own others jobs rest)
-  exchanges_back master slave own others m k [] n rest r = r
-  exchanges_back master slave own others m k (j ∷ jobs) n rest r =
-      exchange_back master slave own others m k j (All-head HasNames j jobs n) (choice own jobs).failing
-      (exchanges master slave own others jobs rest)
-      (exchanges_back master slave own others m k jobs (All-tail HasNames j jobs n) rest r)
+exchanges_back : (master slave : Side) (own others : Holdings) → AreModes own → AreModes others →
+    (jobs : List Job) → All HasNames jobs → (rest : List Turn) → EachTurn (λ t. IsReadBack t.said) rest →
+    EachTurn (λ t. IsReadBack t.said) (exchanges master slave own others jobs rest)
+exchanges_back master slave own others m k [] n rest r = r
+exchanges_back master slave own others m k (j ∷ jobs) n rest r =
+    exchange_back master slave own others m k j (All-head HasNames j jobs n) (choice own jobs).failing
+    (exchanges master slave own others jobs rest)
+    (exchanges_back master slave own others m k jobs (All-tail HasNames j jobs n) rest r)
 
-  -- ---- the whole conversation
+-- ---- the whole conversation
 
-  last_back : EachTurn (λ t. IsReadBack t.said) last_turns
-  last_back = (order_back order.HangUp tt tt, (answer_back answer.HangYes tt, (answer_back answer.HangYes tt, tt)))
+last_back : EachTurn (λ t. IsReadBack t.said) last_turns
+last_back = (order_back order.HangUp tt tt, (answer_back answer.HangYes tt, (answer_back answer.HangYes tt, tt)))
 
-  after_back : (next : Option Order) (a b : Party) → IsSound a → IsSound b →
-      EachTurn (λ t. IsReadBack t.said) (after_hang_up next a b)
-  after_back None a b s t = (answer_back answer.HangYes tt, (answer_back answer.HangYes tt, tt))
-  after_back (Some o) a b s t = (
-    answer_back answer.HangNo tt,
-    exchanges_back called caller b.holdings a.holdings t.modes s.modes b.jobs t.names last_turns last_back,
-  )
+after_back : (next : Option Order) (a b : Party) → IsSound a → IsSound b →
+    EachTurn (λ t. IsReadBack t.said) (after_hang_up next a b)
+after_back None a b s t = (answer_back answer.HangYes tt, (answer_back answer.HangYes tt, tt))
+after_back (Some o) a b s t = (
+  answer_back answer.HangNo tt,
+  exchanges_back Called Caller b.holdings a.holdings t.modes s.modes b.jobs t.names last_turns last_back,
+)
 
-  pub conversation_back : (a b : Party) → IsSound a → IsSound b → EachTurn (λ t. IsReadBack t.said) (conversation a b)
-  conversation_back a b s t =
-      exchanges_back caller called a.holdings b.holdings s.modes t.modes a.jobs s.names (hang_up a b)
-      (order_back order.HangUp tt tt, after_back (choice b.holdings b.jobs).next a b s t)
+pub conversation_back : (a b : Party) → IsSound a → IsSound b → EachTurn (λ t. IsReadBack t.said) (conversation a b)
+conversation_back a b s t =
+    exchanges_back Caller Called a.holdings b.holdings s.modes t.modes a.jobs s.names (hang_up a b)
+    (order_back order.HangUp tt tt, after_back (choice b.holdings b.jobs).next a b s t)

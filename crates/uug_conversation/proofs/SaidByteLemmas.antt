@@ -26,7 +26,9 @@ use Rattle.uug_conversation.specs.Jobs.{Move}
 use Rattle.uug_conversation.specs.Messages.{Message, messages, sizes, turn_messages}
 use Rattle.uug_conversation.specs.Party.{HasNames, Party}
 use Rattle.uug_conversation.specs.ReadBack.{EachTurn}
-use Rattle.uug_conversation.specs.Turns.{Said, Side, Turn, called, caller, said_messages, the_answer, the_file, the_order}
+use Rattle.uug_conversation.specs.Turns.{Said, Turn, said_messages, the_answer, the_file, the_order}
+use Rattle.uug_conversation.specs.declared.side.Side.{Side}
+use Rattle.uug_conversation.specs.declared.side.Side.TheVariants.{Caller, Called}
 use Rattle.uug_conversation.specs.View.{conversation_view, own_messages, view}
 use Rattle.uug_conversation.proofs.LimitLemmas.{given_file}
 
@@ -242,13 +244,13 @@ hang_up_bytes : (next : Option Order) (a b : Party) → HoldsBytes a.holdings �
 hang_up_bytes None a b a_holds b_holds names = (answer_bytes answer.HangYes, (answer_bytes answer.HangYes, tt))
 hang_up_bytes (Some order) a b a_holds b_holds names = (
   answer_bytes answer.HangNo,
-  exchanges_bytes called caller b.holdings a.holdings b_holds a_holds b.jobs names last_turns agree_bytes,
+  exchanges_bytes Called Caller b.holdings a.holdings b_holds a_holds b.jobs names last_turns agree_bytes,
 )
 
 conversation_bytes : (a b : Party) → All HasNames a.jobs → All HasNames b.jobs → HoldsBytes a.holdings → HoldsBytes b.holdings →
     TurnsAreBytes (conversation a b)
 conversation_bytes a b a_names b_names a_holds b_holds =
-    exchanges_bytes caller called a.holdings b.holdings a_holds b_holds a.jobs a_names (hang_up a b)
+    exchanges_bytes Caller Called a.holdings b.holdings a_holds b_holds a.jobs a_names (hang_up a b)
     (order_bytes order.HangUp tt, hang_up_bytes (choice b.holdings b.jobs).next a b a_holds b_holds b_names)
 
 -- ---- the messages of turns
@@ -256,10 +258,10 @@ conversation_bytes a b a_names b_names a_holds b_holds =
 message_bytes : (me speaker : Side) (bytes : List ℕ) (moves : List Move) (keeps : List Kept) (ms : List Message) → AreBytes bytes →
     All AreBytes (own_messages (view me ms)) →
     All AreBytes (own_messages (view me (record { speaker = speaker; bytes = bytes; moves = moves; keeps = keeps } ∷ ms)))
-message_bytes caller caller bytes moves keeps ms are more = All-cons AreBytes bytes (own_messages (view caller ms)) are more
-message_bytes called called bytes moves keeps ms are more = All-cons AreBytes bytes (own_messages (view called ms)) are more
-message_bytes caller called bytes moves keeps ms are more = more
-message_bytes called caller bytes moves keeps ms are more = more
+message_bytes Caller Caller bytes moves keeps ms are more = All-cons AreBytes bytes (own_messages (view Caller ms)) are more
+message_bytes Called Called bytes moves keeps ms are more = All-cons AreBytes bytes (own_messages (view Called ms)) are more
+message_bytes Caller Called bytes moves keeps ms are more = more
+message_bytes Called Caller bytes moves keeps ms are more = more
 
 turn_bytes : (me : Side) (t : Turn) (chunks : List (List ℕ)) (ms : List Message) → All AreBytes chunks →
     All AreBytes (own_messages (view me ms)) → All AreBytes (own_messages (view me (turn_messages t chunks ms)))

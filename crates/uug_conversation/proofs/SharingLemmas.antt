@@ -6,7 +6,7 @@ use Rattle.uug_conversation.specs.declared.job.Job.{Job}
 use Rattle.uug_conversation.specs.Jobs.{Lists, pending, at_start, Move, pass, strike, fail, moved_once, moved}
 use Rattle.uug_conversation.specs.Party.{Party}
 use Rattle.uug_conversation.specs.Sharing.{AreShared, none, one_pending, one_struck, one_failed}
-use Rattle.uug_conversation.specs.Turns.{Side}
+use Rattle.uug_conversation.specs.declared.side.Side.{Side}
 use Rattle.uug_conversation.specs.View.{party, conversation_view, moves_after, opening_moves, lists_after}
 
 pub moved-append : (moves more : List Move) (l : Lists) → moved (moves ++ more) l ≡ moved more (moved moves l)

@@ -13,7 +13,9 @@ use Rattle.uug_conversation.specs.Jobs.{Lists, at_start, Move, pass, strike, fai
 use Rattle.uug_conversation.specs.Messages.{sizes}
 use Rattle.uug_conversation.specs.OwnEntries.{IsOfSendJob, OwnEntries, none, not_struck, sent, asked_for, giver_asked, receiver_sent}
 use Rattle.uug_conversation.specs.Party.{Party}
-use Rattle.uug_conversation.specs.Turns.{Side, caller, called, other, Turn}
+use Rattle.uug_conversation.specs.Turns.{other, Turn}
+use Rattle.uug_conversation.specs.declared.side.Side.{Side}
+use Rattle.uug_conversation.specs.declared.side.Side.TheVariants.{Caller, Called}
 use Rattle.uug_conversation.specs.View.{conversation_view, floor, moves_after, kept_after, lists_after}
 use Rattle.uug_conversation.proofs.FrontLemmas.{Claim, HoldsOf, no_turn, master_says, slave_says, follows, from_called, no_moves_at_first, nothing_kept_at_first}
 
@@ -193,62 +195,62 @@ chosen_own a b =
 
 -- the called end as master: the caller has no job left
 called_master_own : (a b : Party) →
-    HoldsOf (sizes a b) called (OwnBehind (called_ends a b) b.jobs [] (choice b.holdings b.jobs).failing)
-    (exchanges called caller b.holdings a.holdings b.jobs last_turns)
+    HoldsOf (sizes a b) Called (OwnBehind (called_ends a b) b.jobs [] (choice b.holdings b.jobs).failing)
+    (exchanges Called Caller b.holdings a.holdings b.jobs last_turns)
 called_master_own a b =
-    exchanges_own (sizes a b) called (called_ends a b) b.jobs [] last_turns (λ j i. i)
+    exchanges_own (sizes a b) Called (called_ends a b) b.jobs [] last_turns (λ j i. i)
     (master_says (none, none) (slave_says (none, none) (master_says (none, none) (no_turn (none, none)))))
 
 after_hang_up_own : (a b : Party) (offered : Option Order) →
-    HoldsOf (sizes a b) caller
+    HoldsOf (sizes a b) Caller
     (λ m o k p. Own (caller_ends a b) [] b.jobs m ((choice b.holdings b.jobs).failing ++ o) k p) (after_hang_up offered a b)
 after_hang_up_own a b None = slave_says (chosen_own a b) (master_says (chosen_own a b) (no_turn (chosen_own a b)))
 after_hang_up_own a b (Some order) = slave_says (chosen_own a b)
     (follows (λ m o k p h. (h.1, h.0)) (from_called (called_master_own a b)))
 
 conversation_own : (a b : Party) →
-    HoldsOf (sizes a b) caller (OwnBehind (caller_ends a b) a.jobs b.jobs (choice a.holdings a.jobs).failing) (conversation a b)
+    HoldsOf (sizes a b) Caller (OwnBehind (caller_ends a b) a.jobs b.jobs (choice a.holdings a.jobs).failing) (conversation a b)
 conversation_own a b =
-    exchanges_own (sizes a b) caller (caller_ends a b) a.jobs b.jobs (hang_up a b) (λ j i. i)
+    exchanges_own (sizes a b) Caller (caller_ends a b) a.jobs b.jobs (hang_up a b) (λ j i. i)
     (master_says (none, none) (after_hang_up_own a b (choice b.holdings b.jobs).next))
 
 -- ---- both stores
 
-struck_of_caller : (a b : Party) (j : ℕ) → (lists_after caller a b j).struck ≡
-    struck_by ((choice a.holdings a.jobs).failing ++ moves_after j (conversation_view caller a b)) a.jobs
+struck_of_caller : (a b : Party) (j : ℕ) → (lists_after Caller a b j).struck ≡
+    struck_by ((choice a.holdings a.jobs).failing ++ moves_after j (conversation_view Caller a b)) a.jobs
 struck_of_caller a b j =
     let first = (choice a.holdings a.jobs).failing in
-    let more = moves_after j (conversation_view caller a b) in
+    let more = moves_after j (conversation_view Caller a b) in
     ap (λ l. l.struck) (moved-append first more (at_start a.jobs [] []))
     ∙ struck-moved (first ++ more) [] a.jobs [] []
 
-struck_of_called : (a b : Party) (k : ℕ) → (lists_after called a b k).struck ≡
-    struck_by (moves_after k (conversation_view called a b)) b.jobs
-struck_of_called a b k = struck-moved (moves_after k (conversation_view called a b)) [] b.jobs [] []
+struck_of_called : (a b : Party) (k : ℕ) → (lists_after Called a b k).struck ≡
+    struck_by (moves_after k (conversation_view Called a b)) b.jobs
+struck_of_called a b k = struck-moved (moves_after k (conversation_view Called a b)) [] b.jobs [] []
 
-pub called_store : (a b : Party) (j k : ℕ) → j ≤ floor k (conversation_view called a b) → k ≤ floor j (conversation_view caller a b) →
-    OwnEntries a.holdings a.jobs (lists_after caller a b j).struck (lists_after called a b k).struck
-    (kept_after k (conversation_view called a b))
+pub called_store : (a b : Party) (j k : ℕ) → j ≤ floor k (conversation_view Called a b) → k ≤ floor j (conversation_view Caller a b) →
+    OwnEntries a.holdings a.jobs (lists_after Caller a b j).struck (lists_after Called a b k).struck
+    (kept_after k (conversation_view Called a b))
 called_store a b j k p q =
-    subst₂ (λ s t. OwnEntries a.holdings a.jobs s t (kept_after k (conversation_view called a b)))
+    subst₂ (λ s t. OwnEntries a.holdings a.jobs s t (kept_after k (conversation_view Called a b)))
     (sym (struck_of_caller a b j)) (sym (struck_of_called a b k)) ((conversation_own a b).always j k p q).0
 
-pub caller_store : (a b : Party) (j k : ℕ) → j ≤ floor k (conversation_view called a b) → k ≤ floor j (conversation_view caller a b) →
-    OwnEntries b.holdings b.jobs (lists_after called a b k).struck (lists_after caller a b j).struck
-    (kept_after j (conversation_view caller a b))
+pub caller_store : (a b : Party) (j k : ℕ) → j ≤ floor k (conversation_view Called a b) → k ≤ floor j (conversation_view Caller a b) →
+    OwnEntries b.holdings b.jobs (lists_after Called a b k).struck (lists_after Caller a b j).struck
+    (kept_after j (conversation_view Caller a b))
 caller_store a b j k p q =
-    subst₂ (λ s t. OwnEntries b.holdings b.jobs t s (kept_after j (conversation_view caller a b)))
+    subst₂ (λ s t. OwnEntries b.holdings b.jobs t s (kept_after j (conversation_view Caller a b)))
     (sym (struck_of_caller a b j)) (sym (struck_of_called a b k)) ((conversation_own a b).always j k p q).1
 
 -- ---- at the start of a session
 
 pub nothing_struck_at_first : (me : Side) (a b : Party) → (lists_after me a b 0).struck ≡ []
-nothing_struck_at_first caller a b =
+nothing_struck_at_first Caller a b =
     struck_of_caller a b 0
-    ∙ ap (λ m. struck_by ((choice a.holdings a.jobs).failing ++ m) a.jobs) (no_moves_at_first (conversation_view caller a b))
+    ∙ ap (λ m. struck_by ((choice a.holdings a.jobs).failing ++ m) a.jobs) (no_moves_at_first (conversation_view Caller a b))
     ∙ choice_strikes_nothing a.holdings a.jobs
-nothing_struck_at_first called a b =
-    struck_of_called a b 0 ∙ ap (λ m. struck_by m b.jobs) (no_moves_at_first (conversation_view called a b))
+nothing_struck_at_first Called a b =
+    struck_of_called a b 0 ∙ ap (λ m. struck_by m b.jobs) (no_moves_at_first (conversation_view Called a b))
 
 pub nothing_stored_at_first : (me : Side) (a b : Party) → kept_after 0 (conversation_view me a b) ≡ []
 nothing_stored_at_first me a b = nothing_kept_at_first (conversation_view me a b)

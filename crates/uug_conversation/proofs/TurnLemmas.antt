@@ -12,19 +12,22 @@ use Rattle.uug_conversation.specs.Machine.{State, Reply, between, kind_awaited, 
 use Rattle.uug_conversation.specs.Messages.{Message, turn_messages, messages}
 use Rattle.uug_conversation.specs.ReadBack.{IsReadBack}
 use Rattle.uug_conversation.specs.Runs.{has_said_all, is_over, is_bad}
-use Rattle.uug_conversation.specs.Turns.{Side, caller, called, other, Said, the_order, the_answer, the_file, said_messages, all_messages, Turn}
+use Rattle.uug_conversation.specs.Turns.{other, Said, the_order, the_answer, the_file, said_messages, all_messages, Turn}
+use Rattle.uug_conversation.specs.declared.side.Side.{Side}
+use Rattle.uug_conversation.specs.declared.side.Side.TheVariants.{Caller, Called}
 use Rattle.uug_conversation.specs.View.{Seen, says, hears, seen, view, own_messages}
 use Rattle.uug_conversation.proofs.Accord.{none_left, Listens, Does, Accords}
-use Rattle.uug_conversation.proofs.TalkLaws.{GatherLaws}
+use Rattle.uug_talk.proofs.GatherLemmas.{gathered_push}
+use Rattle.uug_talk.proofs.GathersBackLemmas.{command_back, file_back}
 
 seen-own : (me : Side) (bytes : List ℕ) (moves : List Move) (keeps : List Kept) → seen me me bytes moves keeps ≡ says bytes
-seen-own caller bytes moves keeps = refl
-seen-own called bytes moves keeps = refl
+seen-own Caller bytes moves keeps = refl
+seen-own Called bytes moves keeps = refl
 
 seen-other : (me : Side) (bytes : List ℕ) (moves : List Move) (keeps : List Kept) →
     seen me (other me) bytes moves keeps ≡ hears bytes moves keeps
-seen-other caller bytes moves keeps = refl
-seen-other called bytes moves keeps = refl
+seen-other Caller bytes moves keeps = refl
+seen-other Called bytes moves keeps = refl
 
 -- ---- a turn of one's own
 
@@ -87,11 +90,11 @@ nothing_whole OfFile = refl
 abbrev amid : Lists → Awaits → List (List ℕ) → State
 amid l w front = record { lists = l; awaits = w; gathered = (gathered (kind_awaited w) front).bytes }
 
-gathered_amid : GatherLaws → (l : Lists) (w : Awaits) (front : List (List ℕ)) (m : List ℕ) →
+gathered_amid : (l : Lists) (w : Awaits) (front : List (List ℕ)) (m : List ℕ) →
     (gathered (kind_awaited w) front).whole ≡ false →
     gathered (kind_awaited w) (front ++ m ∷ []) ≡ gathered_with (amid l w front) m
-gathered_amid gathers l w front m e =
-    gathers.goes_on (kind_awaited w) front m e
+gathered_amid l w front m e =
+    sym (gathered_push (kind_awaited w) front m e)
     ∙ ap (λ k. record { kind = k; bytes = (gathered (kind_awaited w) front).bytes ++ part_of k m; whole = ends k m })
     (gathered_kind (kind_awaited w) front)
 
@@ -131,7 +134,7 @@ one_more front c cs = sym (append_assoc front (c ∷ []) cs)
 not_none : (d : List ℕ) (ds : List (List ℕ)) → d ∷ ds ≢ []
 not_none d ds e = absurd cc
 
-module _ (gathers : GatherLaws) (me : Side) (h : Holdings) (size : ℕ) (l : Lists) (w : Awaits) (held : List ℕ)
+module _ (me : Side) (h : Holdings) (size : ℕ) (l : Lists) (w : Awaits) (held : List ℕ)
     (said : Said) (moves : List Move) (keeps : List Kept) (rest : List Message) where
   hear_chunks : length held ≤ limit_of (kind_awaited w) → Waits w (none_left (own_messages (view me rest))) →
       Does l moves keeps (on_whole (kind_awaited w) h w held l) →
@@ -144,11 +147,11 @@ module _ (gathers : GatherLaws) (me : Side) (h : Holdings) (size : ℕ) (l : Lis
   hear_chunks limit waits does a front c [] e back =
       subst (λ z. Accords h size (amid l w front) [] (z ∷ view me rest)) (sym (seen-other me c moves keeps))
       (hears_by h size (amid l w front) c moves keeps (view me rest) (on_whole (kind_awaited w) h w held l)
-      (whole_step h (amid l w front) c (kind_awaited w) held (sym (gathered_amid gathers l w front c e) ∙ back.whole) limit)
+      (whole_step h (amid l w front) c (kind_awaited w) held (sym (gathered_amid l w front c e) ∙ back.whole) limit)
       (listens_amid l w front _ waits) does a)
   hear_chunks limit waits does a front c (d ∷ cs) e back =
       let t : Turn = record { speaker = other me; said = said; moves = moves; keeps = keeps } in
-      let next = gathered_amid gathers l w front c e in
+      let next = gathered_amid l w front c e in
       let open_still : (gathered (kind_awaited w) (front ++ c ∷ [])).whole ≡ false =
       back.not_before (front ++ c ∷ []) (d ∷ cs) (one_more front c (d ∷ cs)) (not_none d cs) in
       let fits : length (gathered_with (amid l w front) c).bytes ≤ limit_of (kind_awaited w) =
@@ -185,11 +188,11 @@ said_bytes (the_order order) = order_text order
 said_bytes (the_answer answer) = answer_text answer
 said_bytes (the_file bytes) = bytes
 
-said_back : GatherLaws → (size : ℕ) → 0 < size → (said : Said) → IsReadBack said →
+said_back : (size : ℕ) → 0 < size → (said : Said) → IsReadBack said →
     GathersBack (said_kind said) (said_messages size said) (said_bytes said)
-said_back gathers size p (the_order order) r = gathers.commands size (order_text order) p r.0
-said_back gathers size p (the_answer answer) r = gathers.commands size (answer_text answer) p r.0
-said_back gathers size p (the_file bytes) r = gathers.files size bytes p
+said_back size p (the_order order) r = command_back size (order_text order) p r.0
+said_back size p (the_answer answer) r = command_back size (answer_text answer) p r.0
+said_back size p (the_file bytes) r = file_back size bytes p
 
 said_fits : (said : Said) → IsReadBack said → length (said_bytes said) ≤ limit_of (said_kind said)
 said_fits (the_order order) r = r.0.short
@@ -210,7 +213,7 @@ pub record Open (w : Awaits) : Type 0 where
   pub not_bad : is_bad w ≡ false
   pub not_parted : has_said_all w ≡ false
 
-module _ (gathers : GatherLaws) (size_of : Side → ℕ) (positive : (side : Side) → 0 < size_of side) (me : Side)
+module _ (size_of : Side → ℕ) (positive : (side : Side) → 0 < size_of side) (me : Side)
     (h : Holdings) (said : Said) (moves : List Move) (keeps : List Kept) (ts : List Turn) where
   own_by : (s : State) (left cs : List (List ℕ)) → {kind : Kind} {held : List ℕ} → GathersBack kind cs held →
       Accords h (size_of me) s left (view me (messages size_of ts)) →
@@ -229,7 +232,7 @@ module _ (gathers : GatherLaws) (size_of : Side → ℕ) (positive : (side : Sid
       Fits h size_of me s (said_messages (size_of me) said ++ left)
       (record { speaker = me; said = said; moves = moves; keeps = keeps } ∷ ts)
   own_says s left r a =
-      let both = own_by s left (said_messages (size_of me) said) (said_back gathers (size_of me) (positive me) said r) a in
+      let both = own_by s left (said_messages (size_of me) said) (said_back (size_of me) (positive me) said r) a in
       record { accords = both.0; speaks = both.1 }
 
   other_by : (l : Lists) (w : Awaits) (held : List ℕ) (cs : List (List ℕ)) → length held ≤ limit_of (kind_awaited w) →
@@ -244,7 +247,7 @@ module _ (gathers : GatherLaws) (size_of : Side → ℕ) (positive : (side : Sid
       subst (λ z. Accords h (size_of me) (record { lists = l; awaits = w; gathered = z }) []
       (view me (turn_messages (record { speaker = other me; said = said; moves = moves; keeps = keeps }) (c ∷ cs) (messages size_of ts))))
       (nothing_held (kind_awaited w))
-      (hear_chunks gathers me h (size_of me) l w held said moves keeps (messages size_of ts) limit waits does a [] c cs
+      (hear_chunks me h (size_of me) l w held said moves keeps (messages size_of ts) limit waits does a [] c cs
       (nothing_whole (kind_awaited w)) back)
 
   -- by the reply to it
@@ -258,7 +261,7 @@ module _ (gathers : GatherLaws) (size_of : Side → ℕ) (positive : (side : Sid
       other_by l w (said_bytes said) (said_messages (size_of (other me)) said)
       (subst (λ z. length (said_bytes said) ≤ limit_of z) k (said_fits said b))
       (subst (λ z. GathersBack z (said_messages (size_of (other me)) said) (said_bytes said)) k
-      (said_back gathers (size_of (other me)) (positive (other me)) said b))
+      (said_back (size_of (other me)) (positive (other me)) said b))
       waits
       (subst (λ z. Does l moves keeps z) (sym e) does)
       (subst (λ z. Accords h (size_of me) z.state (all_messages (size_of me) z.says) (view me (messages size_of ts))) (sym e) a)

@@ -2,7 +2,8 @@
 use Rattle.std.specs.Prelude.{◌≡◌, ◌⊎◌, ⊤, ℕ, List, [], ◌∷◌}
 use Rattle.uug_talk.specs.declared.answer.Answer.TheVariants.{GiveYes, DoneYes, DoneNever, HangNo}
 use Rattle.uug_talk.specs.declared.order.Order.{Order}
-use Rattle.uug_conversation.specs.Turns.{Side, other, Said, the_order, the_answer, the_file, Turn}
+use Rattle.uug_conversation.specs.Turns.{other, Said, the_order, the_answer, the_file, Turn}
+use Rattle.uug_conversation.specs.declared.side.Side.{Side}
 
 -- Who has said the first goes on with the second: a file follows its RY, and a command the same end's CY, CN5 or HN.
 pub data GoesOn : Said → Said → Type 0 where

@@ -9,7 +9,9 @@ use Rattle.uug_conversation.specs.Choice.{choice}
 use Rattle.uug_conversation.specs.Exchange.{exchange}
 use Rattle.uug_conversation.specs.Holdings.{Holdings}
 use Rattle.uug_conversation.specs.Party.{Party}
-use Rattle.uug_conversation.specs.Turns.{Side, caller, called, the_order, the_answer, Turn, plain, moving}
+use Rattle.uug_conversation.specs.Turns.{the_order, the_answer, Turn, plain, moving}
+use Rattle.uug_conversation.specs.declared.side.Side.{Side}
+use Rattle.uug_conversation.specs.declared.side.Side.TheVariants.{Caller, Called}
 
 -- the turns of a master's jobs, in front of what comes then
 abbrev pub exchanges : (master slave : Side) → (own others : Holdings) → List Job → (rest : List Turn) → List Turn
@@ -23,20 +25,20 @@ both_agree master slave = plain slave (the_answer HangYes) ∷ plain master (the
 
 -- the called end's last turn as master: the caller has no job left that it could offer
 abbrev pub last_turns : List Turn
-last_turns = plain called (the_order HangUp) ∷ both_agree called caller
+last_turns = plain Called (the_order HangUp) ∷ both_agree Called Caller
 
 -- how the called end answers the caller's H: where it has a job to offer it says HN, and is master then
 abbrev pub after_hang_up : Option Order → (a b : Party) → List Turn
-after_hang_up None a b = both_agree caller called
+after_hang_up None a b = both_agree Caller Called
 after_hang_up (Some order) a b =
-    plain called (the_answer HangNo) ∷ exchanges called caller b.holdings a.holdings b.jobs last_turns
+    plain Called (the_answer HangNo) ∷ exchanges Called Caller b.holdings a.holdings b.jobs last_turns
 
 -- the caller's last turn as master: the called end makes its choice when it has taken it
 abbrev pub hang_up : (a b : Party) → List Turn
 hang_up a b =
-    moving caller (the_order HangUp) (choice b.holdings b.jobs).failing ∷
+    moving Caller (the_order HangUp) (choice b.holdings b.jobs).failing ∷
     after_hang_up (choice b.holdings b.jobs).next a b
 
 -- the conversation of a caller and a called end
 abbrev pub conversation : (a b : Party) → List Turn
-conversation a b = exchanges caller called a.holdings b.holdings a.jobs (hang_up a b)
+conversation a b = exchanges Caller Called a.holdings b.holdings a.jobs (hang_up a b)

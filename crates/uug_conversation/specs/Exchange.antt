@@ -10,7 +10,8 @@ use Rattle.uug_conversation.specs.declared.verdict.Verdict.TheVariants.{Yes, Nev
 use Rattle.uug_conversation.specs.Choice.{fetched_by}
 use Rattle.uug_conversation.specs.Holdings.{File, Holdings, to_give, kept_as}
 use Rattle.uug_conversation.specs.Jobs.{Move, pass, strike, fail}
-use Rattle.uug_conversation.specs.Turns.{Side, the_order, the_answer, the_file, Turn, plain, moving}
+use Rattle.uug_conversation.specs.Turns.{the_order, the_answer, the_file, Turn, plain, moving}
+use Rattle.uug_conversation.specs.declared.side.Side.{Side}
 
 -- the hearer keeps the file that it was given
 abbrev pub keeping : Side → (target : List ℕ) → File → List Move → Turn

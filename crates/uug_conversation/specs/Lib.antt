@@ -24,7 +24,6 @@ pub mod Reactions
 pub mod ReadBack
 pub mod Runs
 pub mod Sharing
-pub mod Side
 pub mod Talk
 pub mod Talking
 pub mod Turns

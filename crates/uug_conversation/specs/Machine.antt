@@ -18,7 +18,9 @@ use Rattle.uug_conversation.specs.declared.verdict.Verdict.TheVariants.{Yes, Nev
 use Rattle.uug_conversation.specs.Choice.{Choice, choice, fetched_by}
 use Rattle.uug_conversation.specs.Holdings.{File, Kept, Holdings, to_give}
 use Rattle.uug_conversation.specs.Jobs.{Lists, pass, strike, fail, moved, moved_once}
-use Rattle.uug_conversation.specs.Turns.{Side, caller, called, Said, the_order, the_answer, the_file}
+use Rattle.uug_conversation.specs.Turns.{Said, the_order, the_answer, the_file}
+use Rattle.uug_conversation.specs.declared.side.Side.{Side}
+use Rattle.uug_conversation.specs.declared.side.Side.TheVariants.{Caller, Called}
 
 pub record State : Type 0 where
   pub lists : Lists
@@ -232,5 +234,5 @@ step h s message = on_gathering (gathered_with s message) h s
 
 -- when the link comes up the caller is master, and chooses its first job
 abbrev pub opening : Side → Holdings → Lists → Reply
-opening caller h l = goes_on h l []
-opening called h l = replies l awaits.Order []
+opening Caller h l = goes_on h l []
+opening Called h l = replies l awaits.Order []

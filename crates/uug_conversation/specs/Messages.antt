@@ -4,7 +4,9 @@ use Rattle.uug_conversation.specs.Conversation.{conversation}
 use Rattle.uug_conversation.specs.Holdings.{Kept}
 use Rattle.uug_conversation.specs.Jobs.{Move}
 use Rattle.uug_conversation.specs.Party.{Party}
-use Rattle.uug_conversation.specs.Turns.{Side, caller, called, Turn, said_messages}
+use Rattle.uug_conversation.specs.Turns.{Turn, said_messages}
+use Rattle.uug_conversation.specs.declared.side.Side.{Side}
+use Rattle.uug_conversation.specs.declared.side.Side.TheVariants.{Caller, Called}
 
 -- one message, and what its hearer does when it has taken it
 pub record Message : Type 0 where
@@ -28,8 +30,8 @@ messages sizes (t ∷ ts) = turn_messages t (said_messages (sizes t.speaker) t.s
 
 -- the caller's size and the called end's
 abbrev pub sizes : (a b : Party) → Side → ℕ
-sizes a b caller = a.size
-sizes a b called = b.size
+sizes a b Caller = a.size
+sizes a b Called = b.size
 
 abbrev pub conversation_messages : (a b : Party) → List Message
 conversation_messages a b = messages (sizes a b) (conversation a b)

@@ -8,7 +8,9 @@ use Rattle.uug_talk.specs.declared.order.Order.{Order}
 use Rattle.uug_talk.specs.declared.order.Order.TheVariants as order
 use Rattle.uug_conversation.specs.Choice.{fetched_by}
 use Rattle.uug_conversation.specs.Holdings.{File, Holdings, to_give}
-use Rattle.uug_conversation.specs.Turns.{Side, caller, called, Said, the_order, the_answer, the_file, Turn}
+use Rattle.uug_conversation.specs.Turns.{Said, the_order, the_answer, the_file, Turn}
+use Rattle.uug_conversation.specs.declared.side.Side.{Side}
+use Rattle.uug_conversation.specs.declared.side.Side.TheVariants.{Caller, Called}
 
 -- a Send job's command, by its file: without one that may be sent there is none
 abbrev pub send_commands : (source target user : List ℕ) (temp : Option (List ℕ)) → Option File → List Order
@@ -31,10 +33,10 @@ first_of (order ∷ orders) = Some order
 
 -- what is said, where this side says it
 abbrev pub if_spoken : {A : Type 0} → (me speaker : Side) → List A → List A
-if_spoken caller caller said = said
-if_spoken caller called said = []
-if_spoken called caller said = []
-if_spoken called called said = said
+if_spoken Caller Caller said = said
+if_spoken Caller Called said = []
+if_spoken Called Caller said = []
+if_spoken Called Called said = said
 
 abbrev pub command_of : Said → List Order
 command_of (the_order order) = order ∷ []
@@ -76,5 +78,5 @@ agrees speaker = record { speaker = speaker; answer = HangYes }
 
 -- the called end says HN where it has something to ask for; in the end one side agrees, and then the other
 abbrev pub hanging_up : List Order → List HangUpAnswer
-hanging_up [] = agrees called ∷ agrees caller ∷ []
-hanging_up (order ∷ orders) = record { speaker = called; answer = HangNo } ∷ agrees caller ∷ agrees called ∷ []
+hanging_up [] = agrees Called ∷ agrees Caller ∷ []
+hanging_up (order ∷ orders) = record { speaker = Called; answer = HangNo } ∷ agrees Caller ∷ agrees Called ∷ []

@@ -6,7 +6,8 @@ use Rattle.uug_conversation.specs.Holdings.{Kept}
 use Rattle.uug_conversation.specs.Jobs.{at_start}
 use Rattle.uug_conversation.specs.Machine.{State, Reply, step, opening}
 use Rattle.uug_conversation.specs.Party.{Party}
-use Rattle.uug_conversation.specs.Turns.{Side, all_messages}
+use Rattle.uug_conversation.specs.Turns.{all_messages}
+use Rattle.uug_conversation.specs.declared.side.Side.{Side}
 use Rattle.uug_conversation.specs.View.{conversation_view, own_messages, others_messages, floor, kept_after, lists_after, party}
 
 -- its state, the messages that it has said since the start, and what it has kept since then

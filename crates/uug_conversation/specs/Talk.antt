@@ -10,7 +10,8 @@ use Rattle.uug_conversation.specs.Keeper.{Keeper}
 use Rattle.uug_conversation.specs.Machine.{State, Reply, between, gathered_with, step, opening}
 use Rattle.uug_conversation.specs.Reactions.{FileAwaited, file_awaited}
 use Rattle.uug_conversation.specs.Runs.{is_over, is_bad}
-use Rattle.uug_conversation.specs.Turns.{Side, all_messages}
+use Rattle.uug_conversation.specs.Turns.{all_messages}
+use Rattle.uug_conversation.specs.declared.side.Side.{Side}
 
 pub record Talk : Type 0 where
   -- the link has come up in this session

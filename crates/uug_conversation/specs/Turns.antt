@@ -1,5 +1,7 @@
 -- The turns of a conversation (Taylor UUCP manual, "UUCP Protocol").
 use Rattle.std.specs.Prelude.{ℕ, List, [], ◌∷◌, ◌++◌}
+use Rattle.uug_conversation.specs.declared.side.Side.{Side}
+use Rattle.uug_conversation.specs.declared.side.Side.TheVariants.{Caller, Called}
 use Rattle.uug_talk.specs.declared.answer.Answer.{Answer}
 use Rattle.uug_talk.specs.declared.order.Order.{Order}
 use Rattle.uug_talk.specs.Answer.{answer_text}
@@ -8,14 +10,10 @@ use Rattle.uug_talk.specs.Order.{order_text}
 use Rattle.uug_conversation.specs.Holdings.{Kept}
 use Rattle.uug_conversation.specs.Jobs.{Move}
 
--- the two ends of a session: the one that called, and the one that was called
-pub data Side : Type 0 where
-  caller : Side
-  called : Side
-
+-- the other end of a session
 abbrev pub other : Side → Side
-other caller = called
-other called = caller
+other Caller = Called
+other Called = Caller
 
 -- what is said in one turn
 pub data Said : Type 0 where

@@ -5,7 +5,8 @@ use Rattle.uug_conversation.specs.Holdings.{Kept}
 use Rattle.uug_conversation.specs.Jobs.{Lists, at_start, Move, moved}
 use Rattle.uug_conversation.specs.Messages.{Message, conversation_messages}
 use Rattle.uug_conversation.specs.Party.{Party}
-use Rattle.uug_conversation.specs.Turns.{Side, caller, called}
+use Rattle.uug_conversation.specs.declared.side.Side.{Side}
+use Rattle.uug_conversation.specs.declared.side.Side.TheVariants.{Caller, Called}
 
 -- a message that the end says, or one that it hears, and what it does when it has taken it
 pub data Seen : Type 0 where
@@ -13,10 +14,10 @@ pub data Seen : Type 0 where
   hears : (bytes : List ℕ) → List Move → List Kept → Seen
 
 abbrev pub seen : (me speaker : Side) → (bytes : List ℕ) → List Move → List Kept → Seen
-seen caller caller bytes moves keeps = says bytes
-seen called called bytes moves keeps = says bytes
-seen caller called bytes moves keeps = hears bytes moves keeps
-seen called caller bytes moves keeps = hears bytes moves keeps
+seen Caller Caller bytes moves keeps = says bytes
+seen Called Called bytes moves keeps = says bytes
+seen Caller Called bytes moves keeps = hears bytes moves keeps
+seen Called Caller bytes moves keeps = hears bytes moves keeps
 
 abbrev pub view : Side → List Message → List Seen
 view me [] = []
@@ -60,13 +61,13 @@ kept_after (suc k) (hears bytes moves keeps ∷ v) = keeps ++ kept_after k v
 
 -- the side's party
 abbrev pub party : Side → (a b : Party) → Party
-party caller a b = a
-party called a b = b
+party Caller a b = a
+party Called a b = b
 
 -- what becomes of an end's jobs when its link comes up: the caller makes its first choice
 abbrev pub opening_moves : Side → Party → List Move
-opening_moves caller p = (choice p.holdings p.jobs).failing
-opening_moves called p = []
+opening_moves Caller p = (choice p.holdings p.jobs).failing
+opening_moves Called p = []
 
 -- the end's lists when its link has come up and the first k of the other's messages are taken; struck and failed are
 -- what this session added

@@ -13,7 +13,8 @@ ghost use Rattle.uug_conversation.specs.Party.{HasNames, Party};
 ghost use Rattle.uug_conversation.specs.ReadBack.{EachTurn};
 ghost use Rattle.uug_conversation.specs.Runs.{progress_after};
 ghost use Rattle.uug_conversation.specs.Sharing.{AreShared};
-ghost use Rattle.uug_conversation.specs.Turns.{Side, called, caller};
+ghost use Rattle.uug_conversation.specs.declared.side.Side.{Side};
+ghost use Rattle.uug_conversation.specs.declared.side.Side.TheVariants.{Caller, Called};
 ghost use Rattle.uug_conversation.specs.View.{conversation_view, lists_after, own_messages, party};
 ghost use Rattle.uug_conversation.specs.declared.job.Job.{Job};
 ghost use Rattle.uug_talk.specs.declared.order.Order.TheVariants.{HangUp};
@@ -22,9 +23,9 @@ ghost use Rattle.uug_talk.specs.declared.order.Order.TheVariants.{HangUp};
 /// called end with no such job is never asked to.
 pub fn each_job_is_offered_once()
     ensures caller { (a b : Party)
-        → commands_of caller (conversation a b) ≡ offered a.holdings a.jobs ++ HangUp ∷ [] }
+        → commands_of Caller (conversation a b) ≡ offered a.holdings a.jobs ++ HangUp ∷ [] }
     ensures called { (a b : Party)
-        → commands_of called (conversation a b) ≡ until_hang_up (offered b.holdings b.jobs) }
+        → commands_of Called (conversation a b) ≡ until_hang_up (offered b.holdings b.jobs) }
     // what a master chooses next is the first of it
     ensures next { (h : Holdings) (jobs : List Job)
         → (choice h jobs).next ≡ first_of (offered h jobs) }
@@ -39,7 +40,7 @@ pub fn roles_are_exchanged_for_a_job()
 /// The caller speaks first. Then the two take turns, but that a file follows its RY, and a command the same end's CY,
 /// CN5 or HN.
 pub fn speakers_alternate()
-    ensures first { (a b : Party) → BeginsWithCommand caller (conversation a b) }
+    ensures first { (a b : Party) → BeginsWithCommand Caller (conversation a b) }
     ensures then { (a b : Party) → Alternate (conversation a b) }
 {}
 

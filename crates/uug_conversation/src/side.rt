@@ -1,4 +1,4 @@
-/// Which end of a session this is.
+/// One of the two ends of a session.
 #[derive(Clone, Copy, Debug, PartialEq, Eq)]
 pub enum Side {
     /// The end that called.

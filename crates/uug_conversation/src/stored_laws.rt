@@ -4,7 +4,8 @@ ghost use Rattle.uug_conversation.specs.declared.job.Job.{Job};
 ghost use Rattle.uug_conversation.specs.Holdings.{Holdings, Kept};
 ghost use Rattle.uug_conversation.specs.OwnEntries.{OwnEntries, HasOwnEntries};
 ghost use Rattle.uug_conversation.specs.Party.{Party};
-ghost use Rattle.uug_conversation.specs.Turns.{Side, caller, called};
+ghost use Rattle.uug_conversation.specs.declared.side.Side.{Side};
+ghost use Rattle.uug_conversation.specs.declared.side.Side.TheVariants.{Caller, Called};
 ghost use Rattle.uug_conversation.specs.View.{conversation_view, floor, kept_after, lists_after};
 
 /// A job is struck only after its file was stored: whatever the two ends are, where the caller `a` has taken `j`
@@ -12,15 +13,15 @@ ghost use Rattle.uug_conversation.specs.View.{conversation_view, floor, kept_aft
 /// struck job has an entry of its own at the end to which its file came.
 pub fn struck_jobs_have_own_entries()
     ensures called_store { (a b : Party) (j k : ℕ)
-        → j ≤ floor k (conversation_view called a b) → k ≤ floor j (conversation_view caller a b)
-        → OwnEntries a.holdings a.jobs (lists_after caller a b j).struck
-        (lists_after called a b k).struck
-        (kept_after k (conversation_view called a b)) }
+        → j ≤ floor k (conversation_view Called a b) → k ≤ floor j (conversation_view Caller a b)
+        → OwnEntries a.holdings a.jobs (lists_after Caller a b j).struck
+        (lists_after Called a b k).struck
+        (kept_after k (conversation_view Called a b)) }
     ensures caller_store { (a b : Party) (j k : ℕ)
-        → j ≤ floor k (conversation_view called a b) → k ≤ floor j (conversation_view caller a b)
-        → OwnEntries b.holdings b.jobs (lists_after called a b k).struck
-        (lists_after caller a b j).struck
-        (kept_after j (conversation_view caller a b)) }
+        → j ≤ floor k (conversation_view Called a b) → k ≤ floor j (conversation_view Caller a b)
+        → OwnEntries b.holdings b.jobs (lists_after Called a b k).struck
+        (lists_after Caller a b j).struck
+        (kept_after j (conversation_view Caller a b)) }
 {}
 
 /// The same by places: a function gives each struck job the place of its entry, another one for each job.

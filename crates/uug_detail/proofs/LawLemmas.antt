@@ -8,6 +8,7 @@ use Rattle.uug_packet.specs.Packet.{PacketValue}
 use Rattle.uug_packet.specs.declared.decoding.NoPacket.{NoPacket}
 use Rattle.uug_packet.specs.declared.decoding.NoPacket.TheVariants as refusals
 use Rattle.uug_reader.specs.Cut.{Part, packet, broken, noise, CutsOff, IsCut, found, bad, items_of}
+use Rattle.uug_reader.proofs.OneCut.{IsCut-some, IsCut-unique}
 use Rattle.uug_talk.specs.Texts.{Heard, Passing, Open, Whole, is_whole}
 use Rattle.uug_tool.specs.Listing.{line_of, lines_of, rest_line, IsListing}
 use Rattle.uug_detail.specs.Told.{What, of_packet, of_text, of_noise, of_rest, control_bad_checksum, Entry, Told, begin, noise_entries, puts, hears, heard_with, text_size, broken_as, passes, tells, told_of, entries_of}
@@ -169,18 +170,12 @@ entries_adjoin s rest parts cut =
 
 -- ---- one for each stream
 
-abbrev pub HasCut : Type 0
-HasCut = (s : List ℕ) → AreBytes s → (parts : List Part) × (rest : List ℕ) × IsCut s parts rest
-
-abbrev pub HasOneCut : Type 0
-HasOneCut = (s rest other : List ℕ) (parts others : List Part) → IsCut s parts rest → IsCut s others other → (parts ≡ others) × (rest ≡ other)
-
-pub IsDetailed-some : HasCut → (s : List ℕ) → AreBytes s → (text : List ℕ) × IsDetailed s text
-IsDetailed-some cut s bytes =
-    let found = cut s bytes in
+pub IsDetailed-some : (s : List ℕ) → AreBytes s → (text : List ℕ) × IsDetailed s text
+IsDetailed-some s bytes =
+    let found = IsCut-some s bytes in
     (entry_lines (entries_of s found.0 found.1), record { parts = found.0; rest = found.1; cut = found.2; text_is = refl })
 
-pub IsDetailed-unique : HasOneCut → (s text other : List ℕ) → IsDetailed s text → IsDetailed s other → text ≡ other
-IsDetailed-unique one s text other h k =
-    let same = one s h.rest k.rest h.parts k.parts h.cut k.cut in
+pub IsDetailed-unique : (s text other : List ℕ) → IsDetailed s text → IsDetailed s other → text ≡ other
+IsDetailed-unique s text other h k =
+    let same = IsCut-unique s h.rest k.rest h.parts k.parts h.cut k.cut in
     h.text_is ∙ ap (λ parts. entry_lines (entries_of s parts h.rest)) same.0 ∙ ap (λ rest. entry_lines (entries_of s k.parts rest)) same.1 ∙ sym k.text_is

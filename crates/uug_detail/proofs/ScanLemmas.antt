@@ -3,7 +3,6 @@ use Rattle.std.proofs.Common.{◌≡◌, ℕ, ◌+◌, ◌*◌, ◌≤◌, List,
 use Rattle.std.specs.Prelude.{⊤}
 use Rattle.std.proofs.lemmas.List.{append-nil}
 use Rattle.uug_packet.specs.Waits.{Waits}
-use Rattle.uug_reader.specs.Code.PacketLaws.{PacketLaws}
 use Rattle.uug_tool.specs.Streams.{Appends, Moves}
 use Rattle.uug_tool.specs.declared.scan.TheConstants.{PIECE_SIZE}
 use Rattle.uug_tool.proofs.StreamLemmas.{Appends-join}
@@ -53,33 +52,32 @@ AppendsDetailed-rest bytes held text line noise new n (Some before) y z h waits 
     let appended : Appends line (Some (before ++ text)) z = rw written at a in
     (text ++ line, IsDetailed-rest bytes held text line noise new n h waits last, appended ∙ ap Some (append_assoc before text line))
 
-module _ (laws : PacketLaws) where
-  start : (first x : Option (List ℕ)) → Progress 0 first first [] (noise_at 0) x x
-  start None x = tt
-  start (Some bytes) x =
-      (bytes, refl, omega arith, omega arith, [], AddsParts-none laws bytes (noise_at 0) [], Appends-none x)
+start : (first x : Option (List ℕ)) → Progress 0 first first [] (noise_at 0) x x
+start None x = tt
+start (Some bytes) x =
+    (bytes, refl, omega arith, omega arith, [], AddsParts-none bytes (noise_at 0) [], Appends-none x)
 
-  pub Progress-start : (first x : Option (List ℕ)) (held : List ℕ) (noise : Noise) → held ≡ [] → noise ≡ noise_at 0 → Progress 0 first first held noise x x
-  Progress-start first x held noise none from =
-      subst (λ h. Progress 0 first first h noise x x) (sym none) (subst (λ n. Progress 0 first first [] n x x) (sym from) (start first x))
+pub Progress-start : (first x : Option (List ℕ)) (held : List ℕ) (noise : Noise) → held ≡ [] → noise ≡ noise_at 0 → Progress 0 first first held noise x x
+Progress-start first x held noise none from =
+    subst (λ h. Progress 0 first first h noise x x) (sym none) (subst (λ n. Progress 0 first first [] n x x) (sym from) (start first x))
 
-  -- a piece is read, and the lines of the parts of what is then held are written
-  pub Progress-piece : (reads n : ℕ) (first now then : Option (List ℕ)) (held others buffer lines : List ℕ) (old new : Noise) (x y z : Option (List ℕ)) → Progress reads first now held old x y → Moves n buffer now then → (n ≡ 0 → ⊥) → n ≤ length buffer → length buffer ≡ PIECE_SIZE → AddsParts (held ++ take n buffer) others old new [] lines → Appends lines y z → Progress (reads + 1) first then others new x z
-  Progress-piece reads n None now then held others buffer lines old new x y z h moves some fits size added appended = tt
-  Progress-piece reads n (Some bytes) now then held others buffer lines old new x y z h moves some fits size added appended =
-      let moved : Moves n buffer (Some h.0) then = rw h.1 at moves in
-      let piece = take n buffer in
-      let regrouped : held ++ h.0 ≡ (held ++ piece) ++ moved.0 = ap (λ t. held ++ t) moved.2 ∙ sym (append_assoc held piece moved.0) in
-      let before : AddsParts bytes ((held ++ piece) ++ moved.0) (noise_at 0) old [] h.4 = subst (λ t. AddsParts bytes t (noise_at 0) old [] h.4) regrouped h.5 in
-      let after = AddsParts-append laws (held ++ piece) others moved.0 old new h.4 (h.4 ++ lines) (AddsParts-behind (held ++ piece) others old new h.4 lines added) in (
-        moved.0,
-        moved.1,
-        omega (arith, h.2, some, fits, length-take n buffer, ap length moved.2, length-append piece moved.0),
-        omega (arith, h.3, fits, size, length-take n buffer, ap length moved.2, length-append piece moved.0),
-        h.4 ++ lines,
-        AddsParts-join laws bytes ((held ++ piece) ++ moved.0) (others ++ moved.0) (noise_at 0) old new [] h.4 (h.4 ++ lines) before after,
-        Appends-join h.4 lines x y z h.6 appended,
-      )
+-- a piece is read, and the lines of the parts of what is then held are written
+pub Progress-piece : (reads n : ℕ) (first now then : Option (List ℕ)) (held others buffer lines : List ℕ) (old new : Noise) (x y z : Option (List ℕ)) → Progress reads first now held old x y → Moves n buffer now then → (n ≡ 0 → ⊥) → n ≤ length buffer → length buffer ≡ PIECE_SIZE → AddsParts (held ++ take n buffer) others old new [] lines → Appends lines y z → Progress (reads + 1) first then others new x z
+Progress-piece reads n None now then held others buffer lines old new x y z h moves some fits size added appended = tt
+Progress-piece reads n (Some bytes) now then held others buffer lines old new x y z h moves some fits size added appended =
+    let moved : Moves n buffer (Some h.0) then = rw h.1 at moves in
+    let piece = take n buffer in
+    let regrouped : held ++ h.0 ≡ (held ++ piece) ++ moved.0 = ap (λ t. held ++ t) moved.2 ∙ sym (append_assoc held piece moved.0) in
+    let before : AddsParts bytes ((held ++ piece) ++ moved.0) (noise_at 0) old [] h.4 = subst (λ t. AddsParts bytes t (noise_at 0) old [] h.4) regrouped h.5 in
+    let after = AddsParts-append (held ++ piece) others moved.0 old new h.4 (h.4 ++ lines) (AddsParts-behind (held ++ piece) others old new h.4 lines added) in (
+      moved.0,
+      moved.1,
+      omega (arith, h.2, some, fits, length-take n buffer, ap length moved.2, length-append piece moved.0),
+      omega (arith, h.3, fits, size, length-take n buffer, ap length moved.2, length-append piece moved.0),
+      h.4 ++ lines,
+      AddsParts-join bytes ((held ++ piece) ++ moved.0) (others ++ moved.0) (noise_at 0) old new [] h.4 (h.4 ++ lines) before after,
+      Appends-join h.4 lines x y z h.6 appended,
+    )
 
 -- the input has ended, and the last line was written
 AppendsDetailed-whole : (reads n m : ℕ) (first now then : Option (List ℕ)) (held buffer line : List ℕ) (noise new : Noise) (x y z : Option (List ℕ)) → Progress reads first now held noise x y → n ≡ 0 → Moves n buffer now then → Waits held → Tells (puts of_rest (length held)) m noise new [] line → Appends line y z → IfSome first (λ bytes. AppendsDetailed bytes x z)

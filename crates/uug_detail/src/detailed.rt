@@ -8,7 +8,6 @@ ghost use Rattle.uug_detail.specs.Detailed.{AppendsDetailed};
 ghost use Rattle.uug_detail.specs.Code.Noise.{AddsParts, HasPlaces, Holds, end_of};
 
 use crate::noise::{Noise, noise_from};
-use crate::packet_laws::packet_laws;
 use crate::parts::{add_parts, add_rest};
 use std::alloc::{AllocError, Allocator};
 use uug_tool::{Input, Output, PIECE_SIZE, READ_LIMIT, ToolFault, write_all};
@@ -63,7 +62,6 @@ pub fn scan_detailed_within<A: Allocator, I: Input, O: Output>(
         → IfSome (I.to_come input.old) (λ bytes. limit ≤ length bytes) }
     ensures no_other { IfErr result IsScanFault }
 {
-    packet_laws();
     let mut held = Vec::new(&alloc);
     let mut lines = String::new(&alloc);
     let mut noise = noise_from(0);

@@ -1,4 +1,4 @@
-//! Laws, each the contract of a function that does nothing but name the laws that it rests on.
+//! Laws, each the contract of a function that does nothing.
 ghost use Rattle.std.specs.Prelude.{◌≡◌, ℕ, List, length};
 ghost use Rattle.uug_packet.specs.Bytes.{AreBytes};
 ghost use Rattle.uug_reader.specs.Cut.{Part, IsCut};
@@ -6,15 +6,11 @@ ghost use Rattle.uug_tool.specs.Listing.{IsListing};
 ghost use Rattle.uug_detail.specs.Detailed.{Adjoin, IsDetailed, plain_lines};
 ghost use Rattle.uug_detail.specs.Told.{entries_of};
 
-use uug_reader::laws::one_cut;
-
 /// Each stream of bytes has one detailed listing, as it is cut in one way.
 pub fn one_detailed_listing()
     ensures some { (s : List ℕ) → AreBytes s → (text : List ℕ) × IsDetailed s text }
     ensures only { (s text other : List ℕ) → IsDetailed s text → IsDetailed s other → text ≡ other }
-{
-    one_cut();
-}
+{}
 
 /// Without the lines and the words that it adds, the detailed listing of a stream is the plain one.
 pub fn detailed_is_plain()

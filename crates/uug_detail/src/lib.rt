@@ -7,7 +7,6 @@ mod front;
 pub mod laws;
 mod lines;
 mod noise;
-mod packet_laws;
 mod parts;
 
 pub use detailed::{scan_detailed, scan_detailed_within};

@@ -10,7 +10,6 @@ ghost use Rattle.uug_detail.specs.Told.{of_packet, of_rest, puts};
 use crate::front::{Damage, Front, front_of};
 use crate::lines::{add_packet, add_place};
 use crate::noise::{Noise, end_noise, hear};
-use crate::packet_laws::packet_laws;
 use std::alloc::{AllocError, Allocator};
 use uug_packet::Packet;
 
@@ -91,7 +90,6 @@ pub fn add_parts<A: Allocator>(
     ensures holds { OnOk result (Holds noise.new) }
     ensures ends { IfOk result (λ passed. end_of noise.new ≡ end_of noise.old + passed) }
 {
-    packet_laws();
     let mut passed = 0;
     while let Some(front) = front_of(&bytes[passed..]) {
         passed += add_front(lines, noise, &front, bytes[passed])?;

@@ -1,6 +1,6 @@
 -- What is counted one item after the other.
 use Rattle.std.proofs.Common.{◌≡◌, ℕ, ◌+◌, ◌-◌, ◌<◌, ◌≤◌, min, List, [], ◌∷◌, ◌++◌, length, take, drop, refl, sym, ap, ◌∙◌, arith, append_assoc, subst, length-drop}
-use Rattle.std.proofs.lemmas.List.{append-nil, take-append-drop, take_rest}
+use Rattle.std.proofs.lemmas.List.{take-append-drop, take_rest}
 use Rattle.uug_reader.specs.Cut.{Item}
 use Rattle.uug_reader.specs.Finding.{StandsFirst, PassesNoise}
 use Rattle.uug_reader.specs.Reading.{Reading, Shows}

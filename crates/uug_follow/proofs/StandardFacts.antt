@@ -6,7 +6,6 @@ use Rattle.uug_reader.specs.Cut.{Item, found, bad}
 use Rattle.uug_follow.specs.Lines.{counts_line, news_line, progress_line}
 use Rattle.uug_follow.specs.Losses.{next_message, passed_with}
 use Rattle.uug_follow.specs.Watched.{nothing_yet}
-use Rattle.uug_follow.specs.declared.passed.Counts.{Counts}
 use Rattle.uug_follow.specs.declared.passed.Passed.{Passed}
 use Rattle.uug_follow.specs.declared.transfer.News.TheVariants.{Begins, Ends}
 use Rattle.uug_follow.specs.declared.transfer.Outcome.TheVariants.{Done}

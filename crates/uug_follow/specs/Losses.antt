@@ -1,6 +1,6 @@
 -- What the packets that go one way tell of losses (this project's profile).
 use Rattle.std.specs.Prelude.{◌≡◌, ℕ, ◌+◌, ◌-◌, ◌%◌, ◌^◌, min, List, [], ◌∷◌, nat_eq, Option, Some, None, if◌then◌else◌}
-use Rattle.uug_packet.specs.Packet.{ControlValue, PacketValue, close, rj, srj, rr, init_c, init_b, init_a, control, carry}
+use Rattle.uug_packet.specs.Packet.{rj, srj, control, carry}
 use Rattle.uug_reader.specs.Cut.{Item, found, bad}
 use Rattle.uug_reader.specs.Scan.{Finds}
 use Rattle.uug_follow.specs.declared.passed.Counts.{Counts}

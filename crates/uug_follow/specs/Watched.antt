@@ -2,7 +2,6 @@
 use Rattle.std.specs.Prelude.{◌≡◌, List, [], ◌++◌, ℕ}
 use Rattle.uug_packet.specs.Waits.{Waits}
 use Rattle.uug_follow.specs.Losses.{AddsCounts}
-use Rattle.uug_follow.specs.declared.passed.Counts.{Counts}
 use Rattle.uug_follow.specs.declared.passed.Passed.{Passed}
 use Rattle.uug_follow.specs.declared.way.Way.{Way}
 use Rattle.uug_follow.specs.declared.way.Way.TheVariants.{Out, In}

@@ -3,7 +3,7 @@ use Rattle.std.proofs.Common.{◌≡◌, ℕ, suc, ◌+◌, ◌-◌, Bool, List,
 use Rattle.std.proofs.lemmas.List.{drop-map, drop_min, take_rest}
 use Rattle.uug_line.specs.Shown.{lists_in}
 use Rattle.uug_line.specs.declared.event.Event.{Event}
-use Rattle.uug_line.specs.declared.side.Side.{Side}
+use Rattle.uug_conversation.specs.declared.side.Side.{Side}
 use Rattle.uug_link.specs.Entries.{EntryValue}
 use Rattle.uug_link.proofs.OnTheLineLemmas.{drop_at}
 use Rattle.uug_ladder.specs.declared.moment.Mark.{Mark}

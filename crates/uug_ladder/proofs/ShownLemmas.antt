@@ -1,6 +1,5 @@
 -- What is written of a script that is played and drawn.
-use Rattle.std.proofs.Common.{◌≡◌, ℕ, ◌<◌, List, [], ◌++◌, length, map, Result, Ok, Err, IfErr, IsErrAnd, ap, sym, subst, inr, ◌∙◌}
-use Rattle.std.proofs.lemmas.List.{length-map}
+use Rattle.std.proofs.Common.{◌≡◌, ℕ, List, [], ◌++◌, Result, Ok, Err, IfErr, IsErrAnd, ap, sym, subst, ◌∙◌}
 use Rattle.uug_play.specs.Played.{IsPlayed, result_said}
 use Rattle.uug_script.specs.IsScript.{IsScript}
 use Rattle.uug_script.specs.ReportText.{report_text}
@@ -9,13 +8,11 @@ use Rattle.uug_script.specs.ScriptOf.{script_of}
 use Rattle.uug_tool.specs.declared.fault.ToolFault.{ToolFault}
 use Rattle.uug_tool.specs.declared.fault.ToolFault.TheVariants as faults
 use Rattle.uug_ladder.specs.declared.play.Drawn.TheVariants.{AsText, AsPicture}
-use Rattle.uug_ladder.specs.declared.rung.Fate.{Fate}
-use Rattle.uug_ladder.specs.declared.svg.TheConstants.{ROWS_MAX}
 use Rattle.uug_ladder.specs.Fronts.{IsLadderOf, ladder_said}
 use Rattle.uug_ladder.specs.LadderText.{ladder_text}
 use Rattle.uug_ladder.specs.Picture.{picture}
-use Rattle.uug_ladder.specs.Played.{IsShowingFault, IsShown, IsTooMuch}
-use Rattle.uug_ladder.specs.Rungs.{LadderValue, RungValue}
+use Rattle.uug_ladder.specs.Played.{IsShowingFault, IsShown}
+use Rattle.uug_ladder.specs.Rungs.{LadderValue}
 use Rattle.uug_ladder.proofs.FrontLemmas.{one_saying}
 
 abbrev pub ReadsScripts : Type 0
@@ -46,15 +43,6 @@ picture_shown reads script text before all status ladder played is none a = reco
   text_is = a ∙ ap (λ t. t ++ picture ladder) none ∙ ap picture (same_ladder reads script text status ladder played is);
   status_is = played.status_is;
 }
-
--- a ladder with more rungs than a picture has rows
-pub has_many : {R : Type 0} (shown : R → RungValue) (script : List ℕ) (rungs : List R) (fates : List Fate) →
-    IsLadderOf script (record { rungs = map shown rungs; fates = fates }) → ROWS_MAX < length rungs → IsTooMuch script
-has_many shown script rungs fates is many = inr (record {
-  says = is.says;
-  script_is = is.script_is;
-  many = subst (λ (n : ℕ). ROWS_MAX < n) (sym (length-map rungs shown) ∙ ap (λ l. length l.rungs) is.ladder_is) many;
-})
 
 -- ---- a fault that is handed on by `?`
 

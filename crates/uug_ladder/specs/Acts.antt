@@ -3,8 +3,7 @@ use Rattle.std.specs.Prelude.{ℕ, ◌+◌, ◌%◌, ◌==◌, ◌&&◌, not, na
 use Rattle.std.specs.Str.{bytes_eq}
 use Rattle.uug_line.specs.declared.event.Event.{Event}
 use Rattle.uug_line.specs.declared.event.Event.TheVariants.{HangUp}
-use Rattle.uug_line.specs.declared.side.Side.{Side}
-use Rattle.uug_line.specs.Sides.{session_side}
+use Rattle.uug_conversation.specs.declared.side.Side.{Side}
 use Rattle.uug_link.specs.Entries.{EntryValue, text, packet}
 use Rattle.uug_packet.specs.Decoded.{decoded}
 use Rattle.uug_packet.specs.Packet.{PacketValue, control, carry}
@@ -141,8 +140,8 @@ takes_leave event before after = may_leave event && (not (is_over before) && is_
 abbrev pub leaves_by : (takes_leave : Bool) → (event : ℕ) → Side → Drawn → Drawn
 leaves_by false event side d = d
 leaves_by true event side d =
-    with_way d.end (puts (Some event) side (says (written_text (final_text (session_side side))))
-    (written_text (final_text (session_side side))) (on_paper d))
+    with_way d.end (puts (Some event) side (says (written_text (final_text side)))
+    (written_text (final_text side)) (on_paper d))
 
 -- ---- what has become of its jobs and its session
 

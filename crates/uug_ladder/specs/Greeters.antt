@@ -1,7 +1,7 @@
 -- What an end says in the greeting of a session, by the bytes that come to it. Taylor UUCP manual, "UUCP Protocol".
 use Rattle.std.specs.Prelude.{ℕ, List, [], ◌∷◌, ◌++◌, map, Option, Some, None}
-use Rattle.uug_line.specs.declared.side.Side.{Side}
-use Rattle.uug_line.specs.declared.side.Side.TheVariants.{Caller, Called}
+use Rattle.uug_conversation.specs.declared.side.Side.{Side}
+use Rattle.uug_conversation.specs.declared.side.Side.TheVariants.{Caller, Called}
 use Rattle.uug_link.specs.Entries.{EntryValue}
 use Rattle.uug_session.specs.declared.end.End.TheVariants as ends
 use Rattle.uug_session.specs.declared.greeting.AwaitedText.TheVariants.{CalledName, CallerName}

@@ -2,8 +2,8 @@
 -- rung.
 use Rattle.std.specs.Prelude.{ℕ, ◌-◌, Bool, true, false, List, [], ◌∷◌, ◌++◌, codes, length, replicate, Option, Some, None}
 use Rattle.std.specs.Fmt.{decimal}
-use Rattle.uug_line.specs.declared.side.Side.{Side}
-use Rattle.uug_line.specs.declared.side.Side.TheVariants.{Caller, Called}
+use Rattle.uug_conversation.specs.declared.side.Side.{Side}
+use Rattle.uug_conversation.specs.declared.side.Side.TheVariants.{Caller, Called}
 use Rattle.uug_ladder.specs.declared.rung.Fate.{Fate}
 use Rattle.uug_ladder.specs.declared.rung.Fate.TheVariants.{OnTheWay, Arrives, Lost}
 use Rattle.uug_ladder.specs.Labels.{label}

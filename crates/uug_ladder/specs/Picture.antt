@@ -2,8 +2,8 @@
 -- rung, and an arrow for what is sent, from its row to that of the event at which it arrives.
 use Rattle.std.specs.Prelude.{ℕ, suc, ◌+◌, ◌*◌, nat_lt, Bool, true, false, List, [], ◌∷◌, ◌++◌, codes, length, Option, Some, None}
 use Rattle.std.specs.Fmt.{decimal}
-use Rattle.uug_line.specs.declared.side.Side.{Side}
-use Rattle.uug_line.specs.declared.side.Side.TheVariants.{Caller, Called}
+use Rattle.uug_conversation.specs.declared.side.Side.{Side}
+use Rattle.uug_conversation.specs.declared.side.Side.TheVariants.{Caller, Called}
 use Rattle.uug_ladder.specs.declared.rung.Fate.{Fate}
 use Rattle.uug_ladder.specs.declared.rung.Fate.TheVariants.{OnTheWay, Arrives, Lost}
 use Rattle.uug_ladder.specs.LadderText.{begins_one, event_words, has_arrow}

@@ -1,6 +1,6 @@
 -- What occurs in the sessions of a run, as values (this project's profile).
 use Rattle.std.specs.Prelude.{ℕ, Bool, List, [], ◌∷◌, ◌++◌, map, Option}
-use Rattle.uug_line.specs.declared.side.Side.{Side}
+use Rattle.uug_conversation.specs.declared.side.Side.{Side}
 use Rattle.uug_session.specs.declared.phase.Phase.{Phase}
 use Rattle.uug_ladder.specs.declared.ladder.Ladder.{Ladder}
 use Rattle.uug_ladder.specs.declared.rung.Fate.{Fate}

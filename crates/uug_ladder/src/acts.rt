@@ -2,7 +2,6 @@
 ghost use Rattle.std.specs.Prelude.{◌≡◌, drop, OnOk, Some};
 ghost use Rattle.uug_link.specs.Entries.{shown_entry};
 ghost use Rattle.uug_line.specs.Shown.{lists_in};
-ghost use Rattle.uug_line.specs.Sides.{session_side};
 ghost use Rattle.uug_session.specs.EndStep.{final_text};
 ghost use Rattle.uug_session.specs.Says.{written_text};
 ghost use Rattle.uug_ladder.specs.Acts.{acts, acts_whole, added_if, comes_to, end_kept, greets, is_done, is_other, is_over, leaves_by, may_leave, notes, puts, says_all, says_one, sends_packet, sends_packets, takes_leave};
@@ -165,7 +164,7 @@ fn takes_leave(event: Event, before: Phase, after: Phase) -> bool
 
 /// The last text of an end, in its frame.
 fn last_text(side: Side) -> &'static [u8]
-    ensures { result.now ≡ written_text (final_text (session_side side)) }
+    ensures { result.now ≡ written_text (final_text side) }
 {
     match side {
         Side::Caller => b"\x10OOOOOO\0",

@@ -122,7 +122,9 @@ fn moment_at<A: Allocator + Copy>(
     ensures fault { IfErr result (IsLadderFault text.now) }
 {
     let report = front(alloc, text, count)?;
-    Ok(moment_of(&report))
+    let moment = moment_of(&report);
+    drop(report);
+    Ok(moment)
 }
 
 /// A drawing, and what both ends have done by now.
@@ -172,10 +174,20 @@ impl<A: Allocator + Copy> Progress<A> {
     {
         let report = front(alloc, text, number + 1)?;
         let (before, after) = (self.now, moment_of(&report));
+        let fooled = is_fooled(report.verdict());
         let sessions = report.sessions();
-        self.drawing.step_by(alloc, self.places, (number, event), before, after, sessions)?;
+        let drawn = self.drawing.step_by(
+            alloc,
+            self.places,
+            (number, event),
+            before,
+            after,
+            sessions,
+        );
+        drop(report);
+        drawn?;
         self.now = after;
-        Ok(is_fooled(report.verdict()))
+        Ok(fooled)
     }
 }
 

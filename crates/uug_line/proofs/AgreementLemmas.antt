@@ -4,29 +4,27 @@ use Rattle.uug_conversation.specs.Count.{count_keeper}
 use Rattle.uug_conversation.specs.Holdings.{Holdings}
 use Rattle.uug_conversation.specs.Talk.{Talk, end_keeper, unopened}
 use Rattle.uug_session.specs.TwoEnds.{Talker}
-use Rattle.uug_conversation.specs.Turns.{Side as SessionSide}
 use Rattle.uug_conversation.specs.View.{Seen}
-use Rattle.uug_line.specs.declared.side.Side.{Side}
+use Rattle.uug_conversation.specs.declared.side.Side.{Side}
 use Rattle.uug_line.specs.Belongings.{Belongings, SetupValue, party}
-use Rattle.uug_line.specs.Sides.{AtBoth, at, session_side}
+use Rattle.uug_line.specs.Sides.{AtBoth, at}
 use Rattle.uug_line.proofs.Invariant.{IsInvariant}
 use Rattle.uug_line.proofs.Joining.{IsSoundSession, IsTalk, Joined, Moment}
-use Rattle.uug_line.specs.Code.LowerLaws.{Laws}
 use Rattle.uug_line.proofs.MoveLemmas.{StandsThere, joined_begins, joined_closes, joined_finds_bad, joined_hears, joined_sends, joined_times_out}
 use Rattle.uug_line.proofs.TalkLemmas.{Agrees, agrees_at, seen_at, talk_at, talker_at, told_at}
 
 -- what an end keeps, and its two numbers, say the same
-pub record SaysSame (me : SessionSide) (h : Holdings) (v : List Seen) (talk : Talk) (sent taken : ℕ) : Type 0 where
+pub record SaysSame (me : Side) (h : Holdings) (v : List Seen) (talk : Talk) (sent taken : ℕ) : Type 0 where
   pub next : (end_keeper me h).next talk ≡ (count_keeper v).next (record { opened = talk.opened; sent = sent; taken = taken })
   pub over : (end_keeper me h).is_over talk ≡ (count_keeper v).is_over (record { opened = talk.opened; sent = sent; taken = taken })
   pub parted : (end_keeper me h).has_parted talk
       ≡ (count_keeper v).has_parted (record { opened = talk.opened; sent = sent; taken = taken })
   pub good : (end_keeper me h).is_bad talk ≡ false
 
-module _ (law : Laws) (setup : SetupValue) (brought : AtBoth Belongings) (sound : IsSoundSession setup brought) (side : Side) where
+module _ (setup : SetupValue) (brought : AtBoth Belongings) (sound : IsSoundSession setup brought) (side : Side) where
   abbrev SaysSameAt : Talk → (sent taken : ℕ) → Type 0
   SaysSameAt talk sent taken =
-      SaysSame (session_side side) (at side setup).holdings (seen_at setup brought side) talk sent taken
+      SaysSame side (at side setup).holdings (seen_at setup brought side) talk sent taken
 
   -- before the link is up
   unopened_same : (talk : Talk) (sent taken : ℕ) → talk ≡ unopened (at side brought).lists (at side brought).kept →
@@ -37,7 +35,7 @@ module _ (law : Laws) (setup : SetupValue) (brought : AtBoth Belongings) (sound 
 
   -- behind what it brought
   behind_same : (talk : Talk) (t : Talker) (sent taken : List (List ℕ)) → talk ≡ talk_at setup brought side t →
-      Agrees (session_side side) (at side setup).holdings (seen_at setup brought side) (talk_at setup brought side t) t →
+      Agrees side (at side setup).holdings (seen_at setup brought side) (talk_at setup brought side t) t →
       t.sent ≡ sent → t.taken ≡ taken → SaysSameAt talk (length sent) (length taken)
   behind_same talk t sent taken is agree sent_is taken_is =
       subst (λ (x : Talk). SaysSameAt x (length sent) (length taken)) (sym is)
@@ -49,14 +47,14 @@ module _ (law : Laws) (setup : SetupValue) (brought : AtBoth Belongings) (sound 
     says_same : (m : Moment) → Joined setup brought side m far → SaysSameAt m.talk (length m.sent) (length m.taken)
     says_same m j = by j.near_talk
       where
-        by : IsTalk (session_side side) (party setup brought side) (at side brought) m.talk (talker_at setup brought side j.two) →
+        by : IsTalk side (party setup brought side) (at side brought) m.talk (talker_at setup brought side j.two) →
             SaysSameAt m.talk (length m.sent) (length m.taken)
         by (inl fresh) = unopened_same m.talk (length m.sent) (length m.taken) fresh.0
         by (inr behind) =
             behind_same m.talk (talker_at setup brought side j.two) m.sent m.taken behind
-            (agrees_at setup brought law side j.two (told_at setup brought law sound side j.two j.reached)) j.near_sent j.near_taken
+            (agrees_at setup brought side j.two (told_at setup brought sound side j.two j.reached)) j.near_sent j.near_taken
 
-    pub is_invariant : IsInvariant (session_side side) (at side setup).holdings (seen_at setup brought side)
+    pub is_invariant : IsInvariant side (at side setup).holdings (seen_at setup brought side)
         (λ m. Joined setup brought side m far) (StandsThere far)
     is_invariant = record {
       next = λ m j. (says_same m j).next;
@@ -64,10 +62,10 @@ module _ (law : Laws) (setup : SetupValue) (brought : AtBoth Belongings) (sound 
       parted = λ m j. (says_same m j).parted;
       good = λ m j. (says_same m j).good;
       opened = λ m j at_up. j.near_opened.up at_up;
-      begins = joined_begins setup brought side far law sound;
-      sends = joined_sends setup brought side far law sound;
-      closes = joined_closes setup brought side far law sound;
-      finds_bad = joined_finds_bad setup brought side far law sound;
-      times_out = joined_times_out setup brought side far law sound;
-      hears = joined_hears setup brought side far law sound;
+      begins = joined_begins setup brought side far sound;
+      sends = joined_sends setup brought side far sound;
+      closes = joined_closes setup brought side far sound;
+      finds_bad = joined_finds_bad setup brought side far sound;
+      times_out = joined_times_out setup brought side far sound;
+      hears = joined_hears setup brought side far sound;
     }

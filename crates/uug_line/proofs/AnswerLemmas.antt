@@ -12,13 +12,13 @@ use Rattle.uug_conversation.specs.Count.{Count, count_keeper}
 use Rattle.uug_session.specs.EndStep.{EndEffect, Identity, bad_came, behind_link, late, late_link, message_of, packet_came, talks_by}
 use Rattle.uug_conversation.specs.Holdings.{Holdings}
 use Rattle.uug_conversation.specs.Talk.{Talk, end_keeper}
-use Rattle.uug_conversation.specs.Turns.{Side}
+use Rattle.uug_conversation.specs.declared.side.Side.{Side}
 use Rattle.uug_conversation.specs.View.{Seen}
 use Rattle.uug_line.proofs.Invariant.{DoesAlike, IsInvariant, answer_to, found, heard_by, moved}
 use Rattle.uug_line.proofs.Joining.{Moment}
-use Rattle.uug_line.specs.Code.LowerLaws.{Laws}
 use Rattle.uug_line.proofs.MomentLemmas.{count, count_silent, none_sent}
 use Rattle.uug_line.proofs.SpeakLemmas.{ends_alike, goes_on_alike, stays_alike}
+use Rattle.uug_link.proofs.OutcomeLemmas.{answers_of, moves_of, firsts_of}
 
 -- ---- what is written down
 
@@ -47,7 +47,7 @@ abbrev pub Heard : (J : Moment → Type 0) (first : State) (m : Moment) (p : Pac
     (y : EndEffect Count) → Type 0
 Heard J first m p place x y = DoesAlike J first (found m place (taken_if x.took (message_of p) m.taken)) x y
 
-module _ (law : Laws) (me : Side) (h : Holdings) (v : List Seen) (J : Moment → Type 0)
+module _ (me : Side) (h : Holdings) (v : List Seen) (J : Moment → Type 0)
     (IsThere : Moment → PacketValue → ℕ → Type 0) (is : IsInvariant me h v J IsThere) (first : State) (id : Identity) where
   -- ---- a broken packet, or a timeout
 
@@ -55,11 +55,11 @@ module _ (law : Laws) (me : Side) (h : Holdings) (v : List Seen) (J : Moment →
       DoesAlike J first m (behind_link number (end_keeper me h) id false o (step m.link bad_found) [] m.talk)
       (behind_link number (count_keeper v) id false o (step m.link bad_found) [] (count m))
   bad_by number m j nothing may then_j =
-      goes_on_alike number law me h v J IsThere is first m false (step m.link bad_found) m.talk (count m) then_j
-      (quiet_count m bad_found (law.firsts m.link bad_found))
+      goes_on_alike number me h v J IsThere is first m false (step m.link bad_found) m.talk (count m) then_j
+      (quiet_count m bad_found (firsts_of m.link bad_found))
   bad_by number m j halted may then_j =
-      goes_on_alike number law me h v J IsThere is first m false (step m.link bad_found) m.talk (count m) then_j
-      (quiet_count m bad_found (law.firsts m.link bad_found))
+      goes_on_alike number me h v J IsThere is first m false (step m.link bad_found) m.talk (count m) then_j
+      (quiet_count m bad_found (firsts_of m.link bad_found))
   bad_by number m j up may then_j = absurd may
   bad_by number m j taken may then_j = absurd may
   bad_by number m j closed may then_j = absurd may
@@ -68,7 +68,7 @@ module _ (law : Laws) (me : Side) (h : Holdings) (v : List Seen) (J : Moment →
   pub bad_alike : (number : Option ℕ) (m : Moment) → J m →
       DoesAlike J first m (bad_came number (end_keeper me h) id m.link m.talk) (bad_came number (count_keeper v) id m.link (count m))
   bad_alike number m j =
-      bad_by number m j (step m.link bad_found).outcome (law.answers m.link bad_found) (is.finds_bad m j)
+      bad_by number m j (step m.link bad_found).outcome (answers_of m.link bad_found) (is.finds_bad m j)
 
   late_by : (number : Option ℕ) (m : Moment) → J m → (parted also_parted : Bool) → parted ≡ also_parted → (o : OutcomeValue) →
       J (moved m timed_out m.talk) →
@@ -76,10 +76,10 @@ module _ (law : Laws) (me : Side) (h : Holdings) (v : List Seen) (J : Moment →
       (late_link number id also_parted o (step m.link timed_out) (count m))
   late_by number m j parted also_parted agree gave_up then_j =
       ends_alike number J first id m parted also_parted ends.GaveUp (step m.link timed_out) m.talk (count m) false agree then_j
-      (quiet_count m timed_out (law.firsts m.link timed_out))
+      (quiet_count m timed_out (firsts_of m.link timed_out))
   late_by number m j parted also_parted agree _ then_j =
       stays_alike number J first m (step m.link timed_out) m.talk (count m) then_j
-      (quiet_count m timed_out (law.firsts m.link timed_out))
+      (quiet_count m timed_out (firsts_of m.link timed_out))
 
   pub late_alike : (number : Option ℕ) (m : Moment) → J m →
       DoesAlike J first m (late number id ((end_keeper me h).has_parted m.talk) m.link m.talk)
@@ -101,13 +101,13 @@ module _ (law : Laws) (me : Side) (h : Holdings) (v : List Seen) (J : Moment →
   talks_alike number m p place false good then_j may opened =
       let talk = (end_keeper me h).taking (message_of p) m.talk in
       let at : List (List ℕ) → Moment = λ messages. found m place messages in
-      goes_on_alike number law me h v J IsThere is first (at (m.taken ++ message_of p ∷ [])) true (step m.link (packet_found p)) talk
+      goes_on_alike number me h v J IsThere is first (at (m.taken ++ message_of p ∷ [])) true (step m.link (packet_found p)) talk
       ((count_keeper v).taking (message_of p) (count m))
       (subst (λ (l : List (List ℕ)). J (moved (at l) (packet_found p) talk)) (taken_message p m.taken may) then_j)
       (ap (λ (b : Bool). record { opened = b; sent = length m.sent; taken = suc (length m.taken) }) opened
       ∙ ap (λ (n : ℕ). record { opened = true; sent = length m.sent; taken = n }) (one_more m.taken (message_of p))
       ∙ ap (λ (n : ℕ). record { opened = true; sent = n; taken = length (m.taken ++ message_of p ∷ []) })
-      (ap (λ (c : Count). c.sent) (quiet_count m (packet_found p) (law.firsts m.link (packet_found p)))))
+      (ap (λ (c : Count). c.sent) (quiet_count m (packet_found p) (firsts_of m.link (packet_found p)))))
 
   packet_by : (number : Option ℕ) (m : Moment) (p : PacketValue) (place : ℕ) → J m → (o : OutcomeValue) → MayAnswer o (packet_found p) →
       MovesPhase o m.link.phase (step m.link (packet_found p)).state.phase →
@@ -115,19 +115,19 @@ module _ (law : Laws) (me : Side) (h : Holdings) (v : List Seen) (J : Moment →
       Heard J first m p place (behind_link number (end_keeper me h) id false o (step m.link (packet_found p)) (message_of p) m.talk)
       (behind_link number (count_keeper v) id false o (step m.link (packet_found p)) (message_of p) (count m))
   packet_by number m p place j nothing may moves then_j =
-      goes_on_alike number law me h v J IsThere is first (found m place m.taken) false (step m.link (packet_found p)) m.talk (count m)
+      goes_on_alike number me h v J IsThere is first (found m place m.taken) false (step m.link (packet_found p)) m.talk (count m)
       then_j
-      (quiet_count (found m place m.taken) (packet_found p) (law.firsts m.link (packet_found p)))
+      (quiet_count (found m place m.taken) (packet_found p) (firsts_of m.link (packet_found p)))
   packet_by number m p place j halted may moves then_j =
-      goes_on_alike number law me h v J IsThere is first (found m place m.taken) false (step m.link (packet_found p)) m.talk (count m)
+      goes_on_alike number me h v J IsThere is first (found m place m.taken) false (step m.link (packet_found p)) m.talk (count m)
       then_j
-      (quiet_count (found m place m.taken) (packet_found p) (law.firsts m.link (packet_found p)))
+      (quiet_count (found m place m.taken) (packet_found p) (firsts_of m.link (packet_found p)))
   packet_by number m p place j up may moves then_j =
-      goes_on_alike number law me h v J IsThere is first (found m place m.taken) false (step m.link (packet_found p))
+      goes_on_alike number me h v J IsThere is first (found m place m.taken) false (step m.link (packet_found p))
       (heard_by (end_keeper me h) m p place up).talk
       ((count_keeper v).opened (size_of_code (step m.link (packet_found p)).state.size_code) (count m)) then_j
       (ap (λ (c : Count). record { opened = true; sent = c.sent; taken = c.taken })
-      (quiet_count (found m place m.taken) (packet_found p) (law.firsts m.link (packet_found p))))
+      (quiet_count (found m place m.taken) (packet_found p) (firsts_of m.link (packet_found p))))
   packet_by number m p place j taken may moves then_j =
       let then_m = heard_by (end_keeper me h) m p place taken in
       talks_alike number m p place ((end_keeper me h).is_bad then_m.talk) (is.good then_m then_j) then_j may
@@ -136,12 +136,12 @@ module _ (law : Laws) (me : Side) (h : Holdings) (v : List Seen) (J : Moment →
       ends_alike number J first id (found m place m.taken) ((end_keeper me h).has_parted m.talk)
       ((count_keeper v).has_parted (count m)) ends.PeerClosed (step m.link (packet_found p)) m.talk (count m) false
       (is.parted m j) then_j
-      (quiet_count (found m place m.taken) (packet_found p) (law.firsts m.link (packet_found p)))
+      (quiet_count (found m place m.taken) (packet_found p) (firsts_of m.link (packet_found p)))
   packet_by number m p place j gave_up may moves then_j = absurd may
 
   pub packet_alike : (number : Option ℕ) (m : Moment) (p : PacketValue) (place : ℕ) → J m → IsThere m p place →
       Heard J first m p place (packet_came number (end_keeper me h) id false p m.link m.talk)
       (packet_came number (count_keeper v) id false p m.link (count m))
   packet_alike number m p place j there =
-      packet_by number m p place j (answer_to m p) (law.answers m.link (packet_found p))
-      (law.phases m.link (packet_found p) tt) (is.hears m p place j there)
+      packet_by number m p place j (answer_to m p) (answers_of m.link (packet_found p))
+      (moves_of m.link (packet_found p) tt) (is.hears m p place j there)

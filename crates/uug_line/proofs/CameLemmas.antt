@@ -2,26 +2,27 @@
 use Rattle.std.proofs.Common.{ℕ, zero, suc, false, List, [], ◌∷◌, ◌++◌, length, take, drop, bit_xor, Option, Some, None, All, sym, subst}
 use Rattle.std.proofs.lemmas.List.Elements.{All-nil, All-cons, All-head, All-tail, All-append, All-take, All-drop}
 use Rattle.std.proofs.lemmas.Nat.{xor_of_8}
+use Rattle.uug_conversation.specs.Turns.{other}
 use Rattle.uug_link.specs.Arrivals.{place_of}
 use Rattle.uug_packet.specs.Bytes.{AreBytes}
 use Rattle.uug_packet.specs.Packet.{PacketValue}
-use Rattle.uug_session.specs.Arriving.{Came, Hearer, all_taken, holds, stopped, takes_if, takes_piece, takes_up, takes_up_to}
+use Rattle.uug_session.specs.Arriving.{Arrival, Buffered, all_taken, holds, stopped, takes_if, takes_piece, takes_up, takes_up_to}
 use Rattle.uug_session.specs.EndStep.{EndEffect, EndEvent, begins_session, end_step, line_lost, message_of, packet_found_whole, time_ran_out}
 use Rattle.uug_session.specs.Finding.{Finding, finding, finds, finds_nothing, finds_packet}
 use Rattle.uug_line.specs.declared.event.Event.{Event}
 use Rattle.uug_line.specs.declared.event.Event.TheVariants.{Pass, Drop, Flip, Insert, Timeout, HangUp, Call}
-use Rattle.uug_line.specs.declared.side.Side.{Side}
-use Rattle.uug_line.specs.declared.side.Side.TheVariants.{Caller, Called}
+use Rattle.uug_conversation.specs.declared.side.Side.{Side}
+use Rattle.uug_conversation.specs.declared.side.Side.TheVariants.{Caller, Called}
 use Rattle.uug_line.specs.declared.verdict.LineVerdict.{LineVerdict}
 use Rattle.uug_line.specs.declared.verdict.LineVerdict.TheVariants.{Clean, Fooled}
 use Rattle.uug_line.specs.Belongings.{Belongings, SetupValue, identity}
 use Rattle.uug_line.specs.Delivered.{came_in, comes, comes_with, nothing_came, while_clean}
-use Rattle.uug_line.specs.LineEnd.{LineEnd, Log, Player, after_call, called_with, does, found_at, nothing_done, packets_in, took}
+use Rattle.uug_line.specs.LineEnd.{LineEnd, Log, Participant, after_call, called_with, does, found_at, nothing_done, packets_in, took}
 use Rattle.uug_line.specs.OfBytes.{AreOfBytes, IsOfBytes}
 use Rattle.uug_line.specs.Told.{EndReportValue}
-use Rattle.uug_line.specs.Run.{Run, after_event, after_hearing, calls, calls_again, end_at, first_end, first_run, flipped, goes_through, hears_next, player, run_of, session_begins, unless_fooled, with_end_at, with_line_to}
+use Rattle.uug_line.specs.Run.{Run, after_event, after_hearing, calls, calls_again, end_at, first_end, first_run, flipped, goes_through, hears_next, participant, run_of, session_begins, unless_fooled, with_end_at, with_line_to}
 use Rattle.uug_line.specs.RunKeeper.{RunKeeper}
-use Rattle.uug_line.specs.Sides.{AtBoth, at, other, session_side}
+use Rattle.uug_line.specs.Sides.{AtBoth, at}
 use Rattle.uug_line.specs.Taking.{line_taker, packet_taken_up, takes_sent}
 use Rattle.uug_line.proofs.ByteLemmas.{AllBytes, IsByte, are_bytes}
 use Rattle.uug_line.proofs.CarriedLemmas.{all_behind, all_in_front}
@@ -46,7 +47,7 @@ call_gives log line came effect says gives = record {
   came_is = λ right. gives.came_is (all_in_front IsRight log.packets (packets_in effect.emitted) right);
 }
 
-module _ {C : Type 0} (p : Player C) (me : AllBytes p.identity.me) where
+module _ {C : Type 0} (p : Participant C) (me : AllBytes p.identity.me) where
   does_gives : (event : EndEvent) (e : LineEnd C) (came : List ℕ) → Gives e came → Gives (does p event e) came
   does_gives event e came gives =
       call_gives e.log e.line came (end_step p.keeper p.identity event e.state)
@@ -62,22 +63,22 @@ module _ {C : Type 0} (p : Player C) (me : AllBytes p.identity.me) where
       (subst (λ ps. GivesBytes ps e.line came) (sym (took_packets effect.took (message_of q) (found_at place e.log)))
       (record { line_is = gives.line_is; came_is = gives.came_is }))
 
-  abbrev CameGives : (came : List ℕ) → Came (LineEnd C) → Type 0
+  abbrev CameGives : (came : List ℕ) → Arrival (LineEnd C) → Type 0
   CameGives came (all_taken h) = Gives h.end came
   CameGives came (stopped h) = Gives h.end came
 
   module _ (came : List ℕ) (others : List PacketValue) where
-    abbrev MoreGives : (Hearer (LineEnd C) → Came (LineEnd C)) → Type 0
-    MoreGives more = (h : Hearer (LineEnd C)) → Gives h.end came → CameGives came (more h)
+    abbrev MoreGives : (Buffered (LineEnd C) → Arrival (LineEnd C)) → Type 0
+    MoreGives more = (h : Buffered (LineEnd C)) → Gives h.end came → CameGives came (more h)
 
-    sent_gives : (more : Hearer (LineEnd C) → Came (LineEnd C)) (place : Option ℕ) (q : PacketValue) (from behind : List ℕ)
+    sent_gives : (more : Buffered (LineEnd C) → Arrival (LineEnd C)) (place : Option ℕ) (q : PacketValue) (from behind : List ℕ)
         (e : LineEnd C) → MoreGives more → Gives e came
         → CameGives came (takes_if more (line_taker p others) (takes_sent p q place e) from behind e)
     sent_gives more None q from behind e then_so gives = gives
     sent_gives more (Some place) q from behind e then_so gives =
         then_so (holds (line_taker p others) behind (packet_taken_up p q place e)) (packet_gives q place e came gives)
 
-    taken_gives : (more : Hearer (LineEnd C) → Came (LineEnd C)) (x : Finding) (e : LineEnd C) → MoreGives more → Gives e came
+    taken_gives : (more : Buffered (LineEnd C) → Arrival (LineEnd C)) (x : Finding) (e : LineEnd C) → MoreGives more → Gives e came
         → CameGives came (takes_up more (line_taker p others) x e)
     taken_gives more (finds_nothing rest) e then_so gives = gives
     taken_gives more (finds event behind) e then_so gives =
@@ -85,12 +86,12 @@ module _ {C : Type 0} (p : Player C) (me : AllBytes p.identity.me) where
     taken_gives more (finds_packet q from behind) e then_so gives =
         sent_gives more (place_of q others e.log.passed) q from behind e then_so gives
 
-    takes_gives : (n : ℕ) (h : Hearer (LineEnd C)) → Gives h.end came → CameGives came (takes_up_to n (line_taker p others) h)
+    takes_gives : (n : ℕ) (h : Buffered (LineEnd C)) → Gives h.end came → CameGives came (takes_up_to n (line_taker p others) h)
     takes_gives zero h gives = gives
     takes_gives (suc n) h gives =
         taken_gives (takes_up_to n (line_taker p others)) (finding h.end.state.stage h.held) h.end (takes_gives n) gives
 
-    piece_gives : (piece : List ℕ) (h : Hearer (LineEnd C)) → Gives h.end came
+    piece_gives : (piece : List ℕ) (h : Buffered (LineEnd C)) → Gives h.end came
         → CameGives came (takes_piece (line_taker p others) piece h)
     piece_gives piece h gives =
         takes_gives (suc (length (holds (line_taker p others) (h.held ++ piece) h.end).held))
@@ -102,7 +103,7 @@ module _ {C : Type 0} (p : Player C) (me : AllBytes p.identity.me) where
 abbrev pub RunGives : {C : Type 0} → Run C → (came : AtBoth (List ℕ)) → Type 0
 RunGives run came = (side : Side) → Gives (end_at side run).end (at (other side) came)
 
-with_gives : {C : Type 0} (side : Side) (h : Hearer (LineEnd C)) (run : Run C) (came : AtBoth (List ℕ))
+with_gives : {C : Type 0} (side : Side) (h : Buffered (LineEnd C)) (run : Run C) (came : AtBoth (List ℕ))
     → Gives h.end (at (other side) came) → RunGives run came → RunGives (with_end_at side h run) came
 with_gives Caller h run came gives all Caller = gives
 with_gives Caller h run came gives all Called = all Called
@@ -146,28 +147,28 @@ flip_stays mask is (b ∷ bytes) all =
     All-cons IsByte (bit_xor b mask) bytes (xor_of_8 b mask (All-head IsByte b bytes all) is) (All-tail IsByte b bytes all)
 
 module _ {C : Type 0} (k : RunKeeper C) (setup : SetupValue) (names : (side : Side) → AllBytes (at side setup).name) where
-  heard_gives : (number : ℕ) (side : Side) (x : Came (LineEnd C)) (run : Run C) (came : AtBoth (List ℕ))
-      → CameGives (player k setup run side) (names side) (at (other side) came) x → RunGives run came
+  heard_gives : (number : ℕ) (side : Side) (x : Arrival (LineEnd C)) (run : Run C) (came : AtBoth (List ℕ))
+      → CameGives (participant k setup run side) (names side) (at (other side) came) x → RunGives run came
       → RunGives (after_hearing number side x run) came
   heard_gives number side (all_taken h) run came gives all = with_gives side h run came gives all
   heard_gives number side (stopped h) run came gives all = λ at_side. with_gives side h run came gives all at_side
 
   hears_gives : (side : Side) (n : ℕ) (run : Run C) (came : AtBoth (List ℕ)) → RunGives run came
-      → CameGives (player k setup run side) (names side) (at (other side) came) (hears_next k setup side n run)
+      → CameGives (participant k setup run side) (names side) (at (other side) came) (hears_next k setup side n run)
   hears_gives side n run came all =
-      piece_gives (player k setup run side) (names side) (at (other side) came) (end_at (other side) run).end.log.packets
+      piece_gives (participant k setup run side) (names side) (at (other side) came) (end_at (other side) run).end.log.packets
       (take n (end_at (other side) run).end.line) (end_at side run) (all side)
 
   called_gives : (side : Side) (event : EndEvent) (run : Run C) (came : AtBoth (List ℕ)) → RunGives run came
       → RunGives (calls k setup side event run) came
   called_gives side event run came all =
-      with_gives side (called_with (player k setup run side) event (end_at side run)) run came
-      (does_gives (player k setup run side) (names side) event (end_at side run).end (at (other side) came) (all side)) all
+      with_gives side (called_with (participant k setup run side) event (end_at side run)) run came
+      (does_gives (participant k setup run side) (names side) event (end_at side run).end (at (other side) came) (all side)) all
 
   began_gives : (brought : AtBoth Belongings) (side : Side) → Gives (first_end k setup brought side).end []
   began_gives brought side =
       call_gives nothing_done [] [] (begins_session (identity setup side) (at side setup).own (at side brought).number (k.first (at side brought)))
-      (first_says (session_side side) (at side setup).name (names side))
+      (first_says side (at side setup).name (names side))
       (record { line_is = λ right. All-nil IsByte; came_is = λ right. All-nil IsByte })
 
   begins_gives : (past : List (AtBoth EndReportValue)) (brought : AtBoth Belongings)

@@ -5,28 +5,20 @@ use Rattle.std.proofs.lemmas.List.Elements.{All-nil, All-cons, All-head, All-tai
 use Rattle.std.proofs.lemmas.Option.{get_or_from_slice_get, slice_get_within}
 use Rattle.uug_link.specs.Announced.{Announced}
 use Rattle.uug_link.specs.InRange.{AreWellFormed, IsAnnouncement, IsInRange, MayMeet}
-use Rattle.uug_link.specs.OnTheLine.{AreWritten, Reads, of_window}
-use Rattle.uug_link.specs.State.{State, called_state, caller_state}
+use Rattle.uug_link.specs.OnTheLine.{AreWritten, of_window}
+use Rattle.uug_link.specs.State.{State}
 use Rattle.uug_link.specs.Step.{Emission, Event, to_begin, packet_found, bad_found, timed_out, to_send, to_close, step}
 use Rattle.uug_link.specs.Terms.{IsWindow}
 use Rattle.uug_link.specs.TwoLinks.{AllMayOccur, End, Ends, Happening, moves, misses, hears, IsFirst, IsRun, MayCall, MayHappen, MayOccur, Occurrence, at_far, at_near, after_happening, after_occurrence, after_occurrences, first_end, first_ends, packets_of, sent_with}
-use Rattle.uug_link.specs.WindowMachine.{Flying, IsReached, Machine, acknowledgement, data_at}
+use Rattle.uug_link.specs.WindowMachine.{Flying, acknowledgement, data_at}
 use Rattle.uug_packet.specs.Bytes.{AreBytes}
 use Rattle.uug_packet.specs.Packet.{close, rj, srj, rr, init_c, init_b, init_a, PacketValue, control, carry}
 use Rattle.uug_packet.specs.WellFormed.{IsWellFormed}
 use Rattle.uug_line.proofs.ByteLemmas.{CarriesBytes, IsByte, are_bytes}
 use Rattle.uug_line.proofs.EmittedByteLemmas.{IsRight}
-
--- what is needed of links
-pub record CarriedLaws : Type 0 where
-  pub first : (own : Announced) → IsAnnouncement own → IsInRange (caller_state own) × IsInRange (called_state own)
-  pub stays : (s : State) (e : Event) → IsInRange s → MayMeet s e → IsInRange (step s e).state
-  pub emitted : (s : State) (e : Event) → IsInRange s → MayMeet s e → AreWellFormed (step s e).emitted
-  pub longer : (near far : Announced) (ends : Ends) (o : Occurrence) → IsRun near far ends → MayOccur ends o →
-      IsRun near far (after_occurrence ends o)
-  pub begun : (near far : Announced) (a b : State) → IsFirst near a → IsFirst far b → IsRun near far (first_ends a b)
-  pub machine : (near far : Announced) (ends : Ends) → IsWindow near.window → IsWindow far.window → IsRun near far ends →
-      (m : Machine) × IsReached far.window near.window m × Reads ends.near ends.far m.out × Reads ends.far ends.near m.back
+use Rattle.uug_link.proofs.TwoLinksRuns.{IsRun-first, IsRun-one, machine_runs}
+use Rattle.uug_link.proofs.InRangeLemmas.{range_at_first, range_stays, emits_well_formed}
+use Rattle.uug_line.proofs.LowerLemmas.{links_below}
 
 -- ---- lists
 
@@ -115,88 +107,87 @@ may_meet s timed_out may = tt
 may_meet s (to_send message) may = (may.0.0, may.1)
 may_meet s to_close may = tt
 
-module _ (laws : CarriedLaws) where
-  -- the link was moved so, and the two ends read as the machine before and then
-  moved_right : (e : End) (event : Event) (passed : ℕ) (flight : List Flying) → MayMeet e.link event → passed ≤ length e.emitted
-      → AreWritten (sent_with event e.sent) flight (of_window (drop passed (e.emitted ++ packets_of (step e.link event).emitted)))
-      → IsRightEnd e → (taken : List (List ℕ)) (found : ℕ)
-      → IsRightEnd (record {
-        link = (step e.link event).state;
-        sent = sent_with event e.sent;
-        taken = taken;
-        emitted = e.emitted ++ packets_of (step e.link event).emitted;
-        passed = found;
-      })
-  moved_right e event passed flight may within written right taken found = record {
-    range = laws.stays e.link event right.range may;
-    whole = All-append IsWellFormed e.emitted (packets_of (step e.link event).emitted) right.whole
-        (packets_whole (step e.link event).emitted (laws.emitted e.link event right.range may));
-    carried = λ all. All-append CarriesBytes e.emitted (packets_of (step e.link event).emitted)
-        (right.carried (before_sent event e.sent all))
-        (new_in_flight (sent_with event e.sent) flight passed e.emitted (packets_of (step e.link event).emitted) within written all);
+-- the link was moved so, and the two ends read as the machine before and then
+moved_right : (e : End) (event : Event) (passed : ℕ) (flight : List Flying) → MayMeet e.link event → passed ≤ length e.emitted
+    → AreWritten (sent_with event e.sent) flight (of_window (drop passed (e.emitted ++ packets_of (step e.link event).emitted)))
+    → IsRightEnd e → (taken : List (List ℕ)) (found : ℕ)
+    → IsRightEnd (record {
+      link = (step e.link event).state;
+      sent = sent_with event e.sent;
+      taken = taken;
+      emitted = e.emitted ++ packets_of (step e.link event).emitted;
+      passed = found;
+    })
+moved_right e event passed flight may within written right taken found = record {
+  range = range_stays e.link event right.range may;
+  whole = All-append IsWellFormed e.emitted (packets_of (step e.link event).emitted) right.whole
+      (packets_whole (step e.link event).emitted (emits_well_formed e.link event right.range may));
+  carried = λ all. All-append CarriesBytes e.emitted (packets_of (step e.link event).emitted)
+      (right.carried (before_sent event e.sent all))
+      (new_in_flight (sent_with event e.sent) flight passed e.emitted (packets_of (step e.link event).emitted) within written all);
+}
+
+-- at an end, where the two read as the machine before and behind it
+happens_right : (e other : End) (h : Happening) (passed : ℕ) (flight : List Flying) → MayHappen e other h
+    → passed ≤ length e.emitted
+    → AreWritten (after_happening e h).sent flight (of_window (drop passed (after_happening e h).emitted))
+    → All IsWellFormed other.emitted → IsRightEnd e → IsRightEnd (after_happening e h)
+happens_right e other (moves event) passed flight may within written whole right =
+    moved_right e event passed flight (may_meet e.link event may) within written right (after_happening e (moves event)).taken e.passed
+happens_right e other misses passed flight may within written whole right =
+    record { range = right.range; whole = right.whole; carried = right.carried }
+happens_right e other (hears p) passed flight may within written whole right =
+    moved_right e (packet_found p) passed flight (there IsWellFormed other.emitted e.passed p may whole) within written right
+    (after_happening e (hears p)).taken (after_happening e (hears p)).passed
+
+module _ (near far : Announced) (near_window : IsWindow near.window) (far_window : IsWindow far.window) where
+  abbrev BothRight : Ends → Type 0
+  BothRight ends = IsRightEnd ends.near × IsRightEnd ends.far
+
+  occurs_right : (ends : Ends) (o : Occurrence) → IsRun near far ends → MayOccur ends o → BothRight ends
+      → BothRight (after_occurrence ends o)
+  occurs_right ends (at_near h) run may right =
+      let before = machine_runs links_below near far ends near_window far_window run in
+      let then = machine_runs links_below near far (after_occurrence ends (at_near h)) near_window far_window
+      (IsRun-one near far ends (at_near h) run may) in (
+        happens_right ends.near ends.far h ends.far.passed then.0.out.flight may before.2.passed then.2.flight
+            right.1.whole right.0,
+        right.1,
+      )
+  occurs_right ends (at_far h) run may right =
+      let before = machine_runs links_below near far ends near_window far_window run in
+      let then = machine_runs links_below near far (after_occurrence ends (at_far h)) near_window far_window
+      (IsRun-one near far ends (at_far h) run may) in (
+        right.0,
+        happens_right ends.far ends.near h ends.near.passed then.0.back.flight may before.3.passed then.3.flight
+            right.0.whole right.1,
+      )
+
+  occur_right : (os : List Occurrence) (ends : Ends) → IsRun near far ends → AllMayOccur ends os → BothRight ends
+      → BothRight (after_occurrences ends os)
+  occur_right [] ends run may right = right
+  occur_right (o ∷ os) ends run may right =
+      occur_right os (after_occurrence ends o) (IsRun-one near far ends o run may.0) may.1
+      (occurs_right ends o run may.0 right)
+
+  first_right : (own : Announced) (s : State) → IsAnnouncement own → IsFirst own s → IsRightEnd (first_end s)
+  first_right own s may (inl is) = record {
+    range = subst IsInRange (sym is) (range_at_first own may).0;
+    whole = All-nil IsWellFormed;
+    carried = λ all. All-nil CarriesBytes;
+  }
+  first_right own s may (inr is) = record {
+    range = subst IsInRange (sym is) (range_at_first own may).1;
+    whole = All-nil IsWellFormed;
+    carried = λ all. All-nil CarriesBytes;
   }
 
-  -- at an end, where the two read as the machine before and behind it
-  happens_right : (e other : End) (h : Happening) (passed : ℕ) (flight : List Flying) → MayHappen e other h
-      → passed ≤ length e.emitted
-      → AreWritten (after_happening e h).sent flight (of_window (drop passed (after_happening e h).emitted))
-      → All IsWellFormed other.emitted → IsRightEnd e → IsRightEnd (after_happening e h)
-  happens_right e other (moves event) passed flight may within written whole right =
-      moved_right e event passed flight (may_meet e.link event may) within written right (after_happening e (moves event)).taken e.passed
-  happens_right e other misses passed flight may within written whole right =
-      record { range = right.range; whole = right.whole; carried = right.carried }
-  happens_right e other (hears p) passed flight may within written whole right =
-      moved_right e (packet_found p) passed flight (there IsWellFormed other.emitted e.passed p may whole) within written right
-      (after_happening e (hears p)).taken (after_happening e (hears p)).passed
-
-  module _ (near far : Announced) (near_window : IsWindow near.window) (far_window : IsWindow far.window) where
-    abbrev BothRight : Ends → Type 0
-    BothRight ends = IsRightEnd ends.near × IsRightEnd ends.far
-
-    occurs_right : (ends : Ends) (o : Occurrence) → IsRun near far ends → MayOccur ends o → BothRight ends
-        → BothRight (after_occurrence ends o)
-    occurs_right ends (at_near h) run may right =
-        let before = laws.machine near far ends near_window far_window run in
-        let then = laws.machine near far (after_occurrence ends (at_near h)) near_window far_window
-        (laws.longer near far ends (at_near h) run may) in (
-          happens_right ends.near ends.far h ends.far.passed then.0.out.flight may before.2.passed then.2.flight
-              right.1.whole right.0,
-          right.1,
-        )
-    occurs_right ends (at_far h) run may right =
-        let before = laws.machine near far ends near_window far_window run in
-        let then = laws.machine near far (after_occurrence ends (at_far h)) near_window far_window
-        (laws.longer near far ends (at_far h) run may) in (
-          right.0,
-          happens_right ends.far ends.near h ends.near.passed then.0.back.flight may before.3.passed then.3.flight
-              right.0.whole right.1,
-        )
-
-    occur_right : (os : List Occurrence) (ends : Ends) → IsRun near far ends → AllMayOccur ends os → BothRight ends
-        → BothRight (after_occurrences ends os)
-    occur_right [] ends run may right = right
-    occur_right (o ∷ os) ends run may right =
-        occur_right os (after_occurrence ends o) (laws.longer near far ends o run may.0) may.1
-        (occurs_right ends o run may.0 right)
-
-    first_right : (own : Announced) (s : State) → IsAnnouncement own → IsFirst own s → IsRightEnd (first_end s)
-    first_right own s may (inl is) = record {
-      range = subst IsInRange (sym is) (laws.first own may).0;
-      whole = All-nil IsWellFormed;
-      carried = λ all. All-nil CarriesBytes;
-    }
-    first_right own s may (inr is) = record {
-      range = subst IsInRange (sym is) (laws.first own may).1;
-      whole = All-nil IsWellFormed;
-      carried = λ all. All-nil CarriesBytes;
-    }
-
-    pub run_right : (ends : Ends) → IsAnnouncement near → IsAnnouncement far → IsRun near far ends → BothRight ends
-    run_right ends near_may far_may run =
-        subst BothRight run.leads
-        (occur_right run.occurrences (first_ends run.near_first run.far_first)
-        (laws.begun near far run.near_first run.far_first run.near_is run.far_is) run.allowed
-        (first_right near run.near_first near_may run.near_is, first_right far run.far_first far_may run.far_is))
+  pub run_right : (ends : Ends) → IsAnnouncement near → IsAnnouncement far → IsRun near far ends → BothRight ends
+  run_right ends near_may far_may run =
+      subst BothRight run.leads
+      (occur_right run.occurrences (first_ends run.near_first run.far_first)
+      (IsRun-first near far run.near_first run.far_first run.near_is run.far_is) run.allowed
+      (first_right near run.near_first near_may run.near_is, first_right far run.far_first far_may run.far_is))
 
 -- what was sent is bytes, so its packets are right ones
 pub right_packets : (e : End) → IsRightEnd e → All AreBytes e.sent → All IsRight e.emitted

@@ -3,6 +3,7 @@
 use Rattle.std.proofs.Common.{◌≡◌, ◌⊎◌, inl, inr, ◌≢◌, ℕ, suc, ◌<◌, ◌≤◌, Bool, true, false, All, List, [], ◌∷◌, ◌++◌, length, length-append, slice_get, Option, Some, None, MatchOption, refl, ap, sym, subst, ◌∙◌, arith}
 use Rattle.std.proofs.lemmas.Bool.{cases_lt}
 use Rattle.std.proofs.lemmas.List.{append_assoc}
+use Rattle.uug_conversation.specs.Turns.{other}
 use Rattle.uug_link.specs.Arrivals.{IsPlace, place_of}
 use Rattle.uug_link.specs.OnTheWay.{AreComing}
 use Rattle.uug_link.specs.State.{IsPlain, IsUp}
@@ -12,22 +13,24 @@ use Rattle.uug_link.specs.TwoLinks.{End, IsRun, packets_of}
 use Rattle.uug_packet.specs.Packet.{PacketValue, close, control}
 use Rattle.uug_packet.specs.Spelling.{canonical}
 use Rattle.uug_packet.specs.WellFormed.{IsWellFormed}
-use Rattle.uug_session.specs.Arriving.{Taker, holds, takes_all, takes_if, takes_up}
+use Rattle.uug_session.specs.Arriving.{Receiver, holds, takes_all, takes_if, takes_up}
 use Rattle.uug_conversation.specs.Count.{Count, count_keeper}
 use Rattle.uug_session.specs.EndStep.{EndEffect, Stage, end_step, linked, message_of, packet_found_whole, packets, time_ran_out}
 use Rattle.uug_session.specs.Finding.{Finding, finding}
 use Rattle.uug_conversation.specs.View.{Seen, floor}
-use Rattle.uug_line.specs.declared.side.Side.{Side}
+use Rattle.uug_conversation.specs.declared.side.Side.{Side}
 use Rattle.uug_line.specs.Belongings.{Belongings, SetupValue}
-use Rattle.uug_line.specs.Code.CleanLaws.{CleanLaws}
-use Rattle.uug_line.specs.LineEnd.{LineEnd, Log, Player, bytes_in, does, found_at, messages_sent, packets_in, took}
+use Rattle.uug_line.specs.LineEnd.{LineEnd, Log, Participant, bytes_in, does, found_at, messages_sent, packets_in, took}
 use Rattle.uug_line.specs.Run.{parties}
 use Rattle.uug_line.specs.RunKeeper.{view_at}
-use Rattle.uug_line.specs.Sides.{other, AtBoth, at}
+use Rattle.uug_line.specs.Sides.{AtBoth, at}
 use Rattle.uug_line.specs.Speaking.{HasSpoken}
 use Rattle.uug_line.specs.Taking.{line_taker, packet_taken_up, takes_sent}
 use Rattle.uug_line.proofs.CleanWays.{packets_of-append}
 use Rattle.uug_line.proofs.Steps.{count_player}
+use Rattle.uug_link.proofs.ArrivalLemmas.{place_is}
+use Rattle.uug_line.proofs.CleanFinds.{found_first}
+use Rattle.uug_session.proofs.ArrivingLemmas.{takes_next}
 
 -- ---- packets on a line
 
@@ -70,8 +73,8 @@ with_line line e = record { state = e.state; log = e.log; line = line }
 abbrev pub seen : SetupValue → AtBoth Belongings → Side → List Seen
 seen setup brought side = view_at (parties setup brought) side
 
-abbrev pub taker : SetupValue → AtBoth Belongings → Side → (others : LineEnd Count) → Taker (LineEnd Count)
-taker setup brought side others = line_taker (count_player setup brought side) others.log.packets
+abbrev pub receiver : SetupValue → AtBoth Belongings → Side → (others : LineEnd Count) → Receiver (LineEnd Count)
+receiver setup brought side others = line_taker (count_player setup brought side) others.log.packets
 
 -- What is known of the end on the side and of the other one, and that it stays so: B holds of them.
 pub record Base (setup : SetupValue) (brought : AtBoth Belongings) (B : Side → LineEnd Count → LineEnd Count → Type 0) : Type 0 where
@@ -108,10 +111,10 @@ pub record FoundAt (p : PacketValue) (emitted : List PacketValue) (passed : ℕ)
   pub there : place_of p emitted passed ≡ Some place
   pub is : IsPlace p emitted passed place
 
-pub next_found : CleanLaws → (from to : End) (p : PacketValue) (ps : List PacketValue) → AreComing from to (p ∷ ps) →
+pub next_found : (from to : End) (p : PacketValue) (ps : List PacketValue) → AreComing from to (p ∷ ps) →
     FoundAt p from.emitted to.passed
-next_found law from to p ps coming =
-    by (place_of p from.emitted to.passed) refl (law.place p from.emitted to.passed)
+next_found from to p ps coming =
+    by (place_of p from.emitted to.passed) refl (place_is p from.emitted to.passed)
   where
     by : (o : Option ℕ) → place_of p from.emitted to.passed ≡ o →
         MatchOption o ((i : ℕ) → to.passed ≤ i → slice_get from.emitted i ≢ Some p)
@@ -178,8 +181,8 @@ took_more false message place log = omega arith
 pub record Came (setup : SetupValue) (brought : AtBoth Belongings) (B : Side → LineEnd Count → LineEnd Count → Type 0)
     (side : Side) (x y then : LineEnd Count) (bytes : List ℕ) : Type 0 where
   pub base : B side then x
-  pub same : (tail : List ℕ) → takes_all (taker setup brought side x) (holds (taker setup brought side x) (bytes ++ tail) y)
-      ≡ takes_all (taker setup brought side x) (holds (taker setup brought side x) tail then)
+  pub same : (tail : List ℕ) → takes_all (receiver setup brought side x) (holds (receiver setup brought side x) (bytes ++ tail) y)
+      ≡ takes_all (receiver setup brought side x) (holds (receiver setup brought side x) tail then)
   pub sent : length y.log.sent ≤ length then.log.sent
   pub taken : length y.log.taken ≤ length then.log.taken
 
@@ -187,7 +190,7 @@ pub came_on : (setup : SetupValue) (brought : AtBoth Belongings) (B : Side → L
     (side : Side) (x a b c : LineEnd Count) (first later : List ℕ) → Came setup brought B side x a b first →
     Came setup brought B side x b c later → Came setup brought B side x a c (first ++ later)
 came_on setup brought B side x a b c first later one two =
-    let t = taker setup brought side x in
+    let t = receiver setup brought side x in
     record {
       base = two.base;
       same = λ tail. ap (λ (l : List ℕ). takes_all t (holds t l a)) (append_assoc first later tail) ∙ one.same (later ++ tail)
@@ -206,29 +209,29 @@ nothing_came setup brought B side x y base = record {
 }
 
 -- a packet was found at its place
-pub came_so : CleanLaws → (setup : SetupValue) (brought : AtBoth Belongings) (B : Side → LineEnd Count → LineEnd Count → Type 0) →
+pub came_so : (setup : SetupValue) (brought : AtBoth Belongings) (B : Side → LineEnd Count → LineEnd Count → Type 0) →
     Base setup brought B → (side : Side) (x y : LineEnd Count) (p : PacketValue) (place : ℕ) → y.state.stage ≡ linked →
     IsWellFormed p → place_of p x.log.packets y.log.passed ≡ Some place → B side y x →
     Came setup brought B side x y (packet_taken_up (count_player setup brought side) p place y) (canonical p)
-came_so law setup brought B base side x y p place on formed there is =
-    let t = taker setup brought side x in
-    let player = count_player setup brought side in
-    let then = packet_taken_up player p place y in
-    let eff = with_effect player p y in
+came_so setup brought B base side x y p place on formed there is =
+    let t = receiver setup brought side x in
+    let participant = count_player setup brought side in
+    let then = packet_taken_up participant p place y in
+    let eff = with_effect participant p y in
     record {
       base = base.hears side p place y x on there is;
       same = λ tail.
           let bytes = canonical p ++ tail in
-          law.first t bytes y
+          takes_next (LineEnd Count) t bytes y
           ∙ ap (λ (f : Finding). takes_up (takes_all t) t f y)
-          (ap (λ (stage : Stage). finding stage bytes) on ∙ law.finds p tail formed)
-          ∙ ap (λ (o : Option ℕ). takes_if (takes_all t) t (takes_sent player p o y) bytes tail y) there;
+          (ap (λ (stage : Stage). finding stage bytes) on ∙ found_first p tail formed)
+          ∙ ap (λ (o : Option ℕ). takes_if (takes_all t) t (takes_sent participant p o y) bytes tail y) there;
       sent = sent_more eff;
       taken = took_more eff.took (message_of p) place y.log;
     }
   where
-    with_effect : Player Count → PacketValue → LineEnd Count → EndEffect Count
-    with_effect player p y = end_step player.keeper player.identity (packet_found_whole false p) y.state
+    with_effect : Participant Count → PacketValue → LineEnd Count → EndEffect Count
+    with_effect participant p y = end_step participant.keeper participant.identity (packet_found_whole false p) y.state
 
     sent_more : (eff : EndEffect Count) →
         length y.log.sent ≤ length ((took eff.took (message_of p) (found_at place y.log)).sent ++ messages_sent eff.emitted)

@@ -13,16 +13,18 @@ use Rattle.uug_conversation.specs.Keeper.{Keeper}
 use Rattle.uug_conversation.specs.Jobs.{Move}
 use Rattle.uug_conversation.specs.Messages.{Message, conversation_messages}
 use Rattle.uug_session.specs.Sending.{GoesOnAt, SaidAt}
-use Rattle.uug_conversation.specs.Turns.{Side as SessionSide, caller, called}
+use Rattle.uug_conversation.specs.Turns.{other}
 use Rattle.uug_conversation.specs.View.{Seen, floor, others_messages, own_messages, says, hears, seen as seen_as, view}
-use Rattle.uug_line.specs.declared.side.Side.{Side}
-use Rattle.uug_line.specs.declared.side.Side.TheVariants.{Caller, Called}
+use Rattle.uug_conversation.specs.declared.side.Side.{Side}
+use Rattle.uug_conversation.specs.declared.side.Side.TheVariants.{Caller, Called}
 use Rattle.uug_line.specs.Belongings.{Belongings, SetupValue, party}
-use Rattle.uug_line.specs.Code.CleanLaws.{CleanLaws}
 use Rattle.uug_line.specs.LineEnd.{LineEnd}
-use Rattle.uug_line.specs.Sides.{other, AtBoth, at}
+use Rattle.uug_line.specs.Sides.{AtBoth, at}
 use Rattle.uug_line.proofs.CleanBase.{Base, as_end, seen}
 use Rattle.uug_line.proofs.CleanItems.{Talks}
+use Rattle.uug_link.proofs.TwoLinksRuns.{within as links_unacked, windows}
+use Rattle.uug_link.proofs.CountsRuns.{counted as links_counted}
+use Rattle.uug_line.proofs.LowerLemmas.{links_below}
 
 -- ---- a conversation
 
@@ -30,34 +32,34 @@ use Rattle.uug_line.proofs.CleanItems.{Talks}
 abbrev SayAlike : (v w : List Seen) → Type 0
 SayAlike v w = (length (own_messages v) ≡ length (others_messages w)) × (length (own_messages w) ≡ length (others_messages v))
 
-alike_with : (speaker : SessionSide) (bytes : List ℕ) (moves : List Move) (keeps : List Kept) (v w : List Seen) → SayAlike v w →
-    SayAlike (seen_as caller speaker bytes moves keeps ∷ v) (seen_as called speaker bytes moves keeps ∷ w)
-alike_with caller bytes moves keeps v w so = (ap suc so.0, so.1)
-alike_with called bytes moves keeps v w so = (so.0, ap suc so.1)
+alike_with : (speaker : Side) (bytes : List ℕ) (moves : List Move) (keeps : List Kept) (v w : List Seen) → SayAlike v w →
+    SayAlike (seen_as Caller speaker bytes moves keeps ∷ v) (seen_as Called speaker bytes moves keeps ∷ w)
+alike_with Caller bytes moves keeps v w so = (ap suc so.0, so.1)
+alike_with Called bytes moves keeps v w so = (so.0, ap suc so.1)
 
-say_alike : (ms : List Message) → SayAlike (view caller ms) (view called ms)
+say_alike : (ms : List Message) → SayAlike (view Caller ms) (view Called ms)
 say_alike [] = (refl, refl)
-say_alike (m ∷ ms) = alike_with m.speaker m.bytes m.moves m.keeps (view caller ms) (view called ms) (say_alike ms)
+say_alike (m ∷ ms) = alike_with m.speaker m.bytes m.moves m.keeps (view Caller ms) (view Called ms) (say_alike ms)
 
 -- where each has said as many as it may before more come, all is said
 abbrev AllIsSaid : (v w : List Seen) → Type 0
 AllIsSaid v w = (j k : ℕ) → floor k v ≤ j → floor j w ≤ k → (length (own_messages v) ≤ j) × (length (own_messages w) ≤ k)
 
-said_with : (speaker : SessionSide) (bytes : List ℕ) (moves : List Move) (keeps : List Kept) (v w : List Seen) → AllIsSaid v w →
-    AllIsSaid (seen_as caller speaker bytes moves keeps ∷ v) (seen_as called speaker bytes moves keeps ∷ w)
-said_with caller bytes moves keeps v w so zero k near far = absurd (omega (arith, near))
-said_with caller bytes moves keeps v w so (suc j) k near far =
+said_with : (speaker : Side) (bytes : List ℕ) (moves : List Move) (keeps : List Kept) (v w : List Seen) → AllIsSaid v w →
+    AllIsSaid (seen_as Caller speaker bytes moves keeps ∷ v) (seen_as Called speaker bytes moves keeps ∷ w)
+said_with Caller bytes moves keeps v w so zero k near far = absurd (omega (arith, near))
+said_with Caller bytes moves keeps v w so (suc j) k near far =
     let rest = so j k (omega (arith, near)) far in
     (omega (arith, rest.0), rest.1)
-said_with called bytes moves keeps v w so j zero near far = absurd (omega (arith, far))
-said_with called bytes moves keeps v w so j (suc k) near far =
+said_with Called bytes moves keeps v w so j zero near far = absurd (omega (arith, far))
+said_with Called bytes moves keeps v w so j (suc k) near far =
     let rest = so j k near (omega (arith, far)) in
     (rest.0, omega (arith, rest.1))
 
-all_is_said : (ms : List Message) → AllIsSaid (view caller ms) (view called ms)
+all_is_said : (ms : List Message) → AllIsSaid (view Caller ms) (view Called ms)
 all_is_said [] = λ j k near far. (omega arith, omega arith)
 all_is_said (m ∷ ms) =
-    said_with m.speaker m.bytes m.moves m.keeps (view caller ms) (view called ms) (all_is_said ms)
+    said_with m.speaker m.bytes m.moves m.keeps (view Caller ms) (view Called ms) (all_is_said ms)
 
 pub floor_within : (k : ℕ) (v : List Seen) → floor k v ≤ length (own_messages v)
 floor_within k [] = omega arith
@@ -140,25 +142,25 @@ room_with s is below =
 
 -- ---- two ends
 
-module _ (law : CleanLaws) (setup : SetupValue) (brought : AtBoth Belongings) (B : Side → LineEnd Count → LineEnd Count → Type 0)
+module _ (setup : SetupValue) (brought : AtBoth Belongings) (B : Side → LineEnd Count → LineEnd Count → Type 0)
     (base : Base setup brought B) where
   abbrev CountedTo : (side : Side) (x y : LineEnd Count) → Type 0
   CountedTo side x y = AreCounted (as_end x) (as_end y) (at (other side) setup).own.window
 
   pub counted_to : (side : Side) (x y : LineEnd Count) → B side x y → CountedTo side x y
   counted_to side x y is =
-      (law.counted (at side setup).own (at (other side) setup).own (record { near = as_end x; far = as_end y })
+      (links_counted links_below (at side setup).own (at (other side) setup).own (record { near = as_end x; far = as_end y })
       (base.window side) (base.window (other side)) (base.run side x y is)).0
 
   pub counted_back : (side : Side) (x y : LineEnd Count) → B side x y →
       AreCounted (as_end y) (as_end x) (at side setup).own.window
   counted_back side x y is =
-      (law.counted (at side setup).own (at (other side) setup).own (record { near = as_end x; far = as_end y })
+      (links_counted links_below (at side setup).own (at (other side) setup).own (record { near = as_end x; far = as_end y })
       (base.window side) (base.window (other side)) (base.run side x y is)).1
 
   pub few : (side : Side) (x y : LineEnd Count) → B side x y → length x.state.link.unacked ≤ 7
   few side x y is =
-      let within = (law.unacked (at side setup).own (at (other side) setup).own (record { near = as_end x; far = as_end y })
+      let within = (links_unacked links_below (at side setup).own (at (other side) setup).own (record { near = as_end x; far = as_end y })
       (base.window side) (base.window (other side)) (base.run side x y is)).0 in
       omega (arith, within, (base.window (other side)).1)
 
@@ -186,7 +188,7 @@ module _ (law : CleanLaws) (setup : SetupValue) (brought : AtBoth Belongings) (B
       k = count_keeper (seen setup brought side)
 
       window : x.state.link.window ≡ (at (other side) setup).own.window
-      window = (law.window (at side setup).own (at (other side) setup).own (record { near = as_end x; far = as_end y })
+      window = (windows links_below (at side setup).own (at (other side) setup).own (record { near = as_end x; far = as_end y })
           (base.window side) (base.window (other side)) (base.run side x y is)).0
           (subst KnowsWindow (sym talks.is_up) tt)
 

@@ -9,8 +9,9 @@ use Rattle.uug_packet.specs.Spelling.{canonical}
 use Rattle.uug_packet.specs.WellFormed.{IsWellFormed}
 use Rattle.uug_reader.specs.Search.{search_by, search_of}
 use Rattle.uug_session.specs.EndStep.{linked}
-use Rattle.uug_session.specs.Finding.{FindingLaws, finding, finds_packet, found_with, item_finding}
-use Rattle.uug_line.specs.Code.LineLaws.{ReadsWritten}
+use Rattle.uug_session.specs.Finding.{finding, finds_packet, found_with, item_finding}
+use Rattle.uug_packet.proofs.WellFormedLemmas.{decoded-well_formed}
+use Rattle.uug_session.proofs.ArrivingLemmas.{found_more}
 
 abbrev HasBytes : List ℕ → Type 0
 HasBytes [] = ⊥
@@ -26,8 +27,8 @@ found_alone p (b ∷ s) some is =
     ap (λ (front : Result (PacketValue × ℕ) NoPacket). item_finding (search_by front (b ∷ s) (search_of s))) is
     ∙ ap (finds_packet p (b ∷ s)) (drop-length (b ∷ s))
 
-pub found_first : ReadsWritten → FindingLaws → (p : PacketValue) (rest : List ℕ) → IsWellFormed p →
+pub found_first : (p : PacketValue) (rest : List ℕ) → IsWellFormed p →
     finding linked (canonical p ++ rest) ≡ finds_packet p (canonical p ++ rest) rest
-found_first reads laws p rest formed =
-    laws.more linked (canonical p) rest
-    ∙ ap (found_with linked rest) (found_alone p (canonical p) (has_bytes p) (reads.packet p formed))
+found_first p rest formed =
+    found_more linked (canonical p) rest
+    ∙ ap (found_with linked rest) (found_alone p (canonical p) (has_bytes p) (decoded-well_formed p formed))

@@ -3,27 +3,30 @@
 use Rattle.std.proofs.Common.{◌≡◌, ◌⊎◌, inl, inr, ℕ, ◌<◌, Bool, true, false, All, List, [], ◌∷◌, ◌++◌, Option, ap, ap₂, sym, subst, ◌∙◌, arith}
 use Rattle.std.proofs.lemmas.List.{append_assoc}
 use Rattle.std.proofs.lemmas.List.Elements.{All-append, All-head, All-tail}
+use Rattle.uug_conversation.specs.Turns.{other}
 use Rattle.uug_link.specs.declared.phase.Phase.TheVariants.{Closing}
 use Rattle.uug_link.specs.OnTheWay.{AreComing, BringAll, Hears, IsTalk}
 use Rattle.uug_link.specs.State.{IsPlain, State, IsUp}
 use Rattle.uug_link.specs.Step.{moved, only, packet_found}
 use Rattle.uug_link.specs.TwoLinks.{packets_of}
-use Rattle.uug_link.proofs.OnTheWayLemmas.{still_brings}
+use Rattle.uug_link.proofs.OnTheWayLemmas.{still_brings, hears_so as link_hears}
 use Rattle.uug_packet.specs.Packet.{PacketValue, close, control}
 use Rattle.uug_packet.specs.Spelling.{canonical}
 use Rattle.uug_packet.specs.WellFormed.{IsWellFormed}
 use Rattle.uug_conversation.specs.Count.{Count, count_keeper}
 use Rattle.uug_session.specs.EndStep.{EndEffect, EndState, Emitted, end_step, linked, message_of, packet_found_whole}
 use Rattle.uug_conversation.specs.View.{Seen}
-use Rattle.uug_line.specs.declared.side.Side.{Side}
+use Rattle.uug_conversation.specs.declared.side.Side.{Side}
 use Rattle.uug_line.specs.Belongings.{Belongings, SetupValue}
-use Rattle.uug_line.specs.Code.CleanLaws.{CleanLaws}
 use Rattle.uug_line.specs.LineEnd.{LineEnd, bytes_in, found_at, packets_in, took}
-use Rattle.uug_line.specs.Sides.{other, AtBoth, at}
+use Rattle.uug_line.specs.Sides.{AtBoth, at}
 use Rattle.uug_line.specs.Taking.{packet_taken_up, with_packet}
 use Rattle.uug_line.proofs.CleanBase.{Base, Came, as_end, bytes_written, came_so, more_coming, next_found, packets_written, seen, still_coming, took_packets, took_passed, with_close, written, written-append}
 use Rattle.uug_line.proofs.CleanEnds.{ClosesThen, TalksOn, TalksOrCloses, closing_end, talks_or_closes}
 use Rattle.uug_line.proofs.Steps.{count_player}
+use Rattle.uug_link.proofs.OutcomeLemmas.{moves_of}
+use Rattle.uug_link.proofs.CountsRuns.{counted as links_counted}
+use Rattle.uug_line.proofs.LowerLemmas.{links_below}
 
 -- ---- an end that talks, while packets come to it from the other end x and others behind them
 
@@ -97,7 +100,7 @@ same_state : (e : EndState Count) (before : State) → e.stage ≡ linked → e.
     e ≡ closing_end e.number before e.keeper
 same_state e before on is = ap₂ (λ stage link. record { stage = stage; link = link; keeper = e.keeper; number = e.number }) on is
 
-module _ (law : CleanLaws) (setup : SetupValue) (brought : AtBoth Belongings) (B : Side → LineEnd Count → LineEnd Count → Type 0)
+module _ (setup : SetupValue) (brought : AtBoth Belongings) (B : Side → LineEnd Count → LineEnd Count → Type 0)
     (base : Base setup brought B) (side : Side) where
   pub formed_there : (x y : LineEnd Count) (p : PacketValue) (ps : List PacketValue) → B side y x →
       AreComing (as_end x) (as_end y) (p ∷ ps) → IsWellFormed p
@@ -108,7 +111,7 @@ module _ (law : CleanLaws) (setup : SetupValue) (brought : AtBoth Belongings) (B
 
   expected_low : (x y : LineEnd Count) → B side y x → y.state.link.expected < 8
   expected_low x y is =
-      let counted = (law.counted (at side setup).own (at (other side) setup).own (record { near = as_end y; far = as_end x })
+      let counted = (links_counted links_below (at side setup).own (at (other side) setup).own (record { near = as_end y; far = as_end x })
       (base.window side) (base.window (other side)) (base.run side y x is)).1 in
       omega (arith, counted.expected)
 
@@ -200,22 +203,22 @@ module _ (law : CleanLaws) (setup : SetupValue) (brought : AtBoth Belongings) (B
       (x y : LineEnd Count) (p : PacketValue) (ps behind qs : List PacketValue) → B side y x → Open K x y (p ∷ ps) behind qs →
       Heard setup brought B side K x y p ps behind qs
   heard K stays x y p ps behind qs is o =
-      let at_place = next_found law (as_end x) (as_end y) p (ps ++ behind) o.there.coming in
-      let player = count_player setup brought side in
-      let eff = end_step player.keeper player.identity (packet_found_whole false p) y.state in
-      let then = packet_taken_up player p at_place.place y in
+      let at_place = next_found (as_end x) (as_end y) p (ps ++ behind) o.there.coming in
+      let participant = count_player setup brought side in
+      let eff = end_step participant.keeper participant.identity (packet_found_whole false p) y.state in
+      let then = packet_taken_up participant p at_place.place y in
       let talk = All-head IsTalk p ps o.there.talk in
       let coming = still_coming (as_end x) (as_end y) (as_end then) p (ps ++ behind) at_place.place at_place.is
       (took_passed eff.took (message_of p) at_place.place y.log) o.there.coming in
-      let hears = (law.hears (at side setup).own (at (other side) setup).own (record { near = as_end y; far = as_end x }) p
+      let hears = (link_hears links_below (at side setup).own (at (other side) setup).own (record { near = as_end y; far = as_end x }) p
       (ps ++ behind) at_place.place (base.window side) (base.window (other side)) (base.run side y x is) o.talks.is_up talk
       o.there.coming at_place.is).1 in
       record {
         then = then;
-        came = came_so law setup brought B base side x y p at_place.place o.talks.stage
+        came = came_so setup brought B base side x y p at_place.place o.talks.stage
             (formed_there x y p (ps ++ behind) is o.there.coming) at_place.there is;
         coming = coming;
         how = how_then K stays x y p ps behind qs at_place.place eff (base.plain side y x is) o coming
-            (talks_or_closes (seen setup brought side) player.identity p y.state o.talks.stage o.talks.is_up
-            (expected_low x y is) (law.phases y.state.link (packet_found p) tt) hears);
+            (talks_or_closes (seen setup brought side) participant.identity p y.state o.talks.stage o.talks.is_up
+            (expected_low x y is) (moves_of y.state.link (packet_found p) tt) hears);
       }

@@ -10,18 +10,15 @@ use Rattle.uug_conversation.specs.Party.{Party}
 use Rattle.uug_conversation.specs.Talk.{Talk}
 use Rattle.uug_conversation.specs.View.{others_messages}
 use Rattle.uug_line.specs.declared.event.Event.{Event}
-use Rattle.uug_line.specs.declared.side.Side.{Side}
-use Rattle.uug_line.specs.declared.side.Side.TheVariants.{Caller, Called}
+use Rattle.uug_conversation.specs.declared.side.Side.{Side}
+use Rattle.uug_conversation.specs.declared.side.Side.TheVariants.{Caller, Called}
 use Rattle.uug_line.specs.declared.verdict.LineVerdict.{LineVerdict}
 use Rattle.uug_line.specs.declared.verdict.LineVerdict.TheVariants.{Clean}
 use Rattle.uug_line.specs.Belongings.{Belongings, SetupValue}
-use Rattle.uug_line.specs.Code.CleanLaws.{CleanLaws}
 use Rattle.uug_line.specs.LineEnd.{LineEnd}
-use Rattle.uug_line.specs.Code.LowerLaws.{Laws}
 use Rattle.uug_line.specs.OfBytes.{AreOfTypes}
 use Rattle.uug_line.specs.Run.{Run, first_run, goes_through, parties}
 use Rattle.uug_line.specs.RunKeeper.{by_numbers, has_after, has_by}
-use Rattle.uug_line.specs.Code.SessionLaws.{SessionLaws}
 use Rattle.uug_line.specs.Settle.{AreRounds, EndIsSettled, IsSettled, MaySettle, Round, Settles, SettlesFrom, events_of, late, left, passing}
 use Rattle.uug_line.specs.Sides.{AtBoth, at}
 use Rattle.uug_line.specs.Told.{EndReportValue}
@@ -33,7 +30,6 @@ use Rattle.uug_line.proofs.CleanRounds.{DonePair}
 use Rattle.uug_line.proofs.CleanRuns.{run_with, settling}
 use Rattle.uug_line.proofs.CleanSteps.{taken_within}
 use Rattle.uug_line.proofs.Joining.{IsSoundSession}
-use Rattle.uug_line.proofs.JoinedSteps.{steps}
 use Rattle.uug_line.proofs.PastLemmas.{goes_on}
 use Rattle.uug_line.proofs.Standing.{Stands, run_goes}
 
@@ -63,12 +59,12 @@ pub settles_by : (setup : SetupValue) (events : List Event) (s : SettlesFrom set
 unfolding settles_of
 settles_by setup events s = refl
 
-module _ (law : Laws) (clean : CleanLaws) (sessions : SessionLaws) (setup : SetupValue) where
+module _ (setup : SetupValue) where
   module _ (brought : AtBoth Belongings) (sound : IsSoundSession setup brought)
       (announces : (side : Side) → IsAnnouncement (at side setup).own)
       (plain : (side : Side) → (at side setup).own.quiet ≡ false) where
     abbrev base : Base setup brought (IsPair setup brought)
-    base = base_of_pairs law clean setup brought sound announces plain
+    base = base_of_pairs setup brought sound announces plain
 
     -- each of the other's messages is taken
     record TakesAll (side : Side) (x : LineEnd Count) : Type 0 where
@@ -84,8 +80,8 @@ module _ (law : Laws) (clean : CleanLaws) (sessions : SessionLaws) (setup : Setu
         let count = base.taken side x y is in
         record {
           opened = o.opened;
-          number = omega (arith, o.taken, count, taken_within clean setup brought (IsPair setup brought) base side x y is);
-          taken = taken_first law clean setup brought sound announces side x y is
+          number = omega (arith, o.taken, count, taken_within setup brought (IsPair setup brought) base side x y is);
+          taken = taken_first setup brought sound announces side x y is
               ∙ take_all (length x.log.taken) (others_messages v) (omega (arith, o.taken, count));
         }
 
@@ -125,7 +121,7 @@ module _ (law : Laws) (clean : CleanLaws) (sessions : SessionLaws) (setup : Setu
         let near = may.ends Caller in
         let far = may.ends Called in
         let fuel : ℕ = left setup (run_with past brought x y) in
-        let s = settling clean setup past brought B base fuel number x y is
+        let s = settling setup past brought B base fuel number x y is
         (record { stage = near.on_link; is_up = near.is_up }) (record { stage = far.on_link; is_up = far.is_up })
         near.timeouts far.timeouts near.empty far.empty (omega arith) in
         let p = s.path in
@@ -181,14 +177,14 @@ module _ (law : Laws) (clean : CleanLaws) (sessions : SessionLaws) (setup : Setu
       joined = pair Caller run.ends.at_caller.end run.ends.at_called.end stands.joined
 
       turned : IsPair setup run.brought Called far near
-      turned = pair_turned law clean setup run.brought stands.sound announces Caller near far joined
+      turned = pair_turned setup run.brought stands.sound announces Caller near far joined
 
       plain : (side : Side) → (at side setup).own.quiet ≡ false
       plain Caller =
-          sym (ap (λ (a : Announced). a.quiet) (pair_own law clean setup run.brought stands.sound announces Caller near far joined))
+          sym (ap (λ (a : Announced). a.quiet) (pair_own setup run.brought stands.sound announces Caller near far joined))
           ∙ (may.ends Caller).plain
       plain Called =
-          sym (ap (λ (a : Announced). a.quiet) (pair_own law clean setup run.brought stands.sound announces Called far near turned))
+          sym (ap (λ (a : Announced). a.quiet) (pair_own setup run.brought stands.sound announces Called far near turned))
           ∙ (may.ends Called).plain
 
   announcements : (events : List Event) → AreOfTypes setup events → (side : Side) → IsAnnouncement (at side setup).own
@@ -198,7 +194,7 @@ module _ (law : Laws) (clean : CleanLaws) (sessions : SessionLaws) (setup : Setu
   pub settles_from : (events : List Event) → AreOfTypes setup events → MaySettle (world setup events) →
       SettlesFrom setup (length events) (world setup events)
   settles_from events types may =
-      let g = run_goes setup (steps law setup) sessions types.sound events in
+      let g = run_goes setup types.sound events in
       subst (λ (r : Run Count). SettlesFrom setup (length events) r) g.counted_is
       (settles_run (length events) (run_of_ends setup events) g.stands (announcements events types)
       (subst (λ (r : Run Count). MaySettle r) (sym g.counted_is) may))

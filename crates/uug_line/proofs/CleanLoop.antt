@@ -1,13 +1,13 @@
 -- The program's rounds are those of the law.
 use Rattle.std.proofs.Common.{◌≡◌, ℕ, suc, ◌+◌, ◌-◌, ◌<◌, ◌≤◌, Bool, true, false, List, [], ◌∷◌, ◌++◌, length, append_assoc, refl, ap, ap₂, sym, subst, ◌∙◌, arith}
 use Rattle.std.proofs.lemmas.List.{append-nil, length-append}
-use Rattle.uug_session.specs.Arriving.{Hearer}
+use Rattle.uug_session.specs.Arriving.{Buffered}
 use Rattle.uug_conversation.specs.Count.{Count}
 use Rattle.uug_session.specs.EndStep.{time_ran_out}
 use Rattle.uug_conversation.specs.Talk.{Talk}
 use Rattle.uug_line.specs.declared.event.Event.{Event}
 use Rattle.uug_line.specs.declared.event.Event.TheVariants.{Pass, Timeout}
-use Rattle.uug_line.specs.declared.side.Side.TheVariants.{Caller, Called}
+use Rattle.uug_conversation.specs.declared.side.Side.TheVariants.{Caller, Called}
 use Rattle.uug_line.specs.declared.verdict.LineVerdict.TheVariants.{Clean, Fooled}
 use Rattle.uug_line.specs.Belongings.{SetupValue}
 use Rattle.uug_line.specs.LineEnd.{LineEnd}
@@ -15,12 +15,14 @@ use Rattle.uug_line.specs.Live.{IsCalled}
 use Rattle.uug_line.specs.Run.{Run, after_event, end_at}
 use Rattle.uug_line.specs.RunKeeper.{by_numbers, by_themselves}
 use Rattle.uug_line.specs.RunValue.{Happens, HappensAt, Passes, RunValue, StandsAs, hearing_side}
-use Rattle.uug_line.specs.Settle.{AllBringOn, AreRounds, IsOver, PassesClean, Round, Settles, SettlesFrom, behind_two, events_of, late, line_from, one_if_over, passing, run_weight}
+use Rattle.uug_line.specs.Settle.{AllBringOn, AreRounds, IsOver, PassesClean, Round, Settles, behind_two, events_of, late, line_from, one_if_over, passing, run_weight}
 use Rattle.uug_line.specs.Code.Settling.{AreOver, IsFinished, MayFinish, RoundHappens, goes, parts_weight, stops}
 use Rattle.uug_line.specs.World.{counted, run_of_ends, world}
-use Rattle.uug_line.proofs.CleanLaw.{settles_by, settles_of}
+use Rattle.uug_line.proofs.CleanLaw.{settles_by, settles_of, settles_from}
 use Rattle.uug_line.proofs.PastLemmas.{next_event}
 use Rattle.uug_line.proofs.RunLemmas.{happens_clean, happens_fooled}
+use Rattle.uug_line.proofs.Standing.{run_goes}
+use Rattle.uug_line.specs.SoundSetup.{IsSoundSetup}
 
 -- these two events behind others
 abbrev pub and_two : List Event → (first second : Event) → List Event
@@ -66,7 +68,10 @@ less_left most old new within rises = omega (arith, within, rises)
 one_more : (events : List Event) (event : Event) → length (events ++ event ∷ []) ≡ suc (length events)
 one_more events event = omega (arith, length-append events (event ∷ []))
 
-module _ (setup : SetupValue) (is_world : (events : List Event) → counted (run_of_ends setup events) ≡ world setup events) where
+module _ (setup : SetupValue) (sound : IsSoundSetup setup) where
+  is_world : (events : List Event) → counted (run_of_ends setup events) ≡ world setup events
+  is_world events = (run_goes setup sound events).counted_is
+
   abbrev IsAt : List Event → RunValue → Type 0
   IsAt events r = StandsAs setup (run_of_ends setup events) r
 
@@ -78,32 +83,32 @@ module _ (setup : SetupValue) (is_world : (events : List Event) → counted (run
   caller_line : (events : List Event) (r : RunValue) → IsAt events r → line_from Caller (world setup events) ≡ r.caller.line
   caller_line events r stands =
       ap (λ (run : Run Count). line_from Caller run) (sym (is_world events))
-      ∙ ap (λ (h : Hearer (LineEnd Talk)). h.end.line) stands.caller
+      ∙ ap (λ (h : Buffered (LineEnd Talk)). h.end.line) stands.caller
 
   called_line : (events : List Event) (r : RunValue) → IsAt events r → line_from Called (world setup events) ≡ r.called.line
   called_line events r stands =
       ap (λ (run : Run Count). line_from Called run) (sym (is_world events))
-      ∙ ap (λ (h : Hearer (LineEnd Talk)). h.end.line) stands.called
+      ∙ ap (λ (h : Buffered (LineEnd Talk)). h.end.line) stands.called
 
   world_over : (events : List Event) (r : RunValue) → IsAt events r → AreOver r → IsOver (world setup events)
   world_over events r stands over = (
     ap (λ (run : Run Count). (end_at Caller run).end.state.stage) (sym (is_world events))
-        ∙ ap (λ (h : Hearer (LineEnd Talk)). h.end.state.stage) stands.caller ∙ over.0,
+        ∙ ap (λ (h : Buffered (LineEnd Talk)). h.end.state.stage) stands.caller ∙ over.0,
     ap (λ (run : Run Count). (end_at Called run).end.state.stage) (sym (is_world events))
-        ∙ ap (λ (h : Hearer (LineEnd Talk)). h.end.state.stage) stands.called ∙ over.1,
+        ∙ ap (λ (h : Buffered (LineEnd Talk)). h.end.state.stage) stands.called ∙ over.1,
   )
 
   parts_over : (events : List Event) (r : RunValue) → IsAt events r → IsOver (world setup events) → AreOver r
   parts_over events r stands over = (
     sym (ap (λ (run : Run Count). (end_at Caller run).end.state.stage) (sym (is_world events))
-        ∙ ap (λ (h : Hearer (LineEnd Talk)). h.end.state.stage) stands.caller) ∙ over.0,
+        ∙ ap (λ (h : Buffered (LineEnd Talk)). h.end.state.stage) stands.caller) ∙ over.0,
     sym (ap (λ (run : Run Count). (end_at Called run).end.state.stage) (sym (is_world events))
-        ∙ ap (λ (h : Hearer (LineEnd Talk)). h.end.state.stage) stands.called) ∙ over.1,
+        ∙ ap (λ (h : Buffered (LineEnd Talk)). h.end.state.stage) stands.called) ∙ over.1,
   )
 
   weight_is : (events : List Event) (r : RunValue) → IsAt events r → run_weight (world setup events) ≡ parts_weight r
   weight_is events r stands =
-      let weight : (a b : Hearer (LineEnd Talk)) → ℕ = λ a b.
+      let weight : (a b : Buffered (LineEnd Talk)) → ℕ = λ a b.
       (length a.end.log.taken + length b.end.log.taken) + (length a.end.log.sent + length b.end.log.sent)
       + (one_if_over a.end.state.stage + one_if_over b.end.state.stage) in
       ap (λ (run : Run Count). run_weight run) (sym (is_world events)) ∙ ap₂ weight stands.caller stands.called
@@ -196,9 +201,10 @@ module _ (setup : SetupValue) (is_world : (events : List Event) → counted (run
   -- ---- to the end
 
   pub begins_so : (events : List Event) (all_sent : Bool) (old one two new : RunValue) → MayFinish setup events old →
-      SettlesFrom setup (length events) (world setup events) → HappensAt Caller (IsCalled time_ran_out) old one →
+      HappensAt Caller (IsCalled time_ran_out) old one →
       HappensAt Called (IsCalled time_ran_out) one two → RoundHappens all_sent two new → Nears setup events all_sent new
-  begins_so events all_sent old one two new may s caller_late called_late round =
+  begins_so events all_sent old one two new may caller_late called_late round =
+      let s = settles_from setup events may.types may.settles in
       let n = s.to_called in
       let m = s.to_caller in
       let waited = both_pushed events (Timeout Caller) (Timeout Called) old one two may.stands (refl, caller_late) (refl, called_late) in

@@ -1,5 +1,6 @@
 -- The two ends of a session in a run, told by numbers: what a clean line needs to know of them holds.
 use Rattle.std.proofs.Common.{◌≡◌, inl, inr, ℕ, ◌≤◌, true, false, All, List, length, take, Some, refl, ap, sym, subst, ◌∙◌}
+use Rattle.uug_conversation.specs.Turns.{other}
 use Rattle.uug_link.specs.Announced.{Announced}
 use Rattle.uug_link.specs.Arrivals.{place_of}
 use Rattle.uug_link.specs.InRange.{IsAnnouncement}
@@ -13,13 +14,11 @@ use Rattle.uug_session.specs.Sending.{GoesOnAt, SaidAt}
 use Rattle.uug_conversation.specs.Talk.{Talk, end_keeper}
 use Rattle.uug_session.specs.TwoEnds.{Two}
 use Rattle.uug_conversation.specs.View.{floor, others_messages}
-use Rattle.uug_line.specs.declared.side.Side.{Side}
-use Rattle.uug_line.specs.declared.side.Side.TheVariants.{Caller, Called}
+use Rattle.uug_conversation.specs.declared.side.Side.{Side}
+use Rattle.uug_conversation.specs.declared.side.Side.TheVariants.{Caller, Called}
 use Rattle.uug_line.specs.Belongings.{Belongings, SetupValue}
-use Rattle.uug_line.specs.Code.CleanLaws.{CleanLaws}
 use Rattle.uug_line.specs.LineEnd.{LineEnd, does}
-use Rattle.uug_line.specs.Code.LowerLaws.{Laws}
-use Rattle.uug_line.specs.Sides.{other, AtBoth, at, session_side}
+use Rattle.uug_line.specs.Sides.{AtBoth, at}
 use Rattle.uug_line.specs.Speaking.{HasSpoken}
 use Rattle.uug_line.specs.Taking.{packet_taken_up}
 use Rattle.uug_line.specs.World.{count_of, counted_end}
@@ -30,6 +29,9 @@ use Rattle.uug_line.proofs.JoinedSteps.{steps}
 use Rattle.uug_line.proofs.LinkLemmas.{links_run}
 use Rattle.uug_line.proofs.Steps.{Steps, count_player, talk_player}
 use Rattle.uug_line.proofs.TalkLemmas.{IsToldAt, talker_at, told_at}
+use Rattle.uug_link.proofs.TwoLinksRuns.{owns}
+use Rattle.uug_link.proofs.WrittenRuns.{always_written}
+use Rattle.uug_line.proofs.LowerLemmas.{links_below}
 
 -- the ends themselves are joined
 pub data IsPair (setup : SetupValue) (brought : AtBoth Belongings) : Side → LineEnd Count → LineEnd Count → Type 0 where
@@ -40,8 +42,8 @@ pub data IsPair (setup : SetupValue) (brought : AtBoth Belongings) : Side → Li
 
 said_by_numbers : (side : Side) (setup : SetupValue) (brought : AtBoth Belongings) (stage : Stage) (s : State) (talk : Talk)
     (count : Count) →
-    (end_keeper (session_side side) (at side setup).holdings).next talk ≡ (count_keeper (seen setup brought side)).next count →
-    SaidAt (end_keeper (session_side side) (at side setup).holdings) stage s talk →
+    (end_keeper side (at side setup).holdings).next talk ≡ (count_keeper (seen setup brought side)).next count →
+    SaidAt (end_keeper side (at side setup).holdings) stage s talk →
     SaidAt (count_keeper (seen setup brought side)) stage s count
 said_by_numbers side setup brought (hailing greeting) s talk count same said = said
 said_by_numbers side setup brought linked s talk count same (inl full) = inl full
@@ -50,8 +52,8 @@ said_by_numbers side setup brought (ended how) s talk count same said = said
 
 goes_on_by_numbers : (side : Side) (setup : SetupValue) (brought : AtBoth Belongings) (stage : Stage) (s : State) (talk : Talk)
     (count : Count) →
-    (end_keeper (session_side side) (at side setup).holdings).is_over talk ≡ (count_keeper (seen setup brought side)).is_over count →
-    GoesOnAt (end_keeper (session_side side) (at side setup).holdings) stage s talk →
+    (end_keeper side (at side setup).holdings).is_over talk ≡ (count_keeper (seen setup brought side)).is_over count →
+    GoesOnAt (end_keeper side (at side setup).holdings) stage s talk →
     GoesOnAt (count_keeper (seen setup brought side)) stage s count
 goes_on_by_numbers side setup brought (hailing greeting) s talk count same goes = goes
 goes_on_by_numbers side setup brought linked s talk count same goes = λ live. sym same ∙ goes live
@@ -73,13 +75,13 @@ relined_joined setup brought side line e f j = record {
   far_spoken = j.far_spoken;
 }
 
-module _ (law : Laws) (clean : CleanLaws) (setup : SetupValue) (brought : AtBoth Belongings) (sound : IsSoundSession setup brought)
+module _ (setup : SetupValue) (brought : AtBoth Belongings) (sound : IsSoundSession setup brought)
     (announces : (side : Side) → IsAnnouncement (at side setup).own) where
   abbrev Pair : Side → LineEnd Count → LineEnd Count → Type 0
   Pair = IsPair setup brought
 
   all_steps : Steps setup brought
-  all_steps = steps law setup brought sound
+  all_steps = steps setup brought sound
 
   pub pair_turned : (side : Side) (x y : LineEnd Count) → Pair side x y → Pair (other side) y x
   pair_turned side x y (pair s e f joined) = pair (other s) f e (all_steps.turned s e f joined)
@@ -111,7 +113,7 @@ module _ (law : Laws) (clean : CleanLaws) (setup : SetupValue) (brought : AtBoth
 
   pair_formed : (side : Side) (x y : LineEnd Count) → Pair side x y → All IsWellFormed x.log.packets
   pair_formed side x y is =
-      (clean.written (at side setup).own (at (other side) setup).own (record { near = as_end x; far = as_end y })
+      (always_written (at side setup).own (at (other side) setup).own (record { near = as_end x; far = as_end y })
       (announces side) (announces (other side)) (pair_run side x y is)).0
 
   pair_opened : (side : Side) (x y : LineEnd Count) → Pair side x y → IsUp x.state.link → x.state.keeper.opened ≡ true
@@ -129,7 +131,7 @@ module _ (law : Laws) (clean : CleanLaws) (setup : SetupValue) (brought : AtBoth
 
   pair_spoken : (side : Side) (x y : LineEnd Count) → Pair side x y → HasSpoken (count_keeper (seen setup brought side)) x.state
   pair_spoken side x y (pair s e f joined) =
-      let same = is_invariant law setup brought sound s (moment_of f) in
+      let same = is_invariant setup brought sound s (moment_of f) in
       record {
         said = said_by_numbers s setup brought e.state.stage e.state.link e.state.keeper (count_of e)
             (same.next (moment_of e) joined.joined) joined.near_spoken.said;
@@ -140,7 +142,7 @@ module _ (law : Laws) (clean : CleanLaws) (setup : SetupValue) (brought : AtBoth
   -- an end is set to what it was set up with
   pub pair_own : (side : Side) (x y : LineEnd Count) → Pair side x y → x.state.link.own ≡ (at side setup).own
   pair_own side x y is =
-      (clean.own (at side setup).own (at (other side) setup).own (record { near = as_end x; far = as_end y })
+      (owns links_below (at side setup).own (at (other side) setup).own (record { near = as_end x; far = as_end y })
       (sound.window side) (sound.window (other side)) (pair_run side x y is)).1
 
   pub base_of_pairs : ((side : Side) → (at side setup).own.quiet ≡ false) → Base setup brought (IsPair setup brought)
@@ -172,4 +174,4 @@ module _ (law : Laws) (clean : CleanLaws) (setup : SetupValue) (brought : AtBoth
       x.log.taken ≡ take (length x.log.taken) (others_messages (seen setup brought side))
   taken_first side x y (pair s e f joined) =
       let j = joined.joined in
-      taken_told s j.two (told_at setup brought law sound s j.two j.reached) e.log.taken j.near_taken
+      taken_told s j.two (told_at setup brought sound s j.two j.reached) e.log.taken j.near_taken

@@ -13,16 +13,16 @@ use Rattle.uug_session.specs.EndStep.{EndState, Stage, end_step, ended, final_te
 use Rattle.uug_session.specs.Finding.{finding}
 use Rattle.uug_session.specs.Says.{written_text}
 use Rattle.uug_conversation.specs.View.{Seen}
-use Rattle.uug_line.specs.declared.side.Side.{Side}
+use Rattle.uug_conversation.specs.declared.side.Side.{Side}
 use Rattle.uug_line.specs.Belongings.{Belongings, SetupValue, identity}
-use Rattle.uug_line.specs.Code.CleanLaws.{CleanLaws}
 use Rattle.uug_line.specs.LineEnd.{LineEnd}
 use Rattle.uug_line.specs.Sides.{AtBoth}
 use Rattle.uug_line.specs.Taking.{packet_taken_up, with_packet}
-use Rattle.uug_line.proofs.CleanBase.{Base, Came, as_end, came_on, came_so, next_found, nothing_came, seen, still_coming, taker, took_passed, written}
+use Rattle.uug_line.proofs.CleanBase.{Base, Came, as_end, came_on, came_so, next_found, nothing_came, seen, still_coming, receiver, took_passed, written}
 use Rattle.uug_line.proofs.CleanEnds.{closing_end, closing_ends, closing_ignores, done_end}
 use Rattle.uug_line.proofs.CleanItems.{Open, Shutting, ShutsWith, StaysKnown, formed_there, heard}
 use Rattle.uug_line.proofs.Steps.{count_player}
+use Rattle.uug_session.proofs.ArrivingLemmas.{takes_next}
 
 -- ---- an end that closes, and one that is done
 
@@ -85,12 +85,12 @@ pub record HeardAll (setup : SetupValue) (brought : AtBoth Belongings) (B : Side
 pub record Passed (setup : SetupValue) (brought : AtBoth Belongings) (B : Side → LineEnd Count → LineEnd Count → Type 0)
     (side : Side) (x y then : LineEnd Count) (bytes : List ℕ) : Type 0 where
   pub base : B side then x
-  pub took : takes_all (taker setup brought side x) (holds (taker setup brought side x) bytes y)
+  pub took : takes_all (receiver setup brought side x) (holds (receiver setup brought side x) bytes y)
       ≡ all_taken (record { held = []; end = then })
   pub sent : length y.log.sent ≤ length then.log.sent
   pub taken : length y.log.taken ≤ length then.log.taken
 
-module _ (law : CleanLaws) (setup : SetupValue) (brought : AtBoth Belongings) (B : Side → LineEnd Count → LineEnd Count → Type 0)
+module _ (setup : SetupValue) (brought : AtBoth Belongings) (B : Side → LineEnd Count → LineEnd Count → Type 0)
     (base : Base setup brought B) (side : Side) where
   -- ---- to one that closes
 
@@ -98,20 +98,20 @@ module _ (law : CleanLaws) (setup : SetupValue) (brought : AtBoth Belongings) (B
       y.state ≡ closing_end number before count → IsTalk p → AreComing (as_end x) (as_end y) (p ∷ rest) →
       Ignores setup brought B side x y (canonical p) rest
   ignores_as x y p rest before count number is state talk coming =
-      let at_place = next_found law (as_end x) (as_end y) p rest coming in
-      let player = count_player setup brought side in
+      let at_place = next_found (as_end x) (as_end y) p rest coming in
+      let participant = count_player setup brought side in
       let id = identity setup side in
       let v = seen setup brought side in
-      let effect = end_step player.keeper player.identity (packet_found_whole false p) y.state in
-      let then = packet_taken_up player p at_place.place y in
+      let effect = end_step participant.keeper participant.identity (packet_found_whole false p) y.state in
+      let then = packet_taken_up participant p at_place.place y in
       let on : y.state.stage ≡ linked = ap (λ (e : EndState Count). e.stage) state in
       let same : then ≡ with_packet p at_place.place y (record { state = closing_end number before count; emitted = []; took = false }) =
       ap (with_packet p at_place.place y)
-      (ap (end_step player.keeper player.identity (packet_found_whole false p)) state ∙ closing_ignores number v id p before count talk) in
+      (ap (end_step participant.keeper participant.identity (packet_found_whole false p)) state ∙ closing_ignores number v id p before count talk) in
       record {
         then = then;
-        came = came_so law setup brought B base side x y p at_place.place on
-            (formed_there law setup brought B base side x y p rest is coming) at_place.there is;
+        came = came_so setup brought B base side x y p at_place.place on
+            (formed_there setup brought B base side x y p rest is coming) at_place.there is;
         coming = still_coming (as_end x) (as_end y) (as_end then) p rest at_place.place at_place.is
             (took_passed effect.took (message_of p) at_place.place y.log) coming;
         state = ap (λ (e : LineEnd Count). e.state) same ∙ sym state;
@@ -148,20 +148,20 @@ module _ (law : CleanLaws) (setup : SetupValue) (brought : AtBoth Belongings) (B
       AreComing (as_end x) (as_end y) (control close ∷ []) → Leaves setup brought B side x y (canonical (control close))
   leaves x y is s coming =
       let p = control close in
-      let at_place = next_found law (as_end x) (as_end y) p [] coming in
-      let player = count_player setup brought side in
+      let at_place = next_found (as_end x) (as_end y) p [] coming in
+      let participant = count_player setup brought side in
       let id = identity setup side in
       let v = seen setup brought side in
-      let then = packet_taken_up player p at_place.place y in
+      let then = packet_taken_up participant p at_place.place y in
       let on : y.state.stage ≡ linked = ap (λ (e : EndState Count). e.stage) s.state in
       let same : then ≡ with_packet p at_place.place y (done_end s.number id s.before s.count) =
       ap (with_packet p at_place.place y)
-      (ap (end_step player.keeper player.identity (packet_found_whole false p)) s.state
+      (ap (end_step participant.keeper participant.identity (packet_found_whole false p)) s.state
       ∙ closing_ends s.number v id s.before s.count s.over) in
       record {
         then = then;
-        came = came_so law setup brought B base side x y p at_place.place on
-            (formed_there law setup brought B base side x y p [] is coming) at_place.there is;
+        came = came_so setup brought B base side x y p at_place.place on
+            (formed_there setup brought B base side x y p [] is coming) at_place.there is;
         stage = ap (λ (e : LineEnd Count). e.state.stage) same;
         over = ap (λ (e : LineEnd Count). (count_keeper v).is_over e.state.keeper) same ∙ s.over;
         behind = written_text (final_text id.side) ++ [];
@@ -239,7 +239,7 @@ module _ (law : CleanLaws) (setup : SetupValue) (brought : AtBoth Belongings) (B
     how = inl (qs, o);
   }
   heard_all K stays (p ∷ ps) x y behind qs is o =
-      let h = heard law setup brought B base side K stays x y p ps behind qs is o in
+      let h = heard setup brought B base side K stays x y p ps behind qs is o in
       heard_more K x y h.then p ps behind qs (All-tail IsTalk p ps o.there.talk) h.came h.coming
       (λ more. heard_all K stays ps x h.then behind more) h.how
 
@@ -249,10 +249,10 @@ module _ (law : CleanLaws) (setup : SetupValue) (brought : AtBoth Belongings) (B
   pub passed_all : (x y then : LineEnd Count) (bytes : List ℕ) → Came setup brought B side x y then bytes → then.state.stage ≡ linked →
       Passed setup brought B side x y then bytes
   passed_all x y then bytes came on =
-      let t = taker setup brought side x in
+      let t = receiver setup brought side x in
       record {
         base = came.base;
-        took = ap (λ (l : List ℕ). takes_all t (holds t l y)) (sym (append-nil bytes)) ∙ came.same [] ∙ law.first t [] then
+        took = ap (λ (l : List ℕ). takes_all t (holds t l y)) (sym (append-nil bytes)) ∙ came.same [] ∙ takes_next (LineEnd Count) t [] then
             ∙ subst (λ (stage : Stage). takes_up (takes_all t) t (finding stage []) then ≡ all_taken (holds t [] then)) (sym on) refl
             ∙ subst (λ (stage : Stage). all_taken (record { held = held_in stage []; end = then })
             ≡ all_taken (record { held = []; end = then })) (sym on) refl;
@@ -262,11 +262,11 @@ module _ (law : CleanLaws) (setup : SetupValue) (brought : AtBoth Belongings) (B
 
   -- an end that has ended forgets what comes
   pub forgets : (x y : LineEnd Count) (bytes : List ℕ) → y.state.stage ≡ ended ends.Done →
-      takes_all (taker setup brought side x) (holds (taker setup brought side x) bytes y)
+      takes_all (receiver setup brought side x) (holds (receiver setup brought side x) bytes y)
       ≡ all_taken (record { held = []; end = y })
   forgets x y bytes done =
-      let t = taker setup brought side x in
-      law.first t bytes y
+      let t = receiver setup brought side x in
+      takes_next (LineEnd Count) t bytes y
       ∙ subst (λ (stage : Stage). takes_up (takes_all t) t (finding stage bytes) y ≡ all_taken (holds t [] y)) (sym done) refl
       ∙ subst (λ (stage : Stage). all_taken (record { held = held_in stage []; end = y })
       ≡ all_taken (record { held = []; end = y })) (sym done) refl

@@ -3,6 +3,7 @@ use Rattle.std.proofs.Common.{◌≡◌, ◌⊎◌, inl, inr, ℕ, true, All, Li
 use Rattle.std.proofs.lemmas.List.{append_assoc, append-nil}
 use Rattle.std.proofs.lemmas.List.Elements.{All-nil}
 use Rattle.std.specs.Bool.{⊤}
+use Rattle.uug_conversation.specs.Turns.{other}
 use Rattle.uug_link.specs.OnTheWay.{AreComing, BringAll, IsTalk}
 use Rattle.uug_link.specs.State.{State}
 use Rattle.uug_link.specs.Step.{next_number}
@@ -12,11 +13,10 @@ use Rattle.uug_session.specs.declared.end.End.TheVariants as ends
 use Rattle.uug_conversation.specs.Count.{Count, count_keeper}
 use Rattle.uug_session.specs.EndStep.{EndState, ended, linked}
 use Rattle.uug_conversation.specs.View.{Seen}
-use Rattle.uug_line.specs.declared.side.Side.{Side}
+use Rattle.uug_conversation.specs.declared.side.Side.{Side}
 use Rattle.uug_line.specs.Belongings.{Belongings, SetupValue}
-use Rattle.uug_line.specs.Code.CleanLaws.{CleanLaws}
 use Rattle.uug_line.specs.LineEnd.{LineEnd}
-use Rattle.uug_line.specs.Sides.{other, AtBoth}
+use Rattle.uug_line.specs.Sides.{AtBoth}
 use Rattle.uug_line.proofs.CleanBase.{Base, as_end, came_on, seen, with_line, written, written-append}
 use Rattle.uug_line.proofs.CleanCounts.{all_came, none_outstanding, over_too, stuck}
 use Rattle.uug_line.proofs.CleanItems.{Back, Open, Shutting, ShutsWith, StaysKnown, Talks}
@@ -116,7 +116,7 @@ closed_line : (last : List PacketValue) → written (last ++ control close ∷ [
 closed_line last =
     written-append last (control close ∷ []) ∙ ap (λ (l : List ℕ). written last ++ l) (append-nil (canonical (control close)))
 
-module _ (law : CleanLaws) (setup : SetupValue) (brought : AtBoth Belongings) (B : Side → LineEnd Count → LineEnd Count → Type 0)
+module _ (setup : SetupValue) (brought : AtBoth Belongings) (B : Side → LineEnd Count → LineEnd Count → Type 0)
     (base : Base setup brought B) (side : Side) where
   -- the line of the other end becomes empty
   pub far_empty : (x y : LineEnd Count) → B side y x → B side y (with_line [] x)
@@ -182,11 +182,11 @@ module _ (law : CleanLaws) (setup : SetupValue) (brought : AtBoth Belongings) (B
       }
 
       h : HeardAll setup brought B side K far y (written ps) []
-      h = heard_all law setup brought B base side K (stays_known there back x.state.link) ps far y [] qs (far_empty x y is) open_to
+      h = heard_all setup brought B base side K (stays_known there back x.state.link) ps far y [] qs (far_empty x y is) open_to
 
       passed_so : h.then.state.stage ≡ linked → Passed setup brought B side far y h.then x.line
       passed_so on = subst (λ (l : List ℕ). Passed setup brought B side far y h.then l) (sym o.out.line)
-          (passed_all law setup brought B base side far y h.then (written ps) h.came on)
+          (passed_all setup brought B base side far y h.then (written ps) h.came on)
 
       by : ((qs : List PacketValue) × Open K far h.then [] [] qs) ⊎ ShutsWith (seen setup brought side) K far h.then →
           PassedTo setup brought B side x y (PassesOpen there x y)
@@ -228,7 +228,7 @@ module _ (law : CleanLaws) (setup : SetupValue) (brought : AtBoth Belongings) (B
       }
 
       h : HeardAll setup brought B side Anything far y (written last) (control close ∷ [])
-      h = heard_all law setup brought B base side Anything (λ p a b ps qs answer plain h k. tt) last far y (control close ∷ []) []
+      h = heard_all setup brought B base side Anything (λ p a b ps qs answer plain h k. tt) last far y (control close ∷ []) []
           (far_empty x y is) open_to
 
       far_base : B (other side) far h.then
@@ -242,18 +242,18 @@ module _ (law : CleanLaws) (setup : SetupValue) (brought : AtBoth Belongings) (B
           ⊎ ShutsWith (seen setup brought side) Anything far h.then →
           PassedTo setup brought B side x y (LeavesPair x)
       by (inl on) =
-          absurd (over_too law setup brought B base (other side) far h.then far_base over
-          (all_came law setup brought B base (other side) far h.then far_base on.1.there.brings) on.1.talks)
+          absurd (over_too setup brought B base (other side) far h.then far_base over
+          (all_came setup brought B base (other side) far h.then far_base on.1.there.brings) on.1.talks)
       by (inr shut) =
           let shutting = shut.shutting in
-          let l = leaves law setup brought B base side far h.then h.came.base
+          let l = leaves setup brought B base side far h.then h.came.base
           (closed_of (seen setup brought side) far h.then shutting) h.coming in
           let came = came_on setup brought B side far y h.then l.then (written last) (canonical (control close)) h.came l.came in
           record {
             then = l.then;
             passed = subst (λ (b : List ℕ). Passed setup brought B side far y l.then b)
                 (append-nil (written last ++ canonical (control close)) ∙ sym (s.shutting.line ∙ closed_line last))
-                (passed_behind law setup brought B base side far y l.then (written last ++ canonical (control close)) [] came l.stage);
+                (passed_behind setup brought B base side far y l.then (written last ++ canonical (control close)) [] came l.stage);
             holds = record {
               stage = l.stage;
               over = l.over;
@@ -286,12 +286,12 @@ module _ (law : CleanLaws) (setup : SetupValue) (brought : AtBoth Belongings) (B
       LeftPair (seen setup brought (other side)) (seen setup brought side) x y → PassedTo setup brought B side x y (EndsPair x)
   left_passes x y is l =
       let far = with_line [] x in
-      let c = closes_with law setup brought B base side far y l.last (far_empty x y is) l.closed l.talk l.coming in
+      let c = closes_with setup brought B base side far y l.last (far_empty x y is) l.closed l.talk l.coming in
       record {
         then = c.then;
         passed = subst (λ (b : List ℕ). Passed setup brought B side far y c.then b)
             (ap (λ (b : List ℕ). b ++ l.behind) (sym (closed_line l.last)) ∙ sym l.line)
-            (passed_behind law setup brought B base side far y c.then (written l.last ++ canonical (control close)) l.behind c.came
+            (passed_behind setup brought B base side far y c.then (written l.last ++ canonical (control close)) l.behind c.came
             c.stage);
         holds = record { x_stage = l.stage; y_stage = c.stage; x_over = l.over; y_over = c.over };
       }
@@ -303,7 +303,7 @@ module _ (law : CleanLaws) (setup : SetupValue) (brought : AtBoth Belongings) (B
     then = y;
     passed = record {
       base = far_empty x y is;
-      took = forgets law setup brought B base side (with_line [] x) y x.line d.y_stage;
+      took = forgets setup brought B base side (with_line [] x) y x.line d.y_stage;
       sent = omega arith;
       taken = omega arith;
     };
@@ -315,9 +315,9 @@ module _ (law : CleanLaws) (setup : SetupValue) (brought : AtBoth Belongings) (B
   pub open_is_not_idle : (there back : Certainty) (x y : LineEnd Count) → B side x y → OpenPair there back x y [] [] → ⊥
   open_is_not_idle there back x y is o =
       let far = base.turned side x y is in
-      let all = all_came law setup brought B base side x y is o.brings in
-      let all_back = all_came law setup brought B base (other side) y x far o.brings_back in
-      stuck law setup brought B base side x y is o.x_talks o.y_talks all all_back
-      (none_outstanding law setup brought B base side x y is all (then_sure back y.state.link x.state.link [] o.tells_back))
-      (none_outstanding law setup brought B base (other side) y x far all_back
+      let all = all_came setup brought B base side x y is o.brings in
+      let all_back = all_came setup brought B base (other side) y x far o.brings_back in
+      stuck setup brought B base side x y is o.x_talks o.y_talks all all_back
+      (none_outstanding setup brought B base side x y is all (then_sure back y.state.link x.state.link [] o.tells_back))
+      (none_outstanding setup brought B base (other side) y x far all_back
       (then_sure there x.state.link y.state.link [] o.tells))

@@ -4,24 +4,23 @@ use Rattle.std.proofs.lemmas.List.{take_all}
 use Rattle.std.proofs.Math.Seq.{drop-length}
 use Rattle.uug_packet.specs.Packet.{PacketValue}
 use Rattle.uug_session.specs.declared.end.End.TheVariants as ends
-use Rattle.uug_session.specs.Arriving.{Came, held_in, holds, takes_all}
+use Rattle.uug_session.specs.Arriving.{Arrival, held_in, holds, takes_all}
 use Rattle.uug_conversation.specs.Count.{Count}
 use Rattle.uug_session.specs.EndStep.{EndState, Stage, ended, hailing, linked, time_ran_out}
 use Rattle.uug_conversation.specs.View.{others_messages}
 use Rattle.uug_line.specs.declared.event.Event.{Event}
 use Rattle.uug_line.specs.declared.event.Event.TheVariants.{Pass, Timeout}
-use Rattle.uug_line.specs.declared.side.Side.{Side}
-use Rattle.uug_line.specs.declared.side.Side.TheVariants.{Caller, Called}
+use Rattle.uug_conversation.specs.declared.side.Side.{Side}
+use Rattle.uug_conversation.specs.declared.side.Side.TheVariants.{Caller, Called}
 use Rattle.uug_line.specs.declared.verdict.LineVerdict.TheVariants.{Clean}
 use Rattle.uug_line.specs.Belongings.{Belongings, SetupValue}
-use Rattle.uug_line.specs.Code.CleanLaws.{CleanLaws}
 use Rattle.uug_line.specs.LineEnd.{LineEnd, does}
 use Rattle.uug_line.specs.Run.{Run, after_event, after_hearing, goes_through}
 use Rattle.uug_line.specs.RunKeeper.{by_numbers}
 use Rattle.uug_line.specs.Settle.{AllBringOn, AreRounds, IsIdle, IsOver, PassesClean, Round, behind_two, events_of, late, line_from, one_if_over, passing, run_weight}
 use Rattle.uug_line.specs.Sides.{AtBoth}
 use Rattle.uug_line.specs.Told.{EndReportValue}
-use Rattle.uug_line.proofs.CleanBase.{Base, seen, taker, with_line}
+use Rattle.uug_line.proofs.CleanBase.{Base, seen, receiver, with_line}
 use Rattle.uug_line.proofs.CleanItems.{Talks}
 use Rattle.uug_line.proofs.CleanPasses.{Passed}
 use Rattle.uug_line.proofs.CleanRounds.{DonePair, LeftPair, OpenPair, ShutPair, none_written, open_is_not_idle, some_closing, some_closing_line}
@@ -47,22 +46,22 @@ module _ (setup : SetupValue) (past : List (AtBoth EndReportValue)) (brought : A
       after_event by_numbers setup number (Pass Called (length x.line)) (run_with past brought x y)
       ≡ run_with past brought (with_line [] x) then
   passed_to_called number x y then p =
-      let t = taker setup brought Called x in
+      let t = receiver setup brought Called x in
       let run : (line : List ℕ) → Run Count = λ line. run_with past brought (with_line line x) y in
       ap (λ (line : List ℕ). after_hearing number Called (takes_all t (holds t line y)) (run (drop (length x.line) x.line)))
       (take_all (length x.line) x.line (omega arith))
-      ∙ ap (λ (came : Came (LineEnd Count)). after_hearing number Called came (run (drop (length x.line) x.line))) p.took
+      ∙ ap (λ (came : Arrival (LineEnd Count)). after_hearing number Called came (run (drop (length x.line) x.line))) p.took
       ∙ ap (λ (line : List ℕ). run_with past brought (with_line line x) then) (drop-length x.line)
 
   pub passed_to_caller : (number : ℕ) (x y then : LineEnd Count) → Passed setup brought B Caller (with_line [] y) x then y.line →
       after_event by_numbers setup number (Pass Caller (length y.line)) (run_with past brought x y)
       ≡ run_with past brought then (with_line [] y)
   passed_to_caller number x y then p =
-      let t = taker setup brought Caller y in
+      let t = receiver setup brought Caller y in
       let run : (line : List ℕ) → Run Count = λ line. run_with past brought x (with_line line y) in
       ap (λ (line : List ℕ). after_hearing number Caller (takes_all t (holds t line x)) (run (drop (length y.line) y.line)))
       (take_all (length y.line) y.line (omega arith))
-      ∙ ap (λ (came : Came (LineEnd Count)). after_hearing number Caller came (run (drop (length y.line) y.line))) p.took
+      ∙ ap (λ (came : Arrival (LineEnd Count)). after_hearing number Caller came (run (drop (length y.line) y.line))) p.took
       ∙ ap (λ (line : List ℕ). run_with past brought then (with_line line y)) (drop-length y.line)
 
   holds_nothing : (stage : Stage) → held_in stage [] ≡ []
@@ -162,7 +161,7 @@ not_over x on = ap one_if_over on
 is_over : (x : LineEnd Count) → x.state.stage ≡ ended ends.Done → one_if_over x.state.stage ≡ 1
 is_over x done = ap one_if_over done
 
-module _ (law : CleanLaws) (setup : SetupValue) (past : List (AtBoth EndReportValue)) (brought : AtBoth Belongings)
+module _ (setup : SetupValue) (past : List (AtBoth EndReportValue)) (brought : AtBoth Belongings)
     (B : Side → LineEnd Count → LineEnd Count → Type 0) (base : Base setup brought B) where
   abbrev run_at : (x y : LineEnd Count) → Run Count
   run_at x y = run_with past brought x y
@@ -280,12 +279,12 @@ module _ (law : CleanLaws) (setup : SetupValue) (past : List (AtBoth EndReportVa
   path_left : (number : ℕ) (x y : LineEnd Count) → B Caller x y →
       LeftPair (seen setup brought Caller) (seen setup brought Called) x y → IsPathOn number x y 1
   path_left number x y is l =
-      path_last number x y (round_left law setup brought B base x y is l) (ap (λ (e : EndState Count). e.stage) l.closed.state)
+      path_last number x y (round_left setup brought B base x y is l) (ap (λ (e : EndState Count). e.stage) l.closed.state)
       (λ idle. some_closing l.last l.behind (sym l.line ∙ idle.0)) (at_most_one x.state.stage)
 
   path_shut : (number : ℕ) (x y : LineEnd Count) → B Caller x y → ShutPair (seen setup brought Caller) x y → IsPathOn number x y 1
   path_shut number x y is s =
-      path_last number x y (round_shut law setup brought B base x y is s) s.talks.stage
+      path_last number x y (round_shut setup brought B base x y is s) s.talks.stage
       (λ idle. some_closing_line s.shutting.last (sym s.shutting.line ∙ idle.0)) (at_most_one x.state.stage)
 
   -- ---- the path from where both talk
@@ -295,7 +294,7 @@ module _ (law : CleanLaws) (setup : SetupValue) (past : List (AtBoth EndReportVa
   open_not_idle there back x y ps qs is o idle =
       let out = none_written ps (sym o.out.line ∙ idle.0) in
       let home = none_written qs (sym o.home.line ∙ idle.1) in
-      open_is_not_idle law setup brought B base Caller there back x y is
+      open_is_not_idle setup brought B base Caller there back x y is
       (subst (λ (l : List PacketValue). OpenPair there back x y l []) out
       (subst (λ (l : List PacketValue). OpenPair there back x y ps l) home o))
 
@@ -307,8 +306,8 @@ module _ (law : CleanLaws) (setup : SetupValue) (past : List (AtBoth EndReportVa
   both_within x y is =
       omega (
         arith,
-        taken_within law setup brought B base Caller x y is,
-        taken_within law setup brought B base Called y x (base.turned Caller x y is),
+        taken_within setup brought B base Caller x y is,
+        taken_within setup brought B base Called y x (base.turned Caller x y is),
       )
 
   -- the next round, where fewer are left behind it if both talk on
@@ -360,11 +359,11 @@ module _ (law : CleanLaws) (setup : SetupValue) (past : List (AtBoth EndReportVa
 
       by : OpenThen setup brought sure x step_then.middle a b → IsPathOn number x y (fuel + 2)
       by (still_open qs mid later on) =
-          let grown = grows law setup brought B base x y ps qs later step_then is o mid on in
+          let grown = grows setup brought B base x y ps qs later step_then is o mid on in
           in_front (fuel + 1) (omega arith) (omega (arith, grown, more.1, x_goes, y_goes)) (rest later on grown)
       by (caller_shut shut) =
           in_front 1 (omega arith)
-          (omega (arith, shut_grows law setup brought B base x y step_then is o.x_talks shut, x_goes, y_goes))
+          (omega (arith, shut_grows setup brought B base x y step_then is o.x_talks shut, x_goes, y_goes))
           (path_shut (suc (suc number)) a b step_then.second.base shut)
       by (caller_left left) =
           in_front 1 (omega arith) (omega (arith, more.0, more.1, x_goes, y_goes, is_over a left.stage))
@@ -373,7 +372,7 @@ module _ (law : CleanLaws) (setup : SetupValue) (past : List (AtBoth EndReportVa
   pub path_open : (fuel number : ℕ) (x y : LineEnd Count) (ps : List PacketValue) → B Caller x y → OpenPair sure sure x y ps [] →
       all_of_both ≤ both_taken x y + fuel → IsPathOn number x y (fuel + 2)
   path_open zero number x y ps is o enough =
-      let s = round_open law setup brought B base sure sure x y ps [] is o in
+      let s = round_open setup brought B base sure sure x y ps [] is o in
       path_step zero number x y ps is o s
       (λ later on grown. absurd (omega (
         arith,
@@ -382,7 +381,7 @@ module _ (law : CleanLaws) (setup : SetupValue) (past : List (AtBoth EndReportVa
         both_within s.stepped.last (called_then s.stepped) s.stepped.second.base,
       )))
   path_open (suc fuel) number x y ps is o enough =
-      let s = round_open law setup brought B base sure sure x y ps [] is o in
+      let s = round_open setup brought B base sure sure x y ps [] is o in
       path_step (suc fuel) number x y ps is o s
       (λ later on grown. subst (IsPathOn (suc (suc number)) s.stepped.last (called_then s.stepped)) (omega arith)
       (path_open fuel (suc (suc number)) s.stepped.last (called_then s.stepped) later s.stepped.second.base on
@@ -447,12 +446,12 @@ module _ (law : CleanLaws) (setup : SetupValue) (past : List (AtBoth EndReportVa
       let far = base.turned Caller x y is in
       let a = does (count_player setup brought Caller) time_ran_out x in
       let b = does (count_player setup brought Called) time_ran_out y in
-      let u = waited law setup brought B base Caller x y is x_talks x_lasts x_empty in
-      let z = waited law setup brought B base Called y x far y_talks y_lasts y_empty in
+      let u = waited setup brought B base Caller x y is x_talks x_lasts x_empty in
+      let z = waited setup brought B base Called y x far y_talks y_lasts y_empty in
       let then = base.turned_back Caller b a
       (base.waits Called y a (base.turned Caller a y (base.waits Caller x y is))) in
-      let o = both_waited law setup brought B base Caller x y a b is u z in
-      let s = round_open law setup brought B base unsure unsure a b u.ps z.ps then o in
+      let o = both_waited setup brought B base Caller x y a b is u z in
+      let s = round_open setup brought B base unsure unsure a b u.ps z.ps then o in
       let p = path_then fuel (suc (suc (suc (suc number)))) a b s
       (omega (arith, enough, ap (λ (l : List (List ℕ)). length l) u.taken, ap (λ (l : List (List ℕ)). length l) z.taken)) in
       let q = behind_passes (suc (suc number)) (fuel + 2) a b s.stepped (λ over. talks_on a o.x_talks.stage over.0)

@@ -1,16 +1,16 @@
 -- What a round does to two ends where nothing is lost: messages are taken with it until both sessions are done.
 use Rattle.std.proofs.Common.{◌≡◌, ◌⊎◌, inl, inr, ℕ, ◌+◌, ◌<◌, ◌≤◌, List, [], length, ap, sym, subst, ◌∙◌, arith}
 use Rattle.std.proofs.lemmas.Bool.{cases_lt}
+use Rattle.uug_conversation.specs.Turns.{other}
 use Rattle.uug_conversation.specs.Count.{Count}
 use Rattle.uug_session.specs.EndStep.{EndState}
 use Rattle.uug_conversation.specs.View.{Seen, others_messages, own_messages}
 use Rattle.uug_packet.specs.Packet.{PacketValue}
-use Rattle.uug_line.specs.declared.side.Side.{Side}
-use Rattle.uug_line.specs.declared.side.Side.TheVariants.{Caller, Called}
+use Rattle.uug_conversation.specs.declared.side.Side.{Side}
+use Rattle.uug_conversation.specs.declared.side.Side.TheVariants.{Caller, Called}
 use Rattle.uug_line.specs.Belongings.{Belongings, SetupValue}
-use Rattle.uug_line.specs.Code.CleanLaws.{CleanLaws}
 use Rattle.uug_line.specs.LineEnd.{LineEnd}
-use Rattle.uug_line.specs.Sides.{other, AtBoth}
+use Rattle.uug_line.specs.Sides.{AtBoth}
 use Rattle.uug_line.proofs.CleanBase.{Base, seen, with_line}
 use Rattle.uug_line.proofs.CleanCounts.{OverAt, all_came, counted_back, floor_within, goes_on, none_outstanding, others_is_own, over_at, stuck}
 use Rattle.uug_line.proofs.CleanItems.{Talks}
@@ -65,7 +65,7 @@ pub record LeftStep (setup : SetupValue) (brought : AtBoth Belongings) (B : Side
   pub stepped : Stepped setup brought B x y
   pub then : DonePair (seen setup brought Caller) (seen setup brought Called) stepped.last (called_then stepped)
 
-module _ (law : CleanLaws) (setup : SetupValue) (brought : AtBoth Belongings) (B : Side → LineEnd Count → LineEnd Count → Type 0)
+module _ (setup : SetupValue) (brought : AtBoth Belongings) (B : Side → LineEnd Count → LineEnd Count → Type 0)
     (base : Base setup brought B) where
   abbrev v : List Seen
   v = seen setup brought Caller
@@ -76,19 +76,19 @@ module _ (law : CleanLaws) (setup : SetupValue) (brought : AtBoth Belongings) (B
   -- ---- where both talk
 
   open_then_open : (there back : Certainty) (x y : LineEnd Count) (ps : List PacketValue)
-      (p : PassedTo setup brought B Called x y (PassesOpen law setup brought B base Called there x y)) (qs : List PacketValue) →
+      (p : PassedTo setup brought B Called x y (PassesOpen setup brought B base Called there x y)) (qs : List PacketValue) →
       OpenPair there sure (with_line [] x) p.then [] qs → OpenStep setup brought B there x y
   open_then_open there back x y ps p qs o = by (q.holds)
     where
-      q : PassedTo setup brought B Caller p.then (with_line [] x) (PassesOpen law setup brought B base Caller sure p.then (with_line [] x))
-      q = open_passes law setup brought B base Caller sure there p.then (with_line [] x) qs []
+      q : PassedTo setup brought B Caller p.then (with_line [] x) (PassesOpen setup brought B base Caller sure p.then (with_line [] x))
+      q = open_passes setup brought B base Caller sure there p.then (with_line [] x) qs []
           (base.turned_back Caller p.then (with_line [] x) p.passed.base)
           (turned_open there sure (with_line [] x) p.then [] qs o)
 
       stepped : Stepped setup brought B x y
       stepped = record { middle = p.then; first = p.passed; last = q.then; second = q.passed }
 
-      by : PassesOpen law setup brought B base Caller sure p.then (with_line [] x) q.then → OpenStep setup brought B there x y
+      by : PassesOpen setup brought B base Caller sure p.then (with_line [] x) q.then → OpenStep setup brought B there x y
       by (inl on) = record {
         stepped = stepped;
         then = still_open qs o on.0 (turned_open sure sure (with_line [] p.then) q.then [] on.0 on.1);
@@ -96,10 +96,10 @@ module _ (law : CleanLaws) (setup : SetupValue) (brought : AtBoth Belongings) (B
       by (inr shut) = record { stepped = stepped; then = caller_shut shut }
 
   open_then_left : (there : Certainty) (x y : LineEnd Count)
-      (p : PassedTo setup brought B Called x y (PassesOpen law setup brought B base Called there x y)) →
+      (p : PassedTo setup brought B Called x y (PassesOpen setup brought B base Called there x y)) →
       ShutPair w p.then (with_line [] x) → OpenStep setup brought B there x y
   open_then_left there x y p shut =
-      let q = shut_passes law setup brought B base Caller p.then (with_line [] x)
+      let q = shut_passes setup brought B base Caller p.then (with_line [] x)
       (base.turned_back Caller p.then (with_line [] x) p.passed.base) shut in
       record {
         stepped = record { middle = p.then; first = p.passed; last = q.then; second = q.passed };
@@ -110,10 +110,10 @@ module _ (law : CleanLaws) (setup : SetupValue) (brought : AtBoth Belongings) (B
       OpenPair there back x y ps qs → OpenStep setup brought B there x y
   round_open there back x y ps qs is o = by p.holds
     where
-      p : PassedTo setup brought B Called x y (PassesOpen law setup brought B base Called there x y)
-      p = open_passes law setup brought B base Called there back x y ps qs (base.turned Caller x y is) o
+      p : PassedTo setup brought B Called x y (PassesOpen setup brought B base Called there x y)
+      p = open_passes setup brought B base Called there back x y ps qs (base.turned Caller x y is) o
 
-      by : PassesOpen law setup brought B base Called there x y p.then → OpenStep setup brought B there x y
+      by : PassesOpen setup brought B base Called there x y p.then → OpenStep setup brought B there x y
       by (inl on) = open_then_open there back x y ps p on.0 on.1
       by (inr shut) = open_then_left there x y p shut
 
@@ -121,8 +121,8 @@ module _ (law : CleanLaws) (setup : SetupValue) (brought : AtBoth Belongings) (B
 
   pub round_shut : (x y : LineEnd Count) → B Caller x y → ShutPair v x y → LeftStep setup brought B x y
   round_shut x y is s =
-      let p = shut_passes law setup brought B base Called x y (base.turned Caller x y is) s in
-      let q = left_passes law setup brought B base Caller p.then (with_line [] x)
+      let p = shut_passes setup brought B base Called x y (base.turned Caller x y is) s in
+      let q = left_passes setup brought B base Caller p.then (with_line [] x)
       (base.turned_back Caller p.then (with_line [] x) p.passed.base) p.holds in
       record {
         stepped = record { middle = p.then; first = p.passed; last = q.then; second = q.passed };
@@ -131,8 +131,8 @@ module _ (law : CleanLaws) (setup : SetupValue) (brought : AtBoth Belongings) (B
 
   pub round_left : (x y : LineEnd Count) → B Caller x y → LeftPair v w x y → LeftStep setup brought B x y
   round_left x y is l =
-      let p = left_passes law setup brought B base Called x y (base.turned Caller x y is) l in
-      let q = done_passes law setup brought B base Caller p.then (with_line [] x)
+      let p = left_passes setup brought B base Called x y (base.turned Caller x y is) l in
+      let q = done_passes setup brought B base Caller p.then (with_line [] x)
       (base.turned_back Caller p.then (with_line [] x) p.passed.base) (turned_done v w (with_line [] x) p.then p.holds) in
       record {
         stepped = record { middle = p.then; first = p.passed; last = q.then; second = q.passed };
@@ -156,10 +156,10 @@ module _ (law : CleanLaws) (setup : SetupValue) (brought : AtBoth Belongings) (B
       middle_base = base.turned_back Caller y1 x0 s.first.base
 
       y1_took : length y1.log.taken ≡ length x.log.sent
-      y1_took = all_came law setup brought B base Caller x0 y1 middle_base mid.brings
+      y1_took = all_came setup brought B base Caller x0 y1 middle_base mid.brings
 
       x1_took : length s.last.log.taken ≡ length y1.log.sent
-      x1_took = all_came law setup brought B base Called (called_then s) s.last (base.turned Caller s.last (called_then s) s.second.base)
+      x1_took = all_came setup brought B base Called (called_then s) s.last (base.turned Caller s.last (called_then s) s.second.base)
           then.brings_back
 
       by : ((both_taken x y < both_taken s.last (called_then s)) ⊎ (both_taken s.last (called_then s) ≤ both_taken x y)) →
@@ -169,9 +169,9 @@ module _ (law : CleanLaws) (setup : SetupValue) (brought : AtBoth Belongings) (B
           let y_same : length y.log.taken ≡ length y1.log.taken = omega (arith, not_grown, s.first.taken, s.second.taken) in
           let x_same : length x.log.taken ≡ length s.last.log.taken =
           omega (arith, not_grown, s.first.taken, s.second.taken) in
-          let x_none = none_outstanding law setup brought B base Caller x y is (y_same ∙ y1_took) o.tells_back in
-          let y_none = none_outstanding law setup brought B base Called y1 x0 s.first.base (x_same ∙ x1_took) mid.tells in
-          absurd (stuck law setup brought B base Caller x0 y1 middle_base mid.x_talks mid.y_talks y1_took (x_same ∙ x1_took) x_none y_none)
+          let x_none = none_outstanding setup brought B base Caller x y is (y_same ∙ y1_took) o.tells_back in
+          let y_none = none_outstanding setup brought B base Called y1 x0 s.first.base (x_same ∙ x1_took) mid.tells in
+          absurd (stuck setup brought B base Caller x0 y1 middle_base mid.x_talks mid.y_talks y1_took (x_same ∙ x1_took) x_none y_none)
 
   -- ---- an end that closes has sent or taken a message since it talked
 
@@ -203,14 +203,14 @@ module _ (law : CleanLaws) (setup : SetupValue) (brought : AtBoth Belongings) (B
           both_taken x y + both_sent x y < both_taken s.last (called_then s) + both_sent s.last (called_then s)
       by (inl fewer) rest = omega (arith, fewer, sent, s.first.sent, s.first.taken, s.second.sent, s.second.taken)
       by (inr all) (inl fewer) = omega (arith, fewer, took, s.first.sent, s.first.taken, s.second.sent, s.second.taken)
-      by (inr all) (inr all_too) = absurd (goes_on law setup brought B base Caller x y is talks all all_too)
+      by (inr all) (inr all_too) = absurd (goes_on setup brought B base Caller x y is talks all all_too)
 
   -- ---- no more is taken than the conversation has
 
   pub taken_within : (side : Side) (x y : LineEnd Count) → B side x y →
       length x.log.taken ≤ length (others_messages (seen setup brought side))
   taken_within side x y is =
-      let back = counted_back law setup brought B base side x y is in
+      let back = counted_back setup brought B base side x y is in
       omega (
         arith,
         back.were_sent,

@@ -1,17 +1,17 @@
 -- Behind a timeout at each of two ends that talk, what each has outstanding is on its line: it brings all, and tells all or
 -- will be answered.
 use Rattle.std.proofs.Common.{◌≡◌, ◌⊎◌, inl, inr, ℕ, ◌+◌, ◌-◌, ◌%◌, ◌≤◌, List, [], ◌∷◌, ◌++◌, length, refl, ap, ap₂, sym, ◌∙◌, arith}
+use Rattle.uug_conversation.specs.Turns.{other}
 use Rattle.uug_link.specs.OnTheWay.{AreComing, BringAll, Repeats, TellAll, TellOldest, expected_behind, oldest_behind}
 use Rattle.uug_link.specs.Step.{next_number, timed_out}
 use Rattle.uug_link.specs.TwoLinks.{packets_of}
 use Rattle.uug_packet.specs.Packet.{PacketValue, carry, control}
 use Rattle.uug_conversation.specs.Count.{Count}
 use Rattle.uug_session.specs.EndStep.{end_step, time_ran_out}
-use Rattle.uug_line.specs.declared.side.Side.{Side}
+use Rattle.uug_conversation.specs.declared.side.Side.{Side}
 use Rattle.uug_line.specs.Belongings.{Belongings, SetupValue}
-use Rattle.uug_line.specs.Code.CleanLaws.{CleanLaws}
 use Rattle.uug_line.specs.LineEnd.{LineEnd, bytes_in, does, packets_in}
-use Rattle.uug_line.specs.Sides.{other, AtBoth, at}
+use Rattle.uug_line.specs.Sides.{AtBoth, at}
 use Rattle.uug_line.proofs.CleanBase.{Base, as_end, bytes_written, packets_written, seen, written}
 use Rattle.uug_line.proofs.CleanCounts.{counted_back, counted_to, few}
 use Rattle.uug_line.proofs.CleanEnds.{waits_on}
@@ -19,6 +19,8 @@ use Rattle.uug_line.proofs.CleanItems.{Talks}
 use Rattle.uug_line.proofs.CleanRounds.{OpenPair}
 use Rattle.uug_line.proofs.CleanWays.{HasData, IsTold, unsure}
 use Rattle.uug_line.proofs.Steps.{count_player}
+use Rattle.uug_link.proofs.OutcomeLemmas.{moves_of}
+use Rattle.uug_line.proofs.LowerLemmas.{always_passed}
 
 -- ---- packets among which there is data, or that move nothing
 
@@ -43,18 +45,18 @@ pub record Waited (x then : LineEnd Count) : Type 0 where
   pub taken : then.log.taken ≡ x.log.taken
   pub repeats : Repeats x.state.link then.state.link ps
 
-module _ (law : CleanLaws) (setup : SetupValue) (brought : AtBoth Belongings) (B : Side → LineEnd Count → LineEnd Count → Type 0)
+module _ (setup : SetupValue) (brought : AtBoth Belongings) (B : Side → LineEnd Count → LineEnd Count → Type 0)
     (base : Base setup brought B) where
   pub waited : (side : Side) (x y : LineEnd Count) → B side x y → Talks x → x.state.link.timeouts ≤ 6 → x.line ≡ [] →
       Waited x (does (count_player setup brought side) time_ran_out x)
   waited side x y is talks lasts empty =
-      let player = count_player setup brought side in
-      let effect = end_step player.keeper player.identity time_ran_out x.state in
-      let there = counted_to law setup brought B base side x y is in
-      let back = counted_back law setup brought B base side x y is in
-      let on = waits_on (seen setup brought side) player.identity x.state talks.stage talks.is_up (omega (arith, there.oldest))
-      (omega (arith, back.expected)) (few law setup brought B base side x y is) (omega (arith, lasts))
-      (law.phases x.state.link timed_out tt) in
+      let participant = count_player setup brought side in
+      let effect = end_step participant.keeper participant.identity time_ran_out x.state in
+      let there = counted_to setup brought B base side x y is in
+      let back = counted_back setup brought B base side x y is in
+      let on = waits_on (seen setup brought side) participant.identity x.state talks.stage talks.is_up (omega (arith, there.oldest))
+      (omega (arith, back.expected)) (few setup brought B base side x y is) (omega (arith, lasts))
+      (moves_of x.state.link timed_out tt) in
       record {
         talks = record { stage = on.stage; is_up = on.repeats.is_up };
         ps = packets_of on.emissions;
@@ -71,7 +73,7 @@ module _ (law : CleanLaws) (setup : SetupValue) (brought : AtBoth Belongings) (B
   brings_again : (side : Side) (x y a b : LineEnd Count) → B side x y → (u : Waited x a) → Waited y b →
       BringAll a.state.link b.state.link u.ps
   brings_again side x y a b is u z =
-      let c = counted_to law setup brought B base side x y is in
+      let c = counted_to setup brought B base side x y is in
       let count : ℕ = length y.log.taken - c.acked in
       let within : count ≤ length x.state.link.unacked =
       omega (
@@ -81,7 +83,7 @@ module _ (law : CleanLaws) (setup : SetupValue) (brought : AtBoth Belongings) (B
         c.few,
         c.oldest,
         c.next,
-        few law setup brought B base side x y is,
+        few setup brought B base side x y is,
         (base.window (other side)).1,
       ) in
       let here : b.state.link.expected ≡ (x.state.link.oldest + count) % 8 =
@@ -91,7 +93,7 @@ module _ (law : CleanLaws) (setup : SetupValue) (brought : AtBoth Belongings) (B
   coming_again : (side : Side) (x y a b : LineEnd Count) → B side x y → (u : Waited x a) → Waited y b →
       AreComing (as_end a) (as_end b) u.ps
   coming_again side x y a b is u z =
-      let passed = (law.passed (at side setup).own (at (other side) setup).own (record { near = as_end x; far = as_end y })
+      let passed = (always_passed (at side setup).own (at (other side) setup).own (record { near = as_end x; far = as_end y })
       (base.window side) (base.window (other side)) (base.run side x y is)).1 in
       record {
         before = x.log.packets;
@@ -103,7 +105,7 @@ module _ (law : CleanLaws) (setup : SetupValue) (brought : AtBoth Belongings) (B
   all_known : (side : Side) (x y a b : LineEnd Count) → B side x y → (u : Waited x a) → (z : Waited y b) → u.ps ≡ [] →
       ((e : ℕ) → expected_behind z.ps e ≡ e) → TellAll a.state.link b.state.link u.ps
   all_known side x y a b is u z none no_data =
-      let c = counted_back law setup brought B base side x y is in
+      let c = counted_back setup brought B base side x y is in
       -- the numbers of the oldest and of the next one are the same, so nothing is outstanding
       let start : y.state.link.oldest ≡ (y.state.link.oldest + 0) % 8 = omega (arith, c.oldest) in
       let same : y.state.link.oldest ≡ next_number b.state.link =

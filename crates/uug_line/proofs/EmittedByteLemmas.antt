@@ -24,7 +24,8 @@ use Rattle.uug_session.specs.EndStep.{EndEvent, EndState, Emitted, Identity, Sta
 use Rattle.uug_session.specs.Greeting.{GreetingStep, begins_with, called_text, came_for, fails, goes_on, begins, is_expected, lets_in, name_in_caller_text, number_by, number_came, offers_g, passes_over, text_came, timed_out as greeting_timed_out}
 use Rattle.uug_conversation.specs.Keeper.{Keeper}
 use Rattle.uug_session.specs.Says.{written_text}
-use Rattle.uug_conversation.specs.Turns.{Side, caller, called}
+use Rattle.uug_conversation.specs.declared.side.Side.{Side}
+use Rattle.uug_conversation.specs.declared.side.Side.TheVariants.{Caller, Called}
 use Rattle.uug_line.specs.LineEnd.{bytes_in, packets_in}
 use Rattle.uug_line.proofs.ByteLemmas.{AllBytes, CarriesBytes, IsByte, bytewise, canonical_bytes}
 
@@ -56,8 +57,8 @@ both_say (sends_packet e ∷ xs) ys x y = both_say xs ys x y
 -- ---- on the link
 
 leave_says : (parted : Bool) (side : Side) → SaysBytes (leave parted side)
-leave_says true caller = (All-replicate IsByte 6 79 (omega arith), tt)
-leave_says true called = (All-replicate IsByte 7 79 (omega arith), tt)
+leave_says true Caller = (All-replicate IsByte 6 79 (omega arith), tt)
+leave_says true Called = (All-replicate IsByte 7 79 (omega arith), tt)
 leave_says false side = tt
 
 ends_say : (emissions : List Emission) (parted : Bool) (side : Side) → SaysBytes (packets emissions ++ leave parted side)
@@ -268,8 +269,8 @@ late_greets g =
 
 begin_says : {C : Type 0} (number : Option ℕ) (side : Side) (s : State) (c : C) (said : List Emitted) → SaysBytes said
     → SaysBytes (begins_link number side s c said).emitted
-begin_says number caller s c said is = both_say said (packets (step s to_begin).emitted) is (packets_say (step s to_begin).emitted)
-begin_says number called s c said is = is
+begin_says number Caller s c said is = both_say said (packets (step s to_begin).emitted) is (packets_say (step s to_begin).emitted)
+begin_says number Called s c said is = is
 
 greeted_says : {C : Type 0} (number : Option ℕ) (id : Identity) (how : Greeted) (said : List Emitted) (s : State) (c : C) → SaysBytes said
     → SaysBytes (greeted_so number id how said s c).emitted
@@ -300,8 +301,8 @@ step_says k id linked event e is = linked_says k id event e
 step_says k id (ended how) event e is = tt
 
 pub first_says : (side : Side) (me : List ℕ) → AllBytes me → SaysBytes (first_words side me)
-first_says caller me is = tt
-first_says called me is = texts_say (called_text me ∷ []) (called_says me is)
+first_says Caller me is = tt
+first_says Called me is = texts_say (called_text me ∷ []) (called_says me is)
 
 -- ---- as it goes out
 

@@ -9,7 +9,7 @@ use Rattle.uug_link.specs.InRange.{IsAnnouncement}
 use Rattle.uug_link.specs.State.{State}
 use Rattle.uug_link.specs.Step.{Effect, OutcomeValue, nothing, up, taken, closed, gave_up, halted, step, timed_out}
 use Rattle.uug_reader.specs.declared.reader.TheConstants.{READER_SIZE}
-use Rattle.uug_session.specs.Arriving.{Hearer, held_in}
+use Rattle.uug_session.specs.Arriving.{Buffered, held_in}
 use Rattle.uug_session.specs.EndStep.{EndEffect, EndEvent, Identity, Stage, hailing, linked, ended, begins_session, behind_greeting, end_step, late_link, line_lost, stage_step, time_ran_out, unmoved}
 use Rattle.uug_session.specs.Engine.{BeginsSession, Does, EngineState, all_ahead, bare, end_of, entry_of, hung_up, stage_late, with_stage}
 use Rattle.uug_session.specs.declared.end.End.TheVariants as ends
@@ -30,8 +30,9 @@ use Rattle.uug_conversation.specs.Talking.{talking_has_parted}
 use Rattle.uug_line.specs.JournalValue.{JournalValue, log_of}
 use Rattle.uug_line.specs.LineEnd.{LineEnd, after_call, called_with, holding, nothing_done}
 use Rattle.uug_line.specs.Live.{AreWritten, BeginsAgain, HasBegun, HasRoom, HoldsOn, IsCalled, IsNoted, IsOrdered, LiveEndValue, hearer_of, line_end_of, player_of, state_of}
-use Rattle.uug_line.specs.Code.LineLaws.{CallsAreSteps, LineLaws, ReadsWritten, StaysInRange}
 use Rattle.uug_line.proofs.SpokenLemmas.{Calls, does_so, steps_so}
+use Rattle.uug_session.proofs.CallLemmas.{late_beside, lost_beside, begun_with}
+use Rattle.uug_session.proofs.InRangeLemmas.{end_begins, first_words_can}
 
 -- ---- the bytes held
 
@@ -71,12 +72,12 @@ pub called_is : (event : EndEvent) (e : EndEffect Talk) (old called new : LiveEn
     → held_bytes new.node ≡ held_in e.state.stage (held_bytes old.node)
     → hearer_of new ≡ called_with (player_of old) event (hearer_of old)
 called_is event e old called new is calls journal line held =
-    let by_held : List ℕ → Hearer (LineEnd Talk) = λ x. record { held = x; end = line_end_of new } in
-    let by_end : LineEnd Talk → Hearer (LineEnd Talk) = λ x. record { held = held_in e.state.stage (held_bytes old.node); end = x } in
-    let by_journal : JournalValue → Hearer (LineEnd Talk) =
+    let by_held : List ℕ → Buffered (LineEnd Talk) = λ x. record { held = x; end = line_end_of new } in
+    let by_end : LineEnd Talk → Buffered (LineEnd Talk) = λ x. record { held = held_in e.state.stage (held_bytes old.node); end = x } in
+    let by_journal : JournalValue → Buffered (LineEnd Talk) =
     λ x. holding (held_bytes old.node) (after_call (log_of x) called.line e) in
-    let by_line : List ℕ → Hearer (LineEnd Talk) = λ x. holding (held_bytes old.node) (after_call (log_of old.journal) x e) in
-    let by_effect : EndEffect Talk → Hearer (LineEnd Talk) =
+    let by_line : List ℕ → Buffered (LineEnd Talk) = λ x. holding (held_bytes old.node) (after_call (log_of old.journal) x e) in
+    let by_effect : EndEffect Talk → Buffered (LineEnd Talk) =
     λ x. holding (held_bytes old.node) (after_call (log_of old.journal) old.line x) in
     ap by_held held ∙ ap by_end calls.end ∙ ap by_journal journal ∙ ap by_line line ∙ ap by_effect is
 
@@ -101,18 +102,18 @@ stage_after : (e : EndEffect Talk) (old called new : LiveEndValue) → Calls e o
 stage_after e old called new calls = ap (λ (x : LineEnd Talk). x.state.stage) calls.end
 
 -- nothing has come for some time
-pub timed_out_so : ReadsWritten → StaysInRange → CallsAreSteps → (old called new : LiveEndValue) → IsOrdered old → HasRoom old
+pub timed_out_so : (old called new : LiveEndValue) → IsOrdered old → HasRoom old
     → Does (stage_late old.node.engine.number old.node.engine.identity (talking_has_parted old.node.engine.talking) old.node.engine.stage old.node.engine.link old.node.engine.talking)
     (bare called.node.engine) old.node.engine called.node.engine
     → called.node.texts ≡ old.node.texts → called.node.packets ≡ old.node.packets → called.spool ≡ old.spool
     → called.journal ≡ old.journal → called.line ≡ old.line → IsNoted called new
     → IsCalled time_ran_out old new
-timed_out_so reads in_range steps old called new ordered room does texts packets spool journal line noted_so =
+timed_out_so old called new ordered room does texts packets spool journal line noted_so =
     let e = effect_of (holdings_of old.spool) old.spool.stored time_ran_out old.node.engine in
     let of_spool : MemoryHoldings → Type 0 = λ m. Does e (end_of (holdings_of m) m.stored called.node.engine) old.node.engine called.node.engine in
     let calls : Calls e old called new =
-    steps_so reads in_range time_ran_out old called new ordered tt
-    (subst of_spool (sym spool) (steps.late (holdings_of old.spool) old.spool.stored old.node.engine called.node.engine does))
+    steps_so time_ran_out old called new ordered tt
+    (subst of_spool (sym spool) (late_beside (holdings_of old.spool) old.spool.stored old.node.engine called.node.engine does))
     noted_so (subst (λ (j : JournalValue). AreWritten j.packets) (sym journal) ordered.written) (ap holdings_of spool) in
     calls_so time_ran_out old called new e refl room calls journal line
     (ap (λ (x : Stage). bytes_at x new.node) (stage_after e old called new calls)
@@ -138,19 +139,19 @@ held_lost parted (hailing g) n bytes = refl
 held_lost parted linked n bytes = refl
 held_lost parted (ended how) n bytes = refl
 
-pub hung_up_so : ReadsWritten → StaysInRange → CallsAreSteps → (old called new : LiveEndValue) → IsOrdered old → HasRoom old
+pub hung_up_so : (old called new : LiveEndValue) → IsOrdered old → HasRoom old
     → called.node.engine ≡ with_stage (hung_up (talking_has_parted old.node.engine.talking) old.node.engine.stage) old.node.engine
     → called.spool ≡ old.spool → called.journal ≡ old.journal → called.line ≡ old.line → IsNoted called new
     → IsCalled line_lost old new
-hung_up_so reads in_range steps old called new ordered room engine spool journal line noted_so =
+hung_up_so old called new ordered room engine spool journal line noted_so =
     let parted = talking_has_parted old.node.engine.talking in
     let stage = hung_up parted old.node.engine.stage in
     let e = effect_of (holdings_of old.spool) old.spool.stored line_lost old.node.engine in
     let is : e ≡ unmoved (end_of (holdings_of old.spool) old.spool.stored (with_stage stage old.node.engine)) =
-    steps.lost (holdings_of old.spool) old.spool.stored old.node.engine in
+    lost_beside (holdings_of old.spool) old.spool.stored old.node.engine in
     let of_spool : MemoryHoldings → Type 0 = λ m. Does e (end_of (holdings_of m) m.stored called.node.engine) old.node.engine called.node.engine in
     let calls : Calls e old called new =
-    steps_so reads in_range line_lost old called new ordered tt
+    steps_so line_lost old called new ordered tt
     (subst of_spool (sym spool) (lost_does e (holdings_of old.spool) old.spool.stored stage old.node.engine called.node.engine is engine))
     noted_so (subst (λ (j : JournalValue). AreWritten j.packets) (sym journal) ordered.written) (ap holdings_of spool) in
     let at : stage ≡ e.state.stage = ap (λ (x : EndEffect Talk). x.state.stage) (sym is) in
@@ -183,30 +184,29 @@ none_held (hailing g) = refl
 none_held linked = refl
 none_held (ended how) = refl
 
-pub begun_so : ReadsWritten → StaysInRange
-    → CallsAreSteps → (id : Identity) (own : Announced) (number : Option ℕ) (l : Lists) (called new : LiveEndValue) → IsAnnouncement own
+pub begun_so : (id : Identity) (own : Announced) (number : Option ℕ) (l : Lists) (called new : LiveEndValue) → IsAnnouncement own
     → BeginsSession id own number l [] called.node.engine → HoldsNothing called.node
     → called.journal ≡ nothing_done → called.line ≡ [] → IsNoted called new
     → HasBegun id own number l called.spool new
 unfolding with_nothing_said
-begun_so reads in_range steps id own number l called new announces session nothing_held journal line noted_so =
+begun_so id own number l called new announces session nothing_held journal line noted_so =
     let old = with_nothing_said id own called in
     let e = begins_session id own number (unopened l called.spool.stored) in
-    let range = in_range.first id own number (unopened l called.spool.stored) announces in
     let does : Does e (state_of called) old.node.engine called.node.engine = record {
-      end = steps.begins (holdings_of called.spool) called.spool.stored id own number l [] called.node.engine session;
+      end = begun_with (holdings_of called.spool) called.spool.stored id own number l [] called.node.engine session;
       emitted = session.emitted;
       identity = session.identity;
       own = session.own;
     } in
     let calls : Calls e old called new =
-    does_so reads e old called new refl (recursion_from_All CanBeWritten e.emitted range.1) does noted_so range.0 announces
+    does_so e old called new refl (recursion_from_All CanBeWritten e.emitted (first_words_can id own number (unopened l called.spool.stored))) does noted_so
+    (end_begins id own number (unopened l called.spool.stored) announces) announces
     (subst (λ (j : JournalValue). AreWritten j.packets) (sym journal) tt) refl in
     let bytes : held_bytes new.node ≡ [] =
     same_bytes new.node.engine.stage new.node called.node noted_so.texts noted_so.packets
     ∙ nothing_at new.node.engine.stage called.node nothing_held in
-    let by_held : List ℕ → Hearer (LineEnd Talk) = λ x. record { held = x; end = line_end_of new } in
-    let by_end : LineEnd Talk → Hearer (LineEnd Talk) = λ x. record { held = held_in e.state.stage []; end = x } in
+    let by_held : List ℕ → Buffered (LineEnd Talk) = λ x. record { held = x; end = line_end_of new } in
+    let by_end : LineEnd Talk → Buffered (LineEnd Talk) = λ x. record { held = held_in e.state.stage []; end = x } in
     let by_journal : JournalValue → LineEnd Talk = λ x. after_call (log_of x) called.line e in
     let by_line : List ℕ → LineEnd Talk = λ x. after_call (log_of nothing_done) x e in
     record {
@@ -218,14 +218,14 @@ begun_so reads in_range steps id own number l called new announces session nothi
     }
 
 -- the next one begins
-pub begun_again : LineLaws → (old called new : LiveEndValue) → IsOrdered old
+pub begun_again : (old called new : LiveEndValue) → IsOrdered old
     → BeginsSession old.node.engine.identity old.node.engine.own old.node.engine.number (all_ahead old.node.engine.talking.machine.lists) old.node.engine.outbox.entries
     called.node.engine → HoldsNothing called.node → called.spool ≡ old.spool
     → called.journal ≡ nothing_done → called.line ≡ [] → IsNoted called new → BeginsAgain old new
-begun_again laws old called new ordered session nothing_held spool journal line noted_so =
+begun_again old called new ordered session nothing_held spool journal line noted_so =
     let e = old.node.engine in
     let l = all_ahead e.talking.machine.lists in
     subst (λ (m : MemoryHoldings). HasBegun e.identity e.own e.number l m new) spool
-    (begun_so laws.reads laws.in_range laws.steps e.identity e.own e.number l called new ordered.own
+    (begun_so e.identity e.own e.number l called new ordered.own
     (subst (λ (es : List EntryValue). BeginsSession e.identity e.own e.number l es called.node.engine) ordered.cleared session)
     nothing_held journal line noted_so)

@@ -7,7 +7,7 @@ use Rattle.uug_conversation.specs.Jobs.{at_start}
 use Rattle.uug_conversation.specs.MemoryHoldings.{MemoryHoldings, no_holdings, holdings_of}
 use Rattle.uug_line.specs.declared.event.Event.{Event}
 use Rattle.uug_line.specs.declared.event.Event.TheVariants.{Pass, Insert}
-use Rattle.uug_line.specs.declared.side.Side.TheVariants.{Caller, Called}
+use Rattle.uug_conversation.specs.declared.side.Side.TheVariants.{Caller, Called}
 use Rattle.uug_line.specs.Belongings.{EndSetupValue, SetupValue}
 
 -- names

@@ -10,31 +10,33 @@ use Rattle.uug_packet.specs.Decoded.{decoded}
 use Rattle.uug_packet.specs.Packet.{PacketValue}
 use Rattle.uug_reader.specs.Cut.{found, bad}
 use Rattle.uug_reader.specs.Search.{Search, waiting, standing, search_by, search_of}
-use Rattle.uug_session.specs.Arriving.{Taker, Hearer, held_in, holds, Came, all_taken, stopped, takes_if, takes_up, takes_up_to, takes_piece}
+use Rattle.uug_session.specs.Arriving.{Receiver, Buffered, held_in, holds, Arrival, all_taken, stopped, takes_if, takes_up, takes_up_to, takes_piece}
 use Rattle.uug_session.specs.EndStep.{EndEffect, EndEvent, packet_found_whole, Stage, hailing, linked, ended, message_of, end_step}
-use Rattle.uug_session.specs.Finding.{Finding, finds_nothing, finds, finds_packet, text_finding, item_finding, finding, found_with, LeavesFewer, FindingLaws}
+use Rattle.uug_session.specs.Finding.{Finding, finds_nothing, finds, finds_packet, text_finding, item_finding, finding, found_with, LeavesFewer}
 use Rattle.uug_session.specs.TextsHeld.{TextSearch, text_waits, text_stands, text_too_long, search_text}
 use Rattle.uug_line.specs.Fooled.{FindsNothingMore}
-use Rattle.uug_line.specs.LineEnd.{Log, LineEnd, Player, after_call, does, found_at, packets_in, took}
+use Rattle.uug_line.specs.LineEnd.{Log, LineEnd, Participant, after_call, does, found_at, packets_in, took}
 use Rattle.uug_line.specs.Taking.{takes_sent, line_taker, packet_taken_up, with_packet}
 use Rattle.uug_line.specs.WereSent.{HavePlaces, passed_at}
-use Rattle.uug_line.proofs.PlaceLemmas.{PlaceIs, later_places, next_place}
+use Rattle.uug_line.proofs.PlaceLemmas.{later_places, next_place}
+use Rattle.uug_link.proofs.ArrivalLemmas.{place_is}
+use Rattle.uug_session.proofs.ArrivingLemmas.{found_more, found_fewer}
 
 -- ---- what is found takes a byte
 
-pub event_takes : FindingLaws → (stage : Stage) (bytes behind : List ℕ) (event : EndEvent) → finding stage bytes ≡ finds event behind →
+pub event_takes : (stage : Stage) (bytes behind : List ℕ) (event : EndEvent) → finding stage bytes ≡ finds event behind →
     length behind < length bytes
-event_takes laws stage bytes behind event is = subst (λ f. LeavesFewer f bytes) is (laws.fewer stage bytes)
+event_takes stage bytes behind event is = subst (λ f. LeavesFewer f bytes) is (found_fewer stage bytes)
 
-pub packet_takes : FindingLaws → (stage : Stage) (bytes from behind : List ℕ) (p : PacketValue) →
+pub packet_takes : (stage : Stage) (bytes from behind : List ℕ) (p : PacketValue) →
     finding stage bytes ≡ finds_packet p from behind → length behind < length bytes
-packet_takes laws stage bytes from behind p is = (subst (λ f. LeavesFewer f bytes) is (laws.fewer stage bytes)).1
+packet_takes stage bytes from behind p is = (subst (λ f. LeavesFewer f bytes) is (found_fewer stage bytes)).1
 
 -- nothing is found in what waits
-waits : FindingLaws → (stage : Stage) (bytes rest : List ℕ) → finding stage bytes ≡ finds_nothing rest →
+waits : (stage : Stage) (bytes rest : List ℕ) → finding stage bytes ≡ finds_nothing rest →
     finding stage rest ≡ finds_nothing rest
-waits laws stage bytes rest is =
-    sym (ap (finding stage) (append-nil rest)) ∙ ap (found_with stage []) (sym is) ∙ sym (laws.more stage bytes [])
+waits stage bytes rest is =
+    sym (ap (finding stage) (append-nil rest)) ∙ ap (found_with stage []) (sym is) ∙ sym (found_more stage bytes [])
     ∙ ap (finding stage) (append-nil bytes) ∙ is
 
 -- ---- a packet is found again from its first byte on
@@ -91,11 +93,11 @@ found_again (hailing g) bytes p from behind e = absurd (from_text bytes (search_
 found_again linked bytes p from behind e = packet_again (search_of bytes) p from behind (search_again bytes) e
 found_again (ended how) bytes p from behind e = absurd cc
 
-pub waits_again : FindingLaws → (stage : Stage) (bytes rest : List ℕ) → finding stage bytes ≡ finds_nothing rest →
+pub waits_again : (stage : Stage) (bytes rest : List ℕ) → finding stage bytes ≡ finds_nothing rest →
     finding stage (held_in stage rest) ≡ finds_nothing (held_in stage rest)
-waits_again laws (hailing g) bytes rest e = waits laws (hailing g) bytes rest e
-waits_again laws linked bytes rest e = waits laws linked bytes rest e
-waits_again laws (ended how) bytes rest e = refl
+waits_again (hailing g) bytes rest e = waits (hailing g) bytes rest e
+waits_again linked bytes rest e = waits linked bytes rest e
+waits_again (ended how) bytes rest e = refl
 
 pub held_fewer : (stage : Stage) (bytes : List ℕ) → length (held_in stage bytes) ≤ length bytes
 held_fewer (hailing g) bytes = omega arith
@@ -119,7 +121,7 @@ passed_behind [] i from = refl
 passed_behind (j ∷ js) i from = passed_behind js i (suc j)
 
 -- a call finds no packet, and may emit some
-pub does_found : {C : Type 0} (p : Player C) (event : EndEvent) (e f : LineEnd C) → BothFound e f → BothFound (does p event e) f
+pub does_found : {C : Type 0} (p : Participant C) (event : EndEvent) (e f : LineEnd C) → BothFound e f → BothFound (does p event e) f
 does_found p event e f both = record {
   near = record { packets = both.near.packets; places = both.near.places; passed = both.near.passed };
   far = record {
@@ -163,55 +165,55 @@ with_packet_found packet place e f effect at both = record {
   };
 }
 
-pub place_is_there : PlaceIs → (p : PacketValue) (emitted : List PacketValue) (passed place : ℕ) →
+pub place_is_there : (p : PacketValue) (emitted : List PacketValue) (passed place : ℕ) →
     place_of p emitted passed ≡ Some place → IsPlace p emitted passed place
-place_is_there place_is p emitted passed place e =
+place_is_there p emitted passed place e =
     subst (λ (o : Option ℕ). MatchOption o
     ((i : ℕ) → passed ≤ i → slice_get emitted i ≢ Some p) (λ i. IsPlace p emitted passed i)) e (place_is p emitted passed)
 
 -- ---- a piece
 
 -- the packet that stands next has no place
-pub record IsUnsent {C : Type 0} (h : Hearer (LineEnd C)) (f : LineEnd C) : Type 0 where
+pub record IsUnsent {C : Type 0} (h : Buffered (LineEnd C)) (f : LineEnd C) : Type 0 where
   pub packet : PacketValue
   pub behind : List ℕ
   pub next : finding h.end.state.stage h.held ≡ finds_packet packet h.held behind
   pub no_place : place_of packet f.log.packets h.end.log.passed ≡ None
 
-module _ (laws : FindingLaws) (place_is : PlaceIs) {C : Type 0} (p : Player C) (f : LineEnd C) where
-  abbrev taker : Taker (LineEnd C)
-  taker = line_taker p f.log.packets
+module _ {C : Type 0} (p : Participant C) (f : LineEnd C) where
+  abbrev receiver : Receiver (LineEnd C)
+  receiver = line_taker p f.log.packets
 
-  abbrev pub CameSo : Came (LineEnd C) → Type 0
+  abbrev pub CameSo : Arrival (LineEnd C) → Type 0
   CameSo (all_taken h) = BothFound h.end f × FindsNothingMore h
   CameSo (stopped h) = BothFound h.end f × IsUnsent h f
 
   -- at most so many, where fewer bytes are held
   abbrev AllCameSo : ℕ → Type 0
-  AllCameSo n = (h : Hearer (LineEnd C)) → length h.held < n → BothFound h.end f → CameSo (takes_up_to n taker h)
+  AllCameSo n = (h : Buffered (LineEnd C)) → length h.held < n → BothFound h.end f → CameSo (takes_up_to n receiver h)
 
   came_if : (n : ℕ) → AllCameSo n → (q : PacketValue) (bytes from behind : List ℕ) (place : Option ℕ) (e : LineEnd C) →
       finding e.state.stage bytes ≡ finds_packet q from behind → length bytes ≤ n → BothFound e f →
       place_of q f.log.packets e.log.passed ≡ place →
-      CameSo (takes_if (takes_up_to n taker) taker (takes_sent p q place e) from behind e)
+      CameSo (takes_if (takes_up_to n receiver) receiver (takes_sent p q place e) from behind e)
   came_if n more q bytes from behind None e found_it enough both at =
       (both, record { packet = q; behind = behind; next = found_again e.state.stage bytes q from behind found_it; no_place = at })
   came_if n more q bytes from behind (Some place) e found_it enough both at =
       let e' = packet_taken_up p q place e in
-      more (holds taker behind e')
-      (omega (arith, held_fewer e'.state.stage behind, packet_takes laws e.state.stage bytes from behind q found_it))
+      more (holds receiver behind e')
+      (omega (arith, held_fewer e'.state.stage behind, packet_takes e.state.stage bytes from behind q found_it))
       (with_packet_found q place e f (end_step p.keeper p.identity (packet_found_whole false q) e.state)
-      (place_is_there place_is q f.log.packets e.log.passed place at) both)
+      (place_is_there q f.log.packets e.log.passed place at) both)
 
   came_so : (n : ℕ) → AllCameSo n → (what : Finding) (bytes : List ℕ) (e : LineEnd C) →
       finding e.state.stage bytes ≡ what → length bytes ≤ n → BothFound e f →
-      CameSo (takes_up (takes_up_to n taker) taker what e)
+      CameSo (takes_up (takes_up_to n receiver) receiver what e)
   came_so n more (finds_nothing rest) bytes e found_it enough both =
-      (both, waits_again laws e.state.stage bytes rest found_it)
+      (both, waits_again e.state.stage bytes rest found_it)
   came_so n more (finds event behind) bytes e found_it enough both =
       let e' = does p event e in
-      more (holds taker behind e')
-      (omega (arith, held_fewer e'.state.stage behind, event_takes laws e.state.stage bytes behind event found_it))
+      more (holds receiver behind e')
+      (omega (arith, held_fewer e'.state.stage behind, event_takes e.state.stage bytes behind event found_it))
       (does_found p event e f both)
   came_so n more (finds_packet q from behind) bytes e found_it enough both =
       came_if n more q bytes from behind (place_of q f.log.packets e.log.passed) e found_it enough both refl
@@ -221,7 +223,7 @@ module _ (laws : FindingLaws) (place_is : PlaceIs) {C : Type 0} (p : Player C) (
   came_up_to (suc n) h enough both =
       came_so n (came_up_to n) (finding h.end.state.stage h.held) h.held h.end refl (omega arith) both
 
-  pub came_piece : (piece : List ℕ) (h : Hearer (LineEnd C)) → BothFound h.end f → CameSo (takes_piece taker piece h)
+  pub came_piece : (piece : List ℕ) (h : Buffered (LineEnd C)) → BothFound h.end f → CameSo (takes_piece receiver piece h)
   came_piece piece h both =
-      let held = holds taker (h.held ++ piece) h.end in
+      let held = holds receiver (h.held ++ piece) h.end in
       came_up_to (suc (length held.held)) held (omega arith) both

@@ -13,7 +13,8 @@ use Rattle.uug_session.specs.declared.greeting.Greeting.{Greeting}
 use Rattle.uug_session.specs.EndStep.{Emitted, EndState, Identity, Stage, hailing, linked, ended, begins_link, greeted_so, says_text, stage_step, text_found}
 use Rattle.uug_session.specs.Greeting.{GreetingStep, begins_with, came_for, fails, goes_on, begins, greeting_at_first, is_expected, lets_in, name_in_caller_text, number_by, number_came, offers_g, passes_over, text_came}
 use Rattle.uug_conversation.specs.Keeper.{Keeper}
-use Rattle.uug_conversation.specs.Turns.{Side, caller, called}
+use Rattle.uug_conversation.specs.declared.side.Side.{Side}
+use Rattle.uug_conversation.specs.declared.side.Side.TheVariants.{Caller, Called}
 use Rattle.uug_session.specs.WholeGreeting.{GreetingRun, step_behind, texts_came}
 use Rattle.uug_talk.specs.Call.{call_text, number_in_call}
 use Rattle.uug_talk.specs.StreamTexts.{Rest}
@@ -156,13 +157,13 @@ StandsBehind id brought texts (ended how) kept = GreetingFailed id brought texts
 
 link_begun : {C : Type 0} (number : Option ℕ) (side : Side) (link : State) (c : C) (said : List Emitted)
     → linked ≡ (begins_link number side link c said).state.stage
-link_begun number caller link c said = refl
-link_begun number called link c said = refl
+link_begun number Caller link c said = refl
+link_begun number Called link c said = refl
 
 begun_number : {C : Type 0} (number : Option ℕ) (side : Side) (link : State) (c : C) (said : List Emitted)
     → (begins_link number side link c said).state.number ≡ number
-begun_number number caller link c said = refl
-begun_number number called link c said = refl
+begun_number number Caller link c said = refl
+begun_number number Called link c said = refl
 
 greeted_number : {C : Type 0} (number : Option ℕ) (id : Identity) (how : Greeted) (said : List Emitted) (link : State) (c : C)
     → (greeted_so number id how said link c).state.number ≡ number

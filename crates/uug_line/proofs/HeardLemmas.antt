@@ -1,14 +1,12 @@
 -- What the ends of a run have found in all bytes that came to them.
-use Rattle.std.proofs.Common.{◌≡◌, ◌↔◌, inl, inr, ℕ, zero, suc, ◌<◌, Bool, true, false, ◌&&◌, List, [], ◌∷◌, ◌++◌, length, take, drop, Option, Some, None, refl, sym, ap, subst, ◌∙◌, append_assoc, arith}
+use Rattle.std.proofs.Common.{◌≡◌, inl, inr, ℕ, zero, suc, ◌<◌, Bool, true, false, ◌&&◌, List, [], ◌∷◌, ◌++◌, length, take, drop, Option, Some, None, refl, sym, ap, subst, ◌∙◌, append_assoc, arith}
 use Rattle.std.proofs.lemmas.List.{append-nil}
 use Rattle.uug_link.specs.Announced.{Announced}
 use Rattle.uug_link.specs.Arrivals.{IsPlace, place_of}
 use Rattle.uug_link.specs.Step.{Effect, OutcomeValue, nothing, up, taken, closed, gave_up, halted, step, packet_found, bad_found}
 use Rattle.uug_packet.specs.Bytes.{AreBytes}
 use Rattle.uug_packet.specs.Packet.{PacketValue}
-use Rattle.uug_packet.specs.Waits.{Waits}
 use Rattle.uug_reader.specs.Cut.{Item, found, bad}
-use Rattle.uug_reader.specs.Finding.{StandsFirst, PassesNoise}
 use Rattle.uug_reader.specs.Scan.{Finds}
 use Rattle.uug_reader.specs.Search.{Search, waiting, standing, search_of}
 use Rattle.uug_session.specs.declared.end.End.{End}
@@ -16,9 +14,9 @@ use Rattle.uug_session.specs.declared.end.End.TheVariants as ends
 use Rattle.uug_session.specs.declared.greeting.AwaitedText.{AwaitedText}
 use Rattle.uug_session.specs.declared.greeting.Greeting.{Greeting}
 use Rattle.uug_session.specs.Greeting.{greeting_at_first, number_by}
-use Rattle.uug_session.specs.Arriving.{Taker, Hearer, held_in, holds, Came, all_taken, stopped, takes_if, takes_up, takes_up_to, takes_piece}
+use Rattle.uug_session.specs.Arriving.{Receiver, Buffered, held_in, holds, Arrival, all_taken, stopped, takes_if, takes_up, takes_up_to, takes_piece}
 use Rattle.uug_session.specs.EndStep.{rises_at, EndEffect, EndEvent, EndState, Identity, time_ran_out, line_lost, text_found, long_text_found, packet_found_whole, broken_found, Stage, hailing, linked, ended, message_of, behind_link, takes_by, talks_by, begins_session, stage_step, end_step}
-use Rattle.uug_session.specs.Finding.{Finding, finds_nothing, finds, finds_packet, text_finding, item_finding, finding, behind_long_text, FindingLaws}
+use Rattle.uug_session.specs.Finding.{Finding, finds_nothing, finds, finds_packet, text_finding, item_finding, finding, behind_long_text}
 use Rattle.uug_conversation.specs.Keeper.{Keeper}
 use Rattle.uug_session.specs.TextsFound.{Taken}
 use Rattle.uug_session.proofs.NumberLemmas.{step_number}
@@ -27,50 +25,37 @@ use Rattle.uug_talk.specs.StreamTexts.{StandBefore}
 use Rattle.uug_talk.specs.Texts.{Passing}
 use Rattle.uug_line.specs.declared.event.Event.{Event}
 use Rattle.uug_line.specs.declared.event.Event.TheVariants.{Pass, Drop, Flip, Insert, Timeout, HangUp, Call}
-use Rattle.uug_line.specs.declared.side.Side.{Side}
-use Rattle.uug_line.specs.declared.side.Side.TheVariants.{Caller, Called}
+use Rattle.uug_conversation.specs.declared.side.Side.{Side}
+use Rattle.uug_conversation.specs.declared.side.Side.TheVariants.{Caller, Called}
 use Rattle.uug_line.specs.declared.verdict.LineVerdict.{LineVerdict}
 use Rattle.uug_line.specs.declared.verdict.LineVerdict.TheVariants.{Clean, Fooled}
 use Rattle.uug_line.specs.Belongings.{Belongings, SetupValue, renewed}
 use Rattle.uug_line.specs.Delivered.{EndedOnLink, GreetsOn, LinkBeganWith, event_of, nothing_came, comes, while_clean, comes_with, came_in, packets_among, IsLeft, HasHeard, HasHeardAt, HasScanned}
 use Rattle.uug_line.specs.Fooled.{FindsNothingMore}
 use Rattle.uug_line.specs.Report.{report_of_end}
-use Rattle.uug_line.specs.Run.{Run, end_at, player, has_now, first_run, session_begins, flipped, with_line_to, hears_next, after_hearing, calls, hung_up, after_event, unless_fooled, goes_through, run_of}
+use Rattle.uug_line.specs.Run.{Run, end_at, participant, has_now, first_run, session_begins, flipped, with_line_to, hears_next, after_hearing, calls, hung_up, after_event, unless_fooled, goes_through, run_of}
 use Rattle.uug_line.specs.RunKeeper.{RunKeeper}
 use Rattle.uug_line.specs.Sides.{AtBoth, at, at_each}
-use Rattle.uug_line.specs.LineEnd.{LineEnd, Player, does, called_with, found_at, packets_in, took}
+use Rattle.uug_line.specs.LineEnd.{LineEnd, Participant, does, called_with, found_at, packets_in, took}
 use Rattle.uug_line.specs.Taking.{takes_sent, line_taker, packet_taken_up, with_packet}
 use Rattle.uug_line.specs.WereSent.{HavePlaces, passed_at}
 use Rattle.uug_line.specs.Told.{EndReportValue}
 use Rattle.uug_line.proofs.FoundLemmas.{event_takes, packet_takes, held_fewer, passed_behind, place_is_there, took_packets}
 use Rattle.uug_line.proofs.GreetedLemmas.{StandsBehind, text_leads}
-use Rattle.uug_line.proofs.PlaceLemmas.{PlaceIs, later_places, next_place}
+use Rattle.uug_line.proofs.PlaceLemmas.{later_places, next_place}
 use Rattle.uug_line.proofs.VerdictLemmas.{StaysOrEnds, UsesNoBytes, call_stays}
-
--- what the laws of texts and of the scan say
-pub record HeardLaws : Type 0 where
-  pub texts_more : (texts : List (List ℕ)) (accepted held more : List ℕ) → Taken texts accepted held → Taken texts (accepted ++ more) (held ++ more)
-  pub text_stands_there : (texts : List (List ℕ)) (accepted held text others : List ℕ) → Taken texts accepted held
-      → search_text held ≡ text_stands text others → StandBefore (texts ++ text ∷ []) (drop (size_of_text text) others) accepted
-  pub right_behind : (texts : List (List ℕ)) (accepted held : List ℕ) → StandBefore texts held accepted → Taken texts accepted held
-  pub texts_wait : (texts : List (List ℕ)) (accepted held rest : List ℕ) → Taken texts accepted held → search_text held ≡ text_waits rest → Taken texts accepted rest
-  pub none : (s : List ℕ) → Finds s [] s
-  pub item : (s : List ℕ) (item : Item) (n : ℕ) → StandsFirst item n s → Finds s (item ∷ []) (drop n s)
-  pub more : (s middle others : List ℕ) (items more : List Item) → Finds s items middle → Finds middle more others → Finds s (items ++ more) others
-  pub behind : (s others t : List ℕ) (items : List Item) → Finds s items others → Finds (s ++ t) items (others ++ t)
-  pub stands : (s others : List ℕ) (item : Item) (n : ℕ) → AreBytes s → (search_of s ≡ standing item n others) ↔ (PassesNoise s others × StandsFirst item n others)
-  pub waits : (s rest : List ℕ) → AreBytes s → (search_of s ≡ waiting rest) ↔ (PassesNoise s rest × Waits rest)
-  pub text_bytes : (texts : List (List ℕ)) (rest stream : List ℕ) → StandBefore texts rest stream → AreBytes stream → AreBytes rest
-  pub item_bytes : (s others : List ℕ) (items : List Item) → Finds s items others → AreBytes s → AreBytes others
-  pub front_bytes : (front others : List ℕ) → AreBytes (front ++ others) → AreBytes front
+use Rattle.uug_reader.proofs.ScanLemmas.{Finds-none, Finds-item, Finds-join, Finds-append}
+use Rattle.uug_reader.proofs.SearchLemmas.{search_finds_item, search_finds_rest}
+use Rattle.uug_session.proofs.FoundLemmas.{bytes_behind_texts, bytes_found, bytes_in_front}
+use Rattle.uug_session.proofs.TextCallLemmas.{taken_right_behind, taken_more, first_taken, taken_searched}
 
 -- ---- what an end has heard, and how many packets were found or gone past
 
-pub record HearsSo {C : Type 0} (p : Player C) (brought : Option ℕ) (came : List ℕ) (now : EndState C) (held arrivals : List ℕ) (passed : ℕ) (emitted : List PacketValue) : Type 0 where
+pub record HearsSo {C : Type 0} (p : Participant C) (brought : Option ℕ) (came : List ℕ) (now : EndState C) (held arrivals : List ℕ) (passed : ℕ) (emitted : List PacketValue) : Type 0 where
   pub heard : HasHeard p brought came now held arrivals emitted
   pub past : passed ≡ passed_at arrivals 0
 
-abbrev pub Hears : {C : Type 0} → Player C → (brought : Option ℕ) → (came : List ℕ) → Hearer (LineEnd C) → (emitted : List PacketValue) → Type 0
+abbrev pub Hears : {C : Type 0} → Participant C → (brought : Option ℕ) → (came : List ℕ) → Buffered (LineEnd C) → (emitted : List PacketValue) → Type 0
 Hears p brought came h emitted = HearsSo p brought came h.end.state h.held h.end.log.arrivals h.end.log.passed emitted
 
 packets_joined : (items more : List Item) → packets_among (items ++ more) ≡ packets_among items ++ packets_among more
@@ -79,7 +64,7 @@ packets_joined (found p ∷ items) more = ap (λ (ps : List PacketValue). p ∷ 
 packets_joined (bad ∷ items) more = packets_joined items more
 
 -- the other end emits more
-pub emits_more : {C : Type 0} (p : Player C) (brought : Option ℕ) (came : List ℕ) (now : EndState C) (held arrivals : List ℕ) (passed : ℕ) (emitted more : List PacketValue)
+pub emits_more : {C : Type 0} (p : Participant C) (brought : Option ℕ) (came : List ℕ) (now : EndState C) (held arrivals : List ℕ) (passed : ℕ) (emitted more : List PacketValue)
     → HearsSo p brought came now held arrivals passed emitted → HearsSo p brought came now held arrivals passed (emitted ++ more)
 emits_more p brought came now held arrivals passed emitted more x = record {
   heard = record {
@@ -96,7 +81,7 @@ emits_more p brought came now held arrivals passed emitted more x = record {
 }
 
 -- a call has ended an end that was on its link
-over_by_call : {C : Type 0} (p : Player C) (event : EndEvent) (e : EndState C) (items : List Item) → UsesNoBytes event → e.stage ≡ linked
+over_by_call : {C : Type 0} (p : Participant C) (event : EndEvent) (e : EndState C) (items : List Item) → UsesNoBytes event → e.stage ≡ linked
     → EndedOnLink p items (end_step p.keeper p.identity event e).state
 over_by_call p time_ran_out e items uses on = inr (inl (record { before = e; on_link = on; step = refl }))
 over_by_call p line_lost e items uses on = inr (inr (record { before = e; on_link = on; step = refl }))
@@ -116,16 +101,16 @@ quiet_call id number (hailing g) broken_found uses = absurd uses
 quiet_call id number linked event uses = refl
 quiet_call id number (ended how) event uses = refl
 
-call_keeps : {C : Type 0} (p : Player C) (event : EndEvent) (e : EndState C) → UsesNoBytes event → (end_step p.keeper p.identity event e).state.number ≡ e.number
+call_keeps : {C : Type 0} (p : Participant C) (event : EndEvent) (e : EndState C) → UsesNoBytes event → (end_step p.keeper p.identity event e).state.number ≡ e.number
 call_keeps p event e uses =
     step_number p.keeper p.identity event e ∙ ap (λ (b : Bool). number_by b e.number) (quiet_call p.identity e.number e.stage event uses)
 
-on_link_keeps : {C : Type 0} (p : Player C) (event : EndEvent) (e : EndState C) → e.stage ≡ linked → (end_step p.keeper p.identity event e).state.number ≡ e.number
+on_link_keeps : {C : Type 0} (p : Participant C) (event : EndEvent) (e : EndState C) → e.stage ≡ linked → (end_step p.keeper p.identity event e).state.number ≡ e.number
 on_link_keeps p event e on =
     step_number p.keeper p.identity event e ∙ ap (λ (s : Stage). number_by (rises_at p.identity e.number s event) e.number) on
 
 -- the stage moves, and no bytes are used
-left_then : {C : Type 0} (p : Player C) (brought : Option ℕ) (event : EndEvent) (e : EndState C) (s t : Stage) (texts : List (List ℕ)) (items : List Item)
+left_then : {C : Type 0} (p : Participant C) (brought : Option ℕ) (event : EndEvent) (e : EndState C) (s t : Stage) (texts : List (List ℕ)) (items : List Item)
     (others came held : List ℕ) → UsesNoBytes event → e.stage ≡ s → StaysOrEnds s t → IsLeft p brought s e texts items others came held
     → IsLeft p brought t (end_step p.keeper p.identity event e).state texts items others came (held_in t held)
 left_then p brought event e (hailing g) (ended how) texts items others came held uses is stays left =
@@ -149,7 +134,7 @@ left_then p brought event e linked (hailing h) texts items others came held uses
 left_then p brought event e (ended how) (hailing h) texts items others came held uses is stays left = absurd stays
 left_then p brought event e (ended how) linked texts items others came held uses is stays left = absurd stays
 
-pub called_hears : {C : Type 0} (p : Player C) (brought : Option ℕ) (event : EndEvent) (h : Hearer (LineEnd C)) (came : List ℕ) (emitted : List PacketValue)
+pub called_hears : {C : Type 0} (p : Participant C) (brought : Option ℕ) (event : EndEvent) (h : Buffered (LineEnd C)) (came : List ℕ) (emitted : List PacketValue)
     → UsesNoBytes event → Hears p brought came h emitted → Hears p brought came (called_with p event h) emitted
 called_hears p brought event h came emitted uses x = record {
   heard = record {
@@ -203,18 +188,18 @@ broken_stays k id e on =
 
 -- ---- bytes are taken up
 
-abbrev pub hearer_of : {X : Type 0} → Came X → Hearer X
+abbrev pub hearer_of : {X : Type 0} → Arrival X → Buffered X
 hearer_of (all_taken h) = h
 hearer_of (stopped h) = h
 
-module _ {C : Type 0} (p : Player C) (others : List PacketValue) (Far : List PacketValue → Type 0)
+module _ {C : Type 0} (p : Participant C) (others : List PacketValue) (Far : List PacketValue → Type 0)
     (later : (emitted more : List PacketValue) → Far emitted → Far (emitted ++ more)) where
-  abbrev far_taker : Taker (LineEnd C)
+  abbrev far_taker : Receiver (LineEnd C)
   far_taker = line_taker p others
 
   -- a fact on what an end has emitted stays while it takes up bytes
   abbrev FarUpTo : ℕ → Type 0
-  FarUpTo n = (h : Hearer (LineEnd C)) → Far h.end.log.packets → Far (hearer_of (takes_up_to n far_taker h)).end.log.packets
+  FarUpTo n = (h : Buffered (LineEnd C)) → Far h.end.log.packets → Far (hearer_of (takes_up_to n far_taker h)).end.log.packets
 
   far_packet : (q : PacketValue) (place : ℕ) (e : LineEnd C) → Far e.log.packets → Far (packet_taken_up p q place e).log.packets
   far_packet q place e far =
@@ -239,18 +224,18 @@ module _ {C : Type 0} (p : Player C) (others : List PacketValue) (Far : List Pac
   far_up_to zero h far = far
   far_up_to (suc n) h far = far_by n (far_up_to n) (finding h.end.state.stage h.held) h.end far
 
-  pub far_piece : (piece : List ℕ) (h : Hearer (LineEnd C)) → Far h.end.log.packets → Far (hearer_of (takes_piece far_taker piece h)).end.log.packets
+  pub far_piece : (piece : List ℕ) (h : Buffered (LineEnd C)) → Far h.end.log.packets → Far (hearer_of (takes_piece far_taker piece h)).end.log.packets
   far_piece piece h far =
       let held = holds far_taker (h.held ++ piece) h.end in
       far_up_to (suc (length held.held)) held far
 
-module _ (steps : FindingLaws) (laws : HeardLaws) (place_is : PlaceIs) {C : Type 0} (p : Player C) (brought : Option ℕ) (emitted : List PacketValue)
+module _ {C : Type 0} (p : Participant C) (brought : Option ℕ) (emitted : List PacketValue)
     (came : List ℕ) (all : AreBytes came) where
-  abbrev taker : Taker (LineEnd C)
-  taker = line_taker p emitted
+  abbrev receiver : Receiver (LineEnd C)
+  receiver = line_taker p emitted
 
   abbrev HearsUpTo : ℕ → Type 0
-  HearsUpTo n = (h : Hearer (LineEnd C)) → length h.held < n → Hears p brought came h emitted → Hears p brought came (hearer_of (takes_up_to n taker h)) emitted
+  HearsUpTo n = (h : Buffered (LineEnd C)) → length h.held < n → Hears p brought came h emitted → Hears p brought came (hearer_of (takes_up_to n receiver h)) emitted
 
   -- so the end stands with these bytes, told by its stage
   held_at : (now : EndState C) (s : Stage) (texts : List (List ℕ)) (items : List Item) (others bytes : List ℕ) → now.stage ≡ s
@@ -265,23 +250,23 @@ module _ (steps : FindingLaws) (laws : HeardLaws) (place_is : PlaceIs) {C : Type
   -- wherever the text leads
   left_behind_text : (t : Stage) (now : EndState C) (texts : List (List ℕ)) (behind : List ℕ) → StandBefore texts behind came
       → StandsBehind p.identity brought texts t now.number → IsLeft p brought t now texts [] behind came (held_in t behind)
-  left_behind_text (hailing g) now texts behind stand stands = (refl, laws.right_behind texts came behind stand, stands)
+  left_behind_text (hailing g) now texts behind stand stands = (refl, taken_right_behind texts came behind stand, stands)
   left_behind_text linked now texts behind stand stands = (refl, stands)
   left_behind_text (ended how) now texts behind stand stands = inl (refl, inr stands)
 
-  by_text : (n : ℕ) → HearsUpTo n → (h : Hearer (LineEnd C)) (g : Greeting) → h.end.state.stage ≡ hailing g → length h.held < suc n
+  by_text : (n : ℕ) → HearsUpTo n → (h : Buffered (LineEnd C)) (g : Greeting) → h.end.state.stage ≡ hailing g → length h.held < suc n
       → (x : Hears p brought came h emitted) → (x.heard.items ≡ []) × Taken x.heard.texts came h.held × GreetsOn p.identity brought x.heard.texts g.awaited h.end.state.number
       → (search : TextSearch) → search_text h.held ≡ search
-      → Hears p brought came (hearer_of (takes_up (takes_up_to n taker) taker (text_finding h.held search) h.end)) emitted
+      → Hears p brought came (hearer_of (takes_up (takes_up_to n receiver) receiver (text_finding h.held search) h.end)) emitted
   by_text n more h g is enough x (none, front, on) (text_waits rest) e =
-      let waits : Taken x.heard.texts came rest = laws.texts_wait x.heard.texts came h.held rest front e in record {
+      let waits : Taken x.heard.texts came rest = taken_searched x.heard.texts came h.held (text_waits rest) (λ no. cc) e front in record {
         heard = record {
           texts = x.heard.texts;
           begins = waits.passed ++ rest;
           greeting = waits.stand;
           items = [];
           others = waits.passed ++ rest;
-          link = laws.none (waits.passed ++ rest);
+          link = Finds-none (waits.passed ++ rest);
           places = nothing_among x.heard.items h.end.log.arrivals none x.heard.places;
           left = held_at h.end.state (hailing g) x.heard.texts [] (waits.passed ++ rest) rest is (refl, waits, on);
         };
@@ -291,17 +276,17 @@ module _ (steps : FindingLaws) (laws : HeardLaws) (place_is : PlaceIs) {C : Type
       let behind = drop (size_of_text text) others in
       let y = does p (text_found text) h.end in
       let texts = x.heard.texts ++ text ∷ [] in
-      let stand : StandBefore texts behind came = laws.text_stands_there x.heard.texts came h.held text others front e in
+      let stand : StandBefore texts behind came = first_taken x.heard.texts came h.held text others front e in
       let after : Stage → EndState C = λ s. (stage_step p.keeper p.identity s (text_found text) h.end.state).state in
       let stands : StandsBehind p.identity brought texts y.state.stage y.state.number =
       subst (λ s. StandsBehind p.identity brought texts (after s).stage (after s).number) (sym is)
       (text_leads p.keeper p.identity brought x.heard.texts text g h.end.state on) in
-      more (holds taker behind y)
+      more (holds receiver behind y)
       (omega (
         arith,
         enough,
         held_fewer y.state.stage behind,
-        event_takes steps (hailing g) h.held behind (text_found text) (ap (text_finding h.held) e),
+        event_takes (hailing g) h.held behind (text_found text) (ap (text_finding h.held) e),
       ))
       (record {
         heard = record {
@@ -310,7 +295,7 @@ module _ (steps : FindingLaws) (laws : HeardLaws) (place_is : PlaceIs) {C : Type
           greeting = stand;
           items = [];
           others = behind;
-          link = laws.none behind;
+          link = Finds-none behind;
           places = nothing_among x.heard.items h.end.log.arrivals none x.heard.places;
           left = left_behind_text y.state.stage y.state texts behind stand stands;
         };
@@ -323,12 +308,12 @@ module _ (steps : FindingLaws) (laws : HeardLaws) (place_is : PlaceIs) {C : Type
       ap (λ t. (stage_step p.keeper p.identity t long_text_found h.end.state).state.stage) is in
       let stays : y.state.number ≡ h.end.state.number =
       ap (λ t. (stage_step p.keeper p.identity t long_text_found h.end.state).state.number) is in
-      more (holds taker behind y)
+      more (holds receiver behind y)
       (omega (
         arith,
         enough,
         held_fewer y.state.stage behind,
-        event_takes steps (hailing g) h.held behind long_text_found (ap (text_finding h.held) e),
+        event_takes (hailing g) h.held behind long_text_found (ap (text_finding h.held) e),
       ))
       (record {
         heard = record {
@@ -337,7 +322,7 @@ module _ (steps : FindingLaws) (laws : HeardLaws) (place_is : PlaceIs) {C : Type
           greeting = front.stand;
           items = [];
           others = front.passed ++ h.held;
-          link = laws.none (front.passed ++ h.held);
+          link = Finds-none (front.passed ++ h.held);
           places = nothing_among x.heard.items h.end.log.arrivals none x.heard.places;
           left = held_at y.state (ended ends.BadTalk) x.heard.texts [] (front.passed ++ h.held) behind over
               (inl (refl, inl (g.awaited, subst (GreetsOn p.identity brought x.heard.texts g.awaited) (sym stays) on)));
@@ -347,11 +332,11 @@ module _ (steps : FindingLaws) (laws : HeardLaws) (place_is : PlaceIs) {C : Type
 
   -- ---- on the link
 
-  bytes_held : (h : Hearer (LineEnd C)) (x : Hears p brought came h emitted) → x.heard.others ≡ h.held → AreBytes h.held
+  bytes_held : (h : Buffered (LineEnd C)) (x : Hears p brought came h emitted) → x.heard.others ≡ h.held → AreBytes h.held
   bytes_held h x same =
       subst AreBytes same
-      (laws.item_bytes x.heard.begins x.heard.others x.heard.items x.heard.link
-      (laws.text_bytes x.heard.texts x.heard.begins came x.heard.greeting all))
+      (bytes_found x.heard.begins x.heard.others x.heard.items x.heard.link
+      (bytes_behind_texts x.heard.texts x.heard.begins came x.heard.greeting all))
 
   -- by where the item leads
   left_behind_item : (t : Stage) (now : EndState C) (texts : List (List ℕ)) (items : List Item) (behind : List ℕ) → StaysOrEnds linked t
@@ -361,27 +346,27 @@ module _ (steps : FindingLaws) (laws : HeardLaws) (place_is : PlaceIs) {C : Type
   left_behind_item (ended how) now texts items behind stays began over = inr (began, over)
 
   -- an item is taken up, and the end stands behind it
-  behind_item : (n : ℕ) → HearsUpTo n → (h : Hearer (LineEnd C)) → h.end.state.stage ≡ linked → length h.held < suc n → (x : Hears p brought came h emitted)
+  behind_item : (n : ℕ) → HearsUpTo n → (h : Buffered (LineEnd C)) → h.end.state.stage ≡ linked → length h.held < suc n → (x : Hears p brought came h emitted)
       → x.heard.others ≡ h.held → LinkBeganWith p.identity brought x.heard.texts h.end.state.number → (item : Item) (size : ℕ) (from : List ℕ) → search_of h.held ≡ standing item size from
       → length (drop size from) < length h.held → (y : LineEnd C) → StaysOrEnds linked y.state.stage
       → (end_step p.keeper p.identity (event_of item) h.end.state).state ≡ y.state
       → HavePlaces (packets_among (x.heard.items ++ item ∷ [])) y.log.arrivals emitted 0 → y.log.passed ≡ passed_at y.log.arrivals 0
-      → Hears p brought came (hearer_of (takes_up_to n taker (holds taker (drop size from) y))) emitted
+      → Hears p brought came (hearer_of (takes_up_to n receiver (holds receiver (drop size from) y))) emitted
   behind_item n more h on enough x same began item size from e fewer y stays step places past =
       let behind = drop size from in
-      let stands = (laws.stands h.held from item size (bytes_held h x same)).0 e in
-      let here : Finds h.held (item ∷ []) behind = laws.more h.held from behind [] (item ∷ []) stands.0 (laws.item from item size stands.1) in
+      let stands = (search_finds_item h.held from item size (bytes_held h x same)).0 e in
+      let here : Finds h.held (item ∷ []) behind = Finds-join h.held from behind [] (item ∷ []) stands.0 (Finds-item from item size stands.1) in
       let items = x.heard.items ++ item ∷ [] in
       let kept : y.state.number ≡ h.end.state.number =
       ap (λ (e : EndState C). e.number) (sym step) ∙ on_link_keeps p (event_of item) h.end.state on in
-      more (holds taker behind y) (omega (arith, enough, fewer, held_fewer y.state.stage behind)) (record {
+      more (holds receiver behind y) (omega (arith, enough, fewer, held_fewer y.state.stage behind)) (record {
         heard = record {
           texts = x.heard.texts;
           begins = x.heard.begins;
           greeting = x.heard.greeting;
           items = items;
           others = behind;
-          link = laws.more x.heard.begins h.held behind x.heard.items (item ∷ [])
+          link = Finds-join x.heard.begins h.held behind x.heard.items (item ∷ [])
               (subst (Finds x.heard.begins x.heard.items) same x.heard.link) here;
           places = places;
           left = left_behind_item y.state.stage y.state x.heard.texts items behind stays (subst (LinkBeganWith p.identity brought x.heard.texts) (sym kept) began) (inl (record {
@@ -395,15 +380,15 @@ module _ (steps : FindingLaws) (laws : HeardLaws) (place_is : PlaceIs) {C : Type
       })
 
   -- a packet has its place
-  packet_placed : (q : PacketValue) (place : ℕ) (h : Hearer (LineEnd C)) (x : Hears p brought came h emitted)
+  packet_placed : (q : PacketValue) (place : ℕ) (h : Buffered (LineEnd C)) (x : Hears p brought came h emitted)
       → place_of q emitted h.end.log.passed ≡ Some place
       → HavePlaces (packets_among (x.heard.items ++ found q ∷ [])) (h.end.log.arrivals ++ place ∷ []) emitted 0
   packet_placed q place h x at =
       subst (λ (ps : List PacketValue). HavePlaces ps (h.end.log.arrivals ++ place ∷ []) emitted 0) (sym (packets_joined x.heard.items (found q ∷ [])))
       (next_place (packets_among x.heard.items) emitted h.end.log.arrivals q place 0 x.heard.places
-      (subst (λ n. IsPlace q emitted n place) x.past (place_is_there place_is q emitted h.end.log.passed place at)))
+      (subst (λ n. IsPlace q emitted n place) x.past (place_is_there q emitted h.end.log.passed place at)))
 
-  took_arrivals : (t : Bool) (q : PacketValue) (place : ℕ) (h : Hearer (LineEnd C)) → (x : Hears p brought came h emitted)
+  took_arrivals : (t : Bool) (q : PacketValue) (place : ℕ) (h : Buffered (LineEnd C)) → (x : Hears p brought came h emitted)
       → place_of q emitted h.end.log.passed ≡ Some place → (effect : EndEffect C) → effect.took ≡ t
       → HavePlaces (packets_among (x.heard.items ++ found q ∷ [])) (with_packet q place h.end effect).log.arrivals emitted 0
       × ((with_packet q place h.end effect).log.passed ≡ passed_at (with_packet q place h.end effect).log.arrivals 0)
@@ -421,12 +406,12 @@ module _ (steps : FindingLaws) (laws : HeardLaws) (place_is : PlaceIs) {C : Type
       same_passed true = refl
       same_passed false = refl
 
-  by_place : (n : ℕ) → HearsUpTo n → (h : Hearer (LineEnd C)) → h.end.state.stage ≡ linked → length h.held < suc n → (x : Hears p brought came h emitted)
+  by_place : (n : ℕ) → HearsUpTo n → (h : Buffered (LineEnd C)) → h.end.state.stage ≡ linked → length h.held < suc n → (x : Hears p brought came h emitted)
       → x.heard.others ≡ h.held → LinkBeganWith p.identity brought x.heard.texts h.end.state.number → (q : PacketValue) (size : ℕ) (from : List ℕ) → search_of h.held ≡ standing (found q) size from
       → (place : Option ℕ) → place_of q emitted h.end.log.passed ≡ place
-      → Hears p brought came (hearer_of (takes_if (takes_up_to n taker) taker (takes_sent p q place h.end) from (drop size from) h.end)) emitted
+      → Hears p brought came (hearer_of (takes_if (takes_up_to n receiver) receiver (takes_sent p q place h.end) from (drop size from) h.end)) emitted
   by_place n more h on enough x same began q size from e None at =
-      let stands = (laws.stands h.held from (found q) size (bytes_held h x same)).0 e in record {
+      let stands = (search_finds_item h.held from (found q) size (bytes_held h x same)).0 e in record {
         heard = record {
           texts = x.heard.texts;
           begins = x.heard.begins;
@@ -434,7 +419,7 @@ module _ (steps : FindingLaws) (laws : HeardLaws) (place_is : PlaceIs) {C : Type
           items = x.heard.items;
           others = from;
           link = subst (λ items. Finds x.heard.begins items from) (append-nil x.heard.items)
-              (laws.more x.heard.begins h.held from x.heard.items []
+              (Finds-join x.heard.begins h.held from x.heard.items []
               (subst (Finds x.heard.begins x.heard.items) same x.heard.link) stands.0);
           places = x.heard.places;
           left = held_at h.end.state linked x.heard.texts x.heard.items from from on (refl, began);
@@ -445,14 +430,14 @@ module _ (steps : FindingLaws) (laws : HeardLaws) (place_is : PlaceIs) {C : Type
       let effect = end_step p.keeper p.identity (packet_found_whole false q) h.end.state in
       let placed = took_arrivals effect.took q place h x at effect refl in
       behind_item n more h on enough x same began (found q) size from e
-      (packet_takes steps linked h.held from (drop size from) q (ap item_finding e))
+      (packet_takes linked h.held from (drop size from) q (ap item_finding e))
       (packet_taken_up p q place h.end) (packet_stays p.keeper p.identity q h.end.state on) refl placed.0 placed.1
 
-  by_item : (n : ℕ) → HearsUpTo n → (h : Hearer (LineEnd C)) → h.end.state.stage ≡ linked → length h.held < suc n → (x : Hears p brought came h emitted)
+  by_item : (n : ℕ) → HearsUpTo n → (h : Buffered (LineEnd C)) → h.end.state.stage ≡ linked → length h.held < suc n → (x : Hears p brought came h emitted)
       → x.heard.others ≡ h.held → LinkBeganWith p.identity brought x.heard.texts h.end.state.number → (search : Search) → search_of h.held ≡ search
-      → Hears p brought came (hearer_of (takes_up (takes_up_to n taker) taker (item_finding search) h.end)) emitted
+      → Hears p brought came (hearer_of (takes_up (takes_up_to n receiver) receiver (item_finding search) h.end)) emitted
   by_item n more h on enough x same began (waiting rest) e =
-      let waits = (laws.waits h.held rest (bytes_held h x same)).0 e in record {
+      let waits = (search_finds_rest h.held rest (bytes_held h x same)).0 e in record {
         heard = record {
           texts = x.heard.texts;
           begins = x.heard.begins;
@@ -460,7 +445,7 @@ module _ (steps : FindingLaws) (laws : HeardLaws) (place_is : PlaceIs) {C : Type
           items = x.heard.items;
           others = rest;
           link = subst (λ items. Finds x.heard.begins items rest) (append-nil x.heard.items)
-              (laws.more x.heard.begins h.held rest x.heard.items []
+              (Finds-join x.heard.begins h.held rest x.heard.items []
               (subst (Finds x.heard.begins x.heard.items) same x.heard.link) waits.0);
           places = x.heard.places;
           left = held_at h.end.state linked x.heard.texts x.heard.items rest rest on (refl, began);
@@ -471,15 +456,15 @@ module _ (steps : FindingLaws) (laws : HeardLaws) (place_is : PlaceIs) {C : Type
       by_place n more h on enough x same began q size from e (place_of q emitted h.end.log.passed) refl
   by_item n more h on enough x same began (standing bad size from) e =
       behind_item n more h on enough x same began bad size from e
-      (event_takes steps linked h.held (drop size from) broken_found (ap item_finding e))
+      (event_takes linked h.held (drop size from) broken_found (ap item_finding e))
       (does p broken_found h.end) (broken_stays p.keeper p.identity h.end.state on) refl
       (subst (λ (ps : List PacketValue). HavePlaces ps h.end.log.arrivals emitted 0)
       (sym (packets_joined x.heard.items (bad ∷ []) ∙ append-nil (packets_among x.heard.items))) x.heard.places) x.past
 
   -- ---- by how far the end has come
 
-  by_stage : (n : ℕ) → HearsUpTo n → (h : Hearer (LineEnd C)) → length h.held < suc n → (x : Hears p brought came h emitted) → (s : Stage)
-      → h.end.state.stage ≡ s → Hears p brought came (hearer_of (takes_up (takes_up_to n taker) taker (finding s h.held) h.end)) emitted
+  by_stage : (n : ℕ) → HearsUpTo n → (h : Buffered (LineEnd C)) → length h.held < suc n → (x : Hears p brought came h emitted) → (s : Stage)
+      → h.end.state.stage ≡ s → Hears p brought came (hearer_of (takes_up (takes_up_to n receiver) receiver (finding s h.held) h.end)) emitted
   by_stage n more h enough x (hailing g) is =
       by_text n more h g is enough x (subst (λ s. IsLeft p brought s h.end.state x.heard.texts x.heard.items x.heard.others came h.held) is x.heard.left)
       (search_text h.held) refl
@@ -514,13 +499,13 @@ stand_more (text ∷ texts) rest stream more (front, behind, e, first, later) =
     (front, behind ++ more, ap (λ s. s ++ more) e ∙ append_assoc front behind more, first, stand_more texts rest behind more later)
 
 -- with the piece behind what is held
-with_piece : HeardLaws → {C : Type 0} (p : Player C) (brought : Option ℕ) (before piece : List ℕ) (now : EndState C) (s : Stage) (held arrivals : List ℕ)
+with_piece : {C : Type 0} (p : Participant C) (brought : Option ℕ) (before piece : List ℕ) (now : EndState C) (s : Stage) (held arrivals : List ℕ)
     (passed : ℕ) (emitted : List PacketValue) → now.stage ≡ s → HearsSo p brought before now held arrivals passed emitted
     → HearsSo p brought (before ++ piece) now (held_in now.stage (held ++ piece)) arrivals passed emitted
-with_piece laws p brought before piece now (hailing g) held arrivals passed emitted is x =
+with_piece p brought before piece now (hailing g) held arrivals passed emitted is x =
     let left : IsLeft p brought (hailing g) now x.heard.texts x.heard.items x.heard.others before held =
     subst (λ t. IsLeft p brought t now x.heard.texts x.heard.items x.heard.others before held) is x.heard.left in
-    let whole : Taken x.heard.texts (before ++ piece) (held ++ piece) = laws.texts_more x.heard.texts before held piece left.1 in
+    let whole : Taken x.heard.texts (before ++ piece) (held ++ piece) = taken_more x.heard.texts before held piece left.1 in
     let begins = whole.passed ++ (held ++ piece) in record {
       heard = record {
         texts = x.heard.texts;
@@ -528,13 +513,13 @@ with_piece laws p brought before piece now (hailing g) held arrivals passed emit
         greeting = whole.stand;
         items = [];
         others = begins;
-        link = laws.none begins;
+        link = Finds-none begins;
         places = subst (λ (l : List Item). HavePlaces (packets_among l) arrivals emitted 0) left.0 x.heard.places;
         left = subst (λ t. IsLeft p brought t now x.heard.texts [] begins (before ++ piece) (held_in t (held ++ piece))) (sym is) (refl, whole, left.2);
       };
       past = x.past;
     }
-with_piece laws p brought before piece now linked held arrivals passed emitted is x =
+with_piece p brought before piece now linked held arrivals passed emitted is x =
     let left : IsLeft p brought linked now x.heard.texts x.heard.items x.heard.others before held =
     subst (λ t. IsLeft p brought t now x.heard.texts x.heard.items x.heard.others before held) is x.heard.left in record {
       heard = record {
@@ -543,21 +528,21 @@ with_piece laws p brought before piece now linked held arrivals passed emitted i
         greeting = stand_more x.heard.texts x.heard.begins before piece x.heard.greeting;
         items = x.heard.items;
         others = x.heard.others ++ piece;
-        link = laws.behind x.heard.begins x.heard.others piece x.heard.items x.heard.link;
+        link = Finds-append x.heard.begins x.heard.others piece x.heard.items x.heard.link;
         places = x.heard.places;
         left = subst (λ t. IsLeft p brought t now x.heard.texts x.heard.items (x.heard.others ++ piece) (before ++ piece) (held_in t (held ++ piece))) (sym is)
             (ap (λ (l : List ℕ). l ++ piece) left.0, left.1);
       };
       past = x.past;
     }
-with_piece laws p brought before piece now (ended how) held arrivals passed emitted is x = record {
+with_piece p brought before piece now (ended how) held arrivals passed emitted is x = record {
   heard = record {
     texts = x.heard.texts;
     begins = x.heard.begins ++ piece;
     greeting = stand_more x.heard.texts x.heard.begins before piece x.heard.greeting;
     items = x.heard.items;
     others = x.heard.others ++ piece;
-    link = laws.behind x.heard.begins x.heard.others piece x.heard.items x.heard.link;
+    link = Finds-append x.heard.begins x.heard.others piece x.heard.items x.heard.link;
     places = x.heard.places;
     left = subst (λ t. IsLeft p brought t now x.heard.texts x.heard.items (x.heard.others ++ piece) (before ++ piece) (held_in t (held ++ piece))) (sym is)
         (subst (λ t. IsLeft p brought t now x.heard.texts x.heard.items x.heard.others before held) is x.heard.left);
@@ -565,28 +550,28 @@ with_piece laws p brought before piece now (ended how) held arrivals passed emit
   past = x.past;
 }
 
-pub hears_piece : (steps : FindingLaws) (laws : HeardLaws) (place_is : PlaceIs) {C : Type 0} (p : Player C) (brought : Option ℕ) (emitted : List PacketValue)
-    (before piece : List ℕ) (h : Hearer (LineEnd C)) → AreBytes (before ++ piece) → Hears p brought before h emitted
+pub hears_piece : {C : Type 0} (p : Participant C) (brought : Option ℕ) (emitted : List PacketValue)
+    (before piece : List ℕ) (h : Buffered (LineEnd C)) → AreBytes (before ++ piece) → Hears p brought before h emitted
     → Hears p brought (before ++ piece) (hearer_of (takes_piece (line_taker p emitted) piece h)) emitted
-hears_piece steps laws place_is p brought emitted before piece h all x =
+hears_piece p brought emitted before piece h all x =
     let held = holds (line_taker p emitted) (h.held ++ piece) h.end in
-    hears_up_to steps laws place_is p brought emitted (before ++ piece) all (suc (length held.held)) held (omega arith)
-    (with_piece laws p brought before piece h.end.state h.end.state.stage h.held h.end.log.arrivals h.end.log.passed emitted refl x)
+    hears_up_to p brought emitted (before ++ piece) all (suc (length held.held)) held (omega arith)
+    (with_piece p brought before piece h.end.state h.end.state.stage h.held h.end.log.arrivals h.end.log.passed emitted refl x)
 
 -- ---- a run
 
 -- what both ends have heard, where bytes came to them
-pub record BothHear {C : Type 0} (p q : Player C) (brought far_brought : Option ℕ) (came : AtBoth (List ℕ)) (x y : Hearer (LineEnd C)) : Type 0 where
+pub record BothHear {C : Type 0} (p q : Participant C) (brought far_brought : Option ℕ) (came : AtBoth (List ℕ)) (x y : Buffered (LineEnd C)) : Type 0 where
   pub near : AreBytes came.at_caller → Hears p brought came.at_caller x y.end.log.packets
   pub far : AreBytes came.at_called → Hears q far_brought came.at_called y x.end.log.packets
 
 abbrev pub RunHears : {C : Type 0} → RunKeeper C → SetupValue → (came : AtBoth (List ℕ)) → Run C → Type 0
 RunHears k setup came run =
-    BothHear (player k setup run Caller) (player k setup run Called) run.brought.at_caller.number run.brought.at_called.number came run.ends.at_caller run.ends.at_called
+    BothHear (participant k setup run Caller) (participant k setup run Called) run.brought.at_caller.number run.brought.at_called.number came run.ends.at_caller run.ends.at_called
 
-module _ (steps : FindingLaws) (laws : HeardLaws) (place_is : PlaceIs) {C : Type 0} (k : RunKeeper C) (setup : SetupValue) where
+module _ {C : Type 0} (k : RunKeeper C) (setup : SetupValue) where
   -- an end with which nothing has happened yet
-  first_heard : (p : Player C) (brought : Option ℕ) (own : Announced) (c : C) {emitted : List PacketValue}
+  first_heard : (p : Participant C) (brought : Option ℕ) (own : Announced) (c : C) {emitted : List PacketValue}
       → HearsSo p brought [] (begins_session p.identity own brought c).state [] [] 0 emitted
   first_heard p brought own c = record {
     heard = record {
@@ -595,11 +580,11 @@ module _ (steps : FindingLaws) (laws : HeardLaws) (place_is : PlaceIs) {C : Type
       greeting = refl;
       items = [];
       others = [];
-      link = laws.none [];
+      link = Finds-none [];
       places = tt;
       left = (
         refl,
-        laws.right_behind [] [] [] refl,
+        taken_right_behind [] [] [] refl,
         record { greeting = greeting_at_first p.identity.side; goes_on = refl; awaits = refl; keeps = refl },
       );
     };
@@ -609,8 +594,8 @@ module _ (steps : FindingLaws) (laws : HeardLaws) (place_is : PlaceIs) {C : Type
   begins_heard : (past : List (AtBoth EndReportValue)) (brought : AtBoth Belongings) → RunHears k setup nothing_came (session_begins k setup past brought)
   begins_heard past brought =
       let run = session_begins k setup past brought in record {
-        near = λ all. first_heard (player k setup run Caller) run.brought.at_caller.number setup.at_caller.own (k.first brought.at_caller);
-        far = λ all. first_heard (player k setup run Called) run.brought.at_called.number setup.at_called.own (k.first brought.at_called);
+        near = λ all. first_heard (participant k setup run Caller) run.brought.at_caller.number setup.at_caller.own (k.first brought.at_caller);
+        far = λ all. first_heard (participant k setup run Called) run.brought.at_called.number setup.at_called.own (k.first brought.at_called);
       }
 
   line_heard : (side : Side) (change : List ℕ → List ℕ) (came : AtBoth (List ℕ)) (run : Run C) → RunHears k setup came run
@@ -623,28 +608,28 @@ module _ (steps : FindingLaws) (laws : HeardLaws) (place_is : PlaceIs) {C : Type
   call_heard Caller event came run uses b =
       let x = run.ends.at_caller in
       let y = run.ends.at_called in
-      let p = player k setup run Caller in record {
+      let p = participant k setup run Caller in record {
         near = λ all. called_hears p run.brought.at_caller.number event x came.at_caller y.end.log.packets uses (b.near all);
-        far = λ all. emits_more (player k setup run Called) run.brought.at_called.number came.at_called y.end.state y.held y.end.log.arrivals y.end.log.passed x.end.log.packets
+        far = λ all. emits_more (participant k setup run Called) run.brought.at_called.number came.at_called y.end.state y.held y.end.log.arrivals y.end.log.passed x.end.log.packets
             (packets_in (end_step p.keeper p.identity event x.end.state).emitted) (b.far all);
       }
   call_heard Called event came run uses b =
       let x = run.ends.at_caller in
       let y = run.ends.at_called in
-      let p = player k setup run Called in record {
-        near = λ all. emits_more (player k setup run Caller) run.brought.at_caller.number came.at_caller x.end.state x.held x.end.log.arrivals x.end.log.passed y.end.log.packets
+      let p = participant k setup run Called in record {
+        near = λ all. emits_more (participant k setup run Caller) run.brought.at_caller.number came.at_caller x.end.state x.held x.end.log.arrivals x.end.log.passed y.end.log.packets
             (packets_in (end_step p.keeper p.identity event y.end.state).emitted) (b.near all);
         far = λ all. called_hears p run.brought.at_called.number event y came.at_called x.end.log.packets uses (b.far all);
       }
 
-  after_caller : (number n : ℕ) (came : AtBoth (List ℕ)) (run : Run C) (c : Came (LineEnd C))
-      → BothHear (player k setup run Caller) (player k setup run Called) run.brought.at_caller.number run.brought.at_called.number came (hearer_of c) run.ends.at_called
+  after_caller : (number n : ℕ) (came : AtBoth (List ℕ)) (run : Run C) (c : Arrival (LineEnd C))
+      → BothHear (participant k setup run Caller) (participant k setup run Called) run.brought.at_caller.number run.brought.at_called.number came (hearer_of c) run.ends.at_called
       → RunHears k setup came (after_hearing number Caller c (with_line_to Caller (drop n) run))
   after_caller number n came run (all_taken h) b = record { near = b.near; far = b.far }
   after_caller number n came run (stopped h) b = record { near = b.near; far = b.far }
 
-  after_called : (number n : ℕ) (came : AtBoth (List ℕ)) (run : Run C) (c : Came (LineEnd C))
-      → BothHear (player k setup run Caller) (player k setup run Called) run.brought.at_caller.number run.brought.at_called.number came run.ends.at_caller (hearer_of c)
+  after_called : (number n : ℕ) (came : AtBoth (List ℕ)) (run : Run C) (c : Arrival (LineEnd C))
+      → BothHear (participant k setup run Caller) (participant k setup run Called) run.brought.at_caller.number run.brought.at_called.number came run.ends.at_caller (hearer_of c)
       → RunHears k setup came (after_hearing number Called c (with_line_to Called (drop n) run))
   after_called number n came run (all_taken h) b = record { near = b.near; far = b.far }
   after_called number n came run (stopped h) b = record { near = b.near; far = b.far }
@@ -654,26 +639,26 @@ module _ (steps : FindingLaws) (laws : HeardLaws) (place_is : PlaceIs) {C : Type
   pass_heard number Caller n came run b =
       let x = run.ends.at_caller in
       let y = run.ends.at_called in
-      let p = player k setup run Caller in
+      let p = participant k setup run Caller in
       let piece = take n y.end.line in
       after_caller number n (comes (Pass Caller n) run came) run (hears_next k setup Caller n run) (record {
-        near = λ all. hears_piece steps laws place_is p run.brought.at_caller.number y.end.log.packets came.at_caller piece x all
-            (b.near (laws.front_bytes came.at_caller piece all));
-        far = far_piece p y.end.log.packets (λ ps. AreBytes came.at_called → Hears (player k setup run Called) run.brought.at_called.number came.at_called y ps)
-            (λ emitted more far all. emits_more (player k setup run Called) run.brought.at_called.number came.at_called y.end.state y.held y.end.log.arrivals y.end.log.passed emitted more (far all))
+        near = λ all. hears_piece p run.brought.at_caller.number y.end.log.packets came.at_caller piece x all
+            (b.near (bytes_in_front came.at_caller piece all));
+        far = far_piece p y.end.log.packets (λ ps. AreBytes came.at_called → Hears (participant k setup run Called) run.brought.at_called.number came.at_called y ps)
+            (λ emitted more far all. emits_more (participant k setup run Called) run.brought.at_called.number came.at_called y.end.state y.held y.end.log.arrivals y.end.log.passed emitted more (far all))
             piece x b.far;
       })
   pass_heard number Called n came run b =
       let x = run.ends.at_caller in
       let y = run.ends.at_called in
-      let p = player k setup run Called in
+      let p = participant k setup run Called in
       let piece = take n x.end.line in
       after_called number n (comes (Pass Called n) run came) run (hears_next k setup Called n run) (record {
-        near = far_piece p x.end.log.packets (λ ps. AreBytes came.at_caller → Hears (player k setup run Caller) run.brought.at_caller.number came.at_caller x ps)
-            (λ emitted more near all. emits_more (player k setup run Caller) run.brought.at_caller.number came.at_caller x.end.state x.held x.end.log.arrivals x.end.log.passed emitted more (near all))
+        near = far_piece p x.end.log.packets (λ ps. AreBytes came.at_caller → Hears (participant k setup run Caller) run.brought.at_caller.number came.at_caller x ps)
+            (λ emitted more near all. emits_more (participant k setup run Caller) run.brought.at_caller.number came.at_caller x.end.state x.held x.end.log.arrivals x.end.log.passed emitted more (near all))
             piece y b.near;
-        far = λ all. hears_piece steps laws place_is p run.brought.at_called.number x.end.log.packets came.at_called piece y all
-            (b.far (laws.front_bytes came.at_called piece all));
+        far = λ all. hears_piece p run.brought.at_called.number x.end.log.packets came.at_called piece y all
+            (b.far (bytes_in_front came.at_called piece all));
       })
 
   event_heard : (number : ℕ) (event : Event) (came : AtBoth (List ℕ)) (run : Run C) → RunHears k setup came run
@@ -712,7 +697,7 @@ module _ (steps : FindingLaws) (laws : HeardLaws) (place_is : PlaceIs) {C : Type
   heard_at events Caller all = ((run_heard events).near all).heard
   heard_at events Called all = ((run_heard events).far all).heard
 
-  nothing_waits : (h : Hearer (LineEnd C)) → h.end.state.stage ≡ linked → FindsNothingMore h → search_of h.held ≡ waiting h.held
+  nothing_waits : (h : Buffered (LineEnd C)) → h.end.state.stage ≡ linked → FindsNothingMore h → search_of h.held ≡ waiting h.held
   nothing_waits h on none =
       by_search (search_of h.held) refl (subst (λ s. finding s h.held ≡ finds_nothing h.held) on none)
     where
@@ -728,10 +713,10 @@ module _ (steps : FindingLaws) (laws : HeardLaws) (place_is : PlaceIs) {C : Type
   scanned_at events side all none heard on =
       let h = end_at side (run_of k setup events) in
       let came = at side (came_in k setup events) in
-      let p = player k setup (run_of k setup events) side in
+      let p = participant k setup (run_of k setup events) side in
       let left : IsLeft p (at side (run_of k setup events).brought).number linked h.end.state heard.texts heard.items heard.others came h.held =
       subst (λ s. IsLeft p (at side (run_of k setup events).brought).number s h.end.state heard.texts heard.items heard.others came h.held) on heard.left in
       let same : heard.others ≡ h.held = left.0 in
       let link : Finds heard.begins heard.items h.held = subst (Finds heard.begins heard.items) same heard.link in
-      let are : AreBytes h.held = laws.item_bytes heard.begins h.held heard.items link (laws.text_bytes heard.texts heard.begins came heard.greeting all) in
-      record { finds = link; waits = ((laws.waits h.held h.held are).0 (nothing_waits h on none)).1 }
+      let are : AreBytes h.held = bytes_found heard.begins h.held heard.items link (bytes_behind_texts heard.texts heard.begins came heard.greeting all) in
+      record { finds = link; waits = ((search_finds_rest h.held h.held are).0 (nothing_waits h on none)).1 }

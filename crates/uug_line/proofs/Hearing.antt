@@ -5,20 +5,21 @@ use Rattle.uug_link.specs.Arrivals.{place_of}
 use Rattle.uug_packet.specs.Packet.{PacketValue}
 use Rattle.uug_reader.specs.Cut.{found, bad}
 use Rattle.uug_reader.specs.Search.{Search, waiting, standing, search_of}
-use Rattle.uug_session.specs.Arriving.{Taker, Hearer, holds, Came, all_taken, stopped, takes_if, takes_up, takes_up_to, takes_piece}
+use Rattle.uug_session.specs.Arriving.{Receiver, Buffered, holds, Arrival, all_taken, stopped, takes_if, takes_up, takes_up_to, takes_piece}
 use Rattle.uug_conversation.specs.Count.{Count}
 use Rattle.uug_session.specs.EndStep.{Stage, hailing, linked, ended}
 use Rattle.uug_session.specs.Finding.{Finding, finds_nothing, finds, finds_packet, text_finding, item_finding, finding}
 use Rattle.uug_conversation.specs.Talk.{Talk}
 use Rattle.uug_session.specs.TextsHeld.{TextSearch, text_waits, text_stands, text_too_long, search_text}
-use Rattle.uug_line.specs.declared.side.Side.{Side}
+use Rattle.uug_conversation.specs.declared.side.Side.{Side}
 use Rattle.uug_line.specs.Belongings.{Belongings, SetupValue}
 use Rattle.uug_line.specs.LineEnd.{LineEnd, does}
 use Rattle.uug_line.specs.Sides.{AtBoth}
 use Rattle.uug_line.specs.Taking.{takes_sent, line_taker, packet_taken_up}
 use Rattle.uug_line.specs.World.{counted_end, counted_hearer}
-use Rattle.uug_line.proofs.Joining.{EndsJoined}
+use Rattle.uug_line.proofs.Joining.{EndsJoined, IsSoundSession}
 use Rattle.uug_line.proofs.Steps.{talk_player, count_player, IsNoPacket, Steps}
+use Rattle.uug_line.proofs.JoinedSteps.{steps}
 
 -- ---- packets are found on a link alone, and told apart from the rest
 
@@ -44,28 +45,31 @@ found_so_at (ended how) bytes = tt
 
 -- ---- what came, by numbers
 
-abbrev pub counted_came : Came (LineEnd Talk) → Came (LineEnd Count)
+abbrev pub counted_came : Arrival (LineEnd Talk) → Arrival (LineEnd Count)
 counted_came (all_taken h) = all_taken (counted_hearer h)
 counted_came (stopped h) = stopped (counted_hearer h)
 
-abbrev pub end_of : Came (LineEnd Talk) → LineEnd Talk
+abbrev pub end_of : Arrival (LineEnd Talk) → LineEnd Talk
 end_of (all_taken h) = h.end
 end_of (stopped h) = h.end
 
-module _ (setup : SetupValue) (brought : AtBoth Belongings) (steps : Steps setup brought) (side : Side) (f : LineEnd Talk) where
-  abbrev talks : Taker (LineEnd Talk)
+module _ (setup : SetupValue) (brought : AtBoth Belongings) (sound : IsSoundSession setup brought) (side : Side) (f : LineEnd Talk) where
+  all_steps : Steps setup brought
+  all_steps = steps setup brought sound
+
+  abbrev talks : Receiver (LineEnd Talk)
   talks = line_taker (talk_player setup side) f.log.packets
 
-  abbrev counts : Taker (LineEnd Count)
+  abbrev counts : Receiver (LineEnd Count)
   counts = line_taker (count_player setup brought side) f.log.packets
 
-  pub record IsTaken (came : Came (LineEnd Talk)) (numbers : Came (LineEnd Count)) : Type 0 where
+  pub record IsTaken (came : Arrival (LineEnd Talk)) (numbers : Arrival (LineEnd Count)) : Type 0 where
     pub joined : EndsJoined setup brought side (end_of came) f
     pub counted : counted_came came ≡ numbers
 
   -- at most so many are taken so
   abbrev AreTaken : ℕ → Type 0
-  AreTaken n = (h : Hearer (LineEnd Talk)) → EndsJoined setup brought side h.end f →
+  AreTaken n = (h : Buffered (LineEnd Talk)) → EndsJoined setup brought side h.end f →
       IsTaken (takes_up_to n talks h) (takes_up_to n counts (counted_hearer h))
 
   taken_behind : (n : ℕ) → AreTaken n → (behind : List ℕ) (e : LineEnd Talk) (c : LineEnd Count) →
@@ -87,7 +91,7 @@ module _ (setup : SetupValue) (brought : AtBoth Belongings) (steps : Steps setup
   taken_if n more p (Some place) from behind e on_link is joined =
       taken_behind n more behind (packet_taken_up (talk_player setup side) p place e)
       (packet_taken_up (count_player setup brought side) p place (counted_end e))
-      (steps.packet_joined side p place e f on_link is joined) (steps.packet_counted side p place e f on_link is joined)
+      (all_steps.packet_joined side p place e f on_link is joined) (all_steps.packet_counted side p place e f on_link is joined)
 
   taken_so : (n : ℕ) → AreTaken n → (what : Finding) (e : LineEnd Talk) → FindsAt e.state.stage what →
       EndsJoined setup brought side e f →
@@ -96,7 +100,7 @@ module _ (setup : SetupValue) (brought : AtBoth Belongings) (steps : Steps setup
   taken_so n more (finds event behind) e no_packet joined =
       taken_behind n more behind (does (talk_player setup side) event e)
       (does (count_player setup brought side) event (counted_end e))
-      (steps.does_joined side event e f no_packet joined) (steps.does_counted side event e f no_packet joined)
+      (all_steps.does_joined side event e f no_packet joined) (all_steps.does_counted side event e f no_packet joined)
   taken_so n more (finds_packet p from behind) e on_link joined =
       taken_if n more p (place_of p f.log.packets e.log.passed) from behind e on_link refl joined
 
@@ -105,7 +109,7 @@ module _ (setup : SetupValue) (brought : AtBoth Belongings) (steps : Steps setup
   taken_up_to (suc n) h joined =
       taken_so n (taken_up_to n) (finding h.end.state.stage h.held) h.end (found_so_at h.end.state.stage h.held) joined
 
-  pub taken_piece : (piece : List ℕ) (h : Hearer (LineEnd Talk)) → EndsJoined setup brought side h.end f →
+  pub taken_piece : (piece : List ℕ) (h : Buffered (LineEnd Talk)) → EndsJoined setup brought side h.end f →
       IsTaken (takes_piece talks piece h) (takes_piece counts piece (counted_hearer h))
   taken_piece piece h joined =
       let held = holds talks (h.held ++ piece) h.end in

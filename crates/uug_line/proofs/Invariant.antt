@@ -11,7 +11,7 @@ use Rattle.uug_session.specs.EndStep.{EndEffect, Sending, Stage, has_room, haili
 use Rattle.uug_conversation.specs.Holdings.{Holdings}
 use Rattle.uug_conversation.specs.Keeper.{Keeper}
 use Rattle.uug_conversation.specs.Talk.{Talk, end_keeper}
-use Rattle.uug_conversation.specs.Turns.{Side}
+use Rattle.uug_conversation.specs.declared.side.Side.{Side}
 use Rattle.uug_conversation.specs.View.{Seen}
 use Rattle.uug_line.proofs.Joining.{Moment}
 use Rattle.uug_line.proofs.MomentLemmas.{count, emits}

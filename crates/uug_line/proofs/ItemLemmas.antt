@@ -11,7 +11,7 @@ use Rattle.uug_packet.specs.Packet.{PacketValue}
 use Rattle.uug_packet.specs.Spelling.{canonical}
 use Rattle.uug_packet.specs.WellFormed.{IsWellFormed}
 use Rattle.uug_reader.specs.Reading.{Reading}
-use Rattle.uug_session.specs.Arriving.{Came, Hearer, all_taken, held_in, holds, stopped, takes_all, takes_if, takes_up}
+use Rattle.uug_session.specs.Arriving.{Arrival, Buffered, all_taken, held_in, holds, stopped, takes_all, takes_if, takes_up}
 use Rattle.uug_session.specs.declared.end.End.TheVariants as ends
 use Rattle.uug_session.specs.declared.greeting.Greeting.{Greeting}
 use Rattle.uug_session.specs.EndStep.{EndEffect, EndEvent, EndState, Identity, Stage, hailing, linked, ended, behind_link, end_step, long_text_found, message_of, packet_found_whole, takes_by, talks_by, stage_step}
@@ -28,7 +28,6 @@ use Rattle.uug_session.specs.TextsHeld.{TextsHeld}
 use Rattle.uug_line.specs.declared.sighting.Sighting.TheVariants.{Other, At, Unsent}
 use Rattle.uug_line.specs.JournalValue.{JournalValue, log_of, packet_in, packet_noted}
 use Rattle.uug_line.specs.LineEnd.{LineEnd, Log, after_call, took}
-use Rattle.uug_line.specs.Code.LineLaws.{LineLaws}
 use Rattle.uug_line.specs.Live.{AreWritten, HasRoom, IsOrdered, IsStopped, IsTakenUp, LiveEndValue, TakesAll, TakesOne, hearer_of, line_end_of, player_of, standing_of, state_of, taker_of}
 use Rattle.uug_line.specs.Shown.{lists_in}
 use Rattle.uug_line.specs.Code.Sightings.{Sights, SightsShown, StandsAt, StandsNowhere}
@@ -36,6 +35,10 @@ use Rattle.uug_line.specs.Taking.{takes_sent}
 use Rattle.uug_line.proofs.FoundLemmas.{held_fewer}
 use Rattle.uug_line.proofs.SpokenLemmas.{Calls, steps_so}
 use Rattle.uug_line.proofs.TakenLemmas.{no_place_found, packet_logged, place_found}
+use Rattle.uug_packet.proofs.WellFormedLemmas.{IsWellFormed-spelled}
+use Rattle.uug_session.proofs.ShownItemLemmas.{item_found, one_item, nothing_found}
+use Rattle.uug_session.proofs.InRangeLemmas.{end_stays}
+use Rattle.uug_session.proofs.ArrivingLemmas.{found_fewer, takes_next}
 
 -- ---- behind an item of the link no end hails
 
@@ -124,13 +127,13 @@ not_failed true failed = never failed where
   never (inl less) = absurd (omega (arith, less))
   never (inr same) = absurd (omega (arith, same))
 
-may_find : LineLaws → (stage : Stage) (texts : TextsHeld) (packets : Reading) (item : ItemValue) → ShowsItem stage texts packets item
+may_find : (stage : Stage) (texts : TextsHeld) (packets : Reading) (item : ItemValue) → ShowsItem stage texts packets item
     → MayFind (event_of false item)
-may_find laws stage texts packets (text_item text) shows = tt
-may_find laws stage texts packets bad_item shows = tt
-may_find laws linked texts packets (packet_item p) shows = laws.spelled p (take packets.shown_size packets.bytes) shows.0.0
-may_find laws (hailing g) texts packets (packet_item p) shows = absurd shows
-may_find laws (ended how) texts packets (packet_item p) shows = absurd shows
+may_find stage texts packets (text_item text) shows = tt
+may_find stage texts packets bad_item shows = tt
+may_find linked texts packets (packet_item p) shows = IsWellFormed-spelled p (take packets.shown_size packets.bytes) shows.0.0
+may_find (hailing g) texts packets (packet_item p) shows = absurd shows
+may_find (ended how) texts packets (packet_item p) shows = absurd shows
 
 pub ordered_with : (e : LiveEndValue) (n : NodeState) → n.engine ≡ e.node.engine → IsOrdered e → IsOrdered (record e { node = n })
 ordered_with e n same ordered = record {
@@ -156,20 +159,20 @@ of_item : (h : Holdings) (kept kept_after : List Kept) (counts : Bool → Type 0
 of_item h kept kept_after counts item other before after took same takes =
     subst (λ (x : ItemValue). TakesItem h kept kept_after counts x before after took) same takes
 
-item_taken : LineLaws → (old new : LiveEndValue) (item : ItemValue) (found : Bool → JournalValue) → IsOrdered old
+item_taken : (old new : LiveEndValue) (item : ItemValue) (found : Bool → JournalValue) → IsOrdered old
     → ShowsItem (searched old.node).engine.stage (searched old.node).texts (searched old.node).packets item
     → ((b : Bool) → (found b).packets ≡ old.journal.packets) → IsTakenUp found (sought old) new
     → IsTaken item (drop (item_size (searched old.node)) (held_bytes (searched old.node)))
     (log_of (found (effect_at (event_of false item) old).took)) old new
-item_taken laws old new item found ordered shows keeps taken_up =
+item_taken old new item found ordered shows keeps taken_up =
     let n = searched old.node in
     let h = holdings_of old.spool in
     let kept = old.spool.stored in
-    let f : ItemFound item old.node n = laws.search.shown old.node item shows in
+    let f : ItemFound item old.node n = item_found old.node item shows in
     let counts = CountsFaults faults_max 0 0 in
     let takes : TakesItem h kept taken_up.called.spool.stored counts item n taken_up.called.node taken_up.took =
     of_item h kept taken_up.called.spool.stored counts item taken_up.shown.0 n taken_up.called.node taken_up.took
-    (laws.search.one old.node taken_up.shown.0 item taken_up.shown.1 shows) taken_up.shown.2 in
+    (one_item old.node taken_up.shown.0 item taken_up.shown.1 shows) taken_up.shown.2 in
     let well : takes.device_failed ≡ false = not_failed takes.device_failed takes.device in
     let of_failed : Bool → EndEffect Talk = λ b. effect_of h kept (event_of b item) n.engine in
     let effect = of_failed false in
@@ -180,8 +183,8 @@ item_taken laws old new item found ordered shows keeps taken_up =
     let written : AreWritten taken_up.called.journal.packets =
     subst AreWritten (sym (keeps taken_up.took) ∙ ap (λ (j : JournalValue). j.packets) (sym taken_up.journal)) ordered.written in
     let calls : Calls effect (sought old) taken_up.called new =
-    steps_so laws.reads laws.in_range (event_of false item) (sought old) taken_up.called new (ordered_with old n f.engine ordered)
-    (may_find laws n.engine.stage n.texts n.packets item shows) does_so taken_up.noted written taken_up.holdings in
+    steps_so (event_of false item) (sought old) taken_up.called new (ordered_with old n f.engine ordered)
+    (may_find n.engine.stage n.texts n.packets item shows) does_so taken_up.noted written taken_up.holdings in
     let of_engine : EngineState → EndEffect Talk = λ x. effect_of h kept (event_of false item) x in
     let same : effect ≡ effect_at (event_of false item) old = ap of_engine f.engine in
     let took_is : taken_up.took ≡ (effect_at (event_of false item) old).took =
@@ -215,35 +218,35 @@ behind_item (text_item text) from behind bytes fewer = fewer
 behind_item (packet_item p) from behind bytes fewer = fewer.1
 behind_item bad_item from behind bytes fewer = fewer
 
--- so the taker takes it
+-- so the receiver takes it
 abbrev TakesIt : (others : List (List ℕ)) → ItemValue → (from behind : List ℕ) → Log → LiveEndValue → Type 0
 TakesIt others item from behind log old =
     let t = taker_of others old in
     takes_up (takes_all t) t (finding_of item from behind) (line_end_of old)
     ≡ takes_all t (holds t behind (after_call log old.line (effect_at (event_of false item) old)))
 
-one_so : LineLaws → (others : List (List ℕ)) (item : ItemValue) (log : Log) (old new : LiveEndValue)
+one_so : (others : List (List ℕ)) (item : ItemValue) (log : Log) (old new : LiveEndValue)
     → ShowsItem (searched old.node).engine.stage (searched old.node).texts (searched old.node).packets item
     → IsTaken item (drop (item_size (searched old.node)) (held_bytes (searched old.node))) log old new
     → TakesIt others item (held_bytes (searched old.node)) (drop (item_size (searched old.node)) (held_bytes (searched old.node))) log old
     → TakesOne others old new
-one_so laws others item log old new shows taken_so takes =
+one_so others item log old new shows taken_so takes =
     let n = searched old.node in
     let t = taker_of others old in
     let from = held_bytes n in
     let behind = drop (item_size n) (held_bytes n) in
-    let f : ItemFound item old.node n = laws.search.shown old.node item shows in
+    let f : ItemFound item old.node n = item_found old.node item shows in
     let e = effect_at (event_of false item) old in
-    let by_held : List ℕ → Hearer (LineEnd Talk) = λ x. record { held = x; end = line_end_of old } in
-    let by_held_after : List ℕ → Hearer (LineEnd Talk) = λ x. record { held = x; end = line_end_of new } in
-    let by_end : LineEnd Talk → Hearer (LineEnd Talk) = λ x. record { held = held_in e.state.stage behind; end = x } in
+    let by_held : List ℕ → Buffered (LineEnd Talk) = λ x. record { held = x; end = line_end_of old } in
+    let by_held_after : List ℕ → Buffered (LineEnd Talk) = λ x. record { held = x; end = line_end_of new } in
+    let by_end : LineEnd Talk → Buffered (LineEnd Talk) = λ x. record { held = held_in e.state.stage behind; end = x } in
     let after : hearer_of new ≡ holds t behind (after_call log old.line e) = ap by_held_after taken_so.held ∙ ap by_end taken_so.end in
     let less : length behind < length (held_bytes old.node) =
     behind_item item from behind (held_bytes old.node)
-    (subst (λ (x : Finding). LeavesFewer x (held_bytes old.node)) f.finding (laws.findings.fewer old.node.engine.stage (held_bytes old.node))) in
+    (subst (λ (x : Finding). LeavesFewer x (held_bytes old.node)) f.finding (found_fewer old.node.engine.stage (held_bytes old.node))) in
     record {
-      same = ap (λ (x : Hearer (LineEnd Talk)). takes_all t x) (ap by_held (holds_itself old.node.engine.stage old.node))
-          ∙ laws.takes.first t (held_bytes old.node) (line_end_of old)
+      same = ap (λ (x : Buffered (LineEnd Talk)). takes_all t x) (ap by_held (holds_itself old.node.engine.stage old.node))
+          ∙ takes_next (LineEnd Talk) t (held_bytes old.node) (line_end_of old)
           ∙ ap (λ (x : Finding). takes_up (takes_all t) t x (line_end_of old)) f.finding
           ∙ takes ∙ ap (takes_all t) (sym after);
       ordered = taken_so.ordered;
@@ -269,30 +272,30 @@ takes_other others (text_item text) from behind old is = refl
 takes_other others bad_item from behind old is = refl
 takes_other others (packet_item p) from behind old is = absurd is
 
-pub other_taken : LineLaws → (others : List (List ℕ)) (old new : LiveEndValue) → IsOrdered old
+pub other_taken : (others : List (List ℕ)) (old new : LiveEndValue) → IsOrdered old
     → SightsShown (searched old.node) others old.journal.passed Other
     → IsTakenUp (λ (b : Bool). old.journal) (sought old) new → TakesOne others old new
-other_taken laws others old new ordered sights taken_up =
+other_taken others old new ordered sights taken_up =
     let n = searched old.node in
     let item = sights.0 in
-    one_so laws others item (log_of old.journal) old new sights.1
-    (item_taken laws old new item (λ (b : Bool). old.journal) ordered sights.1 (λ b. refl) taken_up)
+    one_so others item (log_of old.journal) old new sights.1
+    (item_taken old new item (λ (b : Bool). old.journal) ordered sights.1 (λ b. refl) taken_up)
     (takes_other others item (held_bytes n) (drop (item_size n) (held_bytes n)) old (is_other item others old.journal.passed sights.2))
 
 -- ---- a packet
 
-takes_packet : LineLaws → (others : List (List ℕ)) (p : PacketValue) (from behind bytes : List ℕ) (place : ℕ) (old : LiveEndValue)
+takes_packet : (others : List (List ℕ)) (p : PacketValue) (from behind bytes : List ℕ) (place : ℕ) (old : LiveEndValue)
     → IsWellFormed p → AreWritten others → StandsAt (canonical p) others old.journal.passed place → bytes ≡ canonical p
     → TakesIt others (packet_item p) from behind
     (log_of (packet_noted bytes place old.journal (effect_at (packet_found_whole false p) old).took)) old
-takes_packet laws others p from behind bytes place old well written stands is =
+takes_packet others p from behind bytes place old well written stands is =
     let t = taker_of others old in
     let e = effect_at (packet_found_whole false p) old in
-    let by_place : Option ℕ → Came (LineEnd Talk) =
+    let by_place : Option ℕ → Arrival (LineEnd Talk) =
     λ o. takes_if (takes_all t) t (takes_sent (player_of old) p o (line_end_of old)) from behind (line_end_of old) in
-    let by_log : Log → Came (LineEnd Talk) = λ log. takes_all t (holds t behind (after_call log old.line e)) in
-    ap by_place (place_found laws.places laws.reads p others old.journal.passed place well written stands)
-    ∙ ap by_log (sym (packet_logged laws.reads p bytes place old.journal e.took well is))
+    let by_log : Log → Arrival (LineEnd Talk) = λ log. takes_all t (holds t behind (after_call log old.line e)) in
+    ap by_place (place_found p others old.journal.passed place well written stands)
+    ∙ ap by_log (sym (packet_logged p bytes place old.journal e.took well is))
 
 packet_at : (item : ItemValue) (others : List (List ℕ)) (passed place : ℕ) → Sights item others passed (At place)
     → (p : PacketValue) × (item ≡ packet_item p) × StandsAt (canonical p) others passed place
@@ -311,20 +314,20 @@ journal_packets bytes place j true = refl
 some_same : (x y : List ℕ) → ◌≡◌ {A = Option (List ℕ)} (Some x) (Some y) → x ≡ y
 some_same x y e = cc
 
-pub packet_taken : LineLaws → (others : List (List ℕ)) (place : ℕ) (bytes : List ℕ) (old new : LiveEndValue) → IsOrdered old → AreWritten others
+pub packet_taken : (others : List (List ℕ)) (place : ℕ) (bytes : List ℕ) (old new : LiveEndValue) → IsOrdered old → AreWritten others
     → SightsShown (searched old.node) others old.journal.passed (At place) → slice_get others place ≡ Some bytes
     → IsTakenUp (packet_noted bytes place old.journal) (sought old) new → TakesOne others old new
-packet_taken laws others place bytes old new ordered written sights there taken_so =
+packet_taken others place bytes old new ordered written sights there taken_so =
     let n = searched old.node in
     let at = packet_at sights.0 others old.journal.passed place sights.2 in
     let p = at.0 in
     let shows = shown_packet n sights.0 p at.1 sights.1 in
     let is : bytes ≡ canonical p = some_same bytes (canonical p) (sym there ∙ at.2.there) in
-    let well : IsWellFormed p = may_find laws n.engine.stage n.texts n.packets (packet_item p) shows in
-    one_so laws others (packet_item p)
+    let well : IsWellFormed p = may_find n.engine.stage n.texts n.packets (packet_item p) shows in
+    one_so others (packet_item p)
     (log_of (packet_noted bytes place old.journal (effect_at (packet_found_whole false p) old).took)) old new shows
-    (item_taken laws old new (packet_item p) (packet_noted bytes place old.journal) ordered shows (journal_packets bytes place old.journal) taken_so)
-    (takes_packet laws others p (held_bytes n) (drop (item_size n) (held_bytes n)) bytes place old well written at.2 is)
+    (item_taken old new (packet_item p) (packet_noted bytes place old.journal) ordered shows (journal_packets bytes place old.journal) taken_so)
+    (takes_packet others p (held_bytes n) (drop (item_size n) (held_bytes n)) bytes place old well written at.2 is)
 
 -- ---- a packet that was not sent
 
@@ -335,16 +338,16 @@ unsent_packet (text_item text) others passed sights = absurd sights
 unsent_packet bad_item others passed sights = absurd sights
 
 -- the end, with the bytes that it holds
-abbrev with_bytes : List ℕ → LiveEndValue → Hearer (LineEnd Talk)
+abbrev with_bytes : List ℕ → LiveEndValue → Buffered (LineEnd Talk)
 with_bytes bytes e = record { held = bytes; end = line_end_of e }
 
-first_of_all : LineLaws → (others : List (List ℕ)) (old : LiveEndValue)
+first_of_all : (others : List (List ℕ)) (old : LiveEndValue)
     → takes_all (taker_of others old) (hearer_of old)
     ≡ takes_up (takes_all (taker_of others old)) (taker_of others old) (finding old.node.engine.stage (held_bytes old.node)) (line_end_of old)
-first_of_all laws others old =
+first_of_all others old =
     let t = taker_of others old in
     ap (λ (x : List ℕ). takes_all t (with_bytes x old)) (holds_itself old.node.engine.stage old.node)
-    ∙ laws.takes.first t (held_bytes old.node) (line_end_of old)
+    ∙ takes_next (LineEnd Talk) t (held_bytes old.node) (line_end_of old)
 
 sought_held : (old : LiveEndValue) → (searched old.node).engine ≡ old.node.engine
     → hearer_of (sought old) ≡ record { held = held_in old.node.engine.stage (held_bytes (searched old.node)); end = line_end_of old }
@@ -356,27 +359,27 @@ sought_held old same =
       end = line_end_of (record old { node = record old.node { engine = x } });
     }) same
 
-pub stopped_so : LineLaws → (others : List (List ℕ)) (old : LiveEndValue) → IsOrdered old → AreWritten others
+pub stopped_so : (others : List (List ℕ)) (old : LiveEndValue) → IsOrdered old → AreWritten others
     → SightsShown (searched old.node) others old.journal.passed Unsent → IsStopped others old (sought old)
-stopped_so laws others old ordered written sights =
+stopped_so others old ordered written sights =
     let n = searched old.node in
     let t = taker_of others old in
     let none = unsent_packet sights.0 others old.journal.passed sights.2 in
     let p = none.0 in
-    let f : ItemFound (packet_item p) old.node n = laws.search.shown old.node (packet_item p) (shown_packet n sights.0 p none.1 sights.1) in
+    let f : ItemFound (packet_item p) old.node n = item_found old.node (packet_item p) (shown_packet n sights.0 p none.1 sights.1) in
     let from = held_bytes n in
     let behind = drop (item_size n) (held_bytes n) in
-    let by_place : Option ℕ → Came (LineEnd Talk) =
+    let by_place : Option ℕ → Arrival (LineEnd Talk) =
     λ o. takes_if (takes_all t) t (takes_sent (player_of old) p o (line_end_of old)) from behind (line_end_of old) in
     record {
-      stopped = first_of_all laws others old
+      stopped = first_of_all others old
           ∙ ap (λ (x : Finding). takes_up (takes_all t) t x (line_end_of old)) f.finding
-          ∙ ap by_place (no_place_found laws.places p others old.journal.passed written none.2)
-          ∙ ap (λ (x : Hearer (LineEnd Talk)). stopped x) (sym (sought_held old f.engine));
+          ∙ ap by_place (no_place_found p others old.journal.passed written none.2)
+          ∙ ap (λ (x : Buffered (LineEnd Talk)). stopped x) (sym (sought_held old f.engine));
       ordered = ordered_with old n f.engine ordered;
       standing = ap (λ (x : EngineState). standing_of (record old { node = record n { engine = x } })) f.engine;
       no_more = (subst (λ (x : Finding). LeavesFewer x (held_bytes old.node)) f.finding
-          (laws.findings.fewer old.node.engine.stage (held_bytes old.node))).0;
+          (found_fewer old.node.engine.stage (held_bytes old.node))).0;
     }
 
 -- ---- nothing is whole
@@ -436,20 +439,20 @@ too_long_after old g at ordered =
     ap by_stage at ∙ ap by_sent (append-nil j.sent) ∙ ap by_packets (append-nil (map packet_in j.packets))
     ∙ ap by_most (greatest j.most (length old.node.engine.link.unacked) ordered.most) ∙ ap by_line (append-nil old.line)
 
-nothing_so_by : LineLaws → (others : List (List ℕ)) (old : LiveEndValue) → IsOrdered old → HasRoom (sought old)
+nothing_so_by : (others : List (List ℕ)) (old : LiveEndValue) → IsOrdered old → HasRoom (sought old)
     → NothingFound old.node (searched old.node) → TakesAll others old (sought old)
-nothing_so_by laws others old ordered room (waits engine found_so) =
+nothing_so_by others old ordered room (waits engine found_so) =
     let n = searched old.node in
     let t = taker_of others old in
     record {
-      all = first_of_all laws others old
+      all = first_of_all others old
           ∙ ap (λ (x : Finding). takes_up (takes_all t) t x (line_end_of old)) found_so
-          ∙ ap (λ (x : Hearer (LineEnd Talk)). all_taken x) (sym (sought_held old engine));
+          ∙ ap (λ (x : Buffered (LineEnd Talk)). all_taken x) (sym (sought_held old engine));
       ordered = ordered_with old n engine ordered;
       standing = ap (λ (x : EngineState). standing_of (record old { node = record n { engine = x } })) engine;
       room = room;
     }
-nothing_so_by laws others old ordered room (is_too_long g behind at found_so engine) =
+nothing_so_by others old ordered room (is_too_long g behind at found_so engine) =
     let n = searched old.node in
     let t = taker_of others old in
     let after = too_long_after old g at ordered in
@@ -463,15 +466,15 @@ nothing_so_by laws others old ordered room (is_too_long g behind at found_so eng
       end = line_end_of (record old { node = record n { engine = x } });
     }) engine in
     record {
-      all = first_of_all laws others old
+      all = first_of_all others old
           ∙ ap (λ (x : Finding). takes_up (takes_all t) t x (line_end_of old)) found_so
           ∙ ap (λ (x : LineEnd Talk). takes_all t (holds t behind x)) after
-          ∙ ap (λ (x : Hearer (LineEnd Talk)). all_taken x) (sym hearer);
+          ∙ ap (λ (x : Buffered (LineEnd Talk)). all_taken x) (sym hearer);
       ordered = record {
         cleared = ap (λ (x : EngineState). x.outbox.entries) engine ∙ ordered.cleared;
         in_range = subst (λ (x : EngineState). IsEndInRange x.identity.side (state_of (sought old))) (sym engine)
             (subst (IsEndInRange id.side) (sym state)
-            (laws.in_range.stays id.side (holdings_of old.spool) id long_text_found (state_of old) ordered.in_range tt));
+            (end_stays id.side (holdings_of old.spool) id long_text_found (state_of old) ordered.in_range tt));
         own = subst (λ (x : EngineState). IsAnnouncement x.own) (sym engine) ordered.own;
         written = ordered.written;
         most = subst (λ (x : EngineState). length x.link.unacked ≤ old.journal.most) (sym engine) ordered.most;
@@ -480,9 +483,9 @@ nothing_so_by laws others old ordered room (is_too_long g behind at found_so eng
       room = room;
     }
 
-pub nothing_so : LineLaws → (others : List (List ℕ)) (old : LiveEndValue) → IsOrdered old → item_size (searched old.node) ≡ 0 → HasRoom (sought old)
+pub nothing_so : (others : List (List ℕ)) (old : LiveEndValue) → IsOrdered old → item_size (searched old.node) ≡ 0 → HasRoom (sought old)
     → TakesAll others old (sought old)
-nothing_so laws others old ordered none room = nothing_so_by laws others old ordered room (laws.search.none old.node none)
+nothing_so others old ordered none room = nothing_so_by others old ordered room (nothing_found old.node none)
 
 -- ---- the parts behind a search
 
@@ -495,29 +498,29 @@ sought_is old mid node spool journal line =
     let by_line : List ℕ → LiveEndValue = λ x. record { node = searched old.node; spool = old.spool; journal = old.journal; line = x } in
     ap by_node node ∙ ap by_spool spool ∙ ap by_journal journal ∙ ap by_line line
 
-pub sees_nothing : LineLaws → (others : List (List ℕ)) (old mid : LiveEndValue) → IsOrdered old → mid ≡ sought old
+pub sees_nothing : (others : List (List ℕ)) (old mid : LiveEndValue) → IsOrdered old → mid ≡ sought old
     → item_size mid.node ≡ 0 → (item_size mid.node ≡ 0 → HasRoom mid) → TakesAll others old mid
-sees_nothing laws others old mid ordered is none room =
+sees_nothing others old mid ordered is none room =
     subst (λ (m : LiveEndValue). TakesAll others old m) (sym is)
-    (nothing_so laws others old ordered (subst (λ (m : LiveEndValue). item_size m.node ≡ 0) is none) (subst HasRoom is (room none)))
+    (nothing_so others old ordered (subst (λ (m : LiveEndValue). item_size m.node ≡ 0) is none) (subst HasRoom is (room none)))
 
-pub sees_unsent : LineLaws → (others : List (List ℕ)) (old mid : LiveEndValue) → IsOrdered old → AreWritten others → mid ≡ sought old
+pub sees_unsent : (others : List (List ℕ)) (old mid : LiveEndValue) → IsOrdered old → AreWritten others → mid ≡ sought old
     → SightsShown mid.node others old.journal.passed Unsent → IsStopped others old mid
-sees_unsent laws others old mid ordered written is sights =
+sees_unsent others old mid ordered written is sights =
     subst (λ (m : LiveEndValue). IsStopped others old m) (sym is)
-    (stopped_so laws others old ordered written (subst (λ (m : LiveEndValue). SightsShown m.node others old.journal.passed Unsent) is sights))
+    (stopped_so others old ordered written (subst (λ (m : LiveEndValue). SightsShown m.node others old.journal.passed Unsent) is sights))
 
-pub sees_other : LineLaws → (others : List (List ℕ)) (old mid new : LiveEndValue) → IsOrdered old → mid ≡ sought old
+pub sees_other : (others : List (List ℕ)) (old mid new : LiveEndValue) → IsOrdered old → mid ≡ sought old
     → SightsShown mid.node others old.journal.passed Other → IsTakenUp (λ (b : Bool). old.journal) mid new → TakesOne others old new
-sees_other laws others old mid new ordered is sights taken_so =
-    other_taken laws others old new ordered (subst (λ (m : LiveEndValue). SightsShown m.node others old.journal.passed Other) is sights)
+sees_other others old mid new ordered is sights taken_so =
+    other_taken others old new ordered (subst (λ (m : LiveEndValue). SightsShown m.node others old.journal.passed Other) is sights)
     (subst (λ (m : LiveEndValue). IsTakenUp (λ (b : Bool). old.journal) m new) is taken_so)
 
-pub sees_packet : {A : Type 0} → LineLaws → (others : List (Vec ℕ A)) (place : ℕ) (v : Vec ℕ A) (bytes : List ℕ) (old mid new : LiveEndValue)
+pub sees_packet : {A : Type 0} → (others : List (Vec ℕ A)) (place : ℕ) (v : Vec ℕ A) (bytes : List ℕ) (old mid new : LiveEndValue)
     → IsOrdered old → AreWritten (lists_in others) → mid ≡ sought old
     → SightsShown mid.node (lists_in others) old.journal.passed (At place) → v ≡ get_or others place v → bytes ≡ v.items
     → IsTakenUp (packet_noted bytes place old.journal) mid new → TakesOne (lists_in others) old new
-sees_packet {A} laws others place v bytes old mid new ordered written is sights there same taken_so =
+sees_packet {A} others place v bytes old mid new ordered written is sights there same taken_so =
     let items : Vec ℕ A → List ℕ = λ x. x.items in
     let at = packet_at sights.0 (lists_in others) old.journal.passed place sights.2 in
     let within : place < length (lists_in others) = slice_get_within (lists_in others) place (canonical at.0) at.2.there in
@@ -526,6 +529,6 @@ sees_packet {A} laws others place v bytes old mid new ordered written is sights 
     slice_get-map items others place
     ∙ ap (option_map items) (slice_get_read others (length others) place v refl (omega (arith, within, count)) there)
     ∙ ap Some (sym same) in
-    packet_taken laws (lists_in others) place bytes old new ordered written
+    packet_taken (lists_in others) place bytes old new ordered written
     (subst (λ (m : LiveEndValue). SightsShown m.node (lists_in others) old.journal.passed (At place)) is sights) stands
     (subst (λ (m : LiveEndValue). IsTakenUp (packet_noted bytes place old.journal) m new) is taken_so)

@@ -1,5 +1,6 @@
 -- The two ends of a session stay joined, and told by numbers each does the same.
 use Rattle.std.proofs.Common.{◌≡◌, ℕ, ◌≤◌, max, Bool, true, false, List, length, Option, Some, MatchOption, slice_get, ◌≢◌, refl, sym, ap, subst, arith}
+use Rattle.uug_conversation.specs.Turns.{other}
 use Rattle.uug_link.specs.Arrivals.{IsPlace, place_of}
 use Rattle.uug_link.specs.State.{IsUp, KnowsWindow, State}
 use Rattle.uug_link.specs.declared.limits.TheConstants.{WINDOW_MAX}
@@ -7,10 +8,10 @@ use Rattle.uug_packet.specs.Packet.{PacketValue}
 use Rattle.uug_conversation.specs.Count.{Count, count_keeper}
 use Rattle.uug_session.specs.EndStep.{EndEffect, EndEvent, packet_found_whole, end_step, first_link, linked, message_of}
 use Rattle.uug_conversation.specs.Talk.{Talk, end_keeper}
-use Rattle.uug_line.specs.declared.side.Side.{Side}
+use Rattle.uug_conversation.specs.declared.side.Side.{Side}
 use Rattle.uug_line.specs.Belongings.{Belongings, SetupValue, identity}
 use Rattle.uug_line.specs.LineEnd.{LineEnd, Log, after_call, does, found_at, took}
-use Rattle.uug_line.specs.Sides.{AtBoth, at, other, session_side}
+use Rattle.uug_line.specs.Sides.{AtBoth, at}
 use Rattle.uug_line.specs.Taking.{packet_taken_up}
 use Rattle.uug_line.specs.World.{counted_end}
 use Rattle.uug_line.proofs.AgreementLemmas.{is_invariant}
@@ -19,13 +20,15 @@ use Rattle.uug_line.proofs.FoundLemmas.{passed_behind}
 use Rattle.uug_line.proofs.Invariant.{DoesAlike, counted_effect, done_all, found}
 use Rattle.uug_line.proofs.Joining.{EndsJoined, HasPassed, IsSoundSession, Joined, Moment, link_end, moment_of}
 use Rattle.uug_line.proofs.LinkLemmas.{links_run}
-use Rattle.uug_line.specs.Code.LowerLaws.{Laws}
 use Rattle.uug_line.proofs.MoveLemmas.{StandsThere}
 use Rattle.uug_line.proofs.SpeakingLemmas.{spoken_after}
 use Rattle.uug_line.specs.Speaking.{HasSpoken}
 use Rattle.uug_line.proofs.StepLemmas.{packet_step_alike, step_alike}
 use Rattle.uug_line.proofs.Steps.{IsNoPacket, count_player, talk_player}
 use Rattle.uug_line.proofs.TalkLemmas.{seen_at}
+use Rattle.uug_link.proofs.TwoLinksRuns.{within as links_unacked, windows}
+use Rattle.uug_link.proofs.ArrivalLemmas.{place_is}
+use Rattle.uug_line.proofs.LowerLemmas.{links_below}
 
 -- ---- a call
 
@@ -64,11 +67,11 @@ passed_found : (b : Bool) (message : List ℕ) (place : ℕ) (log : Log) → Has
 passed_found true message place log = sym (passed_behind log.arrivals place 0)
 passed_found false message place log = sym (passed_behind log.arrivals place 0)
 
-place_found : Laws → (p : PacketValue) (packets : List PacketValue) (passed place : ℕ) →
+place_found : (p : PacketValue) (packets : List PacketValue) (passed place : ℕ) →
     place_of p packets passed ≡ Some place → IsPlace p packets passed place
-place_found law p packets passed place there =
+place_found p packets passed place there =
     subst (λ (o : Option ℕ). MatchOption o ((i : ℕ) → passed ≤ i → slice_get packets i ≢ Some p)
-    (λ i. IsPlace p packets passed i)) there (law.place p packets passed)
+    (λ i. IsPlace p packets passed i)) there (place_is p packets passed)
 
 -- the ends after it, and the same told by numbers
 pub record DoneSo (setup : SetupValue) (brought : AtBoth Belongings) (side : Side) (f e : LineEnd Talk) (c : LineEnd Count) :
@@ -76,25 +79,25 @@ pub record DoneSo (setup : SetupValue) (brought : AtBoth Belongings) (side : Sid
   pub joined : EndsJoined setup brought side e f
   pub same : counted_end e ≡ c
 
-module _ (law : Laws) (setup : SetupValue) (brought : AtBoth Belongings) (sound : IsSoundSession setup brought) (side : Side) where
+module _ (setup : SetupValue) (brought : AtBoth Belongings) (sound : IsSoundSession setup brought) (side : Side) where
   -- it left no more unacknowledged than it may
   unacked_within : (m n : Moment) → Joined setup brought side m n → length m.link.unacked ≤ (at (other side) setup).own.window
   unacked_within m n j =
-      (law.unacked (at side setup).own (at (other side) setup).own (record { near = link_end m; far = link_end n })
+      (links_unacked links_below (at side setup).own (at (other side) setup).own (record { near = link_end m; far = link_end n })
       (sound.window side) (sound.window (other side)) (links_run setup side m n j.links)).0
 
   -- on a link that is up the window is the one that the other end announced
   window_within : (m n : Moment) → Joined setup brought side m n → IsUp m.link → m.link.window ≤ WINDOW_MAX
   window_within m n j is =
-      let same = (law.window (at side setup).own (at (other side) setup).own (record { near = link_end m; far = link_end n })
+      let same = (windows links_below (at side setup).own (at (other side) setup).own (record { near = link_end m; far = link_end n })
       (sound.window side) (sound.window (other side)) (links_run setup side m n j.links)).0
       (subst KnowsWindow (sym is) tt) in
       omega (arith, same, (sound.window (other side)).1)
 
   call_done : (e f : LineEnd Talk) (log : Log) (x : EndEffect Talk) (y : EndEffect Count) → EndsJoined setup brought side e f →
       log.most ≡ e.log.most → HasPassed log →
-      ((IsUp x.state.link → x.state.link.window ≤ WINDOW_MAX) → HasSpoken (end_keeper (session_side side) (at side setup).holdings) x.state) →
-      DoesAlike (λ m. Joined setup brought side m (moment_of f)) (first_link (session_side side) (at side setup).own)
+      ((IsUp x.state.link → x.state.link.window ≤ WINDOW_MAX) → HasSpoken (end_keeper side (at side setup).holdings) x.state) →
+      DoesAlike (λ m. Joined setup brought side m (moment_of f)) (first_link side (at side setup).own)
       (moment_with log e.state.link e.state.keeper) x y →
       DoneSo setup brought side f (after_call log e.line x) (after_call log e.line y)
   call_done e f log x y joined most has_passed spoken alike = record {
@@ -120,20 +123,20 @@ module _ (law : Laws) (setup : SetupValue) (brought : AtBoth Belongings) (sound 
       DoneSo setup brought side f (does (talk_player setup side) event e)
       (does (count_player setup brought side) event (counted_end e))
   does_joined e f event none joined =
-      call_done e f e.log (end_step (end_keeper (session_side side) (at side setup).holdings) (identity setup side) event e.state)
+      call_done e f e.log (end_step (end_keeper side (at side setup).holdings) (identity setup side) event e.state)
       (end_step (count_keeper (seen_at setup brought side)) (identity setup side) event (counted_end e).state) joined refl joined.near_passed
-      (λ within. spoken_after (end_keeper (session_side side) (at side setup).holdings) (identity setup side) event e.state within joined.near_spoken)
-      (step_alike law (session_side side) (at side setup).holdings (seen_at setup brought side)
+      (λ within. spoken_after (end_keeper side (at side setup).holdings) (identity setup side) event e.state within joined.near_spoken)
+      (step_alike side (at side setup).holdings (seen_at setup brought side)
       (λ m. Joined setup brought side m (moment_of f)) (StandsThere (moment_of f))
-      (is_invariant law setup brought sound side (moment_of f)) (at side setup).own (at side setup).name
+      (is_invariant setup brought sound side (moment_of f)) (at side setup).own (at side setup).name
       (at (other side) setup).name e.state.number (moment_of e) e.state.stage event none joined.joined joined.near_hails)
 
   -- ---- a packet of the other end
 
   packet_done : (e f : LineEnd Talk) (p : PacketValue) (place : ℕ) (x : EndEffect Talk) (y : EndEffect Count) →
       EndsJoined setup brought side e f → x.took ≡ y.took →
-      ((IsUp x.state.link → x.state.link.window ≤ WINDOW_MAX) → HasSpoken (end_keeper (session_side side) (at side setup).holdings) x.state) →
-      DoesAlike (λ m. Joined setup brought side m (moment_of f)) (first_link (session_side side) (at side setup).own)
+      ((IsUp x.state.link → x.state.link.window ≤ WINDOW_MAX) → HasSpoken (end_keeper side (at side setup).holdings) x.state) →
+      DoesAlike (λ m. Joined setup brought side m (moment_of f)) (first_link side (at side setup).own)
       (found (moment_of e) place (taken_if x.took (message_of p) e.log.taken)) x y →
       DoneSo setup brought side f (after_call (took x.took (message_of p) (found_at place e.log)) e.line x)
       (after_call (took y.took (message_of p) (found_at place e.log)) e.line y)
@@ -144,7 +147,7 @@ module _ (law : Laws) (setup : SetupValue) (brought : AtBoth Belongings) (sound 
       (call_done e f log x y joined (most_found x.took (message_of p) place e.log)
       (passed_found x.took (message_of p) place e.log) spoken
       (subst (λ (m : Moment). DoesAlike (λ n. Joined setup brought side n (moment_of f))
-      (first_link (session_side side) (at side setup).own) m x y)
+      (first_link side (at side setup).own) m x y)
       (moment_found x.took (message_of p) place e.log e.state.link e.state.keeper) alike))
 
   pub packet_joined : (e f : LineEnd Talk) (p : PacketValue) (place : ℕ) → e.state.stage ≡ linked →
@@ -154,13 +157,13 @@ module _ (law : Laws) (setup : SetupValue) (brought : AtBoth Belongings) (sound 
       (packet_taken_up (count_player setup brought side) p place (counted_end e))
   packet_joined e f p place on_link found_there joined =
       let event = packet_found_whole false p in
-      let x = end_step (end_keeper (session_side side) (at side setup).holdings) (identity setup side) event e.state in
+      let x = end_step (end_keeper side (at side setup).holdings) (identity setup side) event e.state in
       let y = end_step (count_keeper (seen_at setup brought side)) (identity setup side) event (counted_end e).state in
-      let alike = packet_step_alike law (session_side side) (at side setup).holdings (seen_at setup brought side)
+      let alike = packet_step_alike side (at side setup).holdings (seen_at setup brought side)
       (λ m. Joined setup brought side m (moment_of f)) (StandsThere (moment_of f))
-      (is_invariant law setup brought sound side (moment_of f)) (at side setup).own (at side setup).name
+      (is_invariant setup brought sound side (moment_of f)) (at side setup).own (at side setup).name
       (at (other side) setup).name e.state.number (moment_of e) p place e.state.stage on_link
-      (place_found law p f.log.packets e.log.passed place found_there) joined.joined in
+      (place_found p f.log.packets e.log.passed place found_there) joined.joined in
       packet_done e f p place x y joined (sym (ap (λ (z : EndEffect Count). z.took) alike.same))
-      (λ within. spoken_after (end_keeper (session_side side) (at side setup).holdings) (identity setup side) event e.state within joined.near_spoken)
+      (λ within. spoken_after (end_keeper side (at side setup).holdings) (identity setup side) event e.state within joined.near_spoken)
       alike

@@ -10,14 +10,14 @@ use Rattle.uug_conversation.specs.Jobs.{at_start, pending}
 use Rattle.uug_conversation.specs.Party.{Party, IsSound}
 use Rattle.uug_conversation.specs.Talk.{Talk, end_keeper, unopened}
 use Rattle.uug_session.specs.Told.{talk_behind}
-use Rattle.uug_conversation.specs.Turns.{Side as SessionSide}
+use Rattle.uug_conversation.specs.Turns.{other}
 use Rattle.uug_session.specs.TwoEnds.{Talker, Two, Reached, first_talker, talker}
-use Rattle.uug_line.specs.declared.side.Side.{Side}
-use Rattle.uug_line.specs.declared.side.Side.TheVariants.{Caller, Called}
+use Rattle.uug_conversation.specs.declared.side.Side.{Side}
+use Rattle.uug_conversation.specs.declared.side.Side.TheVariants.{Caller, Called}
 use Rattle.uug_line.specs.Belongings.{Belongings, SetupValue, party}
 use Rattle.uug_line.specs.LineEnd.{Log, LineEnd}
 use Rattle.uug_line.specs.LinkRun.{LinksRan}
-use Rattle.uug_line.specs.Sides.{other, session_side, AtBoth, at}
+use Rattle.uug_line.specs.Sides.{AtBoth, at}
 use Rattle.uug_line.specs.Speaking.{HasSpoken}
 use Rattle.uug_line.specs.WereSent.{passed_at}
 use Rattle.uug_line.proofs.LinkRunLemmas.{first_of}
@@ -47,7 +47,7 @@ abbrev pub link_end : Moment → End
 link_end m = record { link = m.link; sent = m.sent; taken = m.taken; emitted = m.packets; passed = m.passed }
 
 -- what an end keeps is that of a talker, behind what it brought; before its link is up, of one to which nothing happened
-abbrev pub IsTalk : SessionSide → Party → Belongings → Talk → Talker → Type 0
+abbrev pub IsTalk : Side → Party → Belongings → Talk → Talker → Type 0
 IsTalk me p brought talk t =
     ((talk ≡ unopened brought.lists brought.kept) × (t ≡ first_talker me p))
     ⊎ (talk ≡ talk_behind brought.lists.struck brought.lists.failed brought.kept p.size t)
@@ -61,7 +61,7 @@ pub record IsOpened (m : Moment) : Type 0 where
 abbrev pub LinksOf : SetupValue → Side → (near far : Moment) → Type 0
 LinksOf setup side near far =
     LinksRan
-    (first_of (session_side side) (session_side (other side)) (at side setup).own (at (other side) setup).own)
+    (first_of side (other side) (at side setup).own (at (other side) setup).own)
     (record { near = link_end near; far = link_end far }) near.arrivals far.arrivals
 
 -- the end on the side, and the other one
@@ -69,19 +69,19 @@ pub record Joined (setup : SetupValue) (brought : AtBoth Belongings) (side : Sid
   pub links : LinksOf setup side near far
   pub two : Two
   pub reached : Reached (party setup brought Caller) (party setup brought Called) two
-  pub near_talk : IsTalk (session_side side) (party setup brought side) (at side brought) near.talk (talker (session_side side) two)
-  pub near_sent : (talker (session_side side) two).sent ≡ near.sent
-  pub near_taken : (talker (session_side side) two).taken ≡ near.taken
-  pub far_talk : IsTalk (session_side (other side)) (party setup brought (other side)) (at (other side) brought) far.talk
-      (talker (session_side (other side)) two)
-  pub far_sent : (talker (session_side (other side)) two).sent ≡ far.sent
-  pub far_taken : (talker (session_side (other side)) two).taken ≡ far.taken
+  pub near_talk : IsTalk side (party setup brought side) (at side brought) near.talk (talker side two)
+  pub near_sent : (talker side two).sent ≡ near.sent
+  pub near_taken : (talker side two).taken ≡ near.taken
+  pub far_talk : IsTalk (other side) (party setup brought (other side)) (at (other side) brought) far.talk
+      (talker (other side) two)
+  pub far_sent : (talker (other side) two).sent ≡ far.sent
+  pub far_taken : (talker (other side) two).taken ≡ far.taken
   pub near_opened : IsOpened near
   pub far_opened : IsOpened far
 
 -- nothing has come to its link yet
 abbrev pub Hails : SetupValue → Side → LineEnd Talk → Type 0
-Hails setup side e = (g : Greeting) → e.state.stage ≡ hailing g → e.state.link ≡ first_link (session_side side) (at side setup).own
+Hails setup side e = (g : Greeting) → e.state.stage ≡ hailing g → e.state.link ≡ first_link side (at side setup).own
 
 -- it has gone past no packet behind the last that it found
 abbrev pub HasPassed : Log → Type 0
@@ -89,7 +89,7 @@ HasPassed log = log.passed ≡ passed_at log.arrivals 0
 
 -- it has said what it can
 abbrev pub Spoken : SetupValue → Side → LineEnd Talk → Type 0
-Spoken setup side e = HasSpoken (end_keeper (session_side side) (at side setup).holdings) e.state
+Spoken setup side e = HasSpoken (end_keeper side (at side setup).holdings) e.state
 
 pub record EndsJoined (setup : SetupValue) (brought : AtBoth Belongings) (side : Side) (e f : LineEnd Talk) : Type 0 where
   pub joined : Joined setup brought side (moment_of e) (moment_of f)

@@ -17,6 +17,7 @@ mod JoinedSteps
 mod Joining
 mod LinkLemmas
 mod LinkRunLemmas
+mod LowerLemmas
 mod MachineLemmas
 mod MomentLemmas
 mod MoveLemmas

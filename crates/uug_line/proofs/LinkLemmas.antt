@@ -2,6 +2,7 @@
 use Rattle.std.proofs.Common.{◌≡◌, ◌⊎◌, inl, inr, ℕ, suc, false, List, [], ◌∷◌, ◌++◌, refl, sym, ap, subst, ◌∙◌, true≢false}
 use Rattle.std.proofs.lemmas.List.{append-nil}
 use Rattle.std.specs.Bool.{⊤}
+use Rattle.uug_conversation.specs.Turns.{other}
 use Rattle.uug_link.specs.declared.phase.Phase.{Phase}
 use Rattle.uug_link.specs.declared.phase.Phase.TheVariants as phases
 use Rattle.uug_link.specs.Arrivals.{IsPlace, arrived, as_happenings}
@@ -12,17 +13,18 @@ use Rattle.uug_link.specs.TwoLinks.{End, IsRun, MayCall, first_ends, moved_by, m
 use Rattle.uug_packet.specs.Packet.{PacketValue}
 use Rattle.uug_session.specs.EndStep.{is_up, packets}
 use Rattle.uug_conversation.specs.Talk.{Talk}
-use Rattle.uug_line.specs.declared.side.Side.{Side}
+use Rattle.uug_conversation.specs.declared.side.Side.{Side}
 use Rattle.uug_line.specs.Belongings.{SetupValue}
 use Rattle.uug_line.specs.LineEnd.{messages_sent, packets_in}
 use Rattle.uug_line.specs.LinkRun.{LinksRan, places_heard}
-use Rattle.uug_line.specs.Sides.{at, other, session_side}
+use Rattle.uug_line.specs.Sides.{at}
 use Rattle.uug_line.proofs.Invariant.{answer_to, heard_with, moved}
 use Rattle.uug_line.proofs.Joining.{IsOpened, LinksOf, Moment, link_end}
 use Rattle.uug_line.proofs.LinkRunLemmas.{arrival_heard, is_run, ran_on}
-use Rattle.uug_line.specs.Code.LowerLaws.{Laws}
 use Rattle.uug_line.proofs.MomentLemmas.{none_sent, packets_in_packets}
 use Rattle.uug_line.proofs.SendLemmas.{sends_it}
+use Rattle.uug_link.proofs.OutcomeLemmas.{firsts_of}
+use Rattle.uug_link.proofs.ArrivalLemmas.{arrival_happens}
 
 -- ---- the moments as ends of links
 
@@ -53,13 +55,13 @@ pub sends_none : (s : State) (event : Event) → messages_sent (packets (step s 
     sent ≡ sent ++ messages_sent (packets (step s event).emitted)
 sends_none s event none sent = sym (ap (λ (l : List (List ℕ)). sent ++ l) none ∙ append-nil sent)
 
-sends_so : Laws → (s : State) (event : Event) → MayCall s event → SendsSo s event
-sends_so law s to_begin may sent = sends_none s to_begin (none_sent (step s to_begin).emitted (law.firsts s to_begin)) sent
-sends_so law s (packet_found p) may sent = absurd may
-sends_so law s bad_found may sent = sends_none s bad_found (none_sent (step s bad_found).emitted (law.firsts s bad_found)) sent
-sends_so law s timed_out may sent = sends_none s timed_out (none_sent (step s timed_out).emitted (law.firsts s timed_out)) sent
-sends_so law s (to_send message) may sent = ap (λ (l : List (List ℕ)). sent ++ l) (sym (sends_it s message may.0.0))
-sends_so law s to_close may sent = sends_none s to_close (none_sent (step s to_close).emitted (law.firsts s to_close)) sent
+sends_so : (s : State) (event : Event) → MayCall s event → SendsSo s event
+sends_so s to_begin may sent = sends_none s to_begin (none_sent (step s to_begin).emitted (firsts_of s to_begin)) sent
+sends_so s (packet_found p) may sent = absurd may
+sends_so s bad_found may sent = sends_none s bad_found (none_sent (step s bad_found).emitted (firsts_of s bad_found)) sent
+sends_so s timed_out may sent = sends_none s timed_out (none_sent (step s timed_out).emitted (firsts_of s timed_out)) sent
+sends_so s (to_send message) may sent = ap (λ (l : List (List ℕ)). sent ++ l) (sym (sends_it s message may.0.0))
+sends_so s to_close may sent = sends_none s to_close (none_sent (step s to_close).emitted (firsts_of s to_close)) sent
 
 abbrev end_with : State → (passed : ℕ) → (sent got : List (List ℕ)) → List PacketValue → End
 end_with link passed sent got emitted =
@@ -75,22 +77,22 @@ same_end link passed sent then_sent got then_got before es sends takes =
     ∙ ap (λ (l : List (List ℕ)). end_with link passed then_sent l (before ++ packets_of es)) takes
     ∙ ap (λ (l : List PacketValue). end_with link passed then_sent then_got (before ++ l)) (sym (packets_in_packets es))
 
-moved_end : Laws → (m : Moment) (event : Event) (talk : Talk) → MayCall m.link event → FindsNone event →
+moved_end : (m : Moment) (event : Event) (talk : Talk) → MayCall m.link event → FindsNone event →
     moved_by (link_end m) event ≡ link_end (moved m event talk)
-moved_end law m event talk may finds =
+moved_end m event talk may finds =
     let e = step m.link event in
     same_end e.state m.passed (sent_with event m.sent) (m.sent ++ messages_sent (packets e.emitted))
-    (taken_by e.outcome event m.taken) m.taken m.packets e.emitted (sends_so law m.link event may m.sent)
+    (taken_by e.outcome event m.taken) m.taken m.packets e.emitted (sends_so m.link event may m.sent)
     (takes_none e.outcome event m.taken finds)
 
-arrived_end : Laws → (m : Moment) (p : PacketValue) (place : ℕ) (talk : Talk) →
+arrived_end : (m : Moment) (p : PacketValue) (place : ℕ) (talk : Talk) →
     arrived p place (link_end m)
     ≡ link_end (heard_with m p place (answer_to m p) talk)
-arrived_end law m p place talk =
+arrived_end m p place talk =
     let e = step m.link (packet_found p) in
     let messages = taken_by (answer_to m p) (packet_found p) m.taken in
     same_end e.state (suc place) m.sent (m.sent ++ messages_sent (packets e.emitted)) messages messages m.packets e.emitted
-    (sends_none m.link (packet_found p) (none_sent e.emitted (law.firsts m.link (packet_found p))) m.sent) refl
+    (sends_none m.link (packet_found p) (none_sent e.emitted (firsts_of m.link (packet_found p))) m.sent) refl
 
 -- ---- the runs
 
@@ -98,10 +100,10 @@ arrived_end law m p place talk =
 pub links_run : (setup : SetupValue) (side : Side) (near far : Moment) → LinksOf setup side near far →
     IsRun (at side setup).own (at (other side) setup).own (record { near = link_end near; far = link_end far })
 links_run setup side near far ran =
-    is_run (session_side side) (session_side (other side)) (at side setup).own (at (other side) setup).own
+    is_run side (other side) (at side setup).own (at (other side) setup).own
     (record { near = link_end near; far = link_end far }) near.arrivals far.arrivals ran
 
-module _ (law : Laws) (near_first far_first : State) (far : Moment) where
+module _ (near_first far_first : State) (far : Moment) where
   -- to this end, which has found the packets at these places, with the other one at the far side
   abbrev RanTo : End → (places : List ℕ) → Type 0
   RanTo e places =
@@ -111,7 +113,7 @@ module _ (law : Laws) (near_first far_first : State) (far : Moment) where
       FindsNone event → RanTo (link_end (moved m event talk)) (moved m event talk).arrivals
   run_moves m event talk ran may finds =
       subst (λ (places : List ℕ). RanTo (link_end (moved m event talk)) places) (append-nil m.arrivals)
-      (subst (λ (e : End). RanTo e (m.arrivals ++ [])) (moved_end law m event talk may finds)
+      (subst (λ (e : End). RanTo e (m.arrivals ++ [])) (moved_end m event talk may finds)
       (ran_on near_first far_first (record { near = link_end m; far = link_end far }) m.arrivals far.arrivals
       (moves event ∷ []) ran (may, tt)))
 
@@ -120,11 +122,11 @@ module _ (law : Laws) (near_first far_first : State) (far : Moment) where
       RanTo (link_end (heard_with m p place (answer_to m p) talk)) (m.arrivals ++ place ∷ [])
   run_hears m p place talk ran there =
       let hs = as_happenings p m.passed place in
-      let happens = law.arrival (link_end m) (link_end far) p place there in
+      let happens = arrival_happens (link_end m) (link_end far) p place there in
       subst (λ (places : List ℕ). RanTo (link_end (heard_with m p place (answer_to m p) talk)) (m.arrivals ++ places))
       (arrival_heard p m.passed place there.behind)
       (subst (λ (e : End). RanTo e (m.arrivals ++ places_heard m.passed hs))
-      (happens.1 ∙ arrived_end law m p place talk)
+      (happens.1 ∙ arrived_end m p place talk)
       (ran_on near_first far_first (record { near = link_end m; far = link_end far }) m.arrivals far.arrivals hs ran
       happens.0))
 

@@ -7,14 +7,15 @@ use Rattle.uug_link.specs.State.{State}
 use Rattle.uug_link.specs.TwoLinks.{AllMayHappen, AllMayOccur, Ends, Happening, IsFirst, IsRun, MayOccur, Occurrence, after_happening, after_happenings, after_occurrence, after_occurrences, at_far, at_near, first_ends, hears, misses, moves, seen_from_far}
 use Rattle.uug_packet.specs.Packet.{PacketValue}
 use Rattle.uug_session.specs.EndStep.{first_link}
-use Rattle.uug_conversation.specs.Turns.{Side, caller, called}
+use Rattle.uug_conversation.specs.declared.side.Side.{Side}
+use Rattle.uug_conversation.specs.declared.side.Side.TheVariants.{Caller, Called}
 use Rattle.uug_line.specs.LinkRun.{LinksRan, happened_far, happened_near, places_heard}
 
 -- ---- it is a run of two links that announce this
 
 is_first : (me : Side) (own : Announced) → IsFirst own (first_link me own)
-is_first caller own = inl refl
-is_first called own = inr refl
+is_first Caller own = inl refl
+is_first Called own = inr refl
 
 abbrev pub first_of : (me other : Side) → (own others : Announced) → Ends
 first_of me other own others = first_ends (first_link me own) (first_link other others)

@@ -16,31 +16,34 @@ use Rattle.uug_conversation.specs.Holdings.{Holdings}
 use Rattle.uug_conversation.specs.Jobs.{Lists, at_start, pending}
 use Rattle.uug_conversation.specs.Talk.{Talk, end_keeper, first_of, opened_with, unopened}
 use Rattle.uug_session.specs.TwoEnds.{Talker, Two, first_talker, sends, takes}
-use Rattle.uug_conversation.specs.Turns.{Side as SessionSide}
+use Rattle.uug_conversation.specs.Turns.{other}
 use Rattle.uug_conversation.specs.View.{own_messages}
-use Rattle.uug_line.specs.declared.side.Side.{Side}
+use Rattle.uug_conversation.specs.declared.side.Side.{Side}
 use Rattle.uug_line.specs.Belongings.{Belongings, SetupValue, party}
 use Rattle.uug_line.specs.LineEnd.{messages_sent}
-use Rattle.uug_line.specs.Sides.{AtBoth, at, other, session_side}
+use Rattle.uug_line.specs.Sides.{AtBoth, at}
 use Rattle.uug_line.proofs.AnswerLemmas.{taken_message}
 use Rattle.uug_line.proofs.Invariant.{answer_to, heard_by, heard_with, moved}
 use Rattle.uug_line.proofs.Joining.{IsSoundSession, IsTalk, Joined, LinksOf, Moment, link_end}
 use Rattle.uug_line.proofs.LinkLemmas.{DoesNotOpen, FindsNone, IsNotUp, does_not_open, closes_it, links_run, opened_stays, run_hears, run_moves, sends_none, stays_starting, stays_up, up_is_not_starting}
-use Rattle.uug_line.specs.Code.LowerLaws.{Laws}
 use Rattle.uug_line.proofs.MomentLemmas.{none_sent}
 use Rattle.uug_line.proofs.SendLemmas.{sends_it, up_with_room}
 use Rattle.uug_line.proofs.TalkLemmas.{Acted, Reaches, acts, fit_at, seen_at, talk_at, talker_at, told_at}
+use Rattle.uug_link.proofs.OutcomeLemmas.{answers_of, moves_of, begin_phase, send_phase, close_phase, firsts_of}
+use Rattle.uug_link.proofs.TwoLinksRuns.{fronts, sizes as link_sizes}
+use Rattle.uug_conversation.proofs.EarlierJobLemmas.{start_behind}
+use Rattle.uug_line.proofs.LowerLemmas.{links_below, talk_opens, talk_takes, talk_sends}
 
 -- ---- what an end keeps before and after its link has come up
 
 -- it has come up
-talks_behind : (me : SessionSide) (setup : SetupValue) (brought : AtBoth Belongings) (side : Side) (talk : Talk) (t : Talker) →
+talks_behind : (me : Side) (setup : SetupValue) (brought : AtBoth Belongings) (side : Side) (talk : Talk) (t : Talker) →
     talk.opened ≡ true → IsTalk me (party setup brought side) (at side brought) talk t → talk ≡ talk_at setup brought side t
 talks_behind me setup brought side talk t opened (inl h) = absurd (true≢false (sym opened ∙ ap (λ (x : Talk). x.opened) h.0))
 talks_behind me setup brought side talk t opened (inr h) = h
 
 -- it has not come up
-not_opened : (me : SessionSide) (setup : SetupValue) (brought : AtBoth Belongings) (side : Side) (talk : Talk) (t : Talker) →
+not_opened : (me : Side) (setup : SetupValue) (brought : AtBoth Belongings) (side : Side) (talk : Talk) (t : Talker) →
     talk.opened ≡ false → IsTalk me (party setup brought side) (at side brought) talk t →
     (talk ≡ unopened (at side brought).lists (at side brought).kept) × (t ≡ first_talker me (party setup brought side))
 not_opened me setup brought side talk t not_yet (inl h) = h
@@ -80,7 +83,7 @@ room_in false n w h = absurd (true≢false (sym h))
 abbrev pub StandsThere : (far m : Moment) → PacketValue → (place : ℕ) → Type 0
 StandsThere far m p place = IsPlace p far.packets m.passed place
 
-module _ (setup : SetupValue) (brought : AtBoth Belongings) (side : Side) (far : Moment) (law : Laws)
+module _ (setup : SetupValue) (brought : AtBoth Belongings) (side : Side) (far : Moment)
     (sound : IsSoundSession setup brought) where
   abbrev J : Moment → Type 0
   J m = Joined setup brought side m far
@@ -93,14 +96,14 @@ module _ (setup : SetupValue) (brought : AtBoth Belongings) (side : Side) (far :
 
   -- the links at first
   abbrev near_first : State
-  near_first = first_link (session_side side) (at side setup).own
+  near_first = first_link side (at side setup).own
 
   abbrev far_first : State
-  far_first = first_link (session_side (other side)) (at (other side) setup).own
+  far_first = first_link (other side) (at (other side) setup).own
 
   -- what the far end keeps
   abbrev FarTalk : Talker → Type 0
-  FarTalk t = IsTalk (session_side (other side)) (party setup brought (other side)) (at (other side) brought) far.talk t
+  FarTalk t = IsTalk (other side) (party setup brought (other side)) (at (other side) brought) far.talk t
 
   -- ---- what is kept stays
 
@@ -110,7 +113,7 @@ module _ (setup : SetupValue) (brought : AtBoth Belongings) (side : Side) (far :
     links = runs;
     two = j.two;
     reached = j.reached;
-    near_talk = subst (λ (x : Talk). IsTalk (session_side side) (party setup brought side) own x
+    near_talk = subst (λ (x : Talk). IsTalk side (party setup brought side) own x
         (talker_at setup brought side j.two)) (sym talk) j.near_talk;
     near_sent = j.near_sent ∙ sent;
     near_taken = j.near_taken ∙ messages;
@@ -127,77 +130,77 @@ module _ (setup : SetupValue) (brought : AtBoth Belongings) (side : Side) (far :
       J (moved m event m.talk)
   quiet_event m event j may finds none phase =
       same_talk m (moved m event m.talk) j
-      (run_moves law near_first far_first far m event m.talk j.links may finds)
+      (run_moves near_first far_first far m event m.talk j.links may finds)
       refl (sends_none m.link event none m.sent) refl phase
 
   pub joined_begins : (m : Moment) → J m → IsFresh m.link → J (moved m to_begin m.talk)
   joined_begins m j fresh =
-      quiet_event m to_begin j fresh tt (none_sent (step m.link to_begin).emitted (law.firsts m.link to_begin))
+      quiet_event m to_begin j fresh tt (none_sent (step m.link to_begin).emitted (firsts_of m.link to_begin))
       (stays_starting m.link (step m.link to_begin).state (subst IsStarting (sym fresh) tt)
-      (subst IsStarting (sym (law.begin_phase m.link fresh)) tt))
+      (subst IsStarting (sym (begin_phase m.link fresh)) tt))
 
   pub joined_closes : (m : Moment) → J m → IsUp m.link → J (moved m to_close m.talk)
   joined_closes m j at_up =
-      quiet_event m to_close j at_up tt (none_sent (step m.link to_close).emitted (law.firsts m.link to_close))
-      (closes_it m.link (step m.link to_close).state (law.close_phase m.link at_up))
+      quiet_event m to_close j at_up tt (none_sent (step m.link to_close).emitted (firsts_of m.link to_close))
+      (closes_it m.link (step m.link to_close).state (close_phase m.link at_up))
 
   pub joined_finds_bad : (m : Moment) → J m → J (moved m bad_found m.talk)
   joined_finds_bad m j =
       let e = step m.link bad_found in
-      quiet_event m bad_found j tt tt (none_sent e.emitted (law.firsts m.link bad_found))
-      (does_not_open e.outcome m.link e.state (bad_is_not_up e.outcome (law.answers m.link bad_found))
-      (law.phases m.link bad_found tt))
+      quiet_event m bad_found j tt tt (none_sent e.emitted (firsts_of m.link bad_found))
+      (does_not_open e.outcome m.link e.state (bad_is_not_up e.outcome (answers_of m.link bad_found))
+      (moves_of m.link bad_found tt))
 
   pub joined_times_out : (m : Moment) → J m → J (moved m timed_out m.talk)
   joined_times_out m j =
       let e = step m.link timed_out in
-      quiet_event m timed_out j tt tt (none_sent e.emitted (law.firsts m.link timed_out))
-      (does_not_open e.outcome m.link e.state (late_is_not_up e.outcome (law.answers m.link timed_out))
-      (law.phases m.link timed_out tt))
+      quiet_event m timed_out j tt tt (none_sent e.emitted (firsts_of m.link timed_out))
+      (does_not_open e.outcome m.link e.state (late_is_not_up e.outcome (answers_of m.link timed_out))
+      (moves_of m.link timed_out tt))
 
   -- ---- a message is sent
 
   -- of an end whose link is up
   is_behind : (m : Moment) (j : J m) → IsUp m.link → m.talk ≡ talk_at setup brought side (talker_at setup brought side j.two)
-  is_behind m j at_up = talks_behind (session_side side) setup brought side m.talk (talker_at setup brought side j.two)
+  is_behind m j at_up = talks_behind side setup brought side m.talk (talker_at setup brought side j.two)
       (j.near_opened.up at_up) j.near_talk
 
   -- the size of its messages
   size_known : (m : Moment) → Runs m → IsUp m.link → size_of_code m.link.size_code ≡ (party setup brought side).size
   size_known m runs at_up =
       let ends : Ends = record { near = link_end m; far = link_end far } in
-      let sizes = law.size (at side setup).own (at (other side) setup).own ends (sound.window side) (sound.window (other side)) in
+      let sizes = link_sizes links_below (at side setup).own (at (other side) setup).own ends (sound.window side) (sound.window (other side)) in
       ap size_of_code ((sizes (links_run setup side m far runs)).0 (subst KnowsSize (sym at_up) tt))
 
   waiting_fits : (two : Two) → Reaches setup brought two → (message : List ℕ) (more : List (List ℕ)) →
       (talker_at setup brought side two).waiting ≡ message ∷ more → length message ≤ (party setup brought side).size
   waiting_fits two reached message more waits =
-      let told = told_at setup brought law sound side two reached in
+      let told = told_at setup brought sound side two reached in
       let Small : List ℕ → Type 0 = λ m. length m ≤ (party setup brought side).size in
       All-head Small message more
       (subst (All Small) (sym told.waiting_next ∙ waits)
       (All-drop Small (length (talker_at setup brought side two).sent) _
-      (All-take Small _ (own_messages (seen_at setup brought side)) (fit_at setup brought law side))))
+      (All-take Small _ (own_messages (seen_at setup brought side)) (fit_at setup brought side))))
 
   sends_by_talker : (m : Moment) (message : List ℕ) (j : J m) → IsUp m.link → length m.link.unacked < m.link.window →
       m.talk ≡ talk_at setup brought side (talker_at setup brought side j.two) →
       (more : List (List ℕ)) × ((talker_at setup brought side j.two).waiting ≡ message ∷ more) →
-      J (moved m (to_send message) ((end_keeper (session_side side) (at side setup).holdings).sent m.talk))
+      J (moved m (to_send message) ((end_keeper side (at side setup).holdings).sent m.talk))
   sends_by_talker m message j at_up room talk waits =
       let t = talker_at setup brought side j.two in
       let acted : Acted setup brought side sends j.two =
       acts setup brought side sends j.two j.reached (message, waits.0, waits.1) in
-      let then_m = moved m (to_send message) ((end_keeper (session_side side) (at side setup).holdings).sent m.talk) in
+      let then_m = moved m (to_send message) ((end_keeper side (at side setup).holdings).sent m.talk) in
       record {
-        links = run_moves law near_first far_first far m (to_send message) then_m.talk j.links (
+        links = run_moves near_first far_first far m (to_send message) then_m.talk j.links (
           (at_up, room),
           subst (λ (n : ℕ). length message ≤ n) (sym (size_known m j.links at_up))
               (waiting_fits j.two j.reached message waits.0 waits.1),
         ) tt;
         two = acted.then_two;
         reached = acted.reached;
-        near_talk = inr (ap (λ (x : Talk). (end_keeper (session_side side) (at side setup).holdings).sent x) talk
-            ∙ law.talk_sends (party setup brought side) t own.lists.struck own.lists.failed own.kept
+        near_talk = inr (ap (λ (x : Talk). (end_keeper side (at side setup).holdings).sent x) talk
+            ∙ talk_sends (party setup brought side) t own.lists.struck own.lists.failed own.kept
             ∙ ap (λ (x : Talker). talk_at setup brought side x) (sym acted.near));
         near_sent = ap (λ (x : Talker). x.sent) acted.near ∙ ap (λ (l : List (List ℕ)). t.sent ++ take 1 l) waits.1
             ∙ ap (λ (l : List (List ℕ)). l ++ message ∷ []) j.near_sent
@@ -207,13 +210,13 @@ module _ (setup : SetupValue) (brought : AtBoth Belongings) (side : Side) (far :
         far_sent = ap (λ (x : Talker). x.sent) acted.far ∙ j.far_sent;
         far_taken = ap (λ (x : Talker). x.taken) acted.far ∙ j.far_taken;
         near_opened = opened_stays m then_m refl j.near_opened
-            (stays_up m.link then_m.link at_up (law.send_phase m.link message at_up));
+            (stays_up m.link then_m.link at_up (send_phase m.link message at_up));
         far_opened = j.far_opened;
       }
 
   pub joined_sends : (m : Moment) (message : List ℕ) → J m → has_room m.link ≡ true →
-      (end_keeper (session_side side) (at side setup).holdings).next m.talk ≡ Some message →
-      J (moved m (to_send message) ((end_keeper (session_side side) (at side setup).holdings).sent m.talk))
+      (end_keeper side (at side setup).holdings).next m.talk ≡ Some message →
+      J (moved m (to_send message) ((end_keeper side (at side setup).holdings).sent m.talk))
   joined_sends m message j room next =
       let at_up = up_with_room m.link room in
       let talk = is_behind m j at_up in
@@ -225,28 +228,28 @@ module _ (setup : SetupValue) (brought : AtBoth Belongings) (side : Side) (far :
   -- ---- a packet is heard
 
   abbrev heard : Moment → PacketValue → (place : ℕ) → OutcomeValue → Moment
-  heard m p place o = heard_by (end_keeper (session_side side) (at side setup).holdings) m p place o
+  heard m p place o = heard_by (end_keeper side (at side setup).holdings) m p place o
 
   -- what was sent stays
   same_sent : (m : Moment) (p : PacketValue) → m.sent ≡ m.sent ++ messages_sent (packets (step m.link (packet_found p)).emitted)
   same_sent m p =
-      let none = none_sent (step m.link (packet_found p)).emitted (law.firsts m.link (packet_found p)) in
+      let none = none_sent (step m.link (packet_found p)).emitted (firsts_of m.link (packet_found p)) in
       sends_none m.link (packet_found p) none m.sent
 
   -- the lists that it brought are those of a session's start, behind what was done before
   brought_lists : own.lists ≡ behind own.lists.struck own.lists.failed (at_start (pending own.lists) [] [])
-  brought_lists = sound.renewed side ∙ sym (law.start (pending own.lists) own.lists.struck own.lists.failed)
+  brought_lists = sound.renewed side ∙ sym (start_behind (pending own.lists) own.lists.struck own.lists.failed)
 
   opens_behind : (talk : Talk) (t : Talker) (size : ℕ) → talk ≡ unopened own.lists own.kept →
-      t ≡ first_talker (session_side side) (party setup brought side) → size ≡ (party setup brought side).size →
-      (end_keeper (session_side side) (at side setup).holdings).opened size talk ≡ talk_at setup brought side t
+      t ≡ first_talker side (party setup brought side) → size ≡ (party setup brought side).size →
+      (end_keeper side (at side setup).holdings).opened size talk ≡ talk_at setup brought side t
   opens_behind talk t size talk_is t_is size_is =
-      let me = session_side side in
+      let me = side in
       let h : Holdings = (at side setup).holdings in
       ap (λ (x : Talk). opened_with me h size x) talk_is
       ∙ ap (λ (n : ℕ). opened_with me h n (unopened own.lists own.kept)) size_is
       ∙ ap (λ (l : Lists). opened_with me h (party setup brought side).size (unopened l own.kept)) brought_lists
-      ∙ law.talk_opens me (party setup brought side) own.lists.struck own.lists.failed own.kept
+      ∙ talk_opens me (party setup brought side) own.lists.struck own.lists.failed own.kept
       ∙ ap (λ (x : Talker). talk_at setup brought side x) (sym t_is)
 
   -- the link has come up
@@ -255,7 +258,7 @@ module _ (setup : SetupValue) (brought : AtBoth Belongings) (side : Side) (far :
   hears_up m p place j runs before after =
       let then_m = heard m p place up in
       let t = talker_at setup brought side j.two in
-      let fresh = not_opened (session_side side) setup brought side m.talk t
+      let fresh = not_opened side setup brought side m.talk t
       (j.near_opened.starting (subst IsStarting (sym before) tt)) j.near_talk in
       record {
         links = runs;
@@ -283,7 +286,7 @@ module _ (setup : SetupValue) (brought : AtBoth Belongings) (side : Side) (far :
       let t = talker_at setup brought side j.two in
       let message = message_of p in
       let front : IsFrontOf then_m.taken far.sent =
-      (law.front (at side setup).own (at (other side) setup).own (record { near = link_end then_m; far = link_end far })
+      (fronts links_below (at side setup).own (at (other side) setup).own (record { near = link_end then_m; far = link_end far })
       (sound.window side) (sound.window (other side)) (links_run setup side then_m far runs)).0 in
       let grown : then_m.taken ≡ t.taken ++ message ∷ [] =
       taken_message p m.taken may ∙ ap (λ (l : List (List ℕ)). l ++ message ∷ []) (sym j.near_taken) in
@@ -294,9 +297,9 @@ module _ (setup : SetupValue) (brought : AtBoth Belongings) (side : Side) (far :
         links = runs;
         two = acted.then_two;
         reached = acted.reached;
-        near_talk = inr (ap (λ (x : Talk). (end_keeper (session_side side) (at side setup).holdings).taking message x)
+        near_talk = inr (ap (λ (x : Talk). (end_keeper side (at side setup).holdings).taking message x)
             (is_behind m j before)
-            ∙ law.talk_takes (party setup brought side) t message own.lists.struck own.lists.failed own.kept
+            ∙ talk_takes (party setup brought side) t message own.lists.struck own.lists.failed own.kept
             ∙ ap (λ (x : Talker). talk_at setup brought side x) (sym acted.near));
         near_sent = ap (λ (x : Talker). x.sent) acted.near ∙ j.near_sent ∙ same_sent m p;
         near_taken = ap (λ (x : Talker). x.taken) acted.near ∙ sym grown;
@@ -331,5 +334,5 @@ module _ (setup : SetupValue) (brought : AtBoth Belongings) (side : Side) (far :
       J (heard m p place (answer_to m p))
   joined_hears m p place j there =
       let o = answer_to m p in
-      hears_by m p place o j (law.answers m.link (packet_found p)) (law.phases m.link (packet_found p) tt)
-      (run_hears law near_first far_first far m p place (heard m p place o).talk j.links there)
+      hears_by m p place o j (answers_of m.link (packet_found p)) (moves_of m.link (packet_found p) tt)
+      (run_hears near_first far_first far m p place (heard m p place o).talk j.links there)

@@ -12,7 +12,7 @@ use Rattle.uug_conversation.specs.MemoryHoldings.{no_holdings}
 use Rattle.uug_session.specs.Says.{written_text}
 use Rattle.uug_line.specs.declared.event.Event.{Event}
 use Rattle.uug_line.specs.declared.event.Event.TheVariants.{Pass, Drop, Flip, Timeout, HangUp, Call}
-use Rattle.uug_line.specs.declared.side.Side.TheVariants.{Caller, Called}
+use Rattle.uug_conversation.specs.declared.side.Side.TheVariants.{Caller, Called}
 use Rattle.uug_line.specs.declared.verdict.LineVerdict.TheVariants.{Clean, Fooled}
 use Rattle.uug_line.specs.Belongings.{Belongings, SetupValue, identity}
 use Rattle.uug_line.specs.Delivered.{GreetsOn, came_in}

@@ -4,22 +4,22 @@ use Rattle.std.proofs.lemmas.List.{append-nil, take-append-le}
 use Rattle.std.proofs.Math.Seq.{take-append_seam}
 use Rattle.std.proofs.lemmas.Option.{slice_get_within}
 use Rattle.uug_link.proofs.OnTheLineLemmas.{slice_get-append, slice_get-last}
-use Rattle.uug_session.specs.Arriving.{Came, all_taken, stopped}
+use Rattle.uug_session.specs.Arriving.{Arrival, all_taken, stopped}
 use Rattle.uug_session.specs.EndStep.{EndState, Emitted, Identity, Stage, hailing, linked, ended, line_lost, stage_step}
 use Rattle.uug_conversation.specs.Keeper.{Keeper}
 use Rattle.uug_conversation.specs.Talk.{Talk}
 use Rattle.uug_line.specs.declared.event.Event.{Event}
 use Rattle.uug_line.specs.declared.event.Event.TheVariants.{Pass, Drop, Flip, Insert, Timeout, HangUp, Call}
-use Rattle.uug_line.specs.declared.side.Side.{Side}
-use Rattle.uug_line.specs.declared.side.Side.TheVariants.{Caller, Called}
+use Rattle.uug_conversation.specs.declared.side.Side.{Side}
+use Rattle.uug_conversation.specs.declared.side.Side.TheVariants.{Caller, Called}
 use Rattle.uug_line.specs.declared.verdict.LineVerdict.{LineVerdict}
 use Rattle.uug_line.specs.declared.verdict.LineVerdict.TheVariants.{Clean, Fooled}
 use Rattle.uug_line.specs.Belongings.{SetupValue}
 use Rattle.uug_line.specs.Fooled.{present}
-use Rattle.uug_line.specs.LineEnd.{LineEnd, Player, does, messages_sent, packets_in}
+use Rattle.uug_line.specs.LineEnd.{LineEnd, Participant, does, messages_sent, packets_in}
 use Rattle.uug_line.specs.PastSessions.{DidTheSame, WasPresent}
 use Rattle.uug_line.specs.Report.{report_of_end}
-use Rattle.uug_line.specs.Run.{Run, end_at, player, first_run, flipped, with_line_to, hears_next, after_hearing, hung_up, after_event, unless_fooled, goes_through, run_of}
+use Rattle.uug_line.specs.Run.{Run, end_at, participant, first_run, flipped, with_line_to, hears_next, after_hearing, hung_up, after_event, unless_fooled, goes_through, run_of}
 use Rattle.uug_line.specs.RunKeeper.{RunKeeper, by_themselves}
 use Rattle.uug_line.specs.Sides.{AtBoth, at, at_each}
 use Rattle.uug_line.specs.Told.{EndReportValue}
@@ -66,7 +66,7 @@ module _ {C : Type 0} (k : RunKeeper C) (setup : SetupValue) where
 
   -- ---- what is over stays
 
-  past_heard : (number : ℕ) (side : Side) (came : Came (LineEnd C)) (run : Run C) → (after_hearing number side came run).past ≡ run.past
+  past_heard : (number : ℕ) (side : Side) (came : Arrival (LineEnd C)) (run : Run C) → (after_hearing number side came run).past ≡ run.past
   past_heard number side (all_taken h) run = refl
   past_heard number side (stopped h) run = refl
 
@@ -127,7 +127,7 @@ lost_emits k id (hailing g) e = refl
 lost_emits k id linked e = refl
 lost_emits k id (ended how) e = refl
 
-lost_did : {C : Type 0} (p : Player C) (e : LineEnd C) → DidTheSame (report_of_end (does p line_lost e)) (report_of_end e)
+lost_did : {C : Type 0} (p : Participant C) (e : LineEnd C) → DidTheSame (report_of_end (does p line_lost e)) (report_of_end e)
 lost_did p e =
     let none = lost_emits p.keeper p.identity e.state.stage e.state in
     record {
@@ -198,11 +198,11 @@ module _ (setup : SetupValue) where
       same Caller = subst (λ (es : List Event). DidTheSame
           (report_of_end (hung_up by_themselves setup (run_of_ends setup events) Caller).end)
           (report_of_end (end_at Caller (run_of_ends setup es)).end)) (sym front)
-          (lost_did (player by_themselves setup (run_of_ends setup events) Caller) (end_at Caller (run_of_ends setup events)).end)
+          (lost_did (participant by_themselves setup (run_of_ends setup events) Caller) (end_at Caller (run_of_ends setup events)).end)
       same Called = subst (λ (es : List Event). DidTheSame
           (report_of_end (hung_up by_themselves setup (run_of_ends setup events) Called).end)
           (report_of_end (end_at Called (run_of_ends setup es)).end)) (sym front)
-          (lost_did (player by_themselves setup (run_of_ends setup events) Called) (end_at Called (run_of_ends setup events)).end)
+          (lost_did (participant by_themselves setup (run_of_ends setup events) Called) (end_at Called (run_of_ends setup events)).end)
 
   one_by : (events : List Event) (i : ℕ) (session : AtBoth EndReportValue) → AllWere events (run_of_ends setup events).past →
       IsIn (run_of_ends setup events).past

@@ -3,7 +3,7 @@ use Rattle.std.proofs.Common.{◌≡◌, ℕ, ◌+◌, ◌-◌, ◌<◌, ◌≤�
 use Rattle.std.proofs.lemmas.List.{take-append-drop, take_all, take_min}
 use Rattle.std.proofs.Math.Seq.{take-append-add}
 use Rattle.uug_reader.specs.declared.reader.TheConstants.{READER_SIZE}
-use Rattle.uug_session.specs.Arriving.{Came, Hearer, Taker, all_taken, held_in, holds, stopped, takes_all, takes_piece, then_takes}
+use Rattle.uug_session.specs.Arriving.{Arrival, Buffered, Receiver, all_taken, held_in, holds, stopped, takes_all, takes_piece, then_takes}
 use Rattle.uug_session.specs.EndStep.{Stage, hailing, linked, ended}
 use Rattle.uug_session.specs.Engine.{EngineState}
 use Rattle.uug_conversation.specs.MemoryHoldings.{MemoryHoldings}
@@ -11,14 +11,14 @@ use Rattle.uug_session.specs.Node.{NodeState, accepted, accepted_at, bytes_at, h
 use Rattle.uug_conversation.specs.Talk.{Talk, end_keeper}
 use Rattle.uug_line.specs.JournalValue.{JournalValue, packet_in}
 use Rattle.uug_line.specs.LineEnd.{LineEnd}
-use Rattle.uug_line.specs.Code.LineLaws.{LineLaws}
 use Rattle.uug_line.specs.Live.{HearsAll, HearsSome, IsOrdered, IsStopped, LiveEndValue, Standing, StillHears, StillTakes, TakesAll, TakesOne, hearer_of, line_end_of, standing_of, taker_of}
 use Rattle.uug_line.specs.Taking.{line_taker}
 use Rattle.uug_line.proofs.ItemLemmas.{ordered_with}
+use Rattle.uug_session.proofs.ArrivingLemmas.{in_pieces}
 
 -- ---- one item after the other
 
--- the taker is told by what stays
+-- the receiver is told by what stays
 same_taker : (others : List (List ℕ)) (old now : LiveEndValue) → standing_of now ≡ standing_of old → taker_of others now ≡ taker_of others old
 same_taker others old now same = ap (λ (s : Standing). line_taker (record {
   identity = s.identity;
@@ -29,12 +29,12 @@ from_now : (others : List (List ℕ)) (old now new : LiveEndValue) → StillTake
     → takes_all (taker_of others now) (hearer_of now) ≡ takes_all (taker_of others now) (hearer_of new)
     → takes_all (taker_of others old) (hearer_of old) ≡ takes_all (taker_of others old) (hearer_of new)
 from_now others old now new still same =
-    still.same ∙ subst (λ (t : Taker (LineEnd Talk)). takes_all t (hearer_of now) ≡ takes_all t (hearer_of new)) (same_taker others old now still.standing) same
+    still.same ∙ subst (λ (t : Receiver (LineEnd Talk)). takes_all t (hearer_of now) ≡ takes_all t (hearer_of new)) (same_taker others old now still.standing) same
 
-result_from_now : (others : List (List ℕ)) (old now : LiveEndValue) (came : Came (LineEnd Talk)) → StillTakes others old now
+result_from_now : (others : List (List ℕ)) (old now : LiveEndValue) (came : Arrival (LineEnd Talk)) → StillTakes others old now
     → takes_all (taker_of others now) (hearer_of now) ≡ came → takes_all (taker_of others old) (hearer_of old) ≡ came
 result_from_now others old now came still same =
-    still.same ∙ subst (λ (t : Taker (LineEnd Talk)). takes_all t (hearer_of now) ≡ came) (same_taker others old now still.standing) same
+    still.same ∙ subst (λ (t : Receiver (LineEnd Talk)). takes_all t (hearer_of now) ≡ came) (same_taker others old now still.standing) same
 
 pub still_takes : (others : List (List ℕ)) (old now new : LiveEndValue) → StillTakes others old now → TakesOne others now new → StillTakes others old new
 still_takes others old now new still one = record {
@@ -94,55 +94,55 @@ part_standing part e =
     ap (λ (x : EngineState). standing_of (record e { node = record e.node { engine = x } })) (offered_engine e.node.engine.stage part e.node)
 
 -- behind a part that was taken up
-part_came : LineLaws → (others : List (List ℕ)) (part rest behind : List ℕ) (now : LiveEndValue) (came : Came (LineEnd Talk)) → rest ≡ part ++ behind
+part_came : (others : List (List ℕ)) (part rest behind : List ℕ) (now : LiveEndValue) (came : Arrival (LineEnd Talk)) → rest ≡ part ++ behind
     → takes_all (taker_of others (with_part part now)) (hearer_of (with_part part now)) ≡ came
     → takes_piece (taker_of others now) rest (hearer_of now) ≡ then_takes (taker_of others now) behind came
-part_came laws others part rest behind now came cut is =
+part_came others part rest behind now came cut is =
     let t = taker_of others now in
     ap (λ (x : List ℕ). takes_piece t x (hearer_of now)) cut
-    ∙ laws.takes.pieces t part behind (hearer_of now)
-    ∙ ap (λ (h : Hearer (LineEnd Talk)). then_takes t behind (takes_all t h)) (sym (part_held others part now))
-    ∙ ap (λ (x : Taker (LineEnd Talk)). then_takes t behind (takes_all x (hearer_of (with_part part now))))
+    ∙ in_pieces (LineEnd Talk) t part behind (hearer_of now)
+    ∙ ap (λ (h : Buffered (LineEnd Talk)). then_takes t behind (takes_all t h)) (sym (part_held others part now))
+    ∙ ap (λ (x : Receiver (LineEnd Talk)). then_takes t behind (takes_all x (hearer_of (with_part part now))))
     (sym (same_taker others now (with_part part now) (part_standing part now)))
-    ∙ ap (λ (c : Came (LineEnd Talk)). then_takes t behind c) is
+    ∙ ap (λ (c : Arrival (LineEnd Talk)). then_takes t behind c) is
 
 -- the last part
-last_came : LineLaws → (others : List (List ℕ)) (part rest : List ℕ) (now : LiveEndValue) (came : Came (LineEnd Talk)) → rest ≡ part
+last_came : (others : List (List ℕ)) (part rest : List ℕ) (now : LiveEndValue) (came : Arrival (LineEnd Talk)) → rest ≡ part
     → takes_all (taker_of others (with_part part now)) (hearer_of (with_part part now)) ≡ came
     → takes_piece (taker_of others now) rest (hearer_of now) ≡ came
-last_came laws others part rest now came cut is =
+last_came others part rest now came cut is =
     let t = taker_of others now in
     ap (λ (x : List ℕ). takes_piece t x (hearer_of now)) cut
-    ∙ ap (λ (h : Hearer (LineEnd Talk)). takes_all t h) (sym (part_held others part now))
-    ∙ ap (λ (x : Taker (LineEnd Talk)). takes_all x (hearer_of (with_part part now)))
+    ∙ ap (λ (h : Buffered (LineEnd Talk)). takes_all t h) (sym (part_held others part now))
+    ∙ ap (λ (x : Receiver (LineEnd Talk)). takes_all x (hearer_of (with_part part now)))
     (sym (same_taker others now (with_part part now) (part_standing part now)))
     ∙ is
 
-piece_from_now : (others : List (List ℕ)) (piece rest : List ℕ) (old now : LiveEndValue) (came : Came (LineEnd Talk)) → StillHears others piece rest old now
+piece_from_now : (others : List (List ℕ)) (piece rest : List ℕ) (old now : LiveEndValue) (came : Arrival (LineEnd Talk)) → StillHears others piece rest old now
     → takes_piece (taker_of others now) rest (hearer_of now) ≡ came → takes_piece (taker_of others old) piece (hearer_of old) ≡ came
 piece_from_now others piece rest old now came still same =
-    still.same ∙ subst (λ (t : Taker (LineEnd Talk)). takes_piece t rest (hearer_of now) ≡ came) (same_taker others old now still.standing) same
+    still.same ∙ subst (λ (t : Receiver (LineEnd Talk)). takes_piece t rest (hearer_of now) ≡ came) (same_taker others old now still.standing) same
 
-pub still_hears : LineLaws → (others : List (List ℕ)) (piece rest part behind : List ℕ) (old now mid new : LiveEndValue) → rest ≡ part ++ behind
+pub still_hears : (others : List (List ℕ)) (piece rest part behind : List ℕ) (old now mid new : LiveEndValue) → rest ≡ part ++ behind
     → mid ≡ with_part part now → StillHears others piece rest old now → TakesAll others mid new → StillHears others piece behind old new
-still_hears laws others piece rest part behind old now mid new cut is still taken =
+still_hears others piece rest part behind old now mid new cut is still taken =
     let all = subst (λ (m : LiveEndValue). TakesAll others m new) is taken in
     record {
       same = piece_from_now others piece rest old now (takes_piece (taker_of others old) behind (hearer_of new)) still
-          (part_came laws others part rest behind now (all_taken (hearer_of new)) cut all.all
-          ∙ ap (λ (t : Taker (LineEnd Talk)). takes_piece t behind (hearer_of new)) (same_taker others old now still.standing));
+          (part_came others part rest behind now (all_taken (hearer_of new)) cut all.all
+          ∙ ap (λ (t : Receiver (LineEnd Talk)). takes_piece t behind (hearer_of new)) (same_taker others old now still.standing));
       ordered = all.ordered;
       standing = all.standing ∙ part_standing part now ∙ still.standing;
       room = all.room;
     }
 
-pub hears_all : LineLaws → (others : List (List ℕ)) (piece rest part : List ℕ) (old now mid new : LiveEndValue) → rest ≡ part
+pub hears_all : (others : List (List ℕ)) (piece rest part : List ℕ) (old now mid new : LiveEndValue) → rest ≡ part
     → mid ≡ with_part part now → StillHears others piece rest old now → TakesAll others mid new → HearsAll others piece old new
-hears_all laws others piece rest part old now mid new cut is still taken =
+hears_all others piece rest part old now mid new cut is still taken =
     let all = subst (λ (m : LiveEndValue). TakesAll others m new) is taken in
     record {
       came = piece_from_now others piece rest old now (all_taken (hearer_of new)) still
-          (last_came laws others part rest now (all_taken (hearer_of new)) cut all.all);
+          (last_came others part rest now (all_taken (hearer_of new)) cut all.all);
       ordered = all.ordered;
       standing = all.standing ∙ part_standing part now ∙ still.standing;
       room = all.room;
@@ -190,21 +190,21 @@ filled_at (hailing g) n behind within = fills n.texts.bytes behind within
 filled_at linked n behind within = fills n.packets.bytes behind within
 filled_at (ended how) n behind within = sym (take_all READER_SIZE [] (omega arith))
 
-pub hears_some : LineLaws → (others : List (List ℕ)) (piece rest part behind : List ℕ) (count : ℕ) (old now mid new filled : LiveEndValue)
+pub hears_some : (others : List (List ℕ)) (piece rest part behind : List ℕ) (count : ℕ) (old now mid new filled : LiveEndValue)
     → rest ≡ part ++ behind → mid ≡ with_part part now → StillHears others piece rest old now → length (held_bytes mid.node) ≤ READER_SIZE
     → IsStopped others mid new → count ≡ accepted new.node behind → filled ≡ with_part (take count behind) new
     → HearsSome others piece old filled
-hears_some laws others piece rest part behind count old now mid new filled cut is still within taken counted fills_so =
+hears_some others piece rest part behind count old now mid new filled cut is still within taken counted fills_so =
     let none = subst (λ (m : LiveEndValue). IsStopped others m new) is taken in
     let stage = new.node.engine.stage in
     let held = held_in stage (held_bytes new.node ++ behind) in
-    let by_end : LineEnd Talk → Came (LineEnd Talk) = λ x. stopped (record { held = held; end = x }) in
+    let by_end : LineEnd Talk → Arrival (LineEnd Talk) = λ x. stopped (record { held = held; end = x }) in
     let same_end : line_end_of filled ≡ line_end_of new =
-    ap line_end_of fills_so ∙ ap (λ (h : Hearer (LineEnd Talk)). h.end) (part_held others (take count behind) new) in
+    ap line_end_of fills_so ∙ ap (λ (h : Buffered (LineEnd Talk)). h.end) (part_held others (take count behind) new) in
     record {
       held = held;
       came = piece_from_now others piece rest old now (by_end (line_end_of new)) still
-          (part_came laws others part rest behind now (stopped (hearer_of new)) cut none.stopped)
+          (part_came others part rest behind now (stopped (hearer_of new)) cut none.stopped)
           ∙ ap by_end (sym same_end);
       fits = ap (λ (m : LiveEndValue). held_bytes m.node) fills_so ∙ held_offered (take count behind) new.node
           ∙ ap (λ (c : ℕ). held_in stage (held_bytes new.node ++ take c behind)) counted

@@ -5,6 +5,7 @@ use Rattle.std.proofs.lemmas.Option.{slice_get_within}
 use Rattle.uug_link.specs.Arrivals.{IsPlace, place_of}
 use Rattle.uug_packet.specs.Packet.{PacketValue}
 use Rattle.uug_line.specs.WereSent.{StandAt, WereSent, HavePlaces, passed_at}
+use Rattle.uug_link.proofs.ArrivalLemmas.{place_is}
 
 -- ---- the least places are such places
 
@@ -53,12 +54,6 @@ later_places (p ∷ ps) emitted more (i ∷ is) from h =
 
 -- ---- where there are any places, there are the least ones
 
--- what is computed is the least place, and none only where there is none
-abbrev pub PlaceIs : Type 0
-PlaceIs = (p : PacketValue) (emitted : List PacketValue) (from : ℕ) →
-    MatchOption (place_of p emitted from)
-    ((i : ℕ) → from ≤ i → slice_get emitted i ≢ Some p) (λ i. IsPlace p emitted from i)
-
 -- the least place is not behind any other
 least_below : (p : PacketValue) (emitted : List PacketValue) (from i j : ℕ) → IsPlace p emitted from i → from ≤ j →
     slice_get emitted j ≡ Some p → i ≤ j
@@ -69,9 +64,9 @@ least_below p emitted from i j h behind there = by (cases_lt j i)
     by (inr most) = most
 
 -- a packet that stands somewhere has a least place, no further behind
-some_place : PlaceIs → (p : PacketValue) (emitted : List PacketValue) (from j : ℕ) → from ≤ j →
+some_place : (p : PacketValue) (emitted : List PacketValue) (from j : ℕ) → from ≤ j →
     slice_get emitted j ≡ Some p → (i : ℕ) × IsPlace p emitted from i × (i ≤ j)
-some_place place_is p emitted from j behind there = by (place_of p emitted from) (place_is p emitted from)
+some_place p emitted from j behind there = by (place_of p emitted from) (place_is p emitted from)
   where
     by : (o : Option ℕ) →
         MatchOption o ((i : ℕ) → from ≤ i → slice_get emitted i ≢ Some p) (λ i. IsPlace p emitted from i) →
@@ -79,46 +74,46 @@ some_place place_is p emitted from j behind there = by (place_of p emitted from)
     by None h = absurd (h j behind there)
     by (Some i) h = (i, h, least_below p emitted from i j h behind there)
 
-pub any_places : PlaceIs → (found emitted : List PacketValue) (choice : List ℕ) (from least_from : ℕ) →
+pub any_places : (found emitted : List PacketValue) (choice : List ℕ) (from least_from : ℕ) →
     least_from ≤ from → StandAt found choice emitted from →
     (places : List ℕ) × HavePlaces found places emitted least_from
-any_places place_is [] emitted [] from least_from below h = ([], tt)
-any_places place_is [] emitted (j ∷ js) from least_from below h = absurd h
-any_places place_is (p ∷ ps) emitted [] from least_from below h = absurd h
-any_places place_is (p ∷ ps) emitted (j ∷ js) from least_from below h =
+any_places [] emitted [] from least_from below h = ([], tt)
+any_places [] emitted (j ∷ js) from least_from below h = absurd h
+any_places (p ∷ ps) emitted [] from least_from below h = absurd h
+any_places (p ∷ ps) emitted (j ∷ js) from least_from below h =
     let behind : from ≤ j = h.0 in
-    let here = some_place place_is p emitted least_from j (omega (arith, below, behind)) h.1 in
+    let here = some_place p emitted least_from j (omega (arith, below, behind)) h.1 in
     let i = here.0 in
     let least : i ≤ j = here.2 in
-    let behind_it = any_places place_is ps emitted js (suc j) (suc i) (omega (arith, least)) h.2 in
+    let behind_it = any_places ps emitted js (suc j) (suc i) (omega (arith, least)) h.2 in
     (i ∷ behind_it.0, (here.1, behind_it.1))
 
 -- ---- a packet that was sent has a place behind those found before it
 
-last_place : PlaceIs → (found emitted : List PacketValue) (places choice : List ℕ) (p : PacketValue)
+last_place : (found emitted : List PacketValue) (places choice : List ℕ) (p : PacketValue)
     (from least_from : ℕ) → least_from ≤ from → StandAt (found ++ p ∷ []) choice emitted from →
     HavePlaces found places emitted least_from → (i : ℕ) × IsPlace p emitted (passed_at places least_from) i
-last_place place_is [] emitted [] [] p from least_from below h least = absurd h
-last_place place_is [] emitted [] (j ∷ js) p from least_from below h least =
+last_place [] emitted [] [] p from least_from below h least = absurd h
+last_place [] emitted [] (j ∷ js) p from least_from below h least =
     let behind : from ≤ j = h.0 in
-    let here = some_place place_is p emitted least_from j (omega (arith, below, behind)) h.1 in
+    let here = some_place p emitted least_from j (omega (arith, below, behind)) h.1 in
     (here.0, here.1)
-last_place place_is [] emitted (i ∷ is) choice p from least_from below h least = absurd least
-last_place place_is (q ∷ qs) emitted [] choice p from least_from below h least = absurd least
-last_place place_is (q ∷ qs) emitted (i ∷ is) [] p from least_from below h least = absurd h
-last_place place_is (q ∷ qs) emitted (i ∷ is) (j ∷ js) p from least_from below h least =
+last_place [] emitted (i ∷ is) choice p from least_from below h least = absurd least
+last_place (q ∷ qs) emitted [] choice p from least_from below h least = absurd least
+last_place (q ∷ qs) emitted (i ∷ is) [] p from least_from below h least = absurd h
+last_place (q ∷ qs) emitted (i ∷ is) (j ∷ js) p from least_from below h least =
     let behind : from ≤ j = h.0 in
     let least_here : i ≤ j = least_below q emitted least_from i j least.0 (omega (arith, below, behind)) h.1 in
-    last_place place_is qs emitted is js p (suc j) (suc i) (omega (arith, least_here)) h.2 least.1
+    last_place qs emitted is js p (suc j) (suc i) (omega (arith, least_here)) h.2 least.1
 
-pub none_left : PlaceIs → (found emitted : List PacketValue) (places : List ℕ) (p : PacketValue) →
+pub none_left : (found emitted : List PacketValue) (places : List ℕ) (p : PacketValue) →
     HavePlaces found places emitted 0 →
     (place_of p emitted (passed_at places 0) ≡ None) ↔ (WereSent (found ++ p ∷ []) emitted → ⊥)
-none_left place_is found emitted places p least = (to, from)
+none_left found emitted places p least = (to, from)
   where
     to : place_of p emitted (passed_at places 0) ≡ None → WereSent (found ++ p ∷ []) emitted → ⊥
     to none sent =
-        let here = last_place place_is found emitted places sent.0 p 0 0 (omega arith) sent.1 least in
+        let here = last_place found emitted places sent.0 p 0 0 (omega arith) sent.1 least in
         subst (λ (o : Option ℕ). MatchOption o
         ((i : ℕ) → passed_at places 0 ≤ i → slice_get emitted i ≢ Some p)
         (λ i. IsPlace p emitted (passed_at places 0) i)) none

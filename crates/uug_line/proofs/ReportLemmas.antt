@@ -1,16 +1,13 @@
 -- What a report shows of the program's run, and the run that goes on from a report.
-use Rattle.std.proofs.Common.{◌≡◌, ℕ, ◌<◌, ◌≤◌, Bool, false, List, [], ◌∷◌, ◌++◌, All, length, length-append, map, take, drop, get_or, refl, ap, ap₂, sym, subst, ◌∙◌, arith}
+use Rattle.std.proofs.Common.{◌≡◌, ℕ, ◌<◌, List, [], ◌∷◌, ◌++◌, All, length, length-append, map, take, drop, get_or, refl, ap, ap₂, sym, subst, ◌∙◌, arith}
 use Rattle.std.proofs.lemmas.List.{map-append}
 use Rattle.std.proofs.lemmas.List.Elements.{All-append, All-cons, All-nil}
 use Rattle.std.proofs.Math.Seq.{drop-append_seam, take-append_seam}
-use Rattle.uug_link.specs.declared.phase.Phase.{Phase as LinkPhase}
 use Rattle.uug_link.specs.declared.phase.Phase.TheVariants as link_phases
 use Rattle.uug_reader.specs.declared.reader.TheConstants.{READER_SIZE}
 use Rattle.uug_session.specs.declared.phase.Phase.{Phase}
 use Rattle.uug_session.specs.declared.phase.Phase.TheVariants as phases
-use Rattle.uug_session.specs.EndStep.{Stage, ended, hailing, linked}
-use Rattle.uug_session.specs.Phases.{phase_at, phase_of_link, timeouts_in}
-use Rattle.uug_session.specs.Arriving.{Hearer}
+use Rattle.uug_session.specs.Arriving.{Buffered}
 use Rattle.uug_conversation.specs.Count.{Count}
 use Rattle.uug_conversation.specs.MemoryHoldings.{held_by}
 use Rattle.uug_session.specs.Node.{held_bytes}
@@ -19,8 +16,8 @@ use Rattle.uug_line.specs.declared.event.Event.{Event}
 use Rattle.uug_line.specs.declared.event.Event.TheVariants.{Pass, Timeout}
 use Rattle.uug_line.specs.declared.report.LastEnd.{LastEnd}
 use Rattle.uug_line.specs.declared.report.SessionReport.{SessionReport}
-use Rattle.uug_line.specs.declared.side.Side.{Side}
-use Rattle.uug_line.specs.declared.side.Side.TheVariants.{Caller, Called}
+use Rattle.uug_conversation.specs.declared.side.Side.{Side}
+use Rattle.uug_conversation.specs.declared.side.Side.TheVariants.{Caller, Called}
 use Rattle.uug_line.specs.declared.verdict.LineVerdict.{LineVerdict}
 use Rattle.uug_line.specs.declared.verdict.LineVerdict.TheVariants.{Clean}
 use Rattle.uug_line.specs.Belongings.{SetupValue}
@@ -40,8 +37,9 @@ use Rattle.uug_line.specs.Spelled.{spelled}
 use Rattle.uug_line.specs.StillHeld.{HoldWhatIsLeft}
 use Rattle.uug_line.specs.Told.{EndNow, SpelledEnd, SpelledReport}
 use Rattle.uug_line.specs.WholeReport.{WholeReport, left_of, part_from, report_shown, whole_report}
-use Rattle.uug_line.specs.World.{counted, report_of_ends, report_of_world, run_of_ends, world}
+use Rattle.uug_line.specs.World.{counted, report_of_world, run_of_ends, world}
 use Rattle.uug_line.proofs.RunLemmas.{ends_clean, give_as_set_up, held_counted, told_by_world}
+use Rattle.uug_line.proofs.Standing.{report_is, run_goes}
 
 -- ---- a report of the program's run
 
@@ -54,17 +52,18 @@ lines_are setup events verdict r ends is_world Called =
     sym (ap (λ (e : LineEnd Talk). e.line) ends.called) ∙ ap (λ (run : Run Count). line_from Called run) is_world
 
 pub is_run_of : (setup : SetupValue) (events : List Event) (verdict : LineVerdict) (r : RunValue) → AreOfTypes setup events →
-    EndsAs setup (run_of_ends setup events) verdict r → counted (run_of_ends setup events) ≡ world setup events →
-    report_of_ends setup events ≡ report_of_world setup events → IsRunOf setup events (whole_report r verdict)
-is_run_of setup events verdict r types ends is_world same = record {
-  types = types;
-  told = told_by_world setup events verdict r ends same;
-  spools = give_as_set_up setup (run_of_ends setup events) verdict r ends;
-  held = subst (λ (w : Run Count). HoldWhatIsLeft w (held_parts r)) is_world
-      (held_counted (run_of_ends setup events) (held_parts r) ends.held);
-  lines = lines_are setup events verdict r ends is_world;
-  left = record { parts = r; shown = refl; ends = ends };
-}
+    EndsAs setup (run_of_ends setup events) verdict r → IsRunOf setup events (whole_report r verdict)
+is_run_of setup events verdict r types ends =
+    let is_world = (run_goes setup types.sound events).counted_is in
+    record {
+      types = types;
+      told = told_by_world setup events verdict r ends (report_is setup types.sound events);
+      spools = give_as_set_up setup (run_of_ends setup events) verdict r ends;
+      held = subst (λ (w : Run Count). HoldWhatIsLeft w (held_parts r)) is_world
+          (held_counted (run_of_ends setup events) (held_parts r) ends.held);
+      lines = lines_are setup events verdict r ends is_world;
+      left = record { parts = r; shown = refl; ends = ends };
+    }
 
 -- ---- the run that goes on from it
 
@@ -170,7 +169,7 @@ stands_again : (setup : SetupValue) (events : List Event) (report : WholeReport)
 stands_again setup events report r shown can ends =
     let run = run_of_ends setup events in
     let clean : run.verdict ≡ Clean = ends.verdict_is ∙ can.clean in
-    let hearer : List ℕ → LineEnd Talk → Hearer (LineEnd Talk) = λ held end. record { held = held; end = end } in
+    let hearer : List ℕ → LineEnd Talk → Buffered (LineEnd Talk) = λ held end. record { held = held; end = end } in
     record {
       past = ends.past;
       caller = ap₂ hearer (sym (ends.held.all clean Caller)) ends.caller;
@@ -216,20 +215,15 @@ types_behind setup events rounds types = record {
   events_of_bytes = All-append IsOfBytes events (events_of rounds) types.events_of_bytes (rounds_of_bytes rounds);
 }
 
--- the laws of the world, of these two ends
-pub record WorldOf (setup : SetupValue) : Type 0 where
-  pub run : (events : List Event) → counted (run_of_ends setup events) ≡ world setup events
-  pub report : (events : List Event) → report_of_ends setup events ≡ report_of_world setup events
-
-pub settles_into : (setup : SetupValue) (events : List Event) (r : RunValue) → WorldOf setup → AreOfTypes setup events →
+pub settles_into : (setup : SetupValue) (events : List Event) (r : RunValue) → AreOfTypes setup events →
     IsFinished setup events r → SettlesInto setup events (whole_report r Clean)
-settles_into setup events r laws types finished =
+settles_into setup events r types finished =
     let rounds = finished.settles.rounds in
     let more = events ++ events_of rounds in
     record {
       settles = finished.settles;
       is = is_run_of setup more Clean r (types_behind setup events rounds types)
-          (ends_clean (run_of_ends setup more) setup r finished.stands) (laws.run more) (laws.report more);
+          (ends_clean (run_of_ends setup more) setup r finished.stands);
     }
 
 pub settled_are_done : (setup : SetupValue) (events : List Event) (report : WholeReport) → SettlesInto setup events report →
@@ -245,74 +239,6 @@ pub one_less : {A : Type 0} (sessions front : List (SessionReport A)) (last : Se
 one_less {A} sessions front last is =
     let shown : SessionReport A → AtBoth SpelledEnd = λ s. session_shown s in
     ap (λ (xs : List (SessionReport A)). map shown xs) is ∙ map-append shown front (last ∷ [])
-
--- each report has a session
-pub has_session : (r : RunValue) (report : WholeReport) → whole_report r report.told.verdict ≡ report →
-    report.told.sessions ≡ [] → ⊥
-has_session r report shown none =
-    let last : AtBoth SpelledEnd = record { at_caller = told_of r.caller; at_called = told_of r.called } in
-    let never : r.past ++ last ∷ [] ≡ [] = ap (λ (w : WholeReport). w.told.sessions) shown ∙ none in
-    absurd (omega (arith, length-append r.past (last ∷ []), ap length never))
-
--- ---- an end that can settle
-
-talks_so : (stage : Stage) (p : LinkPhase) → phase_at stage p ≡ phases.Talking → (stage ≡ linked) × (p ≡ link_phases.Up)
-talks_so (hailing greeting) p talks = absurd cc
-talks_so linked link_phases.Up talks = (refl, refl)
-talks_so linked link_phases.Closing talks = absurd cc
-talks_so linked link_phases.Fresh talks = absurd cc
-talks_so linked link_phases.AwaitsInitA talks = absurd cc
-talks_so linked link_phases.AwaitsInitB talks = absurd cc
-talks_so linked link_phases.AwaitsInitC talks = absurd cc
-talks_so linked link_phases.Halted talks = absurd cc
-talks_so (ended how) p talks = absurd cc
-
-empty_so : (bytes : List ℕ) → length bytes ≡ 0 → bytes ≡ []
-empty_so [] none = refl
-empty_so (b ∷ bs) none = absurd (omega (arith, none))
-
--- what is read of the end is so
-pub end_settles : (now : EndNow) (held line : List ℕ) (phase : Phase) (quiet : Bool) (timeouts waiting left : ℕ) →
-    phase ≡ phase_at now.stage now.link.phase → quiet ≡ now.link.own.quiet →
-    timeouts ≡ timeouts_in (phase_at now.stage now.link.phase) now.link.timeouts → waiting ≡ length held → left ≡ length line →
-    phase ≡ phases.Talking → quiet ≡ false → timeouts ≤ 6 → waiting ≡ 0 → left ≡ 0 → EndCanSettle now held line
-end_settles now held line phase quiet timeouts waiting left phase_is quiet_is timeouts_is waiting_is left_is talks plain few none empty =
-    let on = talks_so now.stage now.link.phase (sym phase_is ∙ talks) in
-    let counted_as : timeouts ≡ now.link.timeouts =
-    timeouts_is ∙ ap (λ (p : Phase). timeouts_in p now.link.timeouts) (sym phase_is ∙ talks) in
-    record {
-      on_link = on.0;
-      is_up = on.1;
-      plain = sym quiet_is ∙ plain;
-      timeouts = subst (λ (n : ℕ). n ≤ 6) counted_as few;
-      holds_none = empty_so held (sym waiting_is ∙ none);
-      empty = empty_so line (sym left_is ∙ empty);
-    }
-
-talks_at : (stage : Stage) (p : LinkPhase) → stage ≡ linked → p ≡ link_phases.Up → phase_at stage p ≡ phases.Talking
-talks_at stage p on up = ap (λ (s : Stage). phase_at s p) on ∙ ap phase_of_link up
-
--- and is read so
-pub record ReadsSettled (phase : Phase) (quiet : Bool) (timeouts waiting left : ℕ) : Type 0 where
-  pub talks : phase ≡ phases.Talking
-  pub plain : quiet ≡ false
-  pub few : timeouts ≤ 6
-  pub none : waiting ≡ 0
-  pub empty : left ≡ 0
-
-pub end_reads : (now : EndNow) (held line : List ℕ) (phase : Phase) (quiet : Bool) (timeouts waiting left : ℕ) →
-    phase ≡ phase_at now.stage now.link.phase → quiet ≡ now.link.own.quiet →
-    timeouts ≡ timeouts_in (phase_at now.stage now.link.phase) now.link.timeouts → waiting ≡ length held → left ≡ length line →
-    EndCanSettle now held line → ReadsSettled phase quiet timeouts waiting left
-end_reads now held line phase quiet timeouts waiting left phase_is quiet_is timeouts_is waiting_is left_is can =
-    let talks = talks_at now.stage now.link.phase can.on_link can.is_up in
-    record {
-      talks = phase_is ∙ talks;
-      plain = quiet_is ∙ can.plain;
-      few = subst (λ (n : ℕ). n ≤ 6) (sym (timeouts_is ∙ ap (λ (p : Phase). timeouts_in p now.link.timeouts) talks)) can.timeouts;
-      none = waiting_is ∙ ap length can.holds_none;
-      empty = left_is ∙ ap length can.empty;
-    }
 
 -- ---- the run that a report goes on as
 

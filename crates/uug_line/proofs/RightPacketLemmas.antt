@@ -4,50 +4,36 @@ use Rattle.std.proofs.lemmas.List.Elements.{All-take}
 use Rattle.uug_link.specs.InRange.{IsAnnouncement}
 use Rattle.uug_packet.specs.Bytes.{AreBytes}
 use Rattle.uug_conversation.specs.Count.{Count}
-use Rattle.uug_conversation.specs.HeldBytes.{HoldsBytes}
-use Rattle.uug_conversation.specs.Party.{HasNames, Party}
 use Rattle.uug_conversation.specs.Talk.{Talk}
-use Rattle.uug_conversation.specs.Turns.{Side as SessionSide, caller, called}
+use Rattle.uug_conversation.specs.Turns.{other}
 use Rattle.uug_session.specs.TwoEnds.{IsTold}
 use Rattle.uug_conversation.specs.View.{conversation_view, own_messages}
 use Rattle.uug_line.specs.declared.event.Event.{Event}
-use Rattle.uug_line.specs.declared.side.Side.{Side}
-use Rattle.uug_line.specs.declared.side.Side.TheVariants.{Caller, Called}
+use Rattle.uug_conversation.specs.declared.side.Side.{Side}
+use Rattle.uug_conversation.specs.declared.side.Side.TheVariants.{Caller, Called}
 use Rattle.uug_line.specs.Belongings.{Belongings, SetupValue, party}
 use Rattle.uug_line.specs.Delivered.{came_in}
-use Rattle.uug_line.specs.Code.LowerLaws.{Laws}
 use Rattle.uug_line.specs.OfBytes.{AreOfBytes, IsSetupOfBytes}
 use Rattle.uug_line.specs.Run.{Run, end_at}
 use Rattle.uug_line.specs.RunKeeper.{by_numbers, by_themselves}
-use Rattle.uug_line.specs.Code.SessionLaws.{SessionLaws}
-use Rattle.uug_line.specs.Sides.{AtBoth, at, other}
+use Rattle.uug_line.specs.Sides.{AtBoth, at}
 use Rattle.uug_line.specs.SoundSetup.{IsSoundSetup}
 use Rattle.uug_line.specs.World.{counted, run_of_ends, world}
 use Rattle.uug_line.proofs.ByteLemmas.{AllBytes, all_bytes}
 use Rattle.uug_line.proofs.CameLemmas.{comes_bytes}
-use Rattle.uug_line.proofs.CarriedLemmas.{CarriedLaws, IsRightEnd, right_packets, run_right}
+use Rattle.uug_line.proofs.CarriedLemmas.{IsRightEnd, right_packets, run_right}
 use Rattle.uug_line.proofs.EmittedByteLemmas.{IsRight}
-use Rattle.uug_line.proofs.JoinedSteps.{steps}
 use Rattle.uug_line.proofs.Joining.{IsSoundSession, Joined, Moment, link_end, moment_of}
 use Rattle.uug_line.proofs.LinkLemmas.{links_run}
 use Rattle.uug_line.proofs.Standing.{Goes, run_goes}
-
--- what the two ends of a session say is bytes
-abbrev pub SaidIsBytes : Type 0
-SaidIsBytes = (me : SessionSide) (a b : Party) → All HasNames a.jobs → All HasNames b.jobs → HoldsBytes a.holdings
-    → HoldsBytes b.holdings → All AreBytes (own_messages (conversation_view me a b))
-
-pub record RightLaws : Type 0 where
-  pub below : Laws
-  pub session : SessionLaws
-  pub carried : CarriedLaws
-  pub said : SaidIsBytes
+use Rattle.uug_conversation.proofs.SaidByteLemmas.{own_bytes}
+use Rattle.uug_line.proofs.LowerLemmas.{both_told}
 
 -- the packets of both ends
 abbrev pub AllRight : {C : Type 0} → Run C → Type 0
 AllRight run = (side : Side) → All IsRight (end_at side run).end.log.packets
 
-module _ (laws : RightLaws) (setup : SetupValue) (of_bytes : IsSetupOfBytes setup) where
+module _ (setup : SetupValue) (of_bytes : IsSetupOfBytes setup) where
   names_bytes : (side : Side) → AllBytes (at side setup).name
   names_bytes side = all_bytes (at side setup).name (of_bytes side).name
 
@@ -55,14 +41,14 @@ module _ (laws : RightLaws) (setup : SetupValue) (of_bytes : IsSetupOfBytes setu
   announces sound side = record { window = (sound side).window; size_code = (of_bytes side).size_code }
 
   module _ (brought : AtBoth Belongings) (sound : IsSoundSession setup brought) where
-    said_bytes : (me : SessionSide)
+    said_bytes : (me : Side)
         → All AreBytes (own_messages (conversation_view me (party setup brought Caller) (party setup brought Called)))
     said_bytes me =
-        laws.said me (party setup brought Caller) (party setup brought Called) (sound.party Caller).names (sound.party Called).names
+        own_bytes me (party setup brought Caller) (party setup brought Called) (sound.party Caller).names (sound.party Called).names
         (of_bytes Caller).files (of_bytes Called).files
 
     -- the first messages of what an end says
-    front_bytes : (me : SessionSide) (own sent : List (List ℕ))
+    front_bytes : (me : Side) (own sent : List (List ℕ))
         → own ≡ take (length own) (own_messages (conversation_view me (party setup brought Caller) (party setup brought Called)))
         → own ≡ sent → All AreBytes sent
     front_bytes me own sent first is =
@@ -74,30 +60,30 @@ module _ (laws : RightLaws) (setup : SetupValue) (of_bytes : IsSetupOfBytes setu
     both_right : (near far : Moment) → IsSoundSetup setup → Joined setup brought Caller near far
         → IsRightEnd (link_end near) × IsRightEnd (link_end far)
     both_right near far setup_sound j =
-        run_right laws.carried setup.at_caller.own setup.at_called.own (sound.window Caller) (sound.window Called)
+        run_right setup.at_caller.own setup.at_called.own (sound.window Caller) (sound.window Called)
         (record { near = link_end near; far = link_end far }) (announces setup_sound Caller) (announces setup_sound Called)
         (links_run setup Caller near far j.links)
 
     told : (near far : Moment) (j : Joined setup brought Caller near far) →
-        IsTold caller (party setup brought Caller) (party setup brought Called) j.two.caller_end j.two.called_end
-        × IsTold called (party setup brought Caller) (party setup brought Called) j.two.called_end j.two.caller_end
+        IsTold Caller (party setup brought Caller) (party setup brought Called) j.two.caller_end j.two.called_end
+        × IsTold Called (party setup brought Caller) (party setup brought Called) j.two.called_end j.two.caller_end
     told near far j =
-        laws.below.told (party setup brought Caller) (party setup brought Called) (sound.party Caller) (sound.party Called)
+        both_told (party setup brought Caller) (party setup brought Called) (sound.party Caller) (sound.party Called)
         j.two j.reached
 
     near_right : (near far : Moment) → IsSoundSetup setup → Joined setup brought Caller near far → All IsRight near.packets
     near_right near far setup_sound j =
         right_packets (link_end near) (both_right near far setup_sound j).0
-        (front_bytes caller j.two.caller_end.sent near.sent (told near far j).0.sent_first j.near_sent)
+        (front_bytes Caller j.two.caller_end.sent near.sent (told near far j).0.sent_first j.near_sent)
 
     far_right : (near far : Moment) → IsSoundSetup setup → Joined setup brought Caller near far → All IsRight far.packets
     far_right near far setup_sound j =
         right_packets (link_end far) (both_right near far setup_sound j).1
-        (front_bytes called j.two.called_end.sent far.sent (told near far j).1.sent_first j.far_sent)
+        (front_bytes Called j.two.called_end.sent far.sent (told near far j).1.sent_first j.far_sent)
 
   module _ (sound : IsSoundSetup setup) (events : List Event) where
     goes : Goes setup (run_of_ends setup events) (world setup events)
-    goes = run_goes setup (steps laws.below setup) laws.session sound events
+    goes = run_goes setup sound events
 
     all_right : AllRight (run_of_ends setup events)
     all_right Caller =

@@ -3,9 +3,9 @@ use Rattle.std.proofs.Common.{◌≡◌, ℕ, suc, ◌+◌, ◌<◌, ◌≤◌, 
 use Rattle.std.proofs.lemmas.List.{drop_all, drop_more, map-append, take_all}
 use Rattle.uug_reader.specs.declared.reader.TheConstants.{READER_SIZE}
 use Rattle.uug_link.specs.Announced.{Announced}
-use Rattle.uug_conversation.specs.Turns.{Side as SessionSide}
+use Rattle.uug_conversation.specs.Turns.{other}
 use Rattle.uug_packet.specs.Spelling.{canonical}
-use Rattle.uug_session.specs.Arriving.{Came, Hearer, all_taken, stopped, takes_piece}
+use Rattle.uug_session.specs.Arriving.{Arrival, Buffered, all_taken, stopped, takes_piece}
 use Rattle.uug_session.specs.EndStep.{EndEvent, EndState, Identity, Stage, hailing, linked, ended, begins_session, line_lost, stage_step, time_ran_out}
 use Rattle.uug_conversation.specs.Holdings.{Holdings, Kept}
 use Rattle.uug_conversation.specs.Jobs.{Lists}
@@ -17,20 +17,20 @@ use Rattle.uug_line.specs.declared.event.Event.{Event}
 use Rattle.uug_line.specs.declared.event.Event.TheVariants.{Pass, Drop, Flip, Insert, Timeout, HangUp, Call}
 use Rattle.uug_line.specs.declared.report.EndReport.{EndReport}
 use Rattle.uug_line.specs.declared.report.SessionReport.{SessionReport}
-use Rattle.uug_line.specs.declared.side.Side.{Side}
-use Rattle.uug_line.specs.declared.side.Side.TheVariants.{Caller, Called}
+use Rattle.uug_conversation.specs.declared.side.Side.{Side}
+use Rattle.uug_conversation.specs.declared.side.Side.TheVariants.{Caller, Called}
 use Rattle.uug_line.specs.declared.verdict.LineVerdict.{LineVerdict}
 use Rattle.uug_line.specs.declared.verdict.LineVerdict.TheVariants.{Clean, Fooled}
 use Rattle.uug_line.specs.Belongings.{Belongings, SetupValue, renewed}
 use Rattle.uug_line.specs.JournalValue.{packet_in}
-use Rattle.uug_line.specs.LineEnd.{LineEnd, Player, begins, called_with, changed_line}
+use Rattle.uug_line.specs.LineEnd.{LineEnd, Participant, begins, called_with, changed_line}
 use Rattle.uug_line.specs.Live.{AreWritten, BeginsAgain, HasBegun, HasRoom, IsCalled, IsOrdered, LiveEndValue, Standing, hearer_of, line_end_of, player_of, standing_of, taker_of, told_of}
 use Rattle.uug_line.specs.Report.{end_now, report_of_end}
-use Rattle.uug_line.specs.Run.{Run, flipped, after_event, after_hearing, calls, end_at, first_run, goes_through, hung_up, player, unless_fooled, with_line_to}
+use Rattle.uug_line.specs.Run.{Run, flipped, after_event, after_hearing, calls, end_at, first_run, goes_through, hung_up, participant, unless_fooled, with_line_to}
 use Rattle.uug_line.specs.RunKeeper.{by_themselves}
 use Rattle.uug_line.specs.RunValue.{CallsAgain, ChangesLine, EndsAs, Happens, HappensAt, IsSteady, Passes, RunValue, StandsAs, hearing_side, held_parts, owned_parts, parts_now, standing_at, told_in_all, with_line}
 use Rattle.uug_line.specs.Shown.{end_shown, session_shown}
-use Rattle.uug_line.specs.Sides.{AtBoth, at, other}
+use Rattle.uug_line.specs.Sides.{AtBoth, at}
 use Rattle.uug_line.specs.Spelled.{GiveAsSetUp, spelled, spelled_end, spelled_session}
 use Rattle.uug_line.specs.StillHeld.{HoldWhatIsLeft}
 use Rattle.uug_line.specs.Taking.{line_taker}
@@ -40,14 +40,14 @@ use Rattle.uug_line.specs.Told.{EndReportValue, SpelledEnd, SpelledReport}
 
 -- ---- who an end is
 
-player_by : Standing → Player Talk
+player_by : Standing → Participant Talk
 player_by s = record { identity = s.identity; keeper = end_keeper s.identity.side s.holdings }
 
-caller_is : (setup : SetupValue) (run : Run Talk) (r : RunValue) → StandsAs setup run r → player_of r.caller ≡ player by_themselves setup run Caller
+caller_is : (setup : SetupValue) (run : Run Talk) (r : RunValue) → StandsAs setup run r → player_of r.caller ≡ participant by_themselves setup run Caller
 unfolding player_by
 caller_is setup run r stands = ap player_by stands.caller_standing
 
-called_is : (setup : SetupValue) (run : Run Talk) (r : RunValue) → StandsAs setup run r → player_of r.called ≡ player by_themselves setup run Called
+called_is : (setup : SetupValue) (run : Run Talk) (r : RunValue) → StandsAs setup run r → player_of r.called ≡ participant by_themselves setup run Called
 unfolding player_by
 called_is setup run r stands = ap player_by stands.called_standing
 
@@ -58,7 +58,7 @@ caller_called : (event : EndEvent) (setup : SetupValue) (run : Run Talk) (old ne
 caller_called event setup run old new stands happens =
     let is = happens.0 in record {
       past = stands.past ∙ sym happens.2;
-      caller = ap (λ (p : Player Talk). called_with p event (end_at Caller run)) (sym (caller_is setup run old stands))
+      caller = ap (λ (p : Participant Talk). called_with p event (end_at Caller run)) (sym (caller_is setup run old stands))
           ∙ ap (called_with (player_of old.caller) event) stands.caller ∙ sym is.hearer;
       called = stands.called ∙ ap hearer_of (sym happens.1);
       caller_standing = is.standing ∙ stands.caller_standing;
@@ -77,7 +77,7 @@ called_called : (event : EndEvent) (setup : SetupValue) (run : Run Talk) (old ne
 called_called event setup run old new stands happens =
     let is = happens.0 in record {
       past = stands.past ∙ sym happens.2;
-      called = ap (λ (p : Player Talk). called_with p event (end_at Called run)) (sym (called_is setup run old stands))
+      called = ap (λ (p : Participant Talk). called_with p event (end_at Called run)) (sym (called_is setup run old stands))
           ∙ ap (called_with (player_of old.called) event) stands.called ∙ sym is.hearer;
       caller = stands.caller ∙ ap hearer_of (sym happens.1);
       called_standing = is.standing ∙ stands.called_standing;
@@ -141,21 +141,21 @@ line_changed change Caller setup run old new stands happens = record {
 -- ---- a piece comes
 
 -- what comes to an end is what comes to the end of the definitions' run
-came_to : (p : Player Talk) (n : ℕ) (hearer speaker : LiveEndValue) (hearing speaking : Hearer (LineEnd Talk)) (came : Came (LineEnd Talk))
+came_to : (p : Participant Talk) (n : ℕ) (hearer speaker : LiveEndValue) (hearing speaking : Buffered (LineEnd Talk)) (came : Arrival (LineEnd Talk))
     → player_of hearer ≡ p → hearing ≡ hearer_of hearer → speaking ≡ hearer_of speaker
     → takes_piece (taker_of speaker.journal.packets hearer) (take n speaker.line) (hearer_of hearer) ≡ came
     → takes_piece (line_taker p speaking.end.log.packets) (take n speaking.end.line) hearing ≡ came
 came_to p n hearer speaker hearing speaking came who hears speaks is =
-    ap (λ (h : Hearer (LineEnd Talk)). takes_piece (line_taker p h.end.log.packets) (take n h.end.line) hearing) speaks
-    ∙ ap (λ (h : Hearer (LineEnd Talk)). takes_piece (line_taker p (line_end_of speaker).log.packets) (take n speaker.line) h) hears
-    ∙ ap (λ (x : Player Talk). takes_piece (line_taker x (line_end_of speaker).log.packets) (take n speaker.line) (hearer_of hearer)) (sym who)
+    ap (λ (h : Buffered (LineEnd Talk)). takes_piece (line_taker p h.end.log.packets) (take n h.end.line) hearing) speaks
+    ∙ ap (λ (h : Buffered (LineEnd Talk)). takes_piece (line_taker p (line_end_of speaker).log.packets) (take n speaker.line) h) hears
+    ∙ ap (λ (x : Participant Talk). takes_piece (line_taker x (line_end_of speaker).log.packets) (take n speaker.line) (hearer_of hearer)) (sym who)
     ∙ is
 
 to_caller : (n number : ℕ) (setup : SetupValue) (run : Run Talk) (old new : RunValue) → StandsAs setup run old
     → Passes Caller n true old new → StandsAs setup (after_event by_themselves setup number (Pass Caller n) run) new
 to_caller n number setup run old new stands passes =
     let is = passes.0 in
-    let came = came_to (player by_themselves setup run Caller) n old.caller old.called (end_at Caller run) (end_at Called run) (all_taken (hearer_of new.caller))
+    let came = came_to (participant by_themselves setup run Caller) n old.caller old.called (end_at Caller run) (end_at Called run) (all_taken (hearer_of new.caller))
     (caller_is setup run old stands) stands.caller stands.called is.came in
     let ends : StandsAs setup (after_hearing number Caller (all_taken (hearer_of new.caller)) (with_line_to Caller (drop n) run)) new = record {
       past = stands.past ∙ sym passes.2;
@@ -171,13 +171,13 @@ to_caller n number setup run old new stands passes =
       };
       clean = stands.clean;
     } in
-    subst (λ (c : Came (LineEnd Talk)). StandsAs setup (after_hearing number Caller c (with_line_to Caller (drop n) run)) new) (sym came) ends
+    subst (λ (c : Arrival (LineEnd Talk)). StandsAs setup (after_hearing number Caller c (with_line_to Caller (drop n) run)) new) (sym came) ends
 
 to_called : (n number : ℕ) (setup : SetupValue) (run : Run Talk) (old new : RunValue) → StandsAs setup run old
     → Passes Called n true old new → StandsAs setup (after_event by_themselves setup number (Pass Called n) run) new
 to_called n number setup run old new stands passes =
     let is = passes.0 in
-    let came = came_to (player by_themselves setup run Called) n old.called old.caller (end_at Called run) (end_at Caller run) (all_taken (hearer_of new.called))
+    let came = came_to (participant by_themselves setup run Called) n old.called old.caller (end_at Called run) (end_at Caller run) (all_taken (hearer_of new.called))
     (called_is setup run old stands) stands.called stands.caller is.came in
     let ends : StandsAs setup (after_hearing number Called (all_taken (hearer_of new.called)) (with_line_to Called (drop n) run)) new = record {
       past = stands.past ∙ sym passes.2;
@@ -193,7 +193,7 @@ to_called n number setup run old new stands passes =
       };
       clean = stands.clean;
     } in
-    subst (λ (c : Came (LineEnd Talk)). StandsAs setup (after_hearing number Called c (with_line_to Called (drop n) run)) new) (sym came) ends
+    subst (λ (c : Arrival (LineEnd Talk)). StandsAs setup (after_hearing number Called c (with_line_to Called (drop n) run)) new) (sym came) ends
 
 -- ---- what the ends still hold
 
@@ -202,7 +202,7 @@ all_fits bytes held is room =
     let size = ap (λ (x : List ℕ). length x) is in
     is ∙ sym (take_all READER_SIZE held (omega (arith, size, room)))
 
-caller_holds : (number n : ℕ) (stop : Hearer (LineEnd Talk)) (run : Run Talk) (new : RunValue)
+caller_holds : (number n : ℕ) (stop : Buffered (LineEnd Talk)) (run : Run Talk) (new : RunValue)
     → held_bytes new.caller.node ≡ take READER_SIZE stop.held → held_bytes new.called.node ≡ (end_at Called run).held → HasRoom new.called
     → HoldWhatIsLeft (after_hearing number Caller (stopped stop) (with_line_to Caller (drop n) run)) (held_parts new)
 caller_holds number n stop run new here there room =
@@ -213,7 +213,7 @@ caller_holds number n stop run new here there room =
     fits Caller = here
     fits Called = all_fits (held_bytes new.called.node) (end_at Called run).held there room
 
-called_holds : (number n : ℕ) (stop : Hearer (LineEnd Talk)) (run : Run Talk) (new : RunValue)
+called_holds : (number n : ℕ) (stop : Buffered (LineEnd Talk)) (run : Run Talk) (new : RunValue)
     → held_bytes new.called.node ≡ take READER_SIZE stop.held → held_bytes new.caller.node ≡ (end_at Caller run).held → HasRoom new.caller
     → HoldWhatIsLeft (after_hearing number Called (stopped stop) (with_line_to Called (drop n) run)) (held_parts new)
 called_holds number n stop run new here there room =
@@ -229,8 +229,8 @@ clean_holds : (run : Run Talk) (r : RunValue) → end_at Caller run ≡ hearer_o
 clean_holds run r caller called steady = record { fits = fits; all = λ clean. all }
   where
     all : (side : Side) → at side (held_parts r) ≡ (end_at side run).held
-    all Caller = sym (ap (λ (h : Hearer (LineEnd Talk)). h.held) caller)
-    all Called = sym (ap (λ (h : Hearer (LineEnd Talk)). h.held) called)
+    all Caller = sym (ap (λ (h : Buffered (LineEnd Talk)). h.held) caller)
+    all Called = sym (ap (λ (h : Buffered (LineEnd Talk)). h.held) called)
 
     fits : (side : Side) → at side (held_parts r) ≡ take READER_SIZE (end_at side run).held
     fits Caller = all_fits (held_bytes r.caller.node) (end_at Caller run).held (all Caller) steady.caller_room
@@ -253,42 +253,42 @@ fooled_at : (side : Side) (n number : ℕ) (setup : SetupValue) (run : Run Talk)
     → Passes side n false old new → EndsAs setup (after_event by_themselves setup number (Pass side n) run) (Fooled number side) new
 fooled_at Caller n number setup run old new stands passes =
     let is = passes.0 in
-    let stop : Hearer (LineEnd Talk) = record { held = is.held; end = line_end_of new.caller } in
-    let came = came_to (player by_themselves setup run Caller) n old.caller old.called (end_at Caller run) (end_at Called run) (stopped stop)
+    let stop : Buffered (LineEnd Talk) = record { held = is.held; end = line_end_of new.caller } in
+    let came = came_to (participant by_themselves setup run Caller) n old.caller old.called (end_at Caller run) (end_at Called run) (stopped stop)
     (caller_is setup run old stands) stands.caller stands.called is.came in
     let ends : EndsAs setup (after_hearing number Caller (stopped stop) (with_line_to Caller (drop n) run)) (Fooled number Caller) new = record {
       past = stands.past ∙ sym passes.2;
       caller = refl;
-      called = ap (λ (h : Hearer (LineEnd Talk)). (changed_line (drop n) h).end) stands.called ∙ ap line_end_of (sym passes.1);
+      called = ap (λ (h : Buffered (LineEnd Talk)). (changed_line (drop n) h).end) stands.called ∙ ap line_end_of (sym passes.1);
       caller_standing = is.standing ∙ stands.caller_standing;
       called_standing = ap standing_of passes.1 ∙ stands.called_standing;
       caller_ordered = is.ordered;
       called_ordered = subst IsOrdered (sym passes.1) (line_ordered (drop n) old.called stands.steady.called_ordered);
       verdict_is = refl;
       held = caller_holds number n stop run new is.fits
-          (ap (λ (e : LiveEndValue). held_bytes e.node) passes.1 ∙ sym (ap (λ (h : Hearer (LineEnd Talk)). h.held) stands.called))
+          (ap (λ (e : LiveEndValue). held_bytes e.node) passes.1 ∙ sym (ap (λ (h : Buffered (LineEnd Talk)). h.held) stands.called))
           (subst HasRoom (sym passes.1) stands.steady.called_room);
     } in
-    subst (λ (c : Came (LineEnd Talk)). EndsAs setup (after_hearing number Caller c (with_line_to Caller (drop n) run)) (Fooled number Caller) new) (sym came) ends
+    subst (λ (c : Arrival (LineEnd Talk)). EndsAs setup (after_hearing number Caller c (with_line_to Caller (drop n) run)) (Fooled number Caller) new) (sym came) ends
 fooled_at Called n number setup run old new stands passes =
     let is = passes.0 in
-    let stop : Hearer (LineEnd Talk) = record { held = is.held; end = line_end_of new.called } in
-    let came = came_to (player by_themselves setup run Called) n old.called old.caller (end_at Called run) (end_at Caller run) (stopped stop)
+    let stop : Buffered (LineEnd Talk) = record { held = is.held; end = line_end_of new.called } in
+    let came = came_to (participant by_themselves setup run Called) n old.called old.caller (end_at Called run) (end_at Caller run) (stopped stop)
     (called_is setup run old stands) stands.called stands.caller is.came in
     let ends : EndsAs setup (after_hearing number Called (stopped stop) (with_line_to Called (drop n) run)) (Fooled number Called) new = record {
       past = stands.past ∙ sym passes.2;
       called = refl;
-      caller = ap (λ (h : Hearer (LineEnd Talk)). (changed_line (drop n) h).end) stands.caller ∙ ap line_end_of (sym passes.1);
+      caller = ap (λ (h : Buffered (LineEnd Talk)). (changed_line (drop n) h).end) stands.caller ∙ ap line_end_of (sym passes.1);
       called_standing = is.standing ∙ stands.called_standing;
       caller_standing = ap standing_of passes.1 ∙ stands.caller_standing;
       called_ordered = is.ordered;
       caller_ordered = subst IsOrdered (sym passes.1) (line_ordered (drop n) old.caller stands.steady.caller_ordered);
       verdict_is = refl;
       held = called_holds number n stop run new is.fits
-          (ap (λ (e : LiveEndValue). held_bytes e.node) passes.1 ∙ sym (ap (λ (h : Hearer (LineEnd Talk)). h.held) stands.caller))
+          (ap (λ (e : LiveEndValue). held_bytes e.node) passes.1 ∙ sym (ap (λ (h : Buffered (LineEnd Talk)). h.held) stands.caller))
           (subst HasRoom (sym passes.1) stands.steady.caller_room);
     } in
-    subst (λ (c : Came (LineEnd Talk)). EndsAs setup (after_hearing number Called c (with_line_to Called (drop n) run)) (Fooled number Called) new) (sym came) ends
+    subst (λ (c : Arrival (LineEnd Talk)). EndsAs setup (after_hearing number Called c (with_line_to Called (drop n) run)) (Fooled number Called) new) (sym came) ends
 
 -- ---- a new call
 
@@ -299,7 +299,7 @@ lost_keeper k id (ended how) e = refl
 
 kept_as_lost : (old lost : LiveEndValue) → IsCalled line_lost old lost → (line_end_of lost).state.keeper ≡ (line_end_of old).state.keeper
 kept_as_lost old lost is =
-    ap (λ (h : Hearer (LineEnd Talk)). h.end.state.keeper) is.hearer
+    ap (λ (h : Buffered (LineEnd Talk)). h.end.state.keeper) is.hearer
     ∙ lost_keeper (player_of old).keeper (player_of old).identity old.node.engine.stage (line_end_of old).state
 
 lost_number : (k : Keeper Talk) (id : Identity) (stage : Stage) (e : EndState Talk) → (stage_step k id stage line_lost e).state.number ≡ e.number
@@ -309,22 +309,22 @@ lost_number k id (ended how) e = refl
 
 number_as_lost : (old lost : LiveEndValue) → IsCalled line_lost old lost → (line_end_of lost).state.number ≡ (line_end_of old).state.number
 number_as_lost old lost is =
-    ap (λ (h : Hearer (LineEnd Talk)). h.end.state.number) is.hearer
+    ap (λ (h : Buffered (LineEnd Talk)). h.end.state.number) is.hearer
     ∙ lost_number (player_of old).keeper (player_of old).identity old.node.engine.stage (line_end_of old).state
 
 owned_by_talk : (number : Option ℕ) → Talk → Belongings
 owned_by_talk number talk = record { lists = talk.machine.lists; kept = talk.kept; number = number }
 
 -- at an end that has begun again
-began_so : (setup : SetupValue) (side : Side) (old lost new : LiveEndValue) (now : Hearer (LineEnd Talk)) → standing_of old ≡ standing_at setup side
+began_so : (setup : SetupValue) (side : Side) (old lost new : LiveEndValue) (now : Buffered (LineEnd Talk)) → standing_of old ≡ standing_at setup side
     → now ≡ hearer_of old → IsCalled line_lost old lost → BeginsAgain lost new
     → begins (begins_session (standing_at setup side).identity (standing_at setup side).own now.end.state.number
     (by_themselves.first (renewed (owned_by_talk now.end.state.number now.end.state.keeper)))) ≡ hearer_of new
 unfolding owned_by_talk
 began_so setup side old lost new now standing is lost_is begun =
-    let first : Standing → Option ℕ → Talk → Hearer (LineEnd Talk) =
+    let first : Standing → Option ℕ → Talk → Buffered (LineEnd Talk) =
     λ s number talk. begins (begins_session s.identity s.own number (by_themselves.first (renewed (owned_by_talk number talk)))) in
-    ap (λ (h : Hearer (LineEnd Talk)). first (standing_at setup side) h.end.state.number h.end.state.keeper) is
+    ap (λ (h : Buffered (LineEnd Talk)). first (standing_at setup side) h.end.state.number h.end.state.keeper) is
     ∙ ap (λ (n : Option ℕ). first (standing_at setup side) n (line_end_of old).state.keeper) (sym (number_as_lost old lost lost_is))
     ∙ ap (first (standing_at setup side) (line_end_of lost).state.number) (sym (kept_as_lost old lost lost_is))
     ∙ ap (λ (s : Standing). first s (line_end_of lost).state.number (line_end_of lost).state.keeper) (sym (lost_is.standing ∙ standing))
@@ -368,13 +368,13 @@ called_again : (setup : SetupValue) (run : Run Talk) (old new : RunValue) → St
 unfolding owned_by_talk
 called_again setup run old new stands again =
     let lost_at : (hung_up by_themselves setup run Caller).end ≡ line_end_of again.lost_caller =
-    ap (λ (p : Player Talk). (called_with p line_lost (end_at Caller run)).end) (sym (caller_is setup run old stands))
-    ∙ ap (λ (h : Hearer (LineEnd Talk)). (called_with (player_of old.caller) line_lost h).end) stands.caller
-    ∙ ap (λ (h : Hearer (LineEnd Talk)). h.end) (sym again.caller_lost.hearer) in
+    ap (λ (p : Participant Talk). (called_with p line_lost (end_at Caller run)).end) (sym (caller_is setup run old stands))
+    ∙ ap (λ (h : Buffered (LineEnd Talk)). (called_with (player_of old.caller) line_lost h).end) stands.caller
+    ∙ ap (λ (h : Buffered (LineEnd Talk)). h.end) (sym again.caller_lost.hearer) in
     let lost_too : (hung_up by_themselves setup run Called).end ≡ line_end_of again.lost_called =
-    ap (λ (p : Player Talk). (called_with p line_lost (end_at Called run)).end) (sym (called_is setup run old stands))
-    ∙ ap (λ (h : Hearer (LineEnd Talk)). (called_with (player_of old.called) line_lost h).end) stands.called
-    ∙ ap (λ (h : Hearer (LineEnd Talk)). h.end) (sym again.called_lost.hearer) in
+    ap (λ (p : Participant Talk). (called_with p line_lost (end_at Called run)).end) (sym (called_is setup run old stands))
+    ∙ ap (λ (h : Buffered (LineEnd Talk)). (called_with (player_of old.called) line_lost h).end) stands.called
+    ∙ ap (λ (h : Buffered (LineEnd Talk)). h.end) (sym again.called_lost.hearer) in
     record {
       past = one_more_session run.past (record {
         at_caller = report_of_end (hung_up by_themselves setup run Caller).end;
@@ -499,8 +499,8 @@ pub record StillRuns (events : List Event) (number : ℕ) (setup : SetupValue) (
 pub ends_clean : (run : Run Talk) (setup : SetupValue) (r : RunValue) → StandsAs setup run r → EndsAs setup run Clean r
 ends_clean run setup r stands = record {
   past = stands.past;
-  caller = ap (λ (h : Hearer (LineEnd Talk)). h.end) stands.caller;
-  called = ap (λ (h : Hearer (LineEnd Talk)). h.end) stands.called;
+  caller = ap (λ (h : Buffered (LineEnd Talk)). h.end) stands.caller;
+  called = ap (λ (h : Buffered (LineEnd Talk)). h.end) stands.called;
   caller_standing = stands.caller_standing;
   called_standing = stands.called_standing;
   caller_ordered = stands.steady.caller_ordered;
@@ -614,7 +614,7 @@ pub starts_as : (setup : SetupValue) (caller_spool called_spool : MemoryHoldings
     → HasBegun (standing_at setup Called).identity (standing_at setup Called).own setup.at_called.belongings.number (renewed setup.at_called.belongings).lists called_spool r.called
     → StandsAs setup (first_run by_themselves setup) r
 starts_as setup caller_spool called_spool r none caller_holdings called_holdings caller_kept called_kept caller called =
-    let first : Side → Lists → List Kept → Hearer (LineEnd Talk) =
+    let first : Side → Lists → List Kept → Buffered (LineEnd Talk) =
     λ side l kept. begins (begins_session (standing_at setup side).identity (standing_at setup side).own
     (at side setup).belongings.number (unopened l kept)) in
     let caller_lists = (renewed setup.at_caller.belongings).lists in
@@ -683,7 +683,7 @@ none_left events number past = drop_all number events past
 
 -- ---- the ends as they are set up
 
-pub begun_as : (side : SessionSide) (me peer my_name other_name : List ℕ) (own announced_so : Announced) (number set_up : Option ℕ)
+pub begun_as : (side : Side) (me peer my_name other_name : List ℕ) (own announced_so : Announced) (number set_up : Option ℕ)
     (l : Lists) (spool : MemoryHoldings) (new : LiveEndValue)
     → me ≡ my_name → peer ≡ other_name → own ≡ announced_so → number ≡ set_up
     → HasBegun (record { side = side; me = me; peer = peer }) own number l spool new

@@ -10,13 +10,13 @@ use Rattle.uug_session.specs.EndStep.{Sending, has_room, in_front, is_up, packet
 use Rattle.uug_conversation.specs.Holdings.{Holdings}
 use Rattle.uug_conversation.specs.Keeper.{Keeper}
 use Rattle.uug_conversation.specs.Talk.{Talk, end_keeper}
-use Rattle.uug_conversation.specs.Turns.{Side}
+use Rattle.uug_conversation.specs.declared.side.Side.{Side}
 use Rattle.uug_conversation.specs.View.{Seen}
 use Rattle.uug_line.specs.LineEnd.{messages_sent}
 use Rattle.uug_line.proofs.Invariant.{IsInvariant, SendsAlike, counted_sending, moved, sent_all}
 use Rattle.uug_line.proofs.Joining.{Moment}
-use Rattle.uug_line.specs.Code.LowerLaws.{Laws}
 use Rattle.uug_line.proofs.MomentLemmas.{count, emits, emits_more_packets, emits_nothing, length_sent}
+use Rattle.uug_link.proofs.OutcomeLemmas.{send_phase}
 
 -- ---- a link that is up
 
@@ -47,21 +47,21 @@ sends_it s message h =
     (if_runs (is_halted s.phase) s (on_send message s) (ap is_halted h))
 
 -- and stays up
-next_stays_up : {C : Type 0} → Laws → (more : State → C → Sending C) (k : Keeper C) (o : Option (List ℕ)) (s : State) (c : C) →
+next_stays_up : {C : Type 0} → (more : State → C → Sending C) (k : Keeper C) (o : Option (List ℕ)) (s : State) (c : C) →
     IsUp s → ((t : State) (d : C) → IsUp t → IsUp (more t d).link) → IsUp (sends_next more k o s c).link
-next_stays_up law more k None s c h stays = h
-next_stays_up law more k (Some message) s c h stays =
-    stays (step s (to_send message)).state (k.sent c) (law.send_phase s message h)
+next_stays_up more k None s c h stays = h
+next_stays_up more k (Some message) s c h stays =
+    stays (step s (to_send message)).state (k.sent c) (send_phase s message h)
 
-room_stays_up : {C : Type 0} → Laws → (more : State → C → Sending C) (k : Keeper C) (room : Bool) (s : State) (c : C) →
+room_stays_up : {C : Type 0} → (more : State → C → Sending C) (k : Keeper C) (room : Bool) (s : State) (c : C) →
     IsUp s → ((t : State) (d : C) → IsUp t → IsUp (more t d).link) → IsUp (sends_by room more k s c).link
-room_stays_up law more k false s c h stays = h
-room_stays_up law more k true s c h stays = next_stays_up law more k (k.next c) s c h stays
+room_stays_up more k false s c h stays = h
+room_stays_up more k true s c h stays = next_stays_up more k (k.next c) s c h stays
 
-pub sends_stays_up : {C : Type 0} → Laws → (n : ℕ) (k : Keeper C) (s : State) (c : C) → IsUp s → IsUp (sends_up_to n k s c).link
-sends_stays_up law zero k s c h = h
-sends_stays_up law (suc n) k s c h =
-    room_stays_up law (sends_up_to n k) k (has_room s) s c h (λ t d up. sends_stays_up law n k t d up)
+pub sends_stays_up : {C : Type 0} → (n : ℕ) (k : Keeper C) (s : State) (c : C) → IsUp s → IsUp (sends_up_to n k s c).link
+sends_stays_up zero k s c h = h
+sends_stays_up (suc n) k s c h =
+    room_stays_up (sends_up_to n k) k (has_room s) s c h (λ t d up. sends_stays_up n k t d up)
 
 -- ---- one message after the other
 

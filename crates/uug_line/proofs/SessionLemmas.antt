@@ -7,30 +7,31 @@ use Rattle.uug_session.specs.EndStep.{first_link}
 use Rattle.uug_conversation.specs.Holdings.{Kept}
 use Rattle.uug_conversation.specs.Jobs.{Lists}
 use Rattle.uug_conversation.specs.Talk.{Talk, end_keeper}
-use Rattle.uug_conversation.specs.Turns.{caller, called}
+use Rattle.uug_conversation.specs.Turns.{other}
 use Rattle.uug_session.specs.TwoEnds.{Talker, at_first, first_two}
 use Rattle.uug_conversation.specs.View.{floor, kept_after, lists_after}
-use Rattle.uug_line.specs.declared.side.Side.{Side}
-use Rattle.uug_line.specs.declared.side.Side.TheVariants.{Caller, Called}
+use Rattle.uug_conversation.specs.declared.side.Side.{Side}
+use Rattle.uug_conversation.specs.declared.side.Side.TheVariants.{Caller, Called}
 use Rattle.uug_line.specs.Belongings.{Belongings, SetupValue, identity, party}
 use Rattle.uug_line.specs.LineEnd.{LineEnd}
 use Rattle.uug_line.specs.Run.{first_end, parties}
 use Rattle.uug_line.specs.RunKeeper.{by_numbers, by_themselves, has_by, view_at}
-use Rattle.uug_line.specs.Sides.{AtBoth, at, other, session_side}
+use Rattle.uug_line.specs.Sides.{AtBoth, at}
 use Rattle.uug_line.specs.World.{count_of, counted_end}
 use Rattle.uug_line.proofs.Joining.{EndsJoined, IsSoundSession, IsTalk, Joined, Moment, link_end, moment_of}
 use Rattle.uug_line.proofs.LinkLemmas.{links_run, not_up}
 use Rattle.uug_line.proofs.SpeakingLemmas.{spoken_at_first}
 use Rattle.uug_line.proofs.LinkRunLemmas.{ran_from_far, ran_nowhere}
-use Rattle.uug_line.specs.Code.LowerLaws.{Laws}
 use Rattle.uug_line.proofs.TalkLemmas.{IsToldAt, seen_at, talk_at, talker_at, told_at}
+use Rattle.uug_link.proofs.TwoLinksRuns.{fronts}
+use Rattle.uug_line.proofs.LowerLemmas.{links_below}
 
-module _ (law : Laws) (setup : SetupValue) (brought : AtBoth Belongings) where
+module _ (setup : SetupValue) (brought : AtBoth Belongings) where
   -- ---- seen from the other side
 
   joined_turned : (side : Side) (m n : Moment) → Joined setup brought side m n → Joined setup brought (other side) n m
   joined_turned Caller m n j = record {
-    links = ran_from_far (first_link caller setup.at_caller.own) (first_link called setup.at_called.own)
+    links = ran_from_far (first_link Caller setup.at_caller.own) (first_link Called setup.at_called.own)
         (record { near = link_end m; far = link_end n }) m.arrivals n.arrivals j.links;
     two = j.two;
     reached = j.reached;
@@ -44,7 +45,7 @@ module _ (law : Laws) (setup : SetupValue) (brought : AtBoth Belongings) where
     far_opened = j.near_opened;
   }
   joined_turned Called m n j = record {
-    links = ran_from_far (first_link called setup.at_called.own) (first_link caller setup.at_caller.own)
+    links = ran_from_far (first_link Called setup.at_called.own) (first_link Caller setup.at_caller.own)
         (record { near = link_end m; far = link_end n }) m.arrivals n.arrivals j.links;
     two = j.two;
     reached = j.reached;
@@ -88,7 +89,7 @@ module _ (law : Laws) (setup : SetupValue) (brought : AtBoth Belongings) where
       (first_end by_themselves setup brought Called).end
   first_joined = record {
     joined = record {
-      links = ran_nowhere (first_link caller setup.at_caller.own) (first_link called setup.at_called.own);
+      links = ran_nowhere (first_link Caller setup.at_caller.own) (first_link Called setup.at_called.own);
       two = first_two (party setup brought Caller) (party setup brought Called);
       reached = at_first;
       near_talk = inl (refl, refl);
@@ -112,9 +113,9 @@ module _ (law : Laws) (setup : SetupValue) (brought : AtBoth Belongings) where
     far_most = omega arith;
     near_passed = refl;
     far_passed = refl;
-    near_spoken = spoken_at_first (end_keeper caller setup.at_caller.holdings) (identity setup Caller) setup.at_caller.own
+    near_spoken = spoken_at_first (end_keeper Caller setup.at_caller.holdings) (identity setup Caller) setup.at_caller.own
         brought.at_caller.number (by_themselves.first brought.at_caller);
-    far_spoken = spoken_at_first (end_keeper called setup.at_called.holdings) (identity setup Called) setup.at_called.own
+    far_spoken = spoken_at_first (end_keeper Called setup.at_called.holdings) (identity setup Called) setup.at_called.own
         brought.at_called.number (by_themselves.first brought.at_called);
   }
 
@@ -123,7 +124,7 @@ pub first_counted : (setup : SetupValue) (brought : AtBoth Belongings) (side : S
 first_counted setup brought Caller = refl
 first_counted setup brought Called = refl
 
-module _ (law : Laws) (setup : SetupValue) (brought : AtBoth Belongings) (sound : IsSoundSession setup brought) where
+module _ (setup : SetupValue) (brought : AtBoth Belongings) (sound : IsSoundSession setup brought) where
   -- ---- what an end has
 
   abbrev HasSame : Side → (number : Option ℕ) → Talk → (sent taken : ℕ) → Type 0
@@ -133,7 +134,7 @@ module _ (law : Laws) (setup : SetupValue) (brought : AtBoth Belongings) (sound 
 
   has_behind : (side : Side) (number : Option ℕ) (t : Talker) (taken : List (List ℕ)) →
       t.taken ≡ taken →
-      t.state.lists ≡ lists_after (session_side side) (party setup brought Caller) (party setup brought Called) (length t.taken) →
+      t.state.lists ≡ lists_after side (party setup brought Caller) (party setup brought Called) (length t.taken) →
       t.kept ≡ kept_after (length t.taken) (seen_at setup brought side) → (sent : ℕ) →
       HasSame side number (talk_at setup brought side t) sent (length taken)
   has_behind side number t taken told lists kept sent =
@@ -149,14 +150,14 @@ module _ (law : Laws) (setup : SetupValue) (brought : AtBoth Belongings) (sound 
       ≡ by_themselves.has (parties setup brought) side (at side brought) e.state.number e.state.keeper
   has_joined side e f joined = by joined.joined.near_talk
     where
-      by : IsTalk (session_side side) (party setup brought side) (at side brought) e.state.keeper
+      by : IsTalk side (party setup brought side) (at side brought) e.state.keeper
           (talker_at setup brought side joined.joined.two) →
           HasSame side e.state.number e.state.keeper (length e.log.sent) (length e.log.taken)
       by (inl fresh) =
           subst (λ (x : Talk). HasSame side e.state.number x (length e.log.sent) (length e.log.taken)) (sym fresh.0) refl
       by (inr is_behind) =
           let two = joined.joined.two in
-          let told : IsToldAt setup brought side two = told_at setup brought law sound side two joined.joined.reached in
+          let told : IsToldAt setup brought side two = told_at setup brought sound side two joined.joined.reached in
           subst (λ (x : Talk). HasSame side e.state.number x (length e.log.sent) (length e.log.taken)) (sym is_behind)
           (has_behind side e.state.number (talker_at setup brought side two) e.log.taken
           joined.joined.near_taken told.stands.lists told.stands.kept (length e.log.sent))
@@ -166,7 +167,7 @@ module _ (law : Laws) (setup : SetupValue) (brought : AtBoth Belongings) (sound 
   -- what it has taken is a front of what the other has sent
   pub front : (side : Side) (e f : LineEnd Talk) → EndsJoined setup brought side e f → IsFrontOf e.log.taken f.log.sent
   front side e f joined =
-      (law.front (at side setup).own (at (other side) setup).own
+      (fronts links_below (at side setup).own (at (other side) setup).own
       (record { near = link_end (moment_of e); far = link_end (moment_of f) })
       (sound.window side) (sound.window (other side))
       (links_run setup side (moment_of e) (moment_of f) joined.joined.links)).0
@@ -178,6 +179,6 @@ module _ (law : Laws) (setup : SetupValue) (brought : AtBoth Belongings) (sound 
       let j = joined.joined in
       let v = seen_at setup brought side in
       let t = talker_at setup brought side j.two in
-      let told : IsToldAt setup brought side j.two = told_at setup brought law sound side j.two j.reached in
+      let told : IsToldAt setup brought side j.two = told_at setup brought sound side j.two j.reached in
       subst (λ (l : List (List ℕ)). length l ≤ floor (length e.log.taken) v) j.near_sent
       (subst (λ (l : List (List ℕ)). length t.sent ≤ floor (length l) v) j.near_taken told.sent_to_floor)

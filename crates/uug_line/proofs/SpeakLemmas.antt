@@ -9,13 +9,13 @@ use Rattle.uug_conversation.specs.Count.{Count, count_keeper}
 use Rattle.uug_session.specs.EndStep.{Identity, Sending, Stage, hailing, linked, ended, closes_by, ends_so, goes_on, goes_on_with, how_it_ends, is_up, packets, sending_nothing, sends, speaks_and_closes, speaks_by}
 use Rattle.uug_conversation.specs.Holdings.{Holdings}
 use Rattle.uug_conversation.specs.Talk.{Talk, end_keeper}
-use Rattle.uug_conversation.specs.Turns.{Side}
+use Rattle.uug_conversation.specs.declared.side.Side.{Side}
 use Rattle.uug_conversation.specs.View.{Seen}
 use Rattle.uug_line.proofs.Invariant.{DoesAlike, HailsFresh, IsInvariant, SendsAlike, counted_effect, counted_sending, done_all, moved, sent_all}
 use Rattle.uug_line.proofs.Joining.{Moment}
-use Rattle.uug_line.specs.Code.LowerLaws.{Laws}
 use Rattle.uug_line.proofs.MomentLemmas.{count, count_silent, emits, emits_and_leaves, emits_more_packets, none_sent}
 use Rattle.uug_line.proofs.SendLemmas.{nothing_alike, sends_alike, sends_stays_up, up_by}
+use Rattle.uug_link.proofs.OutcomeLemmas.{firsts_of}
 
 -- an end that is linked, or whose session has ended, does not hail
 abbrev hails_no_more : Stage → Bool
@@ -31,7 +31,7 @@ ended_hails_not first link how g at = absurd (true≢false (ap hails_no_more at)
 
 -- ---- CLOSE goes out behind the last message
 
-module _ (law : Laws) (me : Side) (h : Holdings) (v : List Seen) (J : Moment → Type 0)
+module _ (me : Side) (h : Holdings) (v : List Seen) (J : Moment → Type 0)
     (IsThere : Moment → PacketValue → ℕ → Type 0) (is : IsInvariant me h v J IsThere) where
   closes_alike : (m : Moment) (x : Sending Talk) (over : Bool) → IsUp x.link → J (sent_all m x) →
       SendsAlike J m (closes_by over x) (closes_by over (counted_sending (sent_all m x) x))
@@ -44,7 +44,7 @@ module _ (law : Laws) (me : Side) (h : Holdings) (v : List Seen) (J : Moment →
       record {
         holds = subst J all (is.closes (sent_all m x) j up);
         same = ap (λ (c : Count). record { link = link; keeper = c; emissions = x.emissions ++ es })
-            (sym (count_silent (sent_all m x) es link (none_sent es (law.firsts x.link to_close))) ∙ ap count all);
+            (sym (count_silent (sent_all m x) es link (none_sent es (firsts_of x.link to_close))) ∙ ap count all);
       }
 
   speaks_and_closes_alike : (m : Moment) (x : Sending Talk) (y : Sending Count) → IsUp x.link → SendsAlike J m x y →
@@ -62,7 +62,7 @@ module _ (law : Laws) (me : Side) (h : Holdings) (v : List Seen) (J : Moment →
   speaks_alike m j false eq = nothing_alike J m j
   speaks_alike m j true eq =
       speaks_and_closes_alike m (sends (end_keeper me h) m.link m.talk) (sends (count_keeper v) m.link (count m))
-      (sends_stays_up law WINDOW_MAX (end_keeper me h) m.link m.talk (up_by m.link.phase eq))
+      (sends_stays_up WINDOW_MAX (end_keeper me h) m.link m.talk (up_by m.link.phase eq))
       (sends_alike me h v J IsThere is WINDOW_MAX m j)
 
 -- ---- the session goes on
@@ -81,18 +81,18 @@ goes_on_with_alike number J first m took es link talk x y alike =
     }
 
 -- behind a link's effect, where the talk and the numbers are then so
-pub goes_on_alike : (number : Option ℕ) → Laws → (me : Side) (h : Holdings) (v : List Seen) (J : Moment → Type 0)
+pub goes_on_alike : (number : Option ℕ) → (me : Side) (h : Holdings) (v : List Seen) (J : Moment → Type 0)
     (IsThere : Moment → PacketValue → ℕ → Type 0) → IsInvariant me h v J IsThere →
     (first : State) (m : Moment) (took : Bool) (e : Effect) (talk : Talk) (c : Count) →
     J (emits m (packets e.emitted) e.state talk) → c ≡ count (emits m (packets e.emitted) e.state talk) →
     DoesAlike J first m (goes_on number (end_keeper me h) took e talk) (goes_on number (count_keeper v) took e c)
-goes_on_alike number law me h v J IsThere is first m took e talk c j same =
+goes_on_alike number me h v J IsThere is first m took e talk c j same =
     let then_m = emits m (packets e.emitted) e.state talk in
     subst (λ (d : Count). DoesAlike J first m (goes_on number (end_keeper me h) took e talk) (goes_on number (count_keeper v) took e d))
     (sym same)
     (goes_on_with_alike number J first m took e.emitted e.state talk (speaks_by (is_up e.state.phase) (end_keeper me h) e.state talk)
     (speaks_by (is_up e.state.phase) (count_keeper v) e.state (count then_m))
-    (speaks_alike law me h v J IsThere is then_m j (is_up e.state.phase) refl))
+    (speaks_alike me h v J IsThere is then_m j (is_up e.state.phase) refl))
 
 -- it says nothing
 pub stays_alike : (number : Option ℕ) (J : Moment → Type 0) (first : State) (m : Moment) (e : Effect) (talk : Talk) (c : Count) →

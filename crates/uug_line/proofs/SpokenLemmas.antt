@@ -18,11 +18,13 @@ use Rattle.uug_session.specs.InRange.{CanBeWritten, IsEndInRange, MayFind}
 use Rattle.uug_conversation.specs.MemoryHoldings.{MemoryHoldings, holdings_of}
 use Rattle.uug_session.specs.Says.{written_text}
 use Rattle.uug_conversation.specs.Talk.{Talk}
-use Rattle.uug_conversation.specs.Turns.{Side}
+use Rattle.uug_conversation.specs.declared.side.Side.{Side}
 use Rattle.uug_line.specs.JournalValue.{JournalValue, if_first, log_of, messages_said, packet_in, packet_read, packets_said, saying, with_most}
-use Rattle.uug_line.specs.Code.LineLaws.{ReadsWritten, StaysInRange}
 use Rattle.uug_line.specs.LineEnd.{LineEnd, Log, after_call, bytes_in, emitting, messages_sent, packets_in, sent_by}
 use Rattle.uug_line.specs.Live.{AreWritten, IsNoted, IsOrdered, LiveEndValue, Standing, line_end_of, player_of, standing_of, state_of}
+use Rattle.uug_packet.proofs.WellFormedLemmas.{decoded-well_formed}
+use Rattle.uug_packet.proofs.WrittenLemmas.{message_in-written}
+use Rattle.uug_session.proofs.InRangeLemmas.{end_stays, end_emits}
 
 -- ---- the bytes
 
@@ -38,22 +40,22 @@ packets_spelled [] = refl
 packets_spelled (says_text text ∷ es) = packets_spelled es
 packets_spelled (sends_packet e ∷ es) = ap (λ (packets : List (List ℕ)). canonical e.packet ∷ packets) (packets_spelled es)
 
-pub packet_back : ReadsWritten → (p : PacketValue) → IsWellFormed p → packet_in (canonical p) ≡ p
-packet_back reads p well = ap packet_read (reads.packet p well)
+pub packet_back : (p : PacketValue) → IsWellFormed p → packet_in (canonical p) ≡ p
+packet_back p well = ap packet_read (decoded-well_formed p well)
 
-packets_back : ReadsWritten → (es : List Emitted) → AllByRecursion CanBeWritten es → map packet_in (map canonical (packets_in es)) ≡ packets_in es
-packets_back reads [] well = refl
-packets_back reads (says_text text ∷ es) well = packets_back reads es well.1
-packets_back reads (sends_packet e ∷ es) well =
-    ap (λ (p : PacketValue). p ∷ map packet_in (map canonical (packets_in es))) (packet_back reads e.packet well.0)
-    ∙ ap (λ (ps : List PacketValue). e.packet ∷ ps) (packets_back reads es well.1)
+packets_back : (es : List Emitted) → AllByRecursion CanBeWritten es → map packet_in (map canonical (packets_in es)) ≡ packets_in es
+packets_back [] well = refl
+packets_back (says_text text ∷ es) well = packets_back es well.1
+packets_back (sends_packet e ∷ es) well =
+    ap (λ (p : PacketValue). p ∷ map packet_in (map canonical (packets_in es))) (packet_back e.packet well.0)
+    ∙ ap (λ (ps : List PacketValue). e.packet ∷ ps) (packets_back es well.1)
 
-written_packets : ReadsWritten → (es : List Emitted) → AllByRecursion CanBeWritten es → AreWritten (map canonical (packets_in es))
-written_packets reads [] well = tt
-written_packets reads (says_text text ∷ es) well = written_packets reads es well.1
-written_packets reads (sends_packet e ∷ es) well =
-    let back = packet_back reads e.packet well.0 in
-    ((ap canonical (sym back), subst IsWellFormed (sym back) well.0), written_packets reads es well.1)
+written_packets : (es : List Emitted) → AllByRecursion CanBeWritten es → AreWritten (map canonical (packets_in es))
+written_packets [] well = tt
+written_packets (says_text text ∷ es) well = written_packets es well.1
+written_packets (sends_packet e ∷ es) well =
+    let back = packet_back e.packet well.0 in
+    ((ap canonical (sym back), subst IsWellFormed (sym back) well.0), written_packets es well.1)
 
 all_written : (xs ys : List (List ℕ)) → AreWritten xs → AreWritten ys → AreWritten (xs ++ ys)
 all_written [] ys first next = next
@@ -67,22 +69,22 @@ sent_of true (carry seq ack k message) = refl
 sent_of false (control c) = refl
 sent_of false (carry seq ack k message) = refl
 
-messages_back : ReadsWritten → (es : List Emitted) → AllByRecursion CanBeWritten es → messages_said (map entry_of es) ≡ messages_sent es
-messages_back reads [] well = refl
-messages_back reads (says_text text ∷ es) well = messages_back reads es well.1
-messages_back reads (sends_packet e ∷ es) well =
-    let read : message_in (canonical e.packet) ≡ message_if_data e.packet = reads.message e.packet well.0 in
+messages_back : (es : List Emitted) → AllByRecursion CanBeWritten es → messages_said (map entry_of es) ≡ messages_sent es
+messages_back [] well = refl
+messages_back (says_text text ∷ es) well = messages_back es well.1
+messages_back (sends_packet e ∷ es) well =
+    let read : message_in (canonical e.packet) ≡ message_if_data e.packet = message_in-written e.packet well.0 in
     ap (λ (m : Option (List ℕ)). if_first e.first m ++ messages_said (map entry_of es)) read
     ∙ ap (λ (ms : List (List ℕ)). ms ++ messages_said (map entry_of es)) (sent_of e.first e.packet)
-    ∙ ap (λ (ms : List (List ℕ)). sent_by e.first e.packet ++ ms) (messages_back reads es well.1)
+    ∙ ap (λ (ms : List (List ℕ)). sent_by e.first e.packet ++ ms) (messages_back es well.1)
 
 -- ---- a call
 
 -- what is noted of a call that emitted this
-pub noted : ReadsWritten → (es : List Emitted) (entries : List EntryValue) (unacked : ℕ) (before after : JournalValue)
+pub noted : (es : List Emitted) (entries : List EntryValue) (unacked : ℕ) (before after : JournalValue)
     → AllByRecursion CanBeWritten es → entries ≡ map entry_of es → after ≡ with_most unacked (saying entries before)
     → log_of after ≡ emitting es unacked (log_of before)
-noted reads es entries unacked before after well are noted_so =
+noted es entries unacked before after well are noted_so =
     let with_sent : List (List ℕ) → Log = λ sent. record {
       sent = before.sent ++ sent;
       taken = before.taken;
@@ -101,18 +103,18 @@ noted reads es entries unacked before after well are noted_so =
     } in
     ap log_of noted_so
     ∙ ap (λ (xs : List EntryValue). log_of (with_most unacked (saying xs before))) are
-    ∙ ap with_sent (messages_back reads es well)
+    ∙ ap with_sent (messages_back es well)
     ∙ ap with_packets (map-append packet_in before.packets (packets_said (map entry_of es))
     ∙ ap (λ (ps : List PacketValue). map packet_in before.packets ++ ps)
-    (ap (λ (bs : List (List ℕ)). map packet_in bs) (packets_spelled es) ∙ packets_back reads es well))
+    (ap (λ (bs : List (List ℕ)). map packet_in bs) (packets_spelled es) ∙ packets_back es well))
 
-pub noted_well : ReadsWritten → (es : List Emitted) (entries : List EntryValue) (unacked : ℕ) (before after : JournalValue)
+pub noted_well : (es : List Emitted) (entries : List EntryValue) (unacked : ℕ) (before after : JournalValue)
     → AllByRecursion CanBeWritten es → entries ≡ map entry_of es → after ≡ with_most unacked (saying entries before)
     → AreWritten before.packets → AreWritten after.packets
-noted_well reads es entries unacked before after well are noted_so written =
+noted_well es entries unacked before after well are noted_so written =
     subst AreWritten
     (ap (λ (bs : List (List ℕ)). before.packets ++ bs) (sym (packets_spelled es) ∙ ap packets_said (sym are)) ∙ ap (λ (j : JournalValue). j.packets) (sym noted_so))
-    (all_written before.packets (map canonical (packets_in es)) written (written_packets reads es well))
+    (all_written before.packets (map canonical (packets_in es)) written (written_packets es well))
 
 -- the call did this to the end, of which was noted already what was found
 pub record Calls (effect : EndEffect Talk) (old called new : LiveEndValue) : Type 0 where
@@ -120,13 +122,13 @@ pub record Calls (effect : EndEffect Talk) (old called new : LiveEndValue) : Typ
   pub standing : standing_of new ≡ standing_of old
   pub ordered : IsOrdered new
 
-pub does_so : ReadsWritten → (e : EndEffect Talk) (old called new : LiveEndValue)
+pub does_so : (e : EndEffect Talk) (old called new : LiveEndValue)
     → old.node.engine.outbox.entries ≡ [] → AllByRecursion CanBeWritten e.emitted
     → Does e (state_of called) old.node.engine called.node.engine → IsNoted called new
     → IsEndInRange old.node.engine.identity.side e.state → IsAnnouncement old.node.engine.own
     → AreWritten called.journal.packets → holdings_of called.spool ≡ holdings_of old.spool
     → Calls e old called new
-does_so reads e old called new cleared writable does noted_so in_range own written holdings =
+does_so e old called new cleared writable does noted_so in_range own written holdings =
     let entries : called.node.engine.outbox.entries ≡ map entry_of e.emitted =
     does.emitted ∙ ap (λ (x : List EntryValue). x ++ map entry_of e.emitted) cleared in
     let of_engine : EngineState → MemoryHoldings → EndState Talk = λ x m. end_of (holdings_of m) m.stored x in
@@ -139,7 +141,7 @@ does_so reads e old called new cleared writable does noted_so in_range own writt
     ap (λ (x : EngineState). x.identity) noted_so.engine ∙ does.identity in
     let announced : new.node.engine.own ≡ old.node.engine.own = ap (λ (x : EngineState). x.own) noted_so.engine ∙ does.own in
     let log : log_of new.journal ≡ emitting e.emitted (length e.state.link.unacked) (log_of called.journal) =
-    noted reads e.emitted called.node.engine.outbox.entries (length called.node.engine.link.unacked) called.journal new.journal writable entries noted_so.journal
+    noted e.emitted called.node.engine.outbox.entries (length called.node.engine.link.unacked) called.journal new.journal writable entries noted_so.journal
     ∙ ap (λ (n : ℕ). emitting e.emitted n (log_of called.journal)) unacked in
     let line : new.line ≡ called.line ++ bytes_in e.emitted =
     noted_so.line ∙ ap (λ (x : List EntryValue). called.line ++ joined x) entries ∙ ap (λ (x : List ℕ). called.line ++ x) (bytes_joined e.emitted) in
@@ -160,20 +162,20 @@ does_so reads e old called new cleared writable does noted_so in_range own writt
         in_range = subst (λ (s : Side). IsEndInRange s (state_of new)) (sym (ap (λ (id : Identity). id.side) identity))
             (subst (IsEndInRange old.node.engine.identity.side) (sym state) in_range);
         own = subst IsAnnouncement (sym announced) own;
-        written = noted_well reads e.emitted called.node.engine.outbox.entries (length called.node.engine.link.unacked) called.journal new.journal
+        written = noted_well e.emitted called.node.engine.outbox.entries (length called.node.engine.link.unacked) called.journal new.journal
             writable entries noted_so.journal written;
         most = omega (arith, most, left);
       };
     }
 
 -- the end's step
-pub steps_so : ReadsWritten → StaysInRange → (event : EndEvent) (old called new : LiveEndValue) → IsOrdered old → MayFind event
+pub steps_so : (event : EndEvent) (old called new : LiveEndValue) → IsOrdered old → MayFind event
     → Does (end_step (player_of old).keeper (player_of old).identity event (state_of old)) (state_of called) old.node.engine called.node.engine
     → IsNoted called new → AreWritten called.journal.packets → holdings_of called.spool ≡ holdings_of old.spool
     → Calls (end_step (player_of old).keeper (player_of old).identity event (state_of old)) old called new
-steps_so reads in_range event old called new ordered may does noted_so written holdings =
+steps_so event old called new ordered may does noted_so written holdings =
     let id = old.node.engine.identity in
     let e = end_step (player_of old).keeper (player_of old).identity event (state_of old) in
-    does_so reads e old called new ordered.cleared
-    (recursion_from_All CanBeWritten e.emitted (in_range.emitted id.side (holdings_of old.spool) id event (state_of old) ordered.in_range may))
-    does noted_so (in_range.stays id.side (holdings_of old.spool) id event (state_of old) ordered.in_range may) ordered.own written holdings
+    does_so e old called new ordered.cleared
+    (recursion_from_All CanBeWritten e.emitted (end_emits id.side (holdings_of old.spool) id event (state_of old) ordered.in_range may))
+    does noted_so (end_stays id.side (holdings_of old.spool) id event (state_of old) ordered.in_range may) ordered.own written holdings

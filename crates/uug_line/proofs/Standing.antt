@@ -6,7 +6,7 @@ use Rattle.uug_link.specs.Moves.{ReadsBoth}
 use Rattle.uug_link.specs.State.{State, caller_state, called_state}
 use Rattle.uug_link.specs.TwoLinks.{End, Ends}
 use Rattle.uug_link.specs.WindowMachine.{Machine}
-use Rattle.uug_session.specs.Arriving.{held_in, Hearer, Came, all_taken, stopped, takes_piece}
+use Rattle.uug_session.specs.Arriving.{held_in, Buffered, Arrival, all_taken, stopped, takes_piece}
 use Rattle.uug_conversation.specs.Count.{Count}
 use Rattle.uug_session.specs.EndStep.{EndEvent, time_ran_out, line_lost}
 use Rattle.uug_conversation.specs.Jobs.{at_start, pending}
@@ -14,8 +14,8 @@ use Rattle.uug_conversation.specs.Party.{IsSound}
 use Rattle.uug_conversation.specs.Talk.{Talk}
 use Rattle.uug_line.specs.declared.event.Event.{Event}
 use Rattle.uug_line.specs.declared.event.Event.TheVariants.{Pass, Drop, Flip, Insert, Timeout, HangUp, Call}
-use Rattle.uug_line.specs.declared.side.Side.{Side}
-use Rattle.uug_line.specs.declared.side.Side.TheVariants.{Caller, Called}
+use Rattle.uug_conversation.specs.declared.side.Side.{Side}
+use Rattle.uug_conversation.specs.declared.side.Side.TheVariants.{Caller, Called}
 use Rattle.uug_line.specs.declared.verdict.LineVerdict.{LineVerdict}
 use Rattle.uug_line.specs.declared.verdict.LineVerdict.TheVariants.{Clean, Fooled}
 use Rattle.uug_line.specs.Belongings.{Belongings, SetupValue, party, renewed}
@@ -33,11 +33,14 @@ use Rattle.uug_line.specs.World.{report_of, counted_hearer, counted, run_of_ends
 use Rattle.uug_line.proofs.Hearing.{counted_came, end_of, taken_piece}
 use Rattle.uug_line.proofs.Joining.{EndsJoined, HasPassed, IsSoundSession, LinksOf, link_end, moment_of}
 use Rattle.uug_line.proofs.MachineLemmas.{stands_behind, stands_first}
-use Rattle.uug_line.specs.Code.SessionLaws.{SessionLaws}
 use Rattle.uug_line.specs.MachineRun.{PresentRanAsMachine, RanAsMachine, SomeLinksRan, first_links, first_machine, link_end as told_end, link_ends}
 use Rattle.uug_line.specs.Told.{EndReportValue}
 use Rattle.uug_line.proofs.Steps.{talk_player, count_player, IsNoPacket, Steps}
 use Rattle.uug_line.proofs.StoredSince.{OwnSince, names_now, own_of_both, own_at_first, OwnPlaces, own_places, set_up}
+use Rattle.uug_link.proofs.TwoLinksRuns.{first_reads}
+use Rattle.uug_link.proofs.MovesRuns.{run_moves as links_move}
+use Rattle.uug_line.proofs.LowerLemmas.{links_below, always_within}
+use Rattle.uug_line.proofs.JoinedSteps.{steps as all_steps}
 
 -- the session is as the headline says
 pub record IsKept (setup : SetupValue) (session : AtBoth EndReportValue) : Type 0 where
@@ -59,7 +62,7 @@ pub record Goes (setup : SetupValue) (run : Run Talk) (numbers : Run Count) : Ty
 -- ---- the bytes on a line join and part nothing
 
 near_line : (setup : SetupValue) (brought : AtBoth Belongings) (side : Side) (change : List ℕ → List ℕ)
-    (h : Hearer (LineEnd Talk)) (f : LineEnd Talk) → EndsJoined setup brought side h.end f →
+    (h : Buffered (LineEnd Talk)) (f : LineEnd Talk) → EndsJoined setup brought side h.end f →
     EndsJoined setup brought side (changed_line change h).end f
 near_line setup brought side change h f j = record {
   joined = j.joined;
@@ -74,7 +77,7 @@ near_line setup brought side change h f j = record {
 }
 
 far_line : (setup : SetupValue) (brought : AtBoth Belongings) (side : Side) (change : List ℕ → List ℕ)
-    (e : LineEnd Talk) (h : Hearer (LineEnd Talk)) → EndsJoined setup brought side e h.end →
+    (e : LineEnd Talk) (h : Buffered (LineEnd Talk)) → EndsJoined setup brought side e h.end →
     EndsJoined setup brought side e (changed_line change h).end
 far_line setup brought side change e h j = record {
   joined = j.joined;
@@ -107,9 +110,9 @@ as_told e passed = ap (λ (n : ℕ). record {
   passed = n;
 }) passed
 
-module _ (setup : SetupValue) (all_steps : (brought : AtBoth Belongings) → IsSoundSession setup brought → Steps setup brought) (laws : SessionLaws) where
+module _ (setup : SetupValue) where
   steps_of : (run : Run Talk) → Stands setup run → Steps setup run.brought
-  steps_of run s = all_steps run.brought s.sound
+  steps_of run s = all_steps setup run.brought s.sound
 
   turned_of : (run : Run Talk) → Stands setup run →
       EndsJoined setup run.brought Called run.ends.at_called.end run.ends.at_caller.end
@@ -117,7 +120,7 @@ module _ (setup : SetupValue) (all_steps : (brought : AtBoth Belongings) → IsS
       (steps_of run s).turned Caller run.ends.at_caller.end run.ends.at_called.end s.joined
 
   -- the ends become others
-  with_ends : (run : Run Talk) (verdict : LineVerdict) (x y : Hearer (LineEnd Talk)) → Stands setup run →
+  with_ends : (run : Run Talk) (verdict : LineVerdict) (x y : Buffered (LineEnd Talk)) → Stands setup run →
       EndsJoined setup run.brought Caller x.end y.end →
       Stands setup (record { past = run.past; brought = run.brought; ends = record { at_caller = x; at_called = y }; verdict = verdict })
   with_ends run verdict x y s joined = record { sound = s.sound; joined = joined; past = s.past; own = s.own }
@@ -167,7 +170,7 @@ module _ (setup : SetupValue) (all_steps : (brought : AtBoth Belongings) → IsS
   -- ---- bytes that come
 
   -- the other end's line was changed so
-  heard_at_caller : (number : ℕ) (change : List ℕ → List ℕ) (run : Run Talk) → Stands setup run → (came : Came (LineEnd Talk)) →
+  heard_at_caller : (number : ℕ) (change : List ℕ → List ℕ) (run : Run Talk) → Stands setup run → (came : Arrival (LineEnd Talk)) →
       EndsJoined setup run.brought Caller (end_of came) run.ends.at_called.end →
       Goes setup (after_hearing number Caller came (with_line_to Caller change run))
       (after_hearing number Caller (counted_came came) (with_line_to Caller change (counted run)))
@@ -182,7 +185,7 @@ module _ (setup : SetupValue) (all_steps : (brought : AtBoth Belongings) → IsS
     counted_is = refl;
   }
 
-  heard_at_called : (number : ℕ) (change : List ℕ → List ℕ) (run : Run Talk) → Stands setup run → (came : Came (LineEnd Talk)) →
+  heard_at_called : (number : ℕ) (change : List ℕ → List ℕ) (run : Run Talk) → Stands setup run → (came : Arrival (LineEnd Talk)) →
       EndsJoined setup run.brought Called (end_of came) run.ends.at_caller.end →
       Goes setup (after_hearing number Called came (with_line_to Called change run))
       (after_hearing number Called (counted_came came) (with_line_to Called change (counted run)))
@@ -208,7 +211,7 @@ module _ (setup : SetupValue) (all_steps : (brought : AtBoth Belongings) → IsS
       let here = run.ends.at_caller in
       let there = run.ends.at_called in
       let piece = take n there.end.line in
-      let taken = taken_piece setup run.brought (steps_of run s) Caller there.end piece here s.joined in
+      let taken = taken_piece setup run.brought s.sound Caller there.end piece here s.joined in
       let came = takes_piece (line_taker (talk_player setup Caller) there.end.log.packets) piece here in
       let numbers = takes_piece (line_taker (count_player setup run.brought Caller) there.end.log.packets) piece (counted_hearer here) in
       goes_to (after_hearing number Caller came (with_line_to Caller (drop n) run))
@@ -220,7 +223,7 @@ module _ (setup : SetupValue) (all_steps : (brought : AtBoth Belongings) → IsS
       let here = run.ends.at_called in
       let there = run.ends.at_caller in
       let piece = take n there.end.line in
-      let taken = taken_piece setup run.brought (steps_of run s) Called there.end piece here (turned_of run s) in
+      let taken = taken_piece setup run.brought s.sound Called there.end piece here (turned_of run s) in
       let came = takes_piece (line_taker (talk_player setup Called) there.end.log.packets) piece here in
       let numbers = takes_piece (line_taker (count_player setup run.brought Called) there.end.log.packets) piece (counted_hearer here) in
       goes_to (after_hearing number Called came (with_line_to Called (drop n) run))
@@ -240,7 +243,7 @@ module _ (setup : SetupValue) (all_steps : (brought : AtBoth Belongings) → IsS
       All (IsKept setup) past → ((giver : Side) → OwnSince setup brought giver) →
       Goes setup (session_begins by_themselves setup past brought) (session_begins by_numbers setup past brought)
   begins_so past brought sound kept own =
-      let steps = all_steps brought sound in
+      let steps = all_steps setup brought sound in
       record {
         stands = record { sound = sound; joined = steps.first_joined; past = kept; own = own };
         counted_is = ap₂ (λ x y. record { past = past; brought = brought; ends = record { at_caller = x; at_called = y }; verdict = Clean })
@@ -269,13 +272,13 @@ module _ (setup : SetupValue) (all_steps : (brought : AtBoth Belongings) → IsS
       let other : ℕ = setup.at_caller.own.window in
       let near : State = caller_state setup.at_caller.own in
       let far : State = called_state setup.at_called.own in
-      let moved = laws.moves setup.at_caller.own setup.at_called.own near far run.occurrences (sound.window Caller)
+      let moved = links_move links_below setup.at_caller.own setup.at_called.own near far run.occurrences (sound.window Caller)
       (sound.window Called) (inl refl) (inr refl) run.allowed in
       let behind = stands_behind window other (first_links setup) run.occurrences (first_machine setup) moved.0
       (stands_first window other (first_links setup)
-      (laws.first_reads setup.at_caller.own setup.at_called.own near far (inl refl) (inr refl))) moved.1 in
+      (first_reads setup.at_caller.own setup.at_called.own near far (inl refl) (inr refl))) moved.1 in
       let machine : Machine = after_all (first_machine setup) moved.0 in
-      let bounds = laws.bounds window other machine (sound.window Called) (sound.window Caller) behind.reached in
+      let bounds = always_within window other machine (sound.window Called) (sound.window Caller) behind.reached in
       record {
         run = run;
         moves = moved.0;
@@ -295,7 +298,7 @@ module _ (setup : SetupValue) (all_steps : (brought : AtBoth Belongings) → IsS
       record { front = front; window = window; machine = (links_at e f, ran_as_machine brought sound e f joined) }
     where
       steps : Steps setup brought
-      steps = all_steps brought sound
+      steps = all_steps setup brought sound
 
       front : TookFronts (record { at_caller = report_of_end e; at_called = report_of_end f })
       front Caller = steps.front Caller e f joined
@@ -326,13 +329,13 @@ module _ (setup : SetupValue) (all_steps : (brought : AtBoth Belongings) → IsS
     where
       party_sound : (side : Side) → IsSound (party setup (brings run) side)
       party_sound Caller = record {
-        names = names_now laws setup run.brought (steps_of run s) Caller run.ends.at_caller.end run.ends.at_called.end s.joined refl
+        names = names_now setup run.brought s.sound Caller run.ends.at_caller.end run.ends.at_called.end s.joined refl
             (s.sound.party Caller).names;
         modes = (s.sound.party Caller).modes;
         size = (s.sound.party Caller).size;
       }
       party_sound Called = record {
-        names = names_now laws setup run.brought (steps_of run s) Called run.ends.at_called.end run.ends.at_caller.end
+        names = names_now setup run.brought s.sound Called run.ends.at_called.end run.ends.at_caller.end
             (turned_of run s) refl (s.sound.party Called).names;
         modes = (s.sound.party Called).modes;
         size = (s.sound.party Called).size;
@@ -345,7 +348,7 @@ module _ (setup : SetupValue) (all_steps : (brought : AtBoth Belongings) → IsS
 
   own_of_now : (run : Run Talk) → Stands setup run → (giver : Side) → OwnSince setup (at_each (has_now by_themselves setup run)) giver
   own_of_now run s giver =
-      own_of_both laws setup run.brought (steps_of run s) giver (at_each (has_now by_themselves setup run))
+      own_of_both setup run.brought s.sound giver (at_each (has_now by_themselves setup run))
       run.ends.at_caller.end run.ends.at_called.end s.joined refl refl (s.own giver)
 
   renewed_own : (now : AtBoth Belongings) (giver : Side) → OwnSince setup now giver → OwnSince setup (at_each (λ side. renewed (at side now))) giver
@@ -512,7 +515,7 @@ module _ (setup : SetupValue) (all_steps : (brought : AtBoth Belongings) → IsS
   pub all_own : IsSoundSetup setup → (events : List Event) (giver : Side) →
       OwnPlaces setup (report_of_ends setup events).belongings giver
   all_own sound events giver =
-      own_places laws setup (report_of_ends setup events).belongings giver
+      own_places setup (report_of_ends setup events).belongings giver
       (own_of_now (run_of_ends setup events) (run_goes sound events).stands giver)
 
   pub stays_in_front : IsSoundSetup setup → (events : List Event) (side : Side) → StaysInFront setup (report_of_ends setup events) side

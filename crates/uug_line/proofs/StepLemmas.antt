@@ -13,15 +13,16 @@ use Rattle.uug_session.specs.EndStep.{EndEffect, EndEvent, text_found, long_text
 use Rattle.uug_session.specs.Greeting.{GreetingStep, long_text_came, number_by, text_came, timed_out}
 use Rattle.uug_conversation.specs.Holdings.{Holdings}
 use Rattle.uug_conversation.specs.Talk.{end_keeper}
-use Rattle.uug_conversation.specs.Turns.{Side, caller, called}
+use Rattle.uug_conversation.specs.declared.side.Side.{Side}
+use Rattle.uug_conversation.specs.declared.side.Side.TheVariants.{Caller, Called}
 use Rattle.uug_conversation.specs.View.{Seen}
 use Rattle.uug_line.proofs.AnswerLemmas.{Heard, bad_alike, late_alike, packet_alike, quiet_count}
 use Rattle.uug_line.proofs.Invariant.{DoesAlike, HailsFresh, IsInvariant, moved}
 use Rattle.uug_line.proofs.Joining.{Moment}
-use Rattle.uug_line.specs.Code.LowerLaws.{Laws}
 use Rattle.uug_line.proofs.MomentLemmas.{count, emits, emits_nothing, emits_texts, emits_texts_first}
 use Rattle.uug_line.proofs.SpeakLemmas.{ended_hails_not, linked_hails_not}
 use Rattle.uug_line.proofs.Steps.{IsNoPacket}
+use Rattle.uug_link.proofs.OutcomeLemmas.{firsts_of}
 
 -- an end at that stage
 abbrev at_stage : {C : Type 0} → (number : Option ℕ) → Stage → State → C → EndState C
@@ -32,10 +33,10 @@ abbrev only_says : {C : Type 0} → List (List ℕ) → EndState C → EndEffect
 only_says texts e = record { state = e; emitted = map says_text texts; took = false }
 
 -- a caller's link to which nothing has happened
-fresh_first : (own : Announced) (link : State) → link ≡ first_link caller own → IsFresh link
+fresh_first : (own : Announced) (link : State) → link ≡ first_link Caller own → IsFresh link
 fresh_first own link at = subst IsFresh (sym at) refl
 
-module _ (law : Laws) (me : Side) (h : Holdings) (v : List Seen) (J : Moment → Type 0)
+module _ (me : Side) (h : Holdings) (v : List Seen) (J : Moment → Type 0)
     (IsThere : Moment → PacketValue → ℕ → Type 0) (is : IsInvariant me h v J IsThere) (own : Announced) (name peer : List ℕ) where
   abbrev who : Identity
   who = record { side = me; me = name; peer = peer }
@@ -62,8 +63,8 @@ module _ (law : Laws) (me : Side) (h : Holdings) (v : List Seen) (J : Moment →
 
   -- the caller begins the link, to which nothing has happened
   begins_alike : (number : Option ℕ) (m : Moment) (texts : List (List ℕ)) → J m → IsFresh m.link →
-      DoesAlike J (first_link me own) m (begins_link number caller m.link m.talk (map says_text texts))
-      (begins_link number caller m.link (count m) (map says_text texts))
+      DoesAlike J (first_link me own) m (begins_link number Caller m.link m.talk (map says_text texts))
+      (begins_link number Caller m.link (count m) (map says_text texts))
   begins_alike number m texts j fresh =
       let e = step m.link to_begin in
       let same : moved m to_begin m.talk ≡ emits m (map says_text texts ++ packets e.emitted) e.state m.talk =
@@ -74,15 +75,15 @@ module _ (law : Laws) (me : Side) (h : Holdings) (v : List Seen) (J : Moment →
           state = at_stage number linked e.state c;
           emitted = map says_text texts ++ packets e.emitted;
           took = false;
-        }) (quiet_count m to_begin (law.firsts m.link to_begin) ∙ ap count same);
+        }) (quiet_count m to_begin (firsts_of m.link to_begin) ∙ ap count same);
         hails = linked_hails_not (first_link me own) e.state;
       }
 
   link_begins_alike : (number : Option ℕ) (m : Moment) (side : Side) (texts : List (List ℕ)) → J m → m.link ≡ first_link side own →
       DoesAlike J (first_link me own) m (begins_link number side m.link m.talk (map says_text texts))
       (begins_link number side m.link (count m) (map says_text texts))
-  link_begins_alike number m caller texts j at = begins_alike number m texts j (fresh_first own m.link at)
-  link_begins_alike number m called texts j at = says_alike number m linked texts j (linked_hails_not (first_link me own) m.link)
+  link_begins_alike number m Caller texts j at = begins_alike number m texts j (fresh_first own m.link at)
+  link_begins_alike number m Called texts j at = says_alike number m linked texts j (linked_hails_not (first_link me own) m.link)
 
   greeted_alike : (number : Option ℕ) (m : Moment) (greeted : Greeted) (texts : List (List ℕ)) → J m → m.link ≡ first_link me own →
       DoesAlike J (first_link me own) m (greeted_so number who greeted (map says_text texts) m.link m.talk)
@@ -120,8 +121,8 @@ module _ (law : Laws) (me : Side) (h : Holdings) (v : List Seen) (J : Moment →
   linked_alike : (number : Option ℕ) (m : Moment) (event : EndEvent) → IsNoPacket event → J m →
       DoesAlike J (first_link me own) m (linked_step (end_keeper me h) who event (at_stage number linked m.link m.talk))
       (linked_step (count_keeper v) who event (at_stage number linked m.link (count m)))
-  linked_alike number m broken_found none j = bad_alike law me h v J IsThere is (first_link me own) who number m j
-  linked_alike number m time_ran_out none j = late_alike law me h v J IsThere is (first_link me own) who number m j
+  linked_alike number m broken_found none j = bad_alike me h v J IsThere is (first_link me own) who number m j
+  linked_alike number m time_ran_out none j = late_alike me h v J IsThere is (first_link me own) who number m j
   linked_alike number m line_lost none j =
       lost_alike number m ((end_keeper me h).has_parted m.talk) ((count_keeper v).has_parted (count m)) (is.parted m j) j
   linked_alike number m (text_found text) none j = unmoved_alike number m linked j (linked_hails_not (first_link me own) m.link)
@@ -150,4 +151,4 @@ module _ (law : Laws) (me : Side) (h : Holdings) (v : List Seen) (J : Moment →
       J m → HeardAt number m p place stage
   packet_step_alike number m p place stage on_link there j =
       subst (λ (s : Stage). HeardAt number m p place s) (sym on_link)
-      (packet_alike law me h v J IsThere is (first_link me own) who number m p place j there)
+      (packet_alike me h v J IsThere is (first_link me own) who number m p place j there)

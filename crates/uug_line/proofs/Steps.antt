@@ -2,6 +2,7 @@
 -- joined, and two numbers tell the step.
 use Rattle.std.proofs.Common.{◌≡◌, ℕ, ◌≤◌, length, Some}
 use Rattle.std.specs.Bool.{⊤}
+use Rattle.uug_conversation.specs.Turns.{other}
 use Rattle.uug_link.specs.Arrivals.{place_of}
 use Rattle.uug_packet.specs.Packet.{PacketValue}
 use Rattle.uug_conversation.specs.Count.{Count, count_keeper}
@@ -9,23 +10,23 @@ use Rattle.uug_session.specs.EndStep.{EndEvent, linked, packet_found_whole}
 use Rattle.uug_conversation.specs.Talk.{Talk, end_keeper}
 use Rattle.uug_link.specs.TwoLinks.{IsFrontOf}
 use Rattle.uug_conversation.specs.View.{floor}
-use Rattle.uug_line.specs.declared.side.Side.{Side}
-use Rattle.uug_line.specs.declared.side.Side.TheVariants.{Caller, Called}
+use Rattle.uug_conversation.specs.declared.side.Side.{Side}
+use Rattle.uug_conversation.specs.declared.side.Side.TheVariants.{Caller, Called}
 use Rattle.uug_line.specs.Belongings.{Belongings, SetupValue, identity}
-use Rattle.uug_line.specs.LineEnd.{LineEnd, Player, does}
+use Rattle.uug_line.specs.LineEnd.{LineEnd, Participant, does}
 use Rattle.uug_line.specs.Run.{first_end, parties}
 use Rattle.uug_line.specs.RunKeeper.{by_themselves, by_numbers, view_at}
-use Rattle.uug_line.specs.Sides.{other, session_side, AtBoth, at}
+use Rattle.uug_line.specs.Sides.{AtBoth, at}
 use Rattle.uug_line.specs.Taking.{packet_taken_up}
 use Rattle.uug_line.specs.World.{count_of, counted_end}
 use Rattle.uug_line.proofs.Joining.{EndsJoined}
 
 -- the end on the side, itself and by numbers
-abbrev pub talk_player : SetupValue → Side → Player Talk
+abbrev pub talk_player : SetupValue → Side → Participant Talk
 talk_player setup side =
-    record { identity = identity setup side; keeper = end_keeper (session_side side) (at side setup).holdings }
+    record { identity = identity setup side; keeper = end_keeper side (at side setup).holdings }
 
-abbrev pub count_player : SetupValue → (brought : AtBoth Belongings) → Side → Player Count
+abbrev pub count_player : SetupValue → (brought : AtBoth Belongings) → Side → Participant Count
 count_player setup brought side =
     record { identity = identity setup side; keeper = count_keeper (view_at (parties setup brought) side) }
 

@@ -1,7 +1,7 @@
 -- What the worked runs are compared by: the numbers that a report prints.
 use Rattle.std.proofs.Common.{◌≡◌, ℕ, ◌==◌, Bool, true, false, ◌&&◌, List, [], ◌∷◌, length, map}
 use Rattle.uug_link.specs.Arrivals.{same_message, same_packet}
-use Rattle.uug_session.specs.Arriving.{Hearer}
+use Rattle.uug_session.specs.Arriving.{Buffered}
 use Rattle.uug_conversation.specs.Count.{Count}
 use Rattle.uug_conversation.specs.Holdings.{Kept}
 use Rattle.uug_conversation.specs.Jobs.{pending}
@@ -74,12 +74,12 @@ same_log l m =
 abbrev same_count : Count → Count → Bool
 same_count c d = (c.sent == d.sent) && (c.taken == d.taken)
 
-abbrev same_end : Hearer (LineEnd Count) → Hearer (LineEnd Count) → Bool
+abbrev same_end : Buffered (LineEnd Count) → Buffered (LineEnd Count) → Bool
 same_end g h =
     (same_log g.end.log h.end.log && same_message g.held h.held)
     && (same_message g.end.line h.end.line && same_count g.end.state.keeper h.end.state.keeper)
 
-abbrev same_ends : AtBoth (Hearer (LineEnd Count)) → AtBoth (Hearer (LineEnd Count)) → Bool
+abbrev same_ends : AtBoth (Buffered (LineEnd Count)) → AtBoth (Buffered (LineEnd Count)) → Bool
 same_ends e f = same_end e.at_caller f.at_caller && same_end e.at_called f.at_called
 
 -- by themselves and by numbers the ends come to this, and told by numbers the ends themselves are those of the world

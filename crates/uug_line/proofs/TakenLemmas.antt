@@ -13,8 +13,9 @@ use Rattle.uug_line.specs.LineEnd.{Log, found_at, took}
 use Rattle.uug_line.specs.Live.{AreWritten}
 use Rattle.uug_line.specs.Code.Sightings.{StandsAt, StandsNowhere}
 use Rattle.uug_session.specs.EndStep.{message_of}
-use Rattle.uug_line.specs.Code.LineLaws.{PlaceIs, ReadsWritten}
 use Rattle.uug_line.proofs.SpokenLemmas.{packet_back}
+use Rattle.uug_link.proofs.ArrivalLemmas.{place_is}
+use Rattle.uug_packet.proofs.WrittenLemmas.{message_in-written}
 
 -- ---- places
 
@@ -46,19 +47,19 @@ no_place : (p : PacketValue) (emitted : List PacketValue) (passed : ℕ) (o : Op
 no_place p emitted passed None is none = refl
 no_place p emitted passed (Some i) is none = absurd (none i is.behind is.there)
 
-pub place_found : PlaceIs → ReadsWritten → (p : PacketValue) (others : List (List ℕ)) (passed place : ℕ) → IsWellFormed p → AreWritten others
+pub place_found : (p : PacketValue) (others : List (List ℕ)) (passed place : ℕ) → IsWellFormed p → AreWritten others
     → StandsAt (canonical p) others passed place → place_of p (map packet_in others) passed ≡ Some place
-place_found places reads p others passed place well written stands =
-    some_place p (map packet_in others) passed place (place_of p (map packet_in others) passed) (places p (map packet_in others) passed) (record {
+place_found p others passed place well written stands =
+    some_place p (map packet_in others) passed place (place_of p (map packet_in others) passed) (place_is p (map packet_in others) passed) (record {
       behind = stands.behind;
-      there = slice_get-map packet_in others place ∙ ap (option_map packet_in) stands.there ∙ ap Some (packet_back reads p well);
+      there = slice_get-map packet_in others place ∙ ap (option_map packet_in) stands.there ∙ ap Some (packet_back p well);
       least = λ i behind before at. stands.least i behind before (written_at others i p written at);
     })
 
-pub no_place_found : PlaceIs → (p : PacketValue) (others : List (List ℕ)) (passed : ℕ) → AreWritten others
+pub no_place_found : (p : PacketValue) (others : List (List ℕ)) (passed : ℕ) → AreWritten others
     → StandsNowhere (canonical p) others passed → place_of p (map packet_in others) passed ≡ None
-no_place_found places p others passed written stands =
-    no_place p (map packet_in others) passed (place_of p (map packet_in others) passed) (places p (map packet_in others) passed)
+no_place_found p others passed written stands =
+    no_place p (map packet_in others) passed (place_of p (map packet_in others) passed) (place_is p (map packet_in others) passed)
     (λ i behind at. stands i behind (written_at others i p written at))
 
 -- ---- what is written down of a packet
@@ -67,12 +68,12 @@ message_is : (p : PacketValue) → or_empty (message_if_data p) ≡ message_of p
 message_is (control c) = refl
 message_is (carry seq ack k message) = refl
 
-message_back : ReadsWritten → (p : PacketValue) → IsWellFormed p → or_empty (message_in (canonical p)) ≡ message_of p
-message_back reads p well = ap or_empty (reads.message p well) ∙ message_is p
+message_back : (p : PacketValue) → IsWellFormed p → or_empty (message_in (canonical p)) ≡ message_of p
+message_back p well = ap or_empty (message_in-written p well) ∙ message_is p
 
-pub packet_logged : ReadsWritten → (p : PacketValue) (bytes : List ℕ) (place : ℕ) (j : JournalValue) (was_taken : Bool) → IsWellFormed p → bytes ≡ canonical p
+pub packet_logged : (p : PacketValue) (bytes : List ℕ) (place : ℕ) (j : JournalValue) (was_taken : Bool) → IsWellFormed p → bytes ≡ canonical p
     → log_of (packet_noted bytes place j was_taken) ≡ took was_taken (message_of p) (found_at place (log_of j))
-packet_logged reads p bytes place j false well is = refl
-packet_logged reads p bytes place j true well is =
+packet_logged p bytes place j false well is = refl
+packet_logged p bytes place j true well is =
     let taking : List ℕ → Log = λ message. record (found_at place (log_of j)) { taken = j.taken ++ message ∷ [] } in
-    ap taking (ap (λ (b : List ℕ). or_empty (message_in b)) is ∙ message_back reads p well)
+    ap taking (ap (λ (b : List ℕ). or_empty (message_in b)) is ∙ message_back p well)

@@ -7,33 +7,35 @@ use Rattle.uug_conversation.specs.Party.{Party}
 use Rattle.uug_conversation.specs.Talk.{Talk, end_keeper}
 use Rattle.uug_session.specs.Told.{count_of_talker, talk_behind}
 use Rattle.uug_session.specs.TwoEnds.{Act, IsTold, Permits, Reached, Talker, Two, after, after_act, talker, with_talker}
-use Rattle.uug_conversation.specs.Turns.{Side as SessionSide, caller, called}
+use Rattle.uug_conversation.specs.Turns.{other}
 use Rattle.uug_conversation.specs.View.{Seen, conversation_view, own_messages, party as side_party}
-use Rattle.uug_line.specs.declared.side.Side.{Side}
-use Rattle.uug_line.specs.declared.side.Side.TheVariants.{Caller, Called}
+use Rattle.uug_conversation.specs.declared.side.Side.{Side}
+use Rattle.uug_conversation.specs.declared.side.Side.TheVariants.{Caller, Called}
 use Rattle.uug_line.specs.Belongings.{Belongings, SetupValue, party}
 use Rattle.uug_line.specs.Run.{parties}
 use Rattle.uug_line.specs.RunKeeper.{view_at}
-use Rattle.uug_line.specs.Sides.{AtBoth, at, other, session_side}
+use Rattle.uug_line.specs.Sides.{AtBoth, at}
 use Rattle.uug_line.proofs.Joining.{IsSoundSession}
-use Rattle.uug_line.specs.Code.LowerLaws.{Laws}
+use Rattle.uug_conversation.proofs.FitLemmas.{own_fit}
+use Rattle.uug_line.proofs.LowerLemmas.{both_told, over_is}
+use Rattle.uug_session.proofs.ToldLemmas.{next_is, parted_is}
 
 -- what an end keeps, and its numbers, say the same
-pub record Agrees (me : SessionSide) (h : Holdings) (v : List Seen) (talk : Talk) (t : Talker) : Type 0 where
+pub record Agrees (me : Side) (h : Holdings) (v : List Seen) (talk : Talk) (t : Talker) : Type 0 where
   pub next : (end_keeper me h).next talk ≡ (count_keeper v).next (count_of_talker t)
   pub over : (end_keeper me h).is_over talk ≡ (count_keeper v).is_over (count_of_talker t)
   pub parted : (end_keeper me h).has_parted talk ≡ (count_keeper v).has_parted (count_of_talker t)
   pub good : (end_keeper me h).is_bad talk ≡ false
 
-agrees : Laws → (me : SessionSide) (a b : Party) (own others : Talker) (struck failed : List Job) (kept : List Kept) →
+agrees : (me : Side) (a b : Party) (own others : Talker) (struck failed : List Job) (kept : List Kept) →
     IsTold me a b own others →
     Agrees me (side_party me a b).holdings (conversation_view me a b)
     (talk_behind struck failed kept (side_party me a b).size own) own
-agrees law me a b own others struck failed kept told = record {
-  next = law.next me a b own others struck failed kept told;
-  over = law.over me a b own others struck failed kept told;
-  parted = law.parted me a b own others struck failed kept told;
-  good = law.not_bad me a b own others struck failed kept told;
+agrees me a b own others struck failed kept told = record {
+  next = next_is me a b own others told;
+  over = over_is me a b own others told;
+  parted = parted_is me a b own others told;
+  good = told.stands.not_bad;
 }
 
 module _ (setup : SetupValue) (brought : AtBoth Belongings) where
@@ -46,10 +48,10 @@ module _ (setup : SetupValue) (brought : AtBoth Belongings) where
   seen_at side = view_at (parties setup brought) side
 
   abbrev pub talker_at : Side → Two → Talker
-  talker_at side two = talker (session_side side) two
+  talker_at side two = talker side two
 
   abbrev pub IsToldAt : Side → Two → Type 0
-  IsToldAt side two = IsTold (session_side side) (party setup brought Caller) (party setup brought Called)
+  IsToldAt side two = IsTold side (party setup brought Caller) (party setup brought Called)
       (talker_at side two) (talker_at (other side) two)
 
   -- ---- an act on the side
@@ -63,44 +65,43 @@ module _ (setup : SetupValue) (brought : AtBoth Belongings) where
   pub acts : (side : Side) (act : Act) (two : Two) → Reaches two →
       Permits act (talker_at side two) (talker_at (other side) two) → Acted side act two
   acts Caller act two reached permits = record {
-    then_two = with_talker caller (after_act act (party setup brought Caller) two.caller_end) two;
-    reached = after two caller act reached permits;
+    then_two = with_talker Caller (after_act act (party setup brought Caller) two.caller_end) two;
+    reached = after two Caller act reached permits;
     near = refl;
     far = refl;
   }
   acts Called act two reached permits = record {
-    then_two = with_talker called (after_act act (party setup brought Called) two.called_end) two;
-    reached = after two called act reached permits;
+    then_two = with_talker Called (after_act act (party setup brought Called) two.called_end) two;
+    reached = after two Called act reached permits;
     near = refl;
     far = refl;
   }
 
   -- ---- two numbers tell the end on the side
 
-  module _ (law : Laws) (sound : IsSoundSession setup brought) where
+  module _ (sound : IsSoundSession setup brought) where
     pub told_at : (side : Side) (two : Two) → Reaches two → IsToldAt side two
     told_at Caller two reached =
-        (law.told (party setup brought Caller) (party setup brought Called) (sound.party Caller) (sound.party Called) two reached).0
+        (both_told (party setup brought Caller) (party setup brought Called) (sound.party Caller) (sound.party Called) two reached).0
     told_at Called two reached =
-        (law.told (party setup brought Caller) (party setup brought Called) (sound.party Caller) (sound.party Called) two reached).1
+        (both_told (party setup brought Caller) (party setup brought Called) (sound.party Caller) (sound.party Called) two reached).1
 
   -- what it keeps behind what it brought
   abbrev pub talk_at : Side → Talker → Talk
   talk_at side t = talk_behind (at side brought).lists.struck (at side brought).lists.failed (at side brought).kept
       (party setup brought side).size t
 
-  module _ (law : Laws) where
-    pub agrees_at : (side : Side) (two : Two) → IsToldAt side two →
-        Agrees (session_side side) (at side setup).holdings (seen_at side) (talk_at side (talker_at side two)) (talker_at side two)
-    agrees_at Caller two told =
-        agrees law caller (party setup brought Caller) (party setup brought Called) two.caller_end two.called_end
-        brought.at_caller.lists.struck brought.at_caller.lists.failed brought.at_caller.kept told
-    agrees_at Called two told =
-        agrees law called (party setup brought Caller) (party setup brought Called) two.called_end two.caller_end
-        brought.at_called.lists.struck brought.at_called.lists.failed brought.at_called.kept told
+  pub agrees_at : (side : Side) (two : Two) → IsToldAt side two →
+      Agrees side (at side setup).holdings (seen_at side) (talk_at side (talker_at side two)) (talker_at side two)
+  agrees_at Caller two told =
+      agrees Caller (party setup brought Caller) (party setup brought Called) two.caller_end two.called_end
+      brought.at_caller.lists.struck brought.at_caller.lists.failed brought.at_caller.kept told
+  agrees_at Called two told =
+      agrees Called (party setup brought Caller) (party setup brought Called) two.called_end two.caller_end
+      brought.at_called.lists.struck brought.at_called.lists.failed brought.at_called.kept told
 
-    -- each of its messages fits
-    pub fit_at : (side : Side) →
-        All (λ message. length message ≤ (party setup brought side).size) (own_messages (seen_at side))
-    fit_at Caller = law.fit caller (party setup brought Caller) (party setup brought Called)
-    fit_at Called = law.fit called (party setup brought Caller) (party setup brought Called)
+  -- each of its messages fits
+  pub fit_at : (side : Side) →
+      All (λ message. length message ≤ (party setup brought side).size) (own_messages (seen_at side))
+  fit_at Caller = own_fit Caller (party setup brought Caller) (party setup brought Called)
+  fit_at Called = own_fit Called (party setup brought Caller) (party setup brought Called)

@@ -1,7 +1,7 @@
 -- What the headline says of a report, it says of the report as a program tells it.
 use Rattle.std.proofs.lemmas.List.Elements.{All-map, All-weaker}
-use Rattle.uug_line.specs.declared.side.Side.{Side}
-use Rattle.uug_line.specs.declared.side.Side.TheVariants.{Caller, Called}
+use Rattle.uug_conversation.specs.declared.side.Side.{Side}
+use Rattle.uug_conversation.specs.declared.side.Side.TheVariants.{Caller, Called}
 use Rattle.uug_line.specs.Belongings.{SetupValue}
 use Rattle.uug_line.specs.Headline.{AllKeptToWindows, AllTookFronts, KeptToWindows, StaysInFront, TookFronts}
 use Rattle.uug_line.specs.Sides.{AtBoth}

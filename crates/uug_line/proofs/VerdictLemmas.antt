@@ -2,6 +2,7 @@
 use Rattle.std.proofs.Common.{◌≡◌, ℕ, suc, ◌+◌, Bool, true, false, nat_lt, if◌then◌else◌, List, [], ◌∷◌, ◌++◌, take, drop, slice_get, Some, All, refl, sym, ap, subst, ◌∙◌, arith, Option}
 use Rattle.std.proofs.lemmas.List.Elements.{All-nil, All-push}
 use Rattle.std.specs.Bool.{⊤}
+use Rattle.uug_conversation.specs.Turns.{other}
 use Rattle.uug_link.specs.Arrivals.{place_of}
 use Rattle.uug_link.specs.declared.limits.TheConstants.{TIMEOUTS_MAX}
 use Rattle.uug_link.specs.State.{State}
@@ -9,29 +10,29 @@ use Rattle.uug_link.specs.Step.{Effect, OutcomeValue, nothing, up, taken, closed
 use Rattle.uug_session.specs.declared.end.End.TheVariants as ends
 use Rattle.uug_session.specs.declared.greeting.Greeted.TheVariants.{GoesOn}
 use Rattle.uug_session.specs.declared.greeting.Greeting.{Greeting}
-use Rattle.uug_session.specs.Arriving.{Hearer, held_in, Came, all_taken, stopped}
+use Rattle.uug_session.specs.Arriving.{Buffered, held_in, Arrival, all_taken, stopped}
 use Rattle.uug_session.specs.EndStep.{EndEvent, text_found, long_text_found, packet_found_whole, broken_found, time_ran_out, line_lost, behind_greeting, stage_step, EndState, Identity, Stage, hailing, linked, ended, end_step, late_link}
 use Rattle.uug_packet.specs.Packet.{PacketValue}
-use Rattle.uug_session.specs.Finding.{FindingLaws, finds_nothing, finds_packet, finding}
+use Rattle.uug_session.specs.Finding.{finds_nothing, finds_packet, finding}
 use Rattle.uug_session.specs.Greeting.{fails}
 use Rattle.uug_conversation.specs.Keeper.{Keeper}
 use Rattle.uug_line.specs.declared.event.Event.{Event}
 use Rattle.uug_line.specs.declared.event.Event.TheVariants.{Pass, Drop, Flip, Insert, Timeout, HangUp, Call}
-use Rattle.uug_line.specs.declared.side.Side.{Side}
-use Rattle.uug_line.specs.declared.side.Side.TheVariants.{Caller, Called}
+use Rattle.uug_conversation.specs.declared.side.Side.{Side}
+use Rattle.uug_conversation.specs.declared.side.Side.TheVariants.{Caller, Called}
 use Rattle.uug_line.specs.declared.verdict.LineVerdict.{LineVerdict}
 use Rattle.uug_line.specs.declared.verdict.LineVerdict.TheVariants.{Clean, Fooled}
 use Rattle.uug_line.specs.Belongings.{Belongings, SetupValue, renewed}
 use Rattle.uug_line.specs.Fooled.{ArrivalsArePlaces, FindsNothingMore, FindsUnsent, StoppedAt, present}
-use Rattle.uug_line.specs.LineEnd.{LineEnd, Player, does, called_with, changed_line}
+use Rattle.uug_line.specs.LineEnd.{LineEnd, Participant, does, called_with, changed_line}
 use Rattle.uug_line.specs.Report.{report_of_end}
-use Rattle.uug_line.specs.Run.{Run, end_at, player, has_now, first_end, first_run, session_begins, flipped, with_line_to, hears_next, after_hearing, calls, hung_up, calls_again, after_event, unless_fooled, goes_through, run_of}
+use Rattle.uug_line.specs.Run.{Run, end_at, participant, has_now, first_end, first_run, session_begins, flipped, with_line_to, hears_next, after_hearing, calls, hung_up, calls_again, after_event, unless_fooled, goes_through, run_of}
 use Rattle.uug_line.specs.RunKeeper.{RunKeeper}
-use Rattle.uug_line.specs.Sides.{other, AtBoth, at, at_each}
+use Rattle.uug_line.specs.Sides.{AtBoth, at, at_each}
 use Rattle.uug_line.specs.World.{report_of}
 use Rattle.uug_line.specs.Told.{EndReportValue}
 use Rattle.uug_line.proofs.FoundLemmas.{BothFound, IsUnsent, CameSo, does_found, came_piece}
-use Rattle.uug_line.proofs.PlaceLemmas.{PlaceIs, none_left}
+use Rattle.uug_line.proofs.PlaceLemmas.{none_left}
 
 -- ---- a call of an end that finds nothing more
 
@@ -91,7 +92,7 @@ nothing_then linked (hailing h) bytes stays none = absurd stays
 nothing_then (ended how) (hailing h) bytes stays none = absurd stays
 nothing_then (ended how) linked bytes stays none = absurd stays
 
-call_finds_nothing : {C : Type 0} (p : Player C) (event : EndEvent) (h : Hearer (LineEnd C)) → UsesNoBytes event →
+call_finds_nothing : {C : Type 0} (p : Participant C) (event : EndEvent) (h : Buffered (LineEnd C)) → UsesNoBytes event →
     FindsNothingMore h → FindsNothingMore (called_with p event h)
 call_finds_nothing p event h uses none =
     let s = h.end.state.stage in
@@ -119,7 +120,7 @@ turned : {C : Type 0} (e f : LineEnd C) → BothFound e f → BothFound f e
 turned e f both = record { near = both.far; far = both.near }
 
 -- the bytes on a line don't matter
-near_line : {C : Type 0} (change : List ℕ → List ℕ) (h : Hearer (LineEnd C)) (f : LineEnd C) → BothFound h.end f →
+near_line : {C : Type 0} (change : List ℕ → List ℕ) (h : Buffered (LineEnd C)) (f : LineEnd C) → BothFound h.end f →
     BothFound (changed_line change h).end f
 near_line change h f both = record {
   near = record { packets = both.near.packets; places = both.near.places; passed = both.near.passed };
@@ -132,9 +133,9 @@ session_found : {C : Type 0} (e f : LineEnd C) → BothFound e f →
 session_found e f both Caller = (both.near.packets, both.near.places)
 session_found e f both Called = (both.far.packets, both.far.places)
 
-module _ (laws : FindingLaws) (place_is : PlaceIs) {C : Type 0} (k : RunKeeper C) (setup : SetupValue) where
+module _ {C : Type 0} (k : RunKeeper C) (setup : SetupValue) where
   -- both ends, told in one
-  judged_ends : (past : List (AtBoth EndReportValue)) (brought : AtBoth Belongings) (x y : Hearer (LineEnd C)) →
+  judged_ends : (past : List (AtBoth EndReportValue)) (brought : AtBoth Belongings) (x y : Buffered (LineEnd C)) →
       All ArrivalsArePlaces past → BothFound x.end y.end → FindsNothingMore x → FindsNothingMore y →
       IsJudged (record { past = past; brought = brought; ends = record { at_caller = x; at_called = y }; verdict = Clean })
   judged_ends past brought x y were both at_x at_y =
@@ -161,7 +162,7 @@ module _ (laws : FindingLaws) (place_is : PlaceIs) {C : Type 0} (k : RunKeeper C
   nothing_at run clean j = subst (λ v. JudgedBy v run) clean j.judged
 
   -- its ends become these
-  become : (run : Run C) (x y : Hearer (LineEnd C)) → run.verdict ≡ Clean → IsJudged run → BothFound x.end y.end →
+  become : (run : Run C) (x y : Buffered (LineEnd C)) → run.verdict ≡ Clean → IsJudged run → BothFound x.end y.end →
       FindsNothingMore x → FindsNothingMore y →
       IsJudged (record { past = run.past; brought = run.brought; ends = record { at_caller = x; at_called = y }; verdict = run.verdict })
   become run x y clean j both at_x at_y =
@@ -186,12 +187,12 @@ module _ (laws : FindingLaws) (place_is : PlaceIs) {C : Type 0} (k : RunKeeper C
   call_judged : (side : Side) (event : EndEvent) (run : Run C) → UsesNoBytes event → run.verdict ≡ Clean → IsJudged run →
       IsJudged (calls k setup side event run)
   call_judged Caller event run uses clean j =
-      let p = player k setup run Caller in
+      let p = participant k setup run Caller in
       become run (called_with p event run.ends.at_caller) run.ends.at_called clean j
       (does_found p event run.ends.at_caller.end run.ends.at_called.end j.found.both)
       (call_finds_nothing p event run.ends.at_caller uses (nothing_at run clean j Caller)) (nothing_at run clean j Called)
   call_judged Called event run uses clean j =
-      let p = player k setup run Called in
+      let p = participant k setup run Called in
       let e = run.ends.at_caller.end in
       let f = run.ends.at_called.end in
       become run run.ends.at_caller (called_with p event run.ends.at_called) clean j
@@ -199,8 +200,8 @@ module _ (laws : FindingLaws) (place_is : PlaceIs) {C : Type 0} (k : RunKeeper C
       (nothing_at run clean j Caller) (call_finds_nothing p event run.ends.at_called uses (nothing_at run clean j Called))
 
   -- a piece has come
-  came_to_caller : (number n : ℕ) (run : Run C) → run.verdict ≡ Clean → IsJudged run → (came : Came (LineEnd C)) →
-      CameSo laws place_is (player k setup run Caller) run.ends.at_called.end came →
+  came_to_caller : (number n : ℕ) (run : Run C) → run.verdict ≡ Clean → IsJudged run → (came : Arrival (LineEnd C)) →
+      CameSo (participant k setup run Caller) run.ends.at_called.end came →
       IsJudged (after_hearing number Caller came (with_line_to Caller (drop n) run))
   came_to_caller number n run clean j (all_taken h) so =
       let there = run.ends.at_called in
@@ -220,8 +221,8 @@ module _ (laws : FindingLaws) (place_is : PlaceIs) {C : Type 0} (k : RunKeeper C
         );
       }
 
-  came_to_called : (number n : ℕ) (run : Run C) → run.verdict ≡ Clean → IsJudged run → (came : Came (LineEnd C)) →
-      CameSo laws place_is (player k setup run Called) run.ends.at_caller.end came →
+  came_to_called : (number n : ℕ) (run : Run C) → run.verdict ≡ Clean → IsJudged run → (came : Arrival (LineEnd C)) →
+      CameSo (participant k setup run Called) run.ends.at_caller.end came →
       IsJudged (after_hearing number Called came (with_line_to Called (drop n) run))
   came_to_called number n run clean j (all_taken h) so =
       let there = run.ends.at_caller in
@@ -242,21 +243,21 @@ module _ (laws : FindingLaws) (place_is : PlaceIs) {C : Type 0} (k : RunKeeper C
       IsJudged (after_event k setup number (Pass side n) run)
   pass_judged number Caller n run clean j =
       came_to_caller number n run clean j (hears_next k setup Caller n run)
-      (came_piece laws place_is (player k setup run Caller) run.ends.at_called.end (take n run.ends.at_called.end.line)
+      (came_piece (participant k setup run Caller) run.ends.at_called.end (take n run.ends.at_called.end.line)
       run.ends.at_caller j.found.both)
   pass_judged number Called n run clean j =
       came_to_called number n run clean j (hears_next k setup Called n run)
-      (came_piece laws place_is (player k setup run Called) run.ends.at_caller.end (take n run.ends.at_caller.end.line)
+      (came_piece (participant k setup run Called) run.ends.at_caller.end (take n run.ends.at_caller.end.line)
       run.ends.at_called (turned run.ends.at_caller.end run.ends.at_called.end j.found.both))
 
   again_judged : (run : Run C) → IsJudged run → IsJudged (calls_again k setup run)
   again_judged run j =
       let e = run.ends.at_caller.end in
       let f = run.ends.at_called.end in
-      let e' = does (player k setup run Caller) line_lost e in
-      let f' = does (player k setup run Called) line_lost f in
-      let first = does_found (player k setup run Caller) line_lost e f j.found.both in
-      let both = turned f' e' (does_found (player k setup run Called) line_lost f e' (turned e' f first)) in
+      let e' = does (participant k setup run Caller) line_lost e in
+      let f' = does (participant k setup run Called) line_lost f in
+      let first = does_found (participant k setup run Caller) line_lost e f j.found.both in
+      let both = turned f' e' (does_found (participant k setup run Called) line_lost f e' (turned e' f first)) in
       begins_judged (run.past ++ told ∷ []) (at_each (λ side. renewed (has_now k setup run side)))
       (All-push ArrivalsArePlaces run.past told j.found.past (session_found e' f' both))
     where
@@ -312,7 +313,7 @@ module _ (laws : FindingLaws) (place_is : PlaceIs) {C : Type 0} (k : RunKeeper C
     packet = unsent.packet;
     behind = unsent.behind;
     next = unsent.next;
-    not_sent = (none_left place_is both.near.packets run.ends.at_called.end.log.packets run.ends.at_caller.end.log.arrivals
+    not_sent = (none_left both.near.packets run.ends.at_called.end.log.packets run.ends.at_caller.end.log.arrivals
         unsent.packet both.near.places).0
         (ap (place_of unsent.packet run.ends.at_called.end.log.packets) (sym both.near.passed) ∙ unsent.no_place);
   }
@@ -322,7 +323,7 @@ module _ (laws : FindingLaws) (place_is : PlaceIs) {C : Type 0} (k : RunKeeper C
     packet = unsent.packet;
     behind = unsent.behind;
     next = unsent.next;
-    not_sent = (none_left place_is both.far.packets run.ends.at_caller.end.log.packets run.ends.at_called.end.log.arrivals
+    not_sent = (none_left both.far.packets run.ends.at_caller.end.log.packets run.ends.at_called.end.log.arrivals
         unsent.packet both.far.places).0
         (ap (place_of unsent.packet run.ends.at_caller.end.log.packets) (sym both.far.passed) ∙ unsent.no_place);
   }
@@ -334,7 +335,7 @@ module _ (laws : FindingLaws) (place_is : PlaceIs) {C : Type 0} (k : RunKeeper C
       finds_unsent (run_of k setup events) side j.found.both (subst (λ v. JudgedBy v (run_of k setup events)) is j.judged).0
 
   -- nothing is found where a packet is
-  both_found : (h : Hearer (LineEnd C)) (p : PacketValue) (behind : List ℕ) → FindsNothingMore h →
+  both_found : (h : Buffered (LineEnd C)) (p : PacketValue) (behind : List ℕ) → FindsNothingMore h →
       finding h.end.state.stage h.held ≡ finds_packet p h.held behind → ⊥
   both_found h p behind none some =
       let e : finds_nothing h.held ≡ finds_packet p h.held behind = sym none ∙ some in cc
@@ -379,7 +380,7 @@ module _ (laws : FindingLaws) (place_is : PlaceIs) {C : Type 0} (k : RunKeeper C
     event_is : event ≡ Pass side bytes
     number_is : number ≡ at_number
 
-  came_stopped : (number : ℕ) (s : Side) (n : ℕ) (came : Came (LineEnd C)) (run : Run C) (at_number : ℕ) (side : Side) →
+  came_stopped : (number : ℕ) (s : Side) (n : ℕ) (came : Arrival (LineEnd C)) (run : Run C) (at_number : ℕ) (side : Side) →
       run.verdict ≡ Clean → (after_hearing number s came run).verdict ≡ Fooled at_number side →
       StoppedBy number (Pass s n) at_number side
   came_stopped number s n (all_taken h) run at_number side clean fooled =

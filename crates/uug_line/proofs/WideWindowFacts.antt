@@ -9,7 +9,7 @@ use Rattle.uug_session.specs.declared.end.End.TheVariants.{Done}
 use Rattle.uug_conversation.specs.MemoryHoldings.{MemoryHoldings, no_holdings}
 use Rattle.uug_conversation.specs.declared.job.Job.{Job}
 use Rattle.uug_line.specs.declared.event.Event.TheVariants.{Pass}
-use Rattle.uug_line.specs.declared.side.Side.TheVariants.{Caller, Called}
+use Rattle.uug_conversation.specs.declared.side.Side.TheVariants.{Caller, Called}
 use Rattle.uug_line.specs.declared.verdict.LineVerdict.TheVariants.{Clean}
 use Rattle.uug_line.specs.Belongings.{EndSetupValue, SetupValue}
 use Rattle.uug_line.proofs.FactSetups.{all, end_with, file, flow, flow_then, gives, send, x, y}

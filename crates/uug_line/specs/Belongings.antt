@@ -1,13 +1,14 @@
 -- What the ends of a line are given, and what they have after some sessions (this project's profile).
 use Rattle.std.specs.Prelude.{ℕ, List, Option}
+use Rattle.uug_conversation.specs.Turns.{other}
 use Rattle.uug_link.specs.Announced.{Announced}
 use Rattle.uug_link.specs.Terms.{size_of_code}
 use Rattle.uug_session.specs.EndStep.{Identity}
 use Rattle.uug_conversation.specs.Holdings.{Kept, Holdings}
 use Rattle.uug_conversation.specs.Jobs.{Lists, at_start, pending}
 use Rattle.uug_conversation.specs.Party.{Party}
-use Rattle.uug_line.specs.declared.side.Side.{Side}
-use Rattle.uug_line.specs.Sides.{other, session_side, AtBoth, at}
+use Rattle.uug_conversation.specs.declared.side.Side.{Side}
+use Rattle.uug_line.specs.Sides.{AtBoth, at}
 
 -- an end's jobs, all that its spool has kept, and the number of its conversations, where it keeps one
 pub record Belongings : Type 0 where
@@ -33,7 +34,7 @@ SetupValue = AtBoth EndSetupValue
 -- each end expects the other by its name
 abbrev pub identity : SetupValue → Side → Identity
 identity setup side =
-    record { side = session_side side; me = (at side setup).name; peer = (at (other side) setup).name }
+    record { side = side; me = (at side setup).name; peer = (at (other side) setup).name }
 
 -- an end as it comes to a session to which the two bring this: its messages have the size that the other announces
 abbrev pub party : SetupValue → (brought : AtBoth Belongings) → Side → Party

@@ -1,5 +1,6 @@
 -- The bytes that came to the ends of a line in a session, and what each has found in them (this project's profile).
 use Rattle.std.specs.Prelude.{◌≡◌, ℕ, suc, false, List, [], ◌∷◌, ◌++◌, length, take, Option, ◌⊎◌}
+use Rattle.uug_conversation.specs.Turns.{other}
 use Rattle.uug_packet.specs.Packet.{PacketValue}
 use Rattle.uug_reader.specs.Cut.{Item, found, bad}
 use Rattle.uug_reader.specs.Scan.{Finds, IsScan}
@@ -14,14 +15,14 @@ use Rattle.uug_session.specs.WholeGreeting.{GreetingRun, texts_came}
 use Rattle.uug_talk.specs.StreamTexts.{Rest, StandBefore}
 use Rattle.uug_line.specs.declared.event.Event.{Event}
 use Rattle.uug_line.specs.declared.event.Event.TheVariants.{Pass, Drop, Flip, Insert, Timeout, HangUp, Call}
-use Rattle.uug_line.specs.declared.side.Side.{Side}
+use Rattle.uug_conversation.specs.declared.side.Side.{Side}
 use Rattle.uug_line.specs.declared.verdict.LineVerdict.{LineVerdict}
 use Rattle.uug_line.specs.declared.verdict.LineVerdict.TheVariants.{Clean, Fooled}
 use Rattle.uug_line.specs.Belongings.{SetupValue}
-use Rattle.uug_line.specs.LineEnd.{Player}
-use Rattle.uug_line.specs.Run.{Run, end_at, after_event, first_run, player}
+use Rattle.uug_line.specs.LineEnd.{Participant}
+use Rattle.uug_line.specs.Run.{Run, end_at, after_event, first_run, participant}
 use Rattle.uug_line.specs.RunKeeper.{RunKeeper}
-use Rattle.uug_line.specs.Sides.{other, AtBoth, at, with_at}
+use Rattle.uug_line.specs.Sides.{AtBoth, at, with_at}
 use Rattle.uug_line.specs.WereSent.{HavePlaces}
 
 -- ---- the bytes that came
@@ -97,13 +98,13 @@ event_of (found packet) = packet_found_whole false packet
 event_of bad = broken_found
 
 -- with this event, and not before, an end that was on its link has ended, and stands so
-pub record EndedWith {C : Type 0} (p : Player C) (event : EndEvent) (now : EndState C) : Type 0 where
+pub record EndedWith {C : Type 0} (p : Participant C) (event : EndEvent) (now : EndState C) : Type 0 where
   pub before : EndState C
   pub on_link : before.stage ≡ linked
   pub step : (end_step p.keeper p.identity event before).state ≡ now
 
 -- with the last of these items
-pub record EndedWithLast {C : Type 0} (p : Player C) (items : List Item) (now : EndState C) : Type 0 where
+pub record EndedWithLast {C : Type 0} (p : Participant C) (items : List Item) (now : EndState C) : Type 0 where
   pub earlier : List Item
   pub last : Item
   pub item : items ≡ earlier ++ last ∷ []
@@ -111,14 +112,14 @@ pub record EndedWithLast {C : Type 0} (p : Player C) (items : List Item) (now : 
 
 -- An end whose session ended on its link has ended with the last of its items; or it was still there behind all of
 -- them, and ended by a timeout or a hang-up.
-abbrev pub EndedOnLink : {C : Type 0} → Player C → List Item → EndState C → Type 0
+abbrev pub EndedOnLink : {C : Type 0} → Participant C → List Item → EndState C → Type 0
 EndedOnLink p items now = EndedWithLast p items now ⊎ EndedWith p time_ran_out now ⊎ EndedWith p line_lost now
 
 -- By how far the end has come: in the greeting there are no items, and the texts of what is held go on as those of all
 -- bytes do; on the link, which began with the last text, just the bytes behind the last item are held; and an end whose
 -- session is over has ended in its greeting, without items, or on its link. It keeps the number that the greeting left it,
 -- from the one that it brought.
-abbrev pub IsLeft : {C : Type 0} → Player C → (brought : Option ℕ) → Stage → EndState C → (texts : List (List ℕ)) → List Item →
+abbrev pub IsLeft : {C : Type 0} → Participant C → (brought : Option ℕ) → Stage → EndState C → (texts : List (List ℕ)) → List Item →
     (others came held : List ℕ) → Type 0
 IsLeft p brought (hailing greeting) now texts items others came held =
     (items ≡ []) × Taken texts came held × GreetsOn p.identity brought texts greeting.awaited now.number
@@ -130,7 +131,7 @@ IsLeft p brought (ended how) now texts items others came held =
 
 -- An end has found texts in all bytes that came to it, and then, from where they end, items of the link. The packets of
 -- these, and no others, are written down, each at its place among those that the other end emitted.
-pub record HasHeard {C : Type 0} (p : Player C) (brought : Option ℕ) (came : List ℕ) (now : EndState C) (held arrivals : List ℕ)
+pub record HasHeard {C : Type 0} (p : Participant C) (brought : Option ℕ) (came : List ℕ) (now : EndState C) (held arrivals : List ℕ)
     (emitted : List PacketValue) : Type 0 where
   pub texts : List (List ℕ)
   pub begins : List ℕ
@@ -145,7 +146,7 @@ pub record HasHeard {C : Type 0} (p : Player C) (brought : Option ℕ) (came : L
 abbrev pub HasHeardAt : {C : Type 0} → RunKeeper C → SetupValue → (came : List ℕ) → Run C → Side → Type 0
 HasHeardAt k setup came run side =
     let h = end_at side run in
-    HasHeard (player k setup run side) (at side run.brought).number came h.end.state h.held h.end.log.arrivals
+    HasHeard (participant k setup run side) (at side run.brought).number came h.end.state h.held h.end.log.arrivals
     (end_at (other side) run).end.log.packets
 
 -- On a link nothing more than its items stands in all bytes since it began, and what waits is held.

@@ -1,12 +1,13 @@
 -- What the verdict of a run says of it: whether it stopped at a packet that an end found and that was not sent to it (this
 -- project's profile).
 use Rattle.std.specs.Prelude.{◌≡◌, ◌↔◌, ℕ, suc, List, [], ◌∷◌, ◌++◌, take, slice_get, Some}
+use Rattle.uug_conversation.specs.Turns.{other}
 use Rattle.uug_packet.specs.Packet.{PacketValue}
-use Rattle.uug_session.specs.Arriving.{Hearer}
+use Rattle.uug_session.specs.Arriving.{Buffered}
 use Rattle.uug_session.specs.Finding.{finds_nothing, finds_packet, finding}
 use Rattle.uug_line.specs.declared.event.Event.{Event}
 use Rattle.uug_line.specs.declared.event.Event.TheVariants.{Pass}
-use Rattle.uug_line.specs.declared.side.Side.{Side}
+use Rattle.uug_conversation.specs.declared.side.Side.{Side}
 use Rattle.uug_line.specs.declared.verdict.LineVerdict.{LineVerdict}
 use Rattle.uug_line.specs.declared.verdict.LineVerdict.TheVariants.{Clean, Fooled}
 use Rattle.uug_line.specs.Belongings.{SetupValue}
@@ -14,7 +15,7 @@ use Rattle.uug_line.specs.LineEnd.{LineEnd}
 use Rattle.uug_line.specs.Report.{report_of_end}
 use Rattle.uug_line.specs.Run.{Run, end_at, run_of}
 use Rattle.uug_line.specs.RunKeeper.{RunKeeper, by_themselves}
-use Rattle.uug_line.specs.Sides.{other, AtBoth, at, at_each}
+use Rattle.uug_line.specs.Sides.{AtBoth, at, at_each}
 use Rattle.uug_line.specs.WereSent.{HavePlaces, WereSent}
 use Rattle.uug_line.specs.World.{run_of_ends}
 use Rattle.uug_line.specs.Told.{EndReportValue}
@@ -38,7 +39,7 @@ abbrev pub present : {C : Type 0} → Run C → AtBoth EndReportValue
 present run = at_each (λ side. report_of_end (end_at side run).end)
 
 -- nothing that is whole stands in the bytes that an end holds: whatever it found was taken up
-abbrev pub FindsNothingMore : {C : Type 0} → Hearer (LineEnd C) → Type 0
+abbrev pub FindsNothingMore : {C : Type 0} → Buffered (LineEnd C) → Type 0
 FindsNothingMore h = finding h.end.state.stage h.held ≡ finds_nothing h.held
 
 -- The packet stands next in the bytes that the end on the side holds. It was not sent: it and those found before it in the

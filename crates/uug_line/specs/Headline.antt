@@ -1,13 +1,14 @@
 -- The headline, said of a report: what holds of it for every two ends, whatever happens on the line between them, and
 -- whichever way the report keeps packets (this project's profile).
 use Rattle.std.specs.Prelude.{◌≡◌, ◌≤◌, List, ◌++◌, length, drop, All}
+use Rattle.uug_conversation.specs.Turns.{other}
 use Rattle.uug_link.specs.TwoLinks.{IsFrontOf}
 use Rattle.uug_conversation.specs.declared.job.Job.{Job}
 use Rattle.uug_conversation.specs.Holdings.{Kept}
 use Rattle.uug_conversation.specs.OwnEntries.{HasOwnEntries}
-use Rattle.uug_line.specs.declared.side.Side.{Side}
+use Rattle.uug_conversation.specs.declared.side.Side.{Side}
 use Rattle.uug_line.specs.Belongings.{SetupValue}
-use Rattle.uug_line.specs.Sides.{other, AtBoth, at}
+use Rattle.uug_line.specs.Sides.{AtBoth, at}
 use Rattle.uug_line.specs.Told.{ToldEnd, ToldReport}
 
 -- ---- in a session

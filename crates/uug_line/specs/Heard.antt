@@ -1,7 +1,7 @@
 -- What an end of a run has heard behind some events (this project's profile).
 use Rattle.std.specs.Prelude.{List}
 use Rattle.uug_line.specs.declared.event.Event.{Event}
-use Rattle.uug_line.specs.declared.side.Side.{Side}
+use Rattle.uug_conversation.specs.declared.side.Side.{Side}
 use Rattle.uug_line.specs.Belongings.{SetupValue}
 use Rattle.uug_line.specs.Delivered.{HasHeardAt, HasScanned, came_in}
 use Rattle.uug_line.specs.RunKeeper.{by_themselves}

@@ -2,7 +2,7 @@
 use Rattle.std.specs.Prelude.{ℕ, suc, max, Bool, true, false, List, [], ◌∷◌, ◌++◌, length}
 use Rattle.uug_packet.specs.Packet.{PacketValue, carry}
 use Rattle.uug_packet.specs.Spelling.{canonical}
-use Rattle.uug_session.specs.Arriving.{Hearer, held_in}
+use Rattle.uug_session.specs.Arriving.{Buffered, held_in}
 use Rattle.uug_session.specs.EndStep.{EndState, Emitted, says_text, sends_packet, EndEffect, EndEvent, Identity, end_step}
 use Rattle.uug_conversation.specs.Keeper.{Keeper}
 use Rattle.uug_session.specs.Says.{written_text}
@@ -32,7 +32,7 @@ pub record LineEnd (C : Type 0) : Type 0 where
   pub line : List ℕ
 
 -- who an end is, and what keeps its conversation in a session
-pub record Player (C : Type 0) : Type 0 where
+pub record Participant (C : Type 0) : Type 0 where
   pub identity : Identity
   pub keeper : Keeper C
 
@@ -84,7 +84,7 @@ emitting emitted unacked log = record log {
 -- ---- a call
 
 -- the bytes on the line are changed so, which the end does not notice
-abbrev pub changed_line : {C : Type 0} → (List ℕ → List ℕ) → Hearer (LineEnd C) → Hearer (LineEnd C)
+abbrev pub changed_line : {C : Type 0} → (List ℕ → List ℕ) → Buffered (LineEnd C) → Buffered (LineEnd C)
 changed_line change h = record {
   held = h.held;
   end = record { state = h.end.state; log = h.end.log; line = change h.end.line };
@@ -98,17 +98,17 @@ after_call log line effect = record {
   line = line ++ bytes_in effect.emitted;
 }
 
-abbrev pub does : {C : Type 0} → Player C → EndEvent → LineEnd C → LineEnd C
+abbrev pub does : {C : Type 0} → Participant C → EndEvent → LineEnd C → LineEnd C
 does p event e = after_call e.log e.line (end_step p.keeper p.identity event e.state)
 
 -- an end that has ended forgets all bytes
-abbrev pub holding : {C : Type 0} → List ℕ → LineEnd C → Hearer (LineEnd C)
+abbrev pub holding : {C : Type 0} → List ℕ → LineEnd C → Buffered (LineEnd C)
 holding bytes e = record { held = held_in e.state.stage bytes; end = e }
 
 -- one of an end's calls, which uses no bytes
-abbrev pub called_with : {C : Type 0} → Player C → EndEvent → Hearer (LineEnd C) → Hearer (LineEnd C)
+abbrev pub called_with : {C : Type 0} → Participant C → EndEvent → Buffered (LineEnd C) → Buffered (LineEnd C)
 called_with p event h = holding h.held (does p event h.end)
 
 -- a session begins so
-abbrev pub begins : {C : Type 0} → EndEffect C → Hearer (LineEnd C)
+abbrev pub begins : {C : Type 0} → EndEffect C → Buffered (LineEnd C)
 begins effect = holding [] (after_call nothing_done [] effect)

@@ -7,7 +7,7 @@ use Rattle.uug_link.specs.InRange.{IsAnnouncement}
 use Rattle.uug_packet.specs.Spelling.{canonical}
 use Rattle.uug_packet.specs.WellFormed.{IsWellFormed}
 use Rattle.uug_reader.specs.declared.reader.TheConstants.{READER_SIZE}
-use Rattle.uug_session.specs.Arriving.{Hearer, Taker, all_taken, held_in, stopped, takes_all, takes_piece}
+use Rattle.uug_session.specs.Arriving.{Buffered, Receiver, all_taken, held_in, stopped, takes_all, takes_piece}
 use Rattle.uug_session.specs.EndStep.{EndEffect, EndEvent, EndState, Identity, Stage, begins_session}
 use Rattle.uug_session.specs.Engine.{CountsFaults, all_ahead, end_of, with_outbox, faults_max}
 use Rattle.uug_conversation.specs.Holdings.{Holdings}
@@ -23,7 +23,7 @@ use Rattle.uug_line.specs.JournalValue.{JournalValue, journal_value, log_of, pac
 use Rattle.uug_line.specs.Report.{told_by}
 use Rattle.uug_session.specs.Phases.{phase_at}
 use Rattle.uug_line.specs.Taking.{line_taker}
-use Rattle.uug_line.specs.LineEnd.{LineEnd, Player, begins, called_with}
+use Rattle.uug_line.specs.LineEnd.{LineEnd, Participant, begins, called_with}
 use Rattle.uug_line.specs.Told.{SpelledEnd}
 
 -- its parts
@@ -55,7 +55,7 @@ standing_of e = record {
 }
 
 -- who it is, and what keeps its conversation
-abbrev pub player_of : LiveEndValue → Player Talk
+abbrev pub player_of : LiveEndValue → Participant Talk
 player_of e = record {
   identity = e.node.engine.identity;
   keeper = end_keeper e.node.engine.identity.side (holdings_of e.spool);
@@ -67,7 +67,7 @@ state_of e = end_of (holdings_of e.spool) e.spool.stored e.node.engine
 abbrev pub line_end_of : LiveEndValue → LineEnd Talk
 line_end_of e = record { state = state_of e; log = log_of e.journal; line = e.line }
 
-abbrev pub hearer_of : LiveEndValue → Hearer (LineEnd Talk)
+abbrev pub hearer_of : LiveEndValue → Buffered (LineEnd Talk)
 hearer_of e = record { held = held_bytes e.node; end = line_end_of e }
 
 -- each is the canonical spelling of a packet
@@ -119,8 +119,8 @@ pub record HasBegun (id : Identity) (own : Announced) (number : Option ℕ) (l :
 
 -- ---- what comes is taken up
 
--- the taker of what comes to the end, where the other end's packets are spelled so
-abbrev pub taker_of : (others : List (List ℕ)) → LiveEndValue → Taker (LineEnd Talk)
+-- the receiver of what comes to the end, where the other end's packets are spelled so
+abbrev pub taker_of : (others : List (List ℕ)) → LiveEndValue → Receiver (LineEnd Talk)
 taker_of others e = line_taker (player_of e) (map packet_in others)
 
 -- an item was taken up, and there is less left

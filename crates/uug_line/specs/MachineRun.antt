@@ -6,8 +6,8 @@ use Rattle.uug_link.specs.State.{State, caller_state, called_state}
 use Rattle.uug_link.specs.TwoLinks.{End, Ends, first_ends}
 use Rattle.uug_link.specs.WindowBounds.{IsWithinBounds}
 use Rattle.uug_link.specs.WindowMachine.{Machine, Move, start}
-use Rattle.uug_line.specs.declared.side.Side.{Side}
-use Rattle.uug_line.specs.declared.side.Side.TheVariants.{Caller, Called}
+use Rattle.uug_conversation.specs.declared.side.Side.{Side}
+use Rattle.uug_conversation.specs.declared.side.Side.TheVariants.{Caller, Called}
 use Rattle.uug_line.specs.Belongings.{SetupValue}
 use Rattle.uug_line.specs.Fooled.{present}
 use Rattle.uug_line.specs.LinkRun.{LinksRan, after_all}

@@ -5,7 +5,7 @@ use Rattle.uug_packet.specs.Bytes.{AreBytes}
 use Rattle.uug_conversation.specs.HeldBytes.{HoldsBytes}
 use Rattle.uug_line.specs.declared.event.Event.{Event}
 use Rattle.uug_line.specs.declared.event.Event.TheVariants.{Flip, Insert}
-use Rattle.uug_line.specs.declared.side.Side.{Side}
+use Rattle.uug_conversation.specs.declared.side.Side.{Side}
 use Rattle.uug_line.specs.Belongings.{EndSetupValue, SetupValue}
 use Rattle.uug_line.specs.Sides.{at}
 use Rattle.uug_line.specs.SoundSetup.{IsSoundSetup}

@@ -1,7 +1,7 @@
 -- Which reports a program can have (this project's profile).
 use Rattle.std.specs.Prelude.{◌≡◌, List}
 use Rattle.uug_line.specs.declared.event.Event.{Event}
-use Rattle.uug_line.specs.declared.side.Side.{Side}
+use Rattle.uug_conversation.specs.declared.side.Side.{Side}
 use Rattle.uug_line.specs.Belongings.{SetupValue}
 use Rattle.uug_line.specs.OfBytes.{AreOfTypes}
 use Rattle.uug_line.specs.RunValue.{EndsAs, RunValue}

@@ -1,18 +1,19 @@
 -- A run of two ends on a noisy line: what each event does (this project's profile).
 use Rattle.std.specs.Prelude.{ℕ, suc, List, [], ◌∷◌, ◌++◌, take, drop, bit_xor}
-use Rattle.uug_session.specs.Arriving.{Hearer, Came, all_taken, stopped, takes_piece}
+use Rattle.uug_conversation.specs.Turns.{other}
+use Rattle.uug_session.specs.Arriving.{Buffered, Arrival, all_taken, stopped, takes_piece}
 use Rattle.uug_session.specs.EndStep.{EndEvent, time_ran_out, line_lost, begins_session}
 use Rattle.uug_conversation.specs.Party.{Party}
 use Rattle.uug_line.specs.declared.event.Event.{Event}
 use Rattle.uug_line.specs.declared.event.Event.TheVariants.{Pass, Drop, Flip, Insert, Timeout, HangUp, Call}
-use Rattle.uug_line.specs.declared.side.Side.{Side}
+use Rattle.uug_conversation.specs.declared.side.Side.{Side}
 use Rattle.uug_line.specs.declared.verdict.LineVerdict.{LineVerdict}
 use Rattle.uug_line.specs.declared.verdict.LineVerdict.TheVariants.{Clean, Fooled}
 use Rattle.uug_line.specs.Belongings.{Belongings, SetupValue, identity, party, renewed}
-use Rattle.uug_line.specs.LineEnd.{LineEnd, Player, begins, called_with, changed_line}
+use Rattle.uug_line.specs.LineEnd.{LineEnd, Participant, begins, called_with, changed_line}
 use Rattle.uug_line.specs.Report.{report_of_end}
 use Rattle.uug_line.specs.RunKeeper.{RunKeeper}
-use Rattle.uug_line.specs.Sides.{other, AtBoth, at, with_at, at_each}
+use Rattle.uug_line.specs.Sides.{AtBoth, at, with_at, at_each}
 use Rattle.uug_line.specs.Taking.{line_taker}
 use Rattle.uug_line.specs.Told.{EndReportValue}
 
@@ -22,20 +23,20 @@ pub record Run (C : Type 0) : Type 0 where
   pub past : List (AtBoth EndReportValue)
   -- the present one: what the ends brought to it, and how they stand
   pub brought : AtBoth Belongings
-  pub ends : AtBoth (Hearer (LineEnd C))
+  pub ends : AtBoth (Buffered (LineEnd C))
   pub verdict : LineVerdict
 
-abbrev pub end_at : {C : Type 0} → Side → Run C → Hearer (LineEnd C)
+abbrev pub end_at : {C : Type 0} → Side → Run C → Buffered (LineEnd C)
 end_at side run = at side run.ends
 
-abbrev pub with_end_at : {C : Type 0} → Side → Hearer (LineEnd C) → Run C → Run C
+abbrev pub with_end_at : {C : Type 0} → Side → Buffered (LineEnd C) → Run C → Run C
 with_end_at side h run = record run { ends = with_at side h run.ends }
 
 abbrev pub parties : SetupValue → (brought : AtBoth Belongings) → AtBoth Party
 parties setup brought = at_each (party setup brought)
 
-abbrev pub player : {C : Type 0} → RunKeeper C → SetupValue → Run C → Side → Player C
-player k setup run side =
+abbrev pub participant : {C : Type 0} → RunKeeper C → SetupValue → Run C → Side → Participant C
+participant k setup run side =
     record { identity = identity setup side; keeper = k.keeper (parties setup run.brought) side }
 
 -- what an end has by now
@@ -47,7 +48,7 @@ has_now k setup run side =
 -- ---- a session begins
 
 -- the called end says its name
-abbrev pub first_end : {C : Type 0} → RunKeeper C → SetupValue → (brought : AtBoth Belongings) → Side → Hearer (LineEnd C)
+abbrev pub first_end : {C : Type 0} → RunKeeper C → SetupValue → (brought : AtBoth Belongings) → Side → Buffered (LineEnd C)
 first_end k setup brought side =
     begins (begins_session (identity setup side) (at side setup).own (at side brought).number (k.first (at side brought)))
 
@@ -75,24 +76,24 @@ with_line_to side change run = with_end_at (other side) (changed_line change (en
 -- ---- what an event does
 
 -- the next bytes, n of them or all, come to the end on the side as one piece
-abbrev pub hears_next : {C : Type 0} → RunKeeper C → SetupValue → Side → (n : ℕ) → Run C → Came (LineEnd C)
+abbrev pub hears_next : {C : Type 0} → RunKeeper C → SetupValue → Side → (n : ℕ) → Run C → Arrival (LineEnd C)
 hears_next k setup side n run =
-    takes_piece (line_taker (player k setup run side) (end_at (other side) run).end.log.packets)
+    takes_piece (line_taker (participant k setup run side) (end_at (other side) run).end.log.packets)
     (take n (end_at (other side) run).end.line) (end_at side run)
 
 -- the end is then so; where it found a packet that was not sent, the run is fooled there
-abbrev pub after_hearing : {C : Type 0} → (number : ℕ) → Side → Came (LineEnd C) → Run C → Run C
+abbrev pub after_hearing : {C : Type 0} → (number : ℕ) → Side → Arrival (LineEnd C) → Run C → Run C
 after_hearing number side (all_taken h) run = with_end_at side h run
 after_hearing number side (stopped h) run = record (with_end_at side h run) { verdict = Fooled number side }
 
 -- one of an end's calls
 abbrev pub calls : {C : Type 0} → RunKeeper C → SetupValue → Side → EndEvent → Run C → Run C
-calls k setup side event run = with_end_at side (called_with (player k setup run side) event (end_at side run)) run
+calls k setup side event run = with_end_at side (called_with (participant k setup run side) event (end_at side run)) run
 
 -- both ends hang up (one that has ended does nothing), what is on the line is lost, and a session begins in which all
 -- pending jobs are to be offered again
-abbrev pub hung_up : {C : Type 0} → RunKeeper C → SetupValue → Run C → Side → Hearer (LineEnd C)
-hung_up k setup run side = called_with (player k setup run side) line_lost (end_at side run)
+abbrev pub hung_up : {C : Type 0} → RunKeeper C → SetupValue → Run C → Side → Buffered (LineEnd C)
+hung_up k setup run side = called_with (participant k setup run side) line_lost (end_at side run)
 
 abbrev pub calls_again : {C : Type 0} → RunKeeper C → SetupValue → Run C → Run C
 calls_again k setup run =

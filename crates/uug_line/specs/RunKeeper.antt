@@ -8,9 +8,9 @@ use Rattle.uug_conversation.specs.Keeper.{Keeper}
 use Rattle.uug_conversation.specs.Party.{Party}
 use Rattle.uug_conversation.specs.Talk.{Talk, unopened, end_keeper}
 use Rattle.uug_conversation.specs.View.{Seen, conversation_view, kept_after, lists_after}
-use Rattle.uug_line.specs.declared.side.Side.{Side}
+use Rattle.uug_conversation.specs.declared.side.Side.{Side}
 use Rattle.uug_line.specs.Belongings.{Belongings}
-use Rattle.uug_line.specs.Sides.{session_side, AtBoth, at}
+use Rattle.uug_line.specs.Sides.{AtBoth, at}
 
 pub record RunKeeper (C : Type 0) : Type 0 where
   -- the keeper of an end in a session of these two parties
@@ -24,7 +24,7 @@ pub record RunKeeper (C : Type 0) : Type 0 where
 
 abbrev pub by_themselves : RunKeeper Talk
 by_themselves = record {
-  keeper = λ parties side. end_keeper (session_side side) (at side parties).holdings;
+  keeper = λ parties side. end_keeper side (at side parties).holdings;
   first = λ brought. unopened brought.lists brought.kept;
   has = λ parties side brought number talk. record { lists = talk.machine.lists; kept = talk.kept; number = number };
 }
@@ -32,14 +32,14 @@ by_themselves = record {
 -- ---- two numbers an end, in the conversation of the two parties
 
 abbrev pub view_at : AtBoth Party → Side → List Seen
-view_at parties side = conversation_view (session_side side) parties.at_caller parties.at_called
+view_at parties side = conversation_view side parties.at_caller parties.at_called
 
 -- what an end has, whose link has come up, after so many messages of the other's: its jobs and files of earlier
 -- sessions stay in front
 abbrev pub has_after : AtBoth Party → Side → (brought : Belongings) → (number : Option ℕ) → (taken : ℕ) → Belongings
 has_after parties side brought number taken = record {
   lists = behind brought.lists.struck brought.lists.failed
-      (lists_after (session_side side) parties.at_caller parties.at_called taken);
+      (lists_after side parties.at_caller parties.at_called taken);
   kept = brought.kept ++ kept_after taken (view_at parties side);
   number = number;
 }

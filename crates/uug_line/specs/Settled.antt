@@ -4,7 +4,7 @@ use Rattle.uug_link.specs.State.{IsPlain, IsUp}
 use Rattle.uug_session.specs.declared.end.End.TheVariants.{Done}
 use Rattle.uug_session.specs.EndStep.{ended, linked}
 use Rattle.uug_line.specs.declared.event.Event.{Event}
-use Rattle.uug_line.specs.declared.side.Side.{Side}
+use Rattle.uug_conversation.specs.declared.side.Side.{Side}
 use Rattle.uug_line.specs.declared.verdict.LineVerdict.TheVariants.{Clean}
 use Rattle.uug_line.specs.Belongings.{SetupValue}
 use Rattle.uug_line.specs.OfSomeRun.{IsRunOf}

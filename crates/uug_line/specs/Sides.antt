@@ -1,16 +1,6 @@
 -- The two ends of the line, and what there is at each of them.
-use Rattle.uug_line.specs.declared.side.Side.{Side}
-use Rattle.uug_line.specs.declared.side.Side.TheVariants.{Caller, Called}
-use Rattle.uug_conversation.specs.Turns.{Side as SessionSide, caller, called}
-
-abbrev pub other : Side → Side
-other Caller = Called
-other Called = Caller
-
--- the side of a session on which the end stands
-abbrev pub session_side : Side → SessionSide
-session_side Caller = caller
-session_side Called = called
+use Rattle.uug_conversation.specs.declared.side.Side.{Side}
+use Rattle.uug_conversation.specs.declared.side.Side.TheVariants.{Caller, Called}
 
 pub record AtBoth (A : Type 0) : Type 0 where
   pub at_caller : A

@@ -4,7 +4,7 @@ use Rattle.uug_link.specs.Terms.{IsWindow}
 use Rattle.uug_conversation.specs.Holdings.{AreModes}
 use Rattle.uug_conversation.specs.Jobs.{pending}
 use Rattle.uug_conversation.specs.Party.{HasNames}
-use Rattle.uug_line.specs.declared.side.Side.{Side}
+use Rattle.uug_conversation.specs.declared.side.Side.{Side}
 use Rattle.uug_line.specs.Belongings.{EndSetupValue, SetupValue}
 use Rattle.uug_line.specs.Sides.{at}
 

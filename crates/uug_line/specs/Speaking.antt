@@ -2,7 +2,7 @@
 use Rattle.uug_session.specs.EndStep.{EndState}
 use Rattle.uug_conversation.specs.Keeper.{Keeper}
 use Rattle.uug_session.specs.Sending.{HasClosedWhereItIsOver, HasSaidWhatItCan}
-use Rattle.uug_line.specs.declared.side.Side.{Side}
+use Rattle.uug_conversation.specs.declared.side.Side.{Side}
 use Rattle.uug_line.specs.Belongings.{SetupValue}
 use Rattle.uug_line.specs.Run.{Run, end_at, parties}
 use Rattle.uug_line.specs.RunKeeper.{RunKeeper}

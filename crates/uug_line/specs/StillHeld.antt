@@ -1,7 +1,7 @@
 -- What the ends that a report lends still hold of the bytes that came to them (this project's profile).
 use Rattle.std.specs.Prelude.{◌≡◌, ℕ, List, take}
 use Rattle.uug_reader.specs.declared.reader.TheConstants.{READER_SIZE}
-use Rattle.uug_line.specs.declared.side.Side.{Side}
+use Rattle.uug_conversation.specs.declared.side.Side.{Side}
 use Rattle.uug_line.specs.declared.verdict.LineVerdict.TheVariants.{Clean}
 use Rattle.uug_line.specs.Run.{Run, end_at}
 use Rattle.uug_line.specs.Sides.{AtBoth, at}

@@ -1,7 +1,7 @@
 -- What a run tells; and the world, in which somebody who knows both ends' jobs and spools tells it (this project's
 -- profile).
 use Rattle.std.specs.Prelude.{List, [], ◌∷◌, ◌++◌, length}
-use Rattle.uug_session.specs.Arriving.{Hearer}
+use Rattle.uug_session.specs.Arriving.{Buffered}
 use Rattle.uug_conversation.specs.Count.{Count}
 use Rattle.uug_conversation.specs.Talk.{Talk}
 use Rattle.uug_line.specs.declared.event.Event.{Event}
@@ -48,7 +48,7 @@ counted_end e = record {
   line = e.line;
 }
 
-abbrev pub counted_hearer : Hearer (LineEnd Talk) → Hearer (LineEnd Count)
+abbrev pub counted_hearer : Buffered (LineEnd Talk) → Buffered (LineEnd Count)
 counted_hearer h = record { held = h.held; end = counted_end h.end }
 
 abbrev pub counted : Run Talk → Run Count

@@ -1,4 +1,4 @@
-use crate::side::Side;
+use uug_session::Side;
 
 /// What happens on the line, or at one of its ends. The line has two directions, each a list of bytes; a direction is
 /// named by the side to which it leads.

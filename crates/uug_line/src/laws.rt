@@ -4,8 +4,6 @@ ghost use Rattle.uug_line.specs.WereSent.{HavePlaces, StandAt, WereSent, passed_
 ghost use Rattle.uug_link.specs.Arrivals.{IsPlace, place_of};
 ghost use Rattle.uug_packet.specs.Packet.{PacketValue};
 
-use uug_link::laws::arrivals;
-
 /// The packets that an end finds get places among those that the other end has emitted, each the least behind the one
 /// before. No other choice of places would do where this one doesn't: a packet has no place left exactly where it, and
 /// those found before it, are not all among those that were sent so far, in this order and none more often.
@@ -26,6 +24,4 @@ pub fn least_places_are_the_right_choice()
         → HavePlaces found places emitted 0
         → (place_of p emitted (passed_at places 0) ≡ None)
         ↔ (WereSent (found ++ p ∷ []) emitted → ⊥) }
-{
-    arrivals();
-}
+{}

@@ -13,7 +13,6 @@ ghost use Rattle.uug_session.specs.EndStep.{Identity, line_lost, time_ran_out};
 
 use crate::journal::Journal;
 use crate::line::Line;
-use crate::line_laws::line_laws;
 use crate::report::EndReport;
 use crate::sighting::{Sighting, sight};
 use std::alloc::{AllocError, Allocator};
@@ -48,7 +47,6 @@ impl<A: Allocator + Copy> LiveEnd<A> {
             → BeginsSession id own number l [] (node_of node).engine → HoldsNothing (node_of node)
             → HasBegun id own number l (held_by node.spool) (live_end_value end)) }
     {
-        line_laws();
         let mut end = LiveEnd {
             node,
             journal: Journal::new(alloc),
@@ -76,7 +74,6 @@ impl<A: Allocator + Copy> LiveEnd<A> {
         requires room { HasRoom (live_end_value self.old) }
         ensures { OnOk result (IsCalled time_ran_out (live_end_value self.old) (live_end_value self.new)) }
     {
-        line_laws();
         self.node.on_timeout()?;
         self.note_call(alloc)?;
         Ok(())
@@ -88,7 +85,6 @@ impl<A: Allocator + Copy> LiveEnd<A> {
         requires room { HasRoom (live_end_value self.old) }
         ensures { OnOk result (IsCalled line_lost (live_end_value self.old) (live_end_value self.new)) }
     {
-        line_laws();
         self.node.hang_up();
         self.note_call(alloc)?;
         Ok(())
@@ -101,7 +97,6 @@ impl<A: Allocator + Copy> LiveEnd<A> {
         ensures begun { OnOk result (BeginsAgain (live_end_value self.old) (live_end_value self.new)) }
         ensures report { IfOk result (λ report. end_shown report ≡ told_of (live_end_value self.old)) }
     {
-        line_laws();
         let phase = self.node.phase();
         self.node.call_again()?;
         let journal = mem::replace(&mut self.journal, Journal::new(alloc));
@@ -125,7 +120,6 @@ impl<A: Allocator + Copy> LiveEnd<A> {
             HearsPiece all_sent (lists_in others.now) piece.now (live_end_value self.old)
             (live_end_value self.new)) }
     {
-        line_laws();
         let mut rest = piece;
         loop {
             let count = self.node.offer(rest);
@@ -164,7 +158,6 @@ impl<A: Allocator + Copy> LiveEnd<A> {
         ensures { IfOk result (λ taking.
             TakesNext taking (lists_in others.now) (live_end_value self.old) (live_end_value self.new)) }
     {
-        line_laws();
         match sight(&mut self.node, others, self.journal.passed) {
             Sighting::Nothing => Ok(Taking::Waits),
             Sighting::Unsent => Ok(Taking::Stops),

@@ -3,8 +3,8 @@ ghost use Rattle.uug_link.specs.Announced.{announced};
 ghost use Rattle.uug_session.specs.Engine.{all_ahead};
 ghost use Rattle.uug_session.specs.EndStep.{line_lost, time_ran_out};
 ghost use Rattle.uug_conversation.specs.MemoryHoldings.{held_by};
-ghost use Rattle.uug_conversation.specs.Side.{side_of};
-ghost use Rattle.uug_conversation.specs.Turns.{caller, called};
+ghost use Rattle.uug_conversation.specs.Turns.{other};
+ghost use Rattle.uug_conversation.specs.declared.side.Side.TheVariants.{Caller, Called};
 ghost use Rattle.uug_conversation.specs.Talk.{Talk};
 ghost use Rattle.uug_line.specs.Belongings.{SetupValue};
 ghost use Rattle.uug_line.specs.Live.{AreWritten, HasBegun, HasRoom, HearsPiece, IsCalled, IsOrdered, live_end_value};
@@ -15,7 +15,7 @@ ghost use Rattle.uug_line.specs.RunKeeper.{by_themselves};
 ghost use Rattle.uug_line.specs.RunValue.{AllIsSaid, CallsAgain, ChangesLine, EndsAs, Happens, HappensAt, IsSteady, Passes, StandsAs, hearing_side, run_value, with_line};
 ghost use Rattle.uug_line.specs.Setup.{setup_of};
 ghost use Rattle.uug_line.specs.Shown.{lists_in};
-ghost use Rattle.uug_line.specs.Sides.{AtBoth, other};
+ghost use Rattle.uug_line.specs.Sides.{AtBoth};
 ghost use Rattle.uug_line.specs.Spelled.{GiveAsSetUp, spelled};
 ghost use Rattle.uug_line.specs.Heard.{HasHeardBehind, HasScannedBehind};
 ghost use Rattle.uug_line.specs.Fooled.{ArrivalsArePlaces, FindsNothingMore, NamesUnsent};
@@ -26,24 +26,18 @@ ghost use Rattle.uug_line.specs.Headline.{AllKeptToWindows, AllTookFronts, Stays
 ghost use Rattle.uug_line.specs.WholeReport.{whole_report};
 ghost use Rattle.uug_line.specs.World.{report_of_ends, report_of_world, run_of_ends};
 ghost use Rattle.uug_line.specs.MachineRun.{AllRanAsMachine, PresentRanAsMachine};
-ghost use Rattle.uug_line.specs.declared.side.Side.{Side};
+ghost use Rattle.uug_conversation.specs.declared.side.Side.{Side};
 ghost use Rattle.uug_line.specs.declared.verdict.LineVerdict.TheVariants.{Clean};
 
 use crate::event::Event;
 use crate::fault::RunFault;
-use crate::line_laws::line_laws;
 use crate::live_end::LiveEnd;
 use crate::report::{LastEnd, Report, SessionReport};
 use crate::setup::{EndSetup, Setup};
-use crate::side::Side;
 use crate::soundness::look_at_setup;
 use crate::verdict::LineVerdict;
-use crate::world_laws::{
-    a_run_is_the_world, a_run_stops_at_what_was_not_sent, an_end_finds_what_came,
-    sessions_that_are_over_stay, the_headline,
-};
 use std::alloc::{AllocError, Allocator};
-use uug_session::{Node, Place};
+use uug_session::{Node, Place, Side};
 
 /// How a run stands.
 #[derive(Drop)]
@@ -114,13 +108,11 @@ pub fn run<A: Allocator + Copy>(
         (PresentRanAsMachine (setup_of setup) (run_of_ends (setup_of setup) events.now)) }
 {
     look_at_setup(&setup, events);
-    a_run_is_the_world();
-    the_headline();
-    a_run_stops_at_what_was_not_sent();
-    an_end_finds_what_came();
-    sessions_that_are_over_stay();
     let mut run = RunSoFar::start(alloc, setup)?;
-    let verdict = run.go_through(alloc, events)?;
+    let Ok(verdict) = run.go_through(alloc, events) else {
+        drop(run);
+        return Err(RunFault::Memory);
+    };
     let report = run.into_report(verdict)?;
     Ok(report)
 }
@@ -130,7 +122,6 @@ impl<A: Allocator + Copy> RunSoFar<A> {
         ensures { IfOk result (λ run.
             StandsAs (setup_of setup) (first_run by_themselves (setup_of setup)) (run_value run)) }
     {
-        line_laws();
         let Setup { caller, called } = setup;
         let caller_place = place_of(&caller, &called);
         let called_place = place_of(&called, &caller);
@@ -328,11 +319,10 @@ fn start_caller<A: Allocator + Copy>(
     setup: EndSetup<A>,
 ) -> Result<LiveEnd<A>, AllocError>
     ensures { IfOk result (λ end.
-        HasBegun (record { side = caller; me = place.me; peer = place.peer })
+        HasBegun (record { side = Caller; me = place.me; peer = place.peer })
         (announced place.announce)
         place.number (all_ahead setup.queue) (held_by setup.spool) (live_end_value end)) }
 {
-    line_laws();
     let Ok(node) = Node::caller(alloc, place, setup.queue, setup.spool) else {
         return Err(AllocError);
     };
@@ -346,11 +336,10 @@ fn start_called<A: Allocator + Copy>(
     setup: EndSetup<A>,
 ) -> Result<LiveEnd<A>, AllocError>
     ensures { IfOk result (λ end.
-        HasBegun (record { side = called; me = place.me; peer = place.peer })
+        HasBegun (record { side = Called; me = place.me; peer = place.peer })
         (announced place.announce)
         place.number (all_ahead setup.queue) (held_by setup.spool) (live_end_value end)) }
 {
-    line_laws();
     let Ok(node) = Node::called(alloc, place, setup.queue, setup.spool) else {
         return Err(AllocError);
     };

@@ -20,12 +20,9 @@ use crate::journal::Journal;
 use crate::live_end::LiveEnd;
 use crate::report::{EndReport, LastEnd, Report};
 use crate::running::RunSoFar;
-use crate::settle_laws::rounds_lead_to_the_end;
-use crate::side::Side;
 use crate::verdict::LineVerdict;
-use crate::world_laws::a_run_is_the_world;
 use std::alloc::{AllocError, Allocator};
-use uug_session::{End, Phase};
+use uug_session::{End, Phase, Side};
 
 /// Goes on from a report on a line on which nothing more is lost, until both sessions are over. Round by round all that is on
 /// the line passes to the called end, and then all that is there to the caller; where nothing is on it, both ends wait too long.
@@ -40,9 +37,11 @@ pub fn settle<A: Allocator + Copy>(alloc: A, report: Report<A>) -> Result<Report
         → IsRunOf setup events report
         → SettlesInto setup events settled) }
 {
-    a_run_is_the_world();
     let mut run = report.into_run();
-    run.finish(alloc)?;
+    let Ok(()) = run.finish(alloc) else {
+        drop(run);
+        return Err(RunFault::Memory);
+    };
     let settled = run.into_report(LineVerdict::Clean)?;
     Ok(settled)
 }
@@ -94,8 +93,6 @@ impl<A: Allocator + Copy> RunSoFar<A> {
             → MayFinish setup events (run_value self.old)
             → IsFinished setup events (run_value self.new)) }
     {
-        a_run_is_the_world();
-        rounds_lead_to_the_end();
         self.time_out(alloc, Side::Caller)?;
         self.time_out(alloc, Side::Called)?;
         let all_sent = self.round(alloc)?;

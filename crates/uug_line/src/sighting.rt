@@ -8,7 +8,6 @@ ghost use Rattle.uug_reader.specs.declared.reader.TheConstants.{READER_SIZE};
 ghost use Rattle.uug_session.specs.Node.{held_bytes, item_size, node_of, searched, shown_item};
 
 use std::alloc::Allocator;
-use uug_packet::laws::packets_are_well_formed;
 use uug_packet::{Packet, is_written};
 use uug_session::{Item, MemorySpool, Node};
 
@@ -39,7 +38,6 @@ pub(crate) fn sight<A: Allocator + Copy>(
         → length (held_bytes (node_of node.new)) < READER_SIZE }
     ensures next { SightsNext (node_of node.new) (lists_in others.now) passed result }
 {
-    packets_are_well_formed();
     match node.next_found() {
         None => Sighting::Nothing,
         Some(item) => sighting_of(&item, others, passed),

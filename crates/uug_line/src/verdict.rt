@@ -1,4 +1,4 @@
-use crate::side::Side;
+use uug_session::Side;
 
 /// Whether each packet that was found on a line had been sent.
 #[derive(Clone, Copy, Debug, PartialEq, Eq)]

@@ -3,69 +3,22 @@
 ghost use Rattle.std.specs.Prelude.{◌≡◌, ◌↔◌, ℕ, List, All, Some, slice_get};
 ghost use Rattle.uug_packet.specs.Bytes.{AreBytes};
 ghost use Rattle.uug_line.specs.declared.event.Event.{Event};
-ghost use Rattle.uug_line.specs.declared.side.Side.{Side};
+ghost use Rattle.uug_conversation.specs.declared.side.Side.{Side};
 ghost use Rattle.uug_line.specs.declared.verdict.LineVerdict.TheVariants.{Clean, Fooled};
 ghost use Rattle.uug_line.specs.Belongings.{SetupValue};
 ghost use Rattle.uug_line.specs.Delivered.{HasHeardAt, HasScanned, came_in};
 ghost use Rattle.uug_line.specs.Fooled.{ArrivalsArePlaces, FindsNothingMore, FindsUnsent, StoppedAt};
 ghost use Rattle.uug_line.specs.Headline.{AllKeptToWindows, AllTookFronts, StaysInFront, StruckWereStored};
-ghost use Rattle.uug_line.specs.Code.LowerLaws.{Laws};
 ghost use Rattle.uug_line.specs.OfBytes.{AreOfBytes, IsSetupOfBytes};
 ghost use Rattle.uug_line.specs.PastSessions.{StayOver, WasPresent};
 ghost use Rattle.uug_line.specs.Run.{end_at};
 ghost use Rattle.uug_line.specs.RunKeeper.{by_numbers, by_themselves};
-ghost use Rattle.uug_line.specs.Code.SessionLaws.{SessionLaws};
 ghost use Rattle.uug_line.specs.Sides.{AtBoth, at};
 ghost use Rattle.uug_line.specs.SoundSetup.{IsSoundSetup};
 ghost use Rattle.uug_line.specs.Speaking.{HaveSpoken};
 ghost use Rattle.uug_line.specs.Told.{EndReportValue};
 ghost use Rattle.uug_line.specs.World.{counted, report_of_ends, report_of_world, run_of_ends, world};
 ghost use Rattle.uug_line.specs.MachineRun.{AllRanAsMachine, PresentRanAsMachine};
-
-use uug_conversation::conversation_laws::{jobs_are_in_one_list, messages_are_bytes};
-use uug_conversation::stored_laws::{
-    nothing_is_struck_at_first, own_entries_have_places, own_entries_of_sessions,
-    struck_jobs_have_own_entries,
-};
-use uug_link::laws::{
-    arrivals, each_occurrence_is_moves_of_the_machine, runs_of_two_links, the_window_is_safe,
-    two_links_run_as_the_machine, what_a_link_answers, what_a_link_emits_can_be_written,
-};
-use uug_reader::laws::{found_in_steps, search_finds_the_first};
-use uug_session::arriving_laws::{bytes_are_left, what_is_found_stays};
-use uug_session::end_laws::{earlier_jobs_change_nothing, own_messages_fit};
-use uug_session::laws::two_ends_are_told_by_four_numbers;
-use uug_session::text_laws::texts_are_taken_in_order;
-use uug_session::told_laws::{an_end_is_told_by_two_numbers, an_end_keeps_what_it_brought};
-
-/// The laws of links and of an end's conversation, for the proofs here.
-pub(crate) fn laws_below()
-    ensures { Laws }
-{
-    what_a_link_answers();
-    two_links_run_as_the_machine();
-    runs_of_two_links();
-    arrivals();
-    two_ends_are_told_by_four_numbers();
-    own_messages_fit();
-    earlier_jobs_change_nothing();
-    an_end_keeps_what_it_brought();
-    an_end_is_told_by_two_numbers();
-}
-
-/// The laws of whole sessions, for the proofs here.
-pub(crate) fn session_laws()
-    ensures { SessionLaws }
-{
-    each_occurrence_is_moves_of_the_machine();
-    two_links_run_as_the_machine();
-    the_window_is_safe();
-    struck_jobs_have_own_entries();
-    own_entries_of_sessions();
-    own_entries_have_places();
-    nothing_is_struck_at_first();
-    jobs_are_in_one_list();
-}
 
 /// Two ends, neither of which knows the other's jobs, do on every line what the world says: told by how many messages of
 /// the whole conversation each has sent and taken, their run is the world's, and so is its report.
@@ -74,10 +27,7 @@ pub fn a_run_is_the_world()
         → counted (run_of_ends setup events) ≡ world setup events }
     ensures report { (setup : SetupValue) (events : List Event) → IsSoundSetup setup
         → report_of_ends setup events ≡ report_of_world setup events }
-{
-    laws_below();
-    session_laws();
-}
+{}
 
 /// The headline: in every session each end has taken a front of the messages that the other sent, and no end ever has more
 /// unacknowledged packets than the other announced; a job is struck only after its exact bytes were stored.
@@ -98,20 +48,14 @@ pub fn the_headline()
     // In the present session the links are those that the ends have now.
     ensures present { (setup : SetupValue) (events : List Event) → IsSoundSetup setup
         → PresentRanAsMachine setup (run_of_ends setup events) }
-{
-    laws_below();
-    session_laws();
-}
+{}
 
 /// Whatever happens on the line, each end has said what it can: on a link that is up the window lets no message more out or
 /// none waits to be sent, and there is something to say or to take yet.
 pub fn each_end_has_said_what_it_can()
     ensures { (setup : SetupValue) (events : List Event) → IsSoundSetup setup
         → HaveSpoken by_themselves setup (run_of_ends setup events) }
-{
-    laws_below();
-    session_laws();
-}
+{}
 
 /// A run stops exactly where an end finds a packet that was not sent to it: one that, with those found before it in the
 /// session, is not among the packets that the other end emitted, in this order and none more often.
@@ -131,10 +75,7 @@ pub fn a_run_stops_at_what_was_not_sent()
     ensures stopped { (setup : SetupValue) (events : List Event) (number : ℕ) (side : Side)
         → (run_of_ends setup events).verdict ≡ Fooled number side
         → StoppedAt by_themselves setup events number side }
-{
-    arrivals();
-    what_is_found_stays();
-}
+{}
 
 /// What is told of a session that is over stays, whatever happens then; and each of them was the present one behind fewer
 /// events, of which the laws here speak as of any.
@@ -155,39 +96,7 @@ pub fn what_comes_is_bytes()
     ensures world { (setup : SetupValue) (events : List Event) (side : Side) → IsSoundSetup setup
         → IsSetupOfBytes setup
         → AreOfBytes events → AreBytes (at side (came_in by_numbers setup events)) }
-{
-    laws_below();
-    session_laws();
-    what_a_link_emits_can_be_written();
-    messages_are_bytes();
-}
-
-/// What an end finds in bytes that come to it, for the proofs here.
-fn what_is_found_in_bytes()
-    ensures heard { (setup : SetupValue) (events : List Event) (side : Side)
-        → AreBytes (at side (came_in by_themselves setup events))
-        → HasHeardAt by_themselves setup (at side (came_in by_themselves setup events))
-        (run_of_ends setup events) side }
-    ensures scanned { (setup : SetupValue) (events : List Event) (side : Side)
-        → AreBytes (at side (came_in by_themselves setup events))
-        → (run_of_ends setup events).verdict ≡ Clean
-        → (heard : HasHeardAt by_themselves setup (at side (came_in by_themselves setup events))
-        (run_of_ends setup events) side)
-        → HasScanned by_themselves setup (at side (came_in by_themselves setup events))
-        (run_of_ends setup events) side heard }
-    ensures world { (setup : SetupValue) (events : List Event) (side : Side)
-        → AreBytes (at side (came_in by_numbers setup events))
-        → HasHeardAt by_numbers setup (at side (came_in by_numbers setup events))
-        (world setup events)
-        side }
-{
-    arrivals();
-    what_is_found_stays();
-    texts_are_taken_in_order();
-    bytes_are_left();
-    found_in_steps();
-    search_finds_the_first();
-}
+{}
 
 /// In whatever pieces bytes come to an end, in each session, what it finds in them is what stands in all of them: the texts
 /// of its greeting, and then, from the first byte behind the text with which the link began, the items of the link. The packets
@@ -214,7 +123,4 @@ pub fn an_end_finds_what_came()
         → HasHeardAt by_numbers setup (at side (came_in by_numbers setup events))
         (world setup events)
         side }
-{
-    what_comes_is_bytes();
-    what_is_found_in_bytes();
-}
+{}

@@ -69,8 +69,8 @@ small_data : (phase : Phase) (seq ack : ℕ) (s : State) → HaveSmallestFields 
 small_data Up seq ack s =
     let left = acknowledged ack s in
     small_either (is_expected seq left) _ _ (tt, tt)
-    (other_holds (λ e. HaveSmallestFields e.emitted) seq left (λ told passed. (tt, tt)) (λ told passed. (tt, tt))
-    (λ told passed is. tt))
+    (other_holds (λ e. HaveSmallestFields e.emitted) seq left (λ rest passed. (tt, tt)) (λ rest passed. (tt, tt))
+    (λ rest passed is. tt))
 small_data _ seq ack s = tt
 
 small_packet : (p : PacketValue) (s : State) → HaveSmallestFields (on_packet p s).emitted

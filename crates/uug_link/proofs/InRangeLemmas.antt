@@ -13,7 +13,7 @@ use Rattle.uug_link.specs.declared.phase.Role.TheVariants.{Caller, Called}
 use Rattle.uug_link.specs.Announced.{Announced, announced}
 use Rattle.uug_link.specs.InRange.{IsAnnouncement, IsInRange, MayMeet, AreWellFormed}
 use Rattle.uug_link.specs.State.{State, Fits, IsFresh, IsStarting, IsUp, caller_state, called_state, first_state, is_halted}
-use Rattle.uug_link.specs.Step.{Effect, Emission, Event, to_begin, packet_found, bad_found, timed_out, to_send, to_close, step, ignored, answers, only, nothing, on_init_a, on_init_b, on_init_c, on_close, on_rr, on_rj, on_srj, on_data, on_number, is_expected, is_enough, told_behind, until_over, on_bad, acknowledged, struck, distance, data_packet, last_received, sent_again, outstanding, selected, next_number, repeated, on_timeout, on_send, on_packet, on_event}
+use Rattle.uug_link.specs.Step.{Effect, Emission, Event, to_begin, packet_found, bad_found, timed_out, to_send, to_close, step, ignored, answers, only, nothing, on_init_a, on_init_b, on_init_c, on_close, on_rr, on_rj, on_srj, on_data, on_number, is_expected, is_enough, reject_left_after, until_over, on_bad, acknowledged, struck, distance, data_packet, last_received, sent_again, outstanding, selected, next_number, repeated, on_timeout, on_send, on_packet, on_event}
 use Rattle.uug_link.proofs.OtherLemmas.{keeping, other_holds}
 use Rattle.uug_link.proofs.SmallestLemmas.{smallest_holds, smallest_is_code, within_most}
 use Rattle.uug_packet.specs.Packet.{ControlValue, close, rj, srj, rr, init_c, init_b, init_a, PacketValue, control, carry}
@@ -200,23 +200,23 @@ fine_srj _ y s low h = fine_ignored s h
 received_number : (s : State) → last_received s < 8
 received_number s = omega arith
 
-fine_asking : (told : ℕ) (passed : Option ℕ) (s : State) → IsInRange s →
-    IsFine (answers (keeping s told passed) (rr (last_received s)) nothing)
-fine_asking told passed s h = record {
+fine_asking : (left : ℕ) (passed : Option ℕ) (s : State) → IsInRange s →
+    IsFine (answers (keeping s left passed) (rr (last_received s)) nothing)
+fine_asking left passed s h = record {
   state = range_later s _ h refl refl refl refl refl (λ starts. starts);
   emitted = only_out (rr (last_received s)) (received_number s);
 }
 
-fine_rejecting : (told : ℕ) (passed : Option ℕ) (s : State) → IsInRange s →
-    IsFine (answers (keeping s told passed) (rj (last_received s)) nothing)
-fine_rejecting told passed s h = record {
+fine_rejecting : (left : ℕ) (passed : Option ℕ) (s : State) → IsInRange s →
+    IsFine (answers (keeping s left passed) (rj (last_received s)) nothing)
+fine_rejecting left passed s h = record {
   state = range_later s _ h refl refl refl refl refl (λ starts. starts);
   emitted = only_out (rj (last_received s)) (received_number s);
 }
 
-range_taken : (told : ℕ) (s : State) → IsInRange s →
-    IsInRange (record s { expected = (s.expected + 1) % 8; told = told; passed = None; timeouts = 0 })
-range_taken told s h = record {
+range_taken : (left : ℕ) (s : State) → IsInRange s →
+    IsInRange (record s { expected = (s.expected + 1) % 8; reject_left = left; passed = None; timeouts = 0 })
+range_taken left s h = record {
   own = h.own;
   size_code = h.size_code;
   fit = h.fit;
@@ -227,9 +227,9 @@ range_taken told s h = record {
 
 fine_number : (x : ℕ) (s : State) → x < 8 → IsInRange s → IsFine (on_number x s)
 fine_number x s low h =
-    fine_either (is_expected x s) _ _ (record { state = range_taken (told_behind s) s h; emitted = only_out (rr x) low })
-    (other_holds IsFine x s (λ told passed. fine_asking told passed s h) (λ told passed. fine_rejecting told passed s h)
-    (λ told passed is. record {
+    fine_either (is_expected x s) _ _ (record { state = range_taken (reject_left_after s) s h; emitted = only_out (rr x) low })
+    (other_holds IsFine x s (λ left passed. fine_asking left passed s h) (λ left passed. fine_rejecting left passed s h)
+    (λ left passed is. record {
       state = range_later s _ h refl refl refl refl refl (λ starts. starts);
       emitted = none_out;
     }))

@@ -7,7 +7,7 @@ use Rattle.uug_link.specs.declared.phase.Role.{Role}
 use Rattle.uug_link.specs.declared.phase.Role.TheVariants.{Caller, Called}
 use Rattle.uug_link.specs.Slots.{Keeps}
 use Rattle.uug_link.specs.State.{State, IsSound, IsStarting, is_halted}
-use Rattle.uug_link.specs.Step.{Effect, step, to_begin, packet_found, bad_found, timed_out, to_close, on_init_a, on_init_b, on_init_c, on_close, on_rr, on_rj, on_srj, on_data, on_number, is_expected, is_enough, on_bad, acknowledged, struck, distance, on_timeout, on_control, on_packet}
+use Rattle.uug_link.specs.Step.{Effect, step, packet_found, bad_found, timed_out, on_init_a, on_init_b, on_init_c, on_close, on_rr, on_rj, on_srj, on_data, on_number, is_expected, is_enough, on_bad, acknowledged, struck, distance, on_timeout, on_control, on_packet}
 use Rattle.uug_link.proofs.OtherLemmas.{other_holds}
 use Rattle.uug_packet.specs.Packet.{ControlValue, close, rj, srj, rr, init_c, init_b, init_a, PacketValue, control, carry}
 
@@ -143,8 +143,8 @@ keeps-either s false e f h k = k
 keeps-number : (x : ℕ) (s t : State) → Keeps s t → Keeps s (on_number x t).state
 keeps-number x s t h =
     keeps-either s (is_expected x t) _ _ (keeps-later s t _ h refl refl)
-    (other_holds (λ e. Keeps s e.state) x t (λ told passed. keeps-later s t _ h refl refl)
-    (λ told passed. keeps-later s t _ h refl refl) (λ told passed is. keeps-later s t _ h refl refl))
+    (other_holds (λ e. Keeps s e.state) x t (λ left passed. keeps-later s t _ h refl refl)
+    (λ left passed. keeps-later s t _ h refl refl) (λ left passed is. keeps-later s t _ h refl refl))
 
 keeps-data : (phase : Phase) (x y : ℕ) (s : State) → IsSteady s → Keeps s (on_data phase x y s).state
 keeps-data Fresh x y s h = keeps-self s h
@@ -183,9 +183,6 @@ keeps-timeout s h =
 
 -- ---- the steps
 
-pub keeps-begun : (s : State) → IsSteady s → Keeps s (step s to_begin).state
-keeps-begun s h = keeps-either s (is_halted s.phase) _ _ (keeps-self s h) (keeps-same s _ h refl refl)
-
 pub keeps-packet_found : (p : PacketValue) (s : State) → IsSteady s → Keeps s (step s (packet_found p)).state
 keeps-packet_found p s h = keeps-either s (is_halted s.phase) _ _ (keeps-self s h) (keeps-packet p s h)
 
@@ -194,6 +191,3 @@ keeps-bad_found s h = keeps-either s (is_halted s.phase) _ _ (keeps-self s h) (k
 
 pub keeps-timed_out : (s : State) → IsSteady s → Keeps s (step s timed_out).state
 keeps-timed_out s h = keeps-either s (is_halted s.phase) _ _ (keeps-self s h) (keeps-timeout s h)
-
-pub keeps-closed : (s : State) → IsSteady s → Keeps s (step s to_close).state
-keeps-closed s h = keeps-either s (is_halted s.phase) _ _ (keeps-self s h) (keeps-same s _ h refl refl)

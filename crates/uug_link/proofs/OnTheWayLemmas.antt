@@ -8,7 +8,7 @@ use Rattle.uug_link.specs.Announced.{Announced}
 use Rattle.uug_link.specs.Arrivals.{IsPlace, arrived}
 use Rattle.uug_link.specs.OnTheWay.{IsTalk, IsData, expected_with, oldest_with, expected_behind, oldest_behind, TellOldest, AreComing, Hears, Sends, Repeats, StillBring, emitted_by}
 use Rattle.uug_link.specs.State.{State, IsPlain, IsUp, is_halted}
-use Rattle.uug_link.specs.Step.{Effect, Event, taken, answers, answers_halted, quiet, nothing, gave_up, Emission, acknowledged, data_packet, is_expected, last_received, next_number, on_data, on_event, on_other, on_packet, on_rj, on_rr, on_send, outstanding, packet_found, repeated, sent_again, step, timed_out, to_send, told_behind}
+use Rattle.uug_link.specs.Step.{Effect, Event, taken, answers, answers_halted, quiet, nothing, gave_up, Emission, acknowledged, data_packet, is_expected, last_received, next_number, on_data, on_event, on_other, on_packet, on_rj, on_rr, on_send, outstanding, packet_found, repeated, sent_again, step, timed_out, to_send, reject_left_after}
 use Rattle.uug_link.specs.Terms.{IsWindow}
 use Rattle.uug_link.specs.TwoLinks.{End, Ends, IsRun, packets_of}
 use Rattle.uug_link.specs.declared.limits.TheConstants.{TIMEOUTS_MAX}
@@ -123,11 +123,11 @@ abbrev late : (lasts : Bool) → State → Effect
 late lasts s =
     if lasts
     then record {
-      state = record s { timeouts = s.timeouts + 1; told = 0 };
+      state = record s { timeouts = s.timeouts + 1; reject_left = 0 };
       emitted = repeated s.role s.phase s;
       outcome = nothing;
     }
-    else answers (record s { phase = Halted; timeouts = TIMEOUTS_MAX; told = 0 }) close gave_up
+    else answers (record s { phase = Halted; timeouts = TIMEOUTS_MAX; reject_left = 0 }) close gave_up
 
 repeated_at : (role : Role) (s : State) → repeated role Up s ≡ outstanding s
 repeated_at Caller s = refl
@@ -217,7 +217,7 @@ heard_number : (seq ack k : ℕ) (message : List ℕ) (s left : State) (t : Bool
     ((seq == left.expected) ≡ false → Heard (carry seq ack k message) s other) →
     Heard (carry seq ack k message) s
     (if t then answers
-    (record left { expected = (left.expected + 1) % 8; told = told_behind left; passed = None; timeouts = 0 })
+    (record left { expected = (left.expected + 1) % 8; reject_left = reject_left_after left; passed = None; timeouts = 0 })
     (rr seq) taken
     else other)
 heard_number seq ack k message s left true other same is test others =
@@ -239,7 +239,7 @@ heard_other : (seq ack k : ℕ) (message : List ℕ) (s left : State) → left.e
     Heard (carry seq ack k message) s (on_other seq left)
 heard_other seq ack k message s left same own is low test =
     other_holds (Heard (carry seq ack k message) s) seq left
-    (λ told passed. record {
+    (λ rest passed. record {
       is_up = is;
       expected = sym (same_test seq left.expected s.expected false same test);
       talk = All-cons IsTalk (control (rr (last_received left))) [] tt (All-nil IsTalk);
@@ -247,7 +247,7 @@ heard_other seq ack k message s left same own is low test =
       tells = inl (λ o. last_says left low);
       answered = λ plain data_packet o. last_says left low;
     })
-    (λ told passed. record {
+    (λ rest passed. record {
       is_up = is;
       expected = sym (same_test seq left.expected s.expected false same test);
       talk = All-cons IsTalk (control (rj (last_received left))) [] tt (All-nil IsTalk);
@@ -255,7 +255,7 @@ heard_other seq ack k message s left same own is low test =
       tells = inl (λ o. last_says left low);
       answered = λ plain data_packet o. last_says left low;
     })
-    (λ told passed silent. record {
+    (λ rest passed silent. record {
       is_up = is;
       expected = sym (same_test seq left.expected s.expected false same test);
       talk = All-nil IsTalk;

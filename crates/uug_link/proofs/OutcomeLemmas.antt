@@ -115,9 +115,9 @@ fine_data seq ack k message s Up is runs =
     fine_either e s (is_expected seq t) _ _
     (record { answers = tt; moves = λ c. (is, stays ∙ is); firsts = (refl, tt) })
     (other_holds (IsFine e s) seq t
-    (λ told passed. record { answers = tt; moves = λ c. (runs, inl stays); firsts = (refl, tt) })
-    (λ told passed. record { answers = tt; moves = λ c. (runs, inl stays); firsts = (refl, tt) })
-    (λ told passed is. record { answers = tt; moves = λ c. (runs, inl stays); firsts = tt }))
+    (λ left passed. record { answers = tt; moves = λ c. (runs, inl stays); firsts = (refl, tt) })
+    (λ left passed. record { answers = tt; moves = λ c. (runs, inl stays); firsts = (refl, tt) })
+    (λ left passed is. record { answers = tt; moves = λ c. (runs, inl stays); firsts = tt }))
 fine_data seq ack k message s _ is runs = fine_ignored (carry seq ack k message) s runs
 
 fine_packet : (p : PacketValue) (s : State) → s.phase ≢ Halted → IsFine (packet_found p) s (on_packet p s)

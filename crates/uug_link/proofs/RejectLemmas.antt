@@ -3,7 +3,7 @@ use Rattle.std.proofs.Common.{◌≡◌, ℕ, suc, pred, ◌+◌, ◌<◌, ◌�
 use Rattle.uug_link.specs.Announced.{Announced}
 use Rattle.uug_link.specs.InRange.{MayMeet}
 use Rattle.uug_link.specs.State.{State, KeepsRejects, caller_state, called_state, is_halted}
-use Rattle.uug_link.specs.Step.{Effect, Event, to_begin, packet_found, bad_found, timed_out, to_send, to_close, step, begins_anew, has_told, is_enough, is_expected, last_received, on_init_a, on_init_b, on_init_c, on_close, on_rr, on_rj, on_srj, on_data, on_number, on_repeat, on_bad, acknowledged, distance, struck, on_packet, on_event, until_over}
+use Rattle.uug_link.specs.Step.{Effect, Event, to_begin, packet_found, bad_found, timed_out, to_send, to_close, step, begins_anew, has_rejected, is_enough, is_expected, last_received, on_init_a, on_init_b, on_init_c, on_close, on_rr, on_rj, on_srj, on_data, on_number, on_repeat, on_bad, acknowledged, distance, struck, on_packet, on_event, until_over}
 use Rattle.uug_link.specs.declared.limits.TheConstants.{TIMEOUTS_MAX}
 use Rattle.uug_link.specs.declared.phase.Phase.{Phase}
 use Rattle.uug_link.specs.declared.phase.Phase.TheVariants.{AwaitsInitA, AwaitsInitB, AwaitsInitC, Up, Closing}
@@ -13,9 +13,9 @@ use Rattle.uug_packet.specs.Packet.{close, rj, srj, rr, init_c, init_b, init_a, 
 use Rattle.uug_packet.specs.WellFormed.{IsWellFormed}
 
 -- other parts of the link change
-same : (s t : State) → KeepsRejects s → t.told ≡ s.told → t.passed ≡ s.passed → t.own ≡ s.own → KeepsRejects t
+same : (s t : State) → KeepsRejects s → t.reject_left ≡ s.reject_left → t.passed ≡ s.passed → t.own ≡ s.own → KeepsRejects t
 same s t h told passed own = record {
-  told = omega (arith, h.told, told, ap (λ (a : Announced). a.window) own);
+  reject_left = omega (arith, h.reject_left, told, ap (λ (a : Announced). a.window) own);
   passed = subst (λ (p : Option ℕ). IfSome p (λ number. number < 8)) (sym passed) h.passed;
 }
 
@@ -75,24 +75,24 @@ less_one n most h = omega (arith, h)
 
 keeps_repeat : (x : ℕ) (s : State) → x < 8 → KeepsRejects s → KeepsRejects (on_repeat x s).state
 keeps_repeat x s low h =
-    either (has_told s) _ _
-    (either (begins_anew s.passed x s) _ _ (record { told = omega arith; passed = low })
-    (record { told = h.told; passed = low }))
-    (either (x == last_received s) _ _ (record { told = omega arith; passed = low })
-    (record { told = omega arith; passed = low }))
+    either (has_rejected s) _ _
+    (either (begins_anew s.passed x s) _ _ (record { reject_left = omega arith; passed = low })
+    (record { reject_left = h.reject_left; passed = low }))
+    (either (x == last_received s) _ _ (record { reject_left = omega arith; passed = low })
+    (record { reject_left = omega arith; passed = low }))
 
-keeps_rejecting : (s : State) → KeepsRejects s → KeepsRejects (record s { told = until_over s })
-keeps_rejecting s h = record { told = omega arith; passed = h.passed }
+keeps_rejecting : (s : State) → KeepsRejects s → KeepsRejects (record s { reject_left = until_over s })
+keeps_rejecting s h = record { reject_left = omega arith; passed = h.passed }
 
 keeps_number : (x : ℕ) (s : State) → x < 8 → KeepsRejects s → KeepsRejects (on_number x s).state
 keeps_number x s low h =
     either (is_expected x s) _ _
     (record {
-      told = at_most s.own.quiet (pred s.told) 0 (suc s.own.window) (less_one s.told (suc s.own.window) h.told) (omega arith);
+      reject_left = at_most s.own.quiet (pred s.reject_left) 0 (suc s.own.window) (less_one s.reject_left (suc s.own.window) h.reject_left) (omega arith);
       passed = tt;
     })
     (either s.own.quiet (on_repeat x s) _ (keeps_repeat x s low h)
-    (either (has_told s) _ _ h (keeps_rejecting s h)))
+    (either (has_rejected s) _ _ h (keeps_rejecting s h)))
 
 keeps_data : (phase : Phase) (seq ack : ℕ) (s : State) → seq < 8 → KeepsRejects s → KeepsRejects (on_data phase seq ack s).state
 keeps_data Up seq ack s low h = keeps_number seq (acknowledged ack s) low (keeps_acknowledged ack s h)
@@ -119,8 +119,8 @@ keeps_event to_begin s may h = same s _ h refl refl refl
 keeps_event (packet_found p) s may h = keeps_packet p s may h
 keeps_event bad_found s may h = keeps_bad s.phase s h
 keeps_event timed_out s may h =
-    either (nat_lt (s.timeouts + 1) TIMEOUTS_MAX) _ _ (record { told = omega arith; passed = h.passed })
-    (record { told = omega arith; passed = h.passed })
+    either (nat_lt (s.timeouts + 1) TIMEOUTS_MAX) _ _ (record { reject_left = omega arith; passed = h.passed })
+    (record { reject_left = omega arith; passed = h.passed })
 keeps_event (to_send message) s may h = same s _ h refl refl refl
 keeps_event to_close s may h = same s _ h refl refl refl
 
@@ -130,4 +130,4 @@ pub rejects_stay : (s : State) (e : Event) → KeepsRejects s → MayMeet s e �
 rejects_stay s e h may = either (is_halted s.phase) _ _ h (keeps_event e s may h)
 
 pub rejects_first : (own : Announced) → KeepsRejects (caller_state own) × KeepsRejects (called_state own)
-rejects_first own = (record { told = omega arith; passed = tt }, record { told = omega arith; passed = tt })
+rejects_first own = (record { reject_left = omega arith; passed = tt }, record { reject_left = omega arith; passed = tt })

@@ -1,14 +1,12 @@
 -- Packets that are written again with another acknowledgement.
-use Rattle.std.proofs.Common.{◌≡◌, ℕ, zero, suc, ◌+◌, ◌%◌, ◌<◌, ◌≤◌, List, [], ◌∷◌, ◌++◌, length, drop, map, get_or, set, slice_get, false, Ok, Some, None, refl, ap, sym, subst, ◌∙◌, arith}
+use Rattle.std.proofs.Common.{◌≡◌, ℕ, zero, suc, ◌+◌, ◌%◌, ◌<◌, ◌≤◌, List, [], ◌∷◌, length, get_or, set, slice_get, false, Ok, Some, None, refl, ap, sym, subst, ◌∙◌, arith}
 use Rattle.std.proofs.Math.Seq.{map-set_same}
-use Rattle.std.proofs.lemmas.List.{append_assoc, drop_more, get_or-map, get_or-set_same, length-map, length-set}
+use Rattle.std.proofs.lemmas.List.{get_or-map, get_or-set_same, length-map, length-set}
 use Rattle.std.proofs.lemmas.Option.{slice_get-get_or, slice_get_past}
 use Rattle.uug_link.specs.declared.reaction.Emits.{Emits}
 use Rattle.uug_link.specs.declared.reaction.Emits.TheVariants.{Outstanding}
 use Rattle.uug_link.specs.declared.reaction.Emits.TheVariants as emits
 use Rattle.uug_link.specs.declared.status.Status.{Status}
-use Rattle.uug_link.specs.Entries.{EntryValue}
-use Rattle.uug_link.specs.Follows.{written}
 use Rattle.uug_link.specs.Reactions.{state_of, emitted_of}
 use Rattle.uug_link.specs.Slots.{AreSlots, carried_in, IsSlot, message_in, messages_in}
 use Rattle.uug_link.specs.State.{State}
@@ -121,22 +119,6 @@ again-packet s i ws low =
     ∙ ap (λ (m : List ℕ). canonical (data_packet (state_of s []) number m)) message
 
 -- ---- all of them, one after the other
-
--- the packet that went out last is the first of those that were still to go
-pub sent-step : (packet_of : ℕ → List ℕ → PacketValue) (first i : ℕ) (ms : List (List ℕ)) (now now' all : List EntryValue) →
-    i < length ms →
-    now' ≡ now ++ written (record { packet = packet_of ((first + i) % 8) (get_or ms i []); first = false }) ∷ [] →
-    now ++ map written (sent_again packet_of ((first + i) % 8) (drop i ms)) ≡ all →
-    now' ++ map written (sent_again packet_of ((first + (i + 1)) % 8) (drop (i + 1) ms)) ≡ all
-sent-step packet_of first i ms now now' all low grown h =
-    let at : (first + (i + 1)) % 8 ≡ ((first + i) % 8 + 1) % 8 = omega arith in
-    let left : List EntryValue = map written (sent_again packet_of (((first + i) % 8 + 1) % 8) (drop (i + 1) ms)) in
-    let e : EntryValue = written (record { packet = packet_of ((first + i) % 8) (get_or ms i []); first = false }) in
-    let split : drop i ms ≡ get_or ms i [] ∷ drop (i + 1) ms = drop_more ms i [] low in
-    let front : now ++ map written (sent_again packet_of ((first + i) % 8) (drop i ms)) ≡ now ++ e ∷ left =
-    ap (λ (xs : List (List ℕ)). now ++ map written (sent_again packet_of ((first + i) % 8) xs)) split in
-    ap (λ (n : ℕ). now' ++ map written (sent_again packet_of n (drop (i + 1) ms))) at
-    ∙ ap (λ (es : List EntryValue). es ++ left) grown ∙ append_assoc now (e ∷ []) left ∙ sym front ∙ h
 
 pub length-sent_again : (packet_of : ℕ → List ℕ → PacketValue) (number : ℕ) (ms : List (List ℕ)) → length (sent_again packet_of number ms) ≡ length ms
 length-sent_again packet_of number [] = refl

@@ -7,7 +7,7 @@ use Rattle.uug_link.specs.Terms.{IsWindow}
 use Rattle.uug_link.specs.Moves.{found_at, becomes, comes}
 use Rattle.uug_link.specs.OnTheLine.{is_of_window, of_window, IsWritten, AreWritten}
 use Rattle.uug_link.specs.State.{State, IsUp, KnowsWindow, KnowsSize, HasRoom, is_halted}
-use Rattle.uug_link.specs.Step.{Effect, Event, to_begin, packet_found, bad_found, timed_out, to_send, to_close, taken as taken_up, answers, ignored, quiet, moved, halt, on_init_a, on_init_b, on_init_c, on_close, on_rr, on_rj, on_srj, on_data, on_number, is_expected, is_enough, told_behind, until_over, on_bad, acknowledged, repeated, on_packet, on_event, answers_halted, last_received, outstanding, next_number, data_packet}
+use Rattle.uug_link.specs.Step.{Effect, Event, to_begin, packet_found, bad_found, timed_out, to_send, to_close, taken as taken_up, answers, ignored, quiet, moved, halt, on_init_a, on_init_b, on_init_c, on_close, on_rr, on_rj, on_srj, on_data, on_number, is_expected, is_enough, reject_left_after, until_over, on_bad, acknowledged, repeated, on_packet, on_event, answers_halted, last_received, outstanding, next_number, data_packet}
 use Rattle.uug_link.specs.Strays.{acknowledgement as acknowledged_by}
 use Rattle.uug_link.specs.TwoLinks.{End, gone_past, hears, packets_of, with_effect, moved_by, MayCall}
 use Rattle.uug_link.specs.WindowBounds.{CountsInOrder}
@@ -265,14 +265,14 @@ number_taken : (law : LawsBelow) (a b : Announced) (e f : End) (out : Wire) (ack
     AreWritten f.sent (data_at n c ∷ xs) (carry seq ack k message ∷ of_window (drop (suc e.passed) f.emitted)) →
     Acked e.link s e.sent c → Front e out taken (data_at n c) xs → seq ≡ s.expected →
     Heard a b e f out (record { acked = acked'; taken = taken; flight = data_at n c ∷ xs }) (arrives ∷ []) (carry seq ack k message)
-    (answers (record s { expected = (s.expected + 1) % 8; told = told_behind s; passed = None; timeouts = 0 }) (rr seq) taken_up)
+    (answers (record s { expected = (s.expected + 1) % 8; reject_left = reject_left_after s; passed = None; timeouts = 0 }) (rr seq) taken_up)
 number_taken law a b e f out acked' taken n c xs seq ack k message s h at written t first equal =
     let expected : s.expected ≡ (taken + 1) % 8 = t.expected ∙ h.sim.back_half.expected in
     let here : n ≡ taken = first.number.0 (omega (arith, equal, expected, written.0.0)) in
     let next : taken_with (data_at n c) taken ≡ taken + 1 = taken_next n c taken here in
     let suc_next : taken_with (data_at n c) taken ≡ suc taken = omega (arith, next) in
     arrive a b e f out acked' taken (data_at n c) xs (carry seq ack k message)
-    (record s { expected = (s.expected + 1) % 8; told = told_behind s; passed = None; timeouts = 0 }) (e.taken ++ message ∷ [])
+    (record s { expected = (s.expected + 1) % 8; reject_left = reject_left_after s; passed = None; timeouts = 0 }) (e.taken ++ message ∷ [])
     (control (rr seq) ∷ []) h.sim at written
     t.unacked t.oldest (omega (arith, next, expected))
     (ap (λ (l : List (List ℕ)). l ++ message ∷ []) h.sim.back_half.taken
@@ -321,13 +321,13 @@ heard_data_up law a b e f out acked' taken (data_at n c ∷ xs) seq ack k messag
     (λ is. number_taken law a b e f out acked' taken n c xs seq ack k message s h at written t first
     (grind (arith, nat_tests, is)))
     (λ is. other_holds (λ y. Heard a b e f out back (arrives ∷ []) p y) seq s
-    (λ told passed. number_other law a b e f out acked' taken n c xs seq ack k message s (keeping s told passed) _ h at written t
+    (λ left passed. number_other law a b e f out acked' taken n c xs seq ack k message s (keeping s left passed) _ h at written t
     (record { unacked = refl; oldest = refl; expected = refl }) (record { window = knows.window; size = knows.size }) refl
     (grind (arith, nat_tests, is)) (emits_rr a e.sent c taken (last_received s) last))
-    (λ told passed. number_other law a b e f out acked' taken n c xs seq ack k message s (keeping s told passed) _ h at written t
+    (λ left passed. number_other law a b e f out acked' taken n c xs seq ack k message s (keeping s left passed) _ h at written t
     (record { unacked = refl; oldest = refl; expected = refl }) (record { window = knows.window; size = knows.size }) refl
     (grind (arith, nat_tests, is)) (emits_rj a e.sent c taken (last_received s) last))
-    (λ told passed silent. number_other law a b e f out acked' taken n c xs seq ack k message s (keeping s told passed) [] h at written t
+    (λ left passed silent. number_other law a b e f out acked' taken n c xs seq ack k message s (keeping s left passed) [] h at written t
     (record { unacked = refl; oldest = refl; expected = refl }) (record { window = knows.window; size = knows.size }) refl
     (grind (arith, nat_tests, is)) (emits_nothing a e.sent c taken)))
 
@@ -472,11 +472,11 @@ times_out : (law : LawsBelow) (a b : Announced) (e f : End) (out back : Wire) �
 times_out law a b e f out back h =
     moved_either a b e f out back timed_out (is_halted e.link.phase) _ _ (stays_quiet a b e f out back h.sim)
     (moved_either a b e f out back timed_out (nat_lt (e.link.timeouts + 1) TIMEOUTS_MAX) _ _
-    (emit a b e f out back (record e.link { timeouts = e.link.timeouts + 1; told = 0 }) _ h.sim
+    (emit a b e f out back (record e.link { timeouts = e.link.timeouts + 1; reject_left = 0 }) _ h.sim
     (record { unacked = refl; oldest = refl; expected = refl })
     (record { window = h.sim.knows.window; size = h.sim.knows.size }) h.sim.own
     (emits_repeated a b e f out back e.link.role e.link.phase h.sim (acked_sent law a b e f out back h)))
-    (emit a b e f out back (record e.link { phase = Halted; timeouts = TIMEOUTS_MAX; told = 0 }) _ h.sim
+    (emit a b e f out back (record e.link { phase = Halted; timeouts = TIMEOUTS_MAX; reject_left = 0 }) _ h.sim
     (record { unacked = refl; oldest = refl; expected = refl })
     (record { window = λ k. absurd k; size = λ k. absurd k }) h.sim.own
     (emits_close a e.sent out.acked back.taken)))

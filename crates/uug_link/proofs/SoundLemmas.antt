@@ -162,9 +162,9 @@ sound-number : (x : ℕ) (s : State) → IsSound s → IsSound (on_number x s).s
 sound-number x s h =
     sound-either (is_expected x s) _ _ (sound-later s _ h refl refl refl (λ starts. starts) (λ known. known))
     (other_holds (λ e. IsSound e.state) x s
-    (λ told passed. sound-later s _ h refl refl refl (λ starts. starts) (λ known. known))
-    (λ told passed. sound-later s _ h refl refl refl (λ starts. starts) (λ known. known))
-    (λ told passed is. sound-later s _ h refl refl refl (λ starts. starts) (λ known. known)))
+    (λ left passed. sound-later s _ h refl refl refl (λ starts. starts) (λ known. known))
+    (λ left passed. sound-later s _ h refl refl refl (λ starts. starts) (λ known. known))
+    (λ left passed is. sound-later s _ h refl refl refl (λ starts. starts) (λ known. known)))
 
 sound-data : (phase : Phase) (x y : ℕ) (s : State) → IsSound s → IsSound (on_data phase x y s).state
 sound-data Up x y s h = sound-number x _ (sound-acknowledged y s h)

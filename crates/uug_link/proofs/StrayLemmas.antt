@@ -107,7 +107,7 @@ holds_effect P false e f h k = k
 holds_number : (P : List (List ℕ) → ℕ → Type 0) (x : ℕ) (s : State) → Holds P s → Holds P (on_number x s).state
 holds_number P x s h =
     holds_effect P (is_expected x s) _ _ h
-    (other_holds (λ e. Holds P e.state) x s (λ told passed. h) (λ told passed. h) (λ told passed is. h))
+    (other_holds (λ e. Holds P e.state) x s (λ left passed. h) (λ left passed. h) (λ left passed is. h))
 
 pub up_step : (s : State) (p : PacketValue) → IsUp s → step s (packet_found p) ≡ on_packet p s
 up_step s p is =
@@ -280,8 +280,8 @@ up_srj _ y s p = λ e. absurd cc
 up_data : (phase : Phase) (seq ack : ℕ) (s : State) (p : PacketValue) → ComesUpWhere s p (on_data phase seq ack s)
 up_data Up seq ack s p =
     up_either s p (is_expected seq (acknowledged ack s)) _ _ (λ e. absurd cc)
-    (other_holds (ComesUpWhere s p) seq (acknowledged ack s) (λ told passed e. absurd cc) (λ told passed e. absurd cc)
-    (λ told passed is e. absurd cc))
+    (other_holds (ComesUpWhere s p) seq (acknowledged ack s) (λ left passed e. absurd cc) (λ left passed e. absurd cc)
+    (λ left passed is e. absurd cc))
 up_data _ seq ack s p = λ e. absurd cc
 
 up_packet : (p : PacketValue) (s : State) → ComesUpWhere s p (on_packet p s)

@@ -81,9 +81,9 @@ keeps_srj _ y s = keeps_itself s
 keeps_number : (x : ℕ) (s t : State) → Keeps s t → Keeps s (on_number x t).state
 keeps_number x s t h =
     keeps_either s (is_expected x t) _ _ (record { own = h.own; size = h.size; window = h.window })
-    (other_holds (λ e. Keeps s e.state) x t (λ told passed. record { own = h.own; size = h.size; window = h.window })
-    (λ told passed. record { own = h.own; size = h.size; window = h.window })
-    (λ told passed is. record { own = h.own; size = h.size; window = h.window }))
+    (other_holds (λ e. Keeps s e.state) x t (λ left passed. record { own = h.own; size = h.size; window = h.window })
+    (λ left passed. record { own = h.own; size = h.size; window = h.window })
+    (λ left passed is. record { own = h.own; size = h.size; window = h.window }))
 
 keeps_data : (phase : Phase) (seq ack : ℕ) (s : State) → Keeps s (on_data phase seq ack s).state
 keeps_data Up seq ack s = keeps_number seq s _ (keeps_acknowledged ack s)

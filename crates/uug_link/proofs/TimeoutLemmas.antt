@@ -19,11 +19,11 @@ abbrev by_count : (more : Bool) → State → Effect
 by_count more s =
     if more
     then record {
-      state = record s { timeouts = s.timeouts + 1; told = 0 };
+      state = record s { timeouts = s.timeouts + 1; reject_left = 0 };
       emitted = repeated s.role s.phase s;
       outcome = nothing;
     }
-    else answers (record s { phase = Halted; timeouts = TIMEOUTS_MAX; told = 0 }) close gave_up
+    else answers (record s { phase = Halted; timeouts = TIMEOUTS_MAX; reject_left = 0 }) close gave_up
 
 up_again : (s : State) → s.phase ≡ Up → s.timeouts + 1 < TIMEOUTS_MAX → (step s timed_out).emitted ≡ outstanding s
 up_again s is less =
@@ -54,6 +54,3 @@ closes_by : (last more : Bool) (s : State) → (if last then answers_halted s el
 closes_by true more s is none = cc
 closes_by false true s is none = cc
 closes_by false false s is none = cc
-
-pub gives_up_speaking : (s : State) → (step s timed_out).outcome ≡ gave_up → (step s timed_out).emitted ≢ []
-gives_up_speaking s = closes_by (is_halted s.phase) (nat_lt (s.timeouts + 1) TIMEOUTS_MAX) s

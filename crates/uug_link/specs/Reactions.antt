@@ -23,7 +23,7 @@ state_of s unacked = record {
   unacked = unacked;
   oldest = number_of s.oldest;
   expected = (number_of s.received + 1) % 8;
-  told = s.told;
+  reject_left = s.reject_left;
   passed = option_map number_of s.passed;
   timeouts = s.timeouts.count;
 }

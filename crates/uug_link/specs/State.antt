@@ -25,7 +25,7 @@ pub record State : Type 0 where
   pub expected : ℕ
   -- 0 where no reject has gone out for the expected packet; of an end that is quiet on repeats, how many packets it has
   -- still to take until the other end's repeats are surely over
-  pub told : ℕ
+  pub reject_left : ℕ
   -- the number of the data packet out of order that came last, if one came since the last that was taken; of an end that
   -- is quiet on repeats
   pub passed : Option ℕ
@@ -43,7 +43,7 @@ first_state role phase own = record {
   unacked = [];
   oldest = 1;
   expected = 1;
-  told = 0;
+  reject_left = 0;
   passed = None;
   timeouts = 0;
 }
@@ -100,7 +100,7 @@ pub record IsSound (s : State) : Type 0 where
 
 -- what every link keeps of rejects: at most one more than the window that it has announced, and a number of a packet
 pub record KeepsRejects (s : State) : Type 0 where
-  pub told : s.told ≤ suc s.own.window
+  pub reject_left : s.reject_left ≤ suc s.own.window
   pub passed : IfSome s.passed (λ number. number < 8)
 
 -- the link is quiet on repeats, or is not

@@ -179,18 +179,18 @@ until_over s = suc s.own.window
 
 -- One reject goes out for the expected packet, until it has come or a timeout passes (this project's profile).
 abbrev pub rejecting : State → Effect
-rejecting s = answers (record s { told = until_over s }) (rj (last_received s)) nothing
+rejecting s = answers (record s { reject_left = until_over s }) (rj (last_received s)) nothing
 
-abbrev pub has_told : State → Bool
-has_told s = nat_lt 0 s.told
+abbrev pub has_rejected : State → Bool
+has_rejected s = nat_lt 0 s.reject_left
 
 -- one number alone is the expected one
 abbrev pub is_expected : ℕ → State → Bool
 is_expected x s = x == s.expected
 
 -- what is left of a reject where a packet is taken: of an end that is quiet on repeats, one packet less
-abbrev pub told_behind : State → ℕ
-told_behind s = if s.own.quiet then pred s.told else 0
+abbrev pub reject_left_after : State → ℕ
+reject_left_after s = if s.own.quiet then pred s.reject_left else 0
 
 -- ---- those that come out of order, at an end that is quiet on repeats (this project's profile)
 
@@ -205,13 +205,13 @@ begins_anew (Some y) x s = nat_le (depth y s) (depth x s)
 
 -- it asks again, from that packet on
 abbrev pub asks : ℕ → State → ControlValue → Effect
-asks x s c = answers (record s { told = until_over s; passed = Some x }) c nothing
+asks x s c = answers (record s { reject_left = until_over s; passed = Some x }) c nothing
 
 -- Where nothing has told the other end, a packet is rejected; but the one that was taken last is acknowledged once more,
 -- and so is the first of a repeat that has begun anew. The rest of a repeat is not answered.
 abbrev pub on_repeat : ℕ → State → Effect
 on_repeat x s =
-    if has_told s
+    if has_rejected s
     then if begins_anew s.passed x s
     then asks x s (rr (last_received s))
     else quiet (record s { passed = Some x })
@@ -223,14 +223,14 @@ on_repeat x s =
 abbrev pub on_other : ℕ → State → Effect
 on_other x s =
     if s.own.quiet then on_repeat x s
-    else if has_told s then answers s (rr (last_received s)) nothing else rejecting s
+    else if has_rejected s then answers s (rr (last_received s)) nothing else rejecting s
 
 -- the expected packet is taken
 abbrev pub on_number : ℕ → State → Effect
 on_number x s =
     if is_expected x s
     then answers
-    (record s { expected = (s.expected + 1) % 8; told = told_behind s; passed = None; timeouts = 0 })
+    (record s { expected = (s.expected + 1) % 8; reject_left = reject_left_after s; passed = None; timeouts = 0 })
     (rr x) taken
     else on_other x s
 
@@ -241,7 +241,7 @@ on_data _ seq ack s = ignored s
 -- whether the reject that has gone out is enough for a broken packet too; at an end that is quiet on repeats, only until the
 -- next packet is taken
 abbrev pub is_enough : State → Bool
-is_enough s = if s.own.quiet then nat_lt s.own.window s.told else has_told s
+is_enough s = if s.own.quiet then nat_lt s.own.window s.reject_left else has_rejected s
 
 abbrev pub on_bad : Phase → State → Effect
 on_bad Up s = if is_enough s then ignored s else rejecting s
@@ -279,11 +279,11 @@ abbrev pub on_timeout : State → Effect
 on_timeout s =
     if nat_lt (s.timeouts + 1) TIMEOUTS_MAX
     then record {
-      state = record s { timeouts = s.timeouts + 1; told = 0 };
+      state = record s { timeouts = s.timeouts + 1; reject_left = 0 };
       emitted = repeated s.role s.phase s;
       outcome = nothing;
     }
-    else answers (record s { phase = Halted; timeouts = TIMEOUTS_MAX; told = 0 }) close gave_up
+    else answers (record s { phase = Halted; timeouts = TIMEOUTS_MAX; reject_left = 0 }) close gave_up
 
 -- ---- the step
 

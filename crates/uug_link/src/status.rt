@@ -24,7 +24,7 @@ pub(crate) struct Status {
     pub(crate) received: Seq,
     /// 0 where no reject has gone out for the packet that is expected, else at most one more than the window that this
     /// end has announced.
-    pub(crate) told: u8,
+    pub(crate) reject_left: u8,
     /// The number of the data packet out of order that came last, since one was taken.
     pub(crate) passed: Option<Seq>,
     pub(crate) timeouts: Timeouts,
@@ -52,7 +52,7 @@ impl Status {
             size_code: zero,
             oldest: zero.next(),
             received: zero,
-            told: 0,
+            reject_left: 0,
             passed: None,
             timeouts: Timeouts::none(),
         }
@@ -110,7 +110,7 @@ impl Status {
         match self.timeouts.next() {
             Some(timeouts) => Reaction {
                 status: Status {
-                    told: 0,
+                    reject_left: 0,
                     timeouts,
                     ..self
                 },
@@ -121,7 +121,7 @@ impl Status {
             None => Reaction {
                 status: Status {
                     phase: Phase::Halted,
-                    told: 0,
+                    reject_left: 0,
                     timeouts: Timeouts::most(),
                     ..self
                 },

@@ -62,7 +62,7 @@ impl Status {
         if number == self.received.next() {
             let status = Status {
                 received: number,
-                told: self.told_behind(),
+                reject_left: self.reject_left_after(),
                 passed: None,
                 timeouts: Timeouts::none(),
                 ..self
@@ -73,7 +73,7 @@ impl Status {
             }
         } else if self.own.quiet {
             self.after_repeat(number)
-        } else if self.told != 0 {
+        } else if self.reject_left != 0 {
             self.emitting(Control::Rr(self.received))
         } else {
             self.rejecting()
@@ -81,11 +81,11 @@ impl Status {
     }
 
     /// What is left of a reject where a packet is taken.
-    fn told_behind(self) -> u8
-        ensures { result ≡ (if self.own.quiet then pred self.told else 0) }
+    fn reject_left_after(self) -> u8
+        ensures { result ≡ (if self.own.quiet then pred self.reject_left else 0) }
     {
         if self.own.quiet {
-            self.told.saturating_sub(1)
+            self.reject_left.saturating_sub(1)
         } else {
             0
         }
@@ -98,7 +98,7 @@ impl Status {
             → effect_of result ms ≡ on_repeat (number_of number) (state_of self ms) }
     {
         let rr = Control::Rr(self.received);
-        if self.told != 0 {
+        if self.reject_left != 0 {
             if self.begins_anew(number) {
                 return self.asking(number, rr);
             }
@@ -133,7 +133,7 @@ impl Status {
             ≡ asks (number_of number) (state_of self ms) (shown_control control) }
     {
         let status = Status {
-            told: self.until_over(),
+            reject_left: self.until_over(),
             passed: Some(number),
             ..self
         };
@@ -143,12 +143,12 @@ impl Status {
     /// Whether the reject that has gone out is enough for a broken packet too.
     pub(crate) fn has_enough(self) -> bool
         ensures { result ≡
-            (if self.own.quiet then nat_lt (number_of self.own.window) self.told else nat_lt 0 self.told) }
+            (if self.own.quiet then nat_lt (number_of self.own.window) self.reject_left else nat_lt 0 self.reject_left) }
     {
         if self.own.quiet {
-            self.told > self.own.window.value()
+            self.reject_left > self.own.window.value()
         } else {
-            self.told != 0
+            self.reject_left != 0
         }
     }
 
@@ -164,8 +164,11 @@ impl Status {
         ensures strikes { result.strikes ≡ 0 }
         ensures effect { (ms : List (List ℕ)) → effect_of result ms ≡ rejecting (state_of self ms) }
     {
-        let told = self.until_over();
-        let status = Status { told, ..self };
+        let reject_left = self.until_over();
+        let status = Status {
+            reject_left,
+            ..self
+        };
         status.emitting(Control::Rj(self.received))
     }
 }

@@ -1,5 +1,5 @@
 -- What goes out of an entry more.
-use Rattle.std.proofs.Common.{◌≡◌, ℕ, ◌+◌, List, ◌∷◌, ◌++◌, drop, Option, Some, sym, ap, subst, ◌∙◌, add-one, append_assoc}
+use Rattle.std.proofs.Common.{◌≡◌, ℕ, ◌+◌, List, ◌∷◌, ◌++◌, drop, Option, Some, sym, ap, ◌∙◌, add-one, append_assoc}
 use Rattle.std.specs.Prelude.{slice_get}
 use Rattle.uug_link.specs.Entries.{EntryValue}
 use Rattle.uug_link.proofs.OnTheLineLemmas.{drop_at}

@@ -1,5 +1,5 @@
 -- How a pair of ends finishes.
-use Rattle.std.proofs.Common.{◌≡◌, ℕ, ◌≤◌, Bool, true, false, Ok, Err, Result, if◌then◌else◌, subst, sym, arith, lit≤}
+use Rattle.std.proofs.Common.{◌≡◌, ℕ, ◌≤◌, Bool, true, false, Ok, Err, Result, if◌then◌else◌, subst, sym, lit≤}
 use Rattle.std.specs.Prelude.{IfOk, IfErr, IsErrAnd, ◌&&◌}
 use Rattle.uug_session.specs.declared.phase.Phase.{Phase}
 use Rattle.uug_tool.specs.declared.fault.ToolFault.{ToolFault}

@@ -1,8 +1,8 @@
 -- Where less is on its way than before, there is room.
 use Rattle.std.proofs.Common.{◌≡◌, ℕ, ◌+◌, ◌≤◌, arith}
-use Rattle.uug_line.specs.Sides.{other}
-use Rattle.uug_line.specs.declared.side.Side.{Side}
-use Rattle.uug_line.specs.declared.side.Side.TheVariants.{Caller, Called}
+use Rattle.uug_conversation.specs.Turns.{other}
+use Rattle.uug_conversation.specs.declared.side.Side.{Side}
+use Rattle.uug_conversation.specs.declared.side.Side.TheVariants.{Caller, Called}
 use Rattle.uug_pair.specs.Turns.{HasRoom}
 use Rattle.uug_pair.specs.declared.line.TheConstants.{UNREAD_MAX}
 

@@ -1,7 +1,7 @@
 -- Texts of jobs whose reading is known, and lines that are printed, so that a wrong definition does not check.
 use Rattle.std.proofs.Common.{◌≡◌, [], ◌∷◌, ◌++◌, codes, replicate, Some, None, Ok, Err, refl}
 use Rattle.std.specs.Fmt.{digits}
-use Rattle.uug_line.specs.declared.side.Side.TheVariants.{Caller, Called}
+use Rattle.uug_conversation.specs.declared.side.Side.TheVariants.{Caller, Called}
 use Rattle.uug_session.specs.declared.end.End.TheVariants.{Done, SpoolFault}
 use Rattle.uug_conversation.specs.declared.job.Job.{Job}
 use Rattle.uug_conversation.specs.declared.job.Job.TheVariants.{Send, Request}

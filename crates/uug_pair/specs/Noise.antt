@@ -1,5 +1,5 @@
 -- What the line is made to do to packets (this project's profile).
-use Rattle.std.specs.Prelude.{ℕ, ◌%◌, ◌==◌, ◌&&◌, nat_le, Bool, true, false, if◌then◌else◌, Option, Some, None}
+use Rattle.std.specs.Prelude.{ℕ, ◌%◌, ◌==◌, ◌&&◌, nat_le, Bool, true, false, Option, Some, None}
 use Rattle.uug_pair.specs.declared.fate.Fate.{Fate}
 use Rattle.uug_pair.specs.declared.fate.Fate.TheVariants.{Goes, Lost, Changed}
 

@@ -4,7 +4,7 @@ use Rattle.std.specs.Fmt.{decimal}
 use Rattle.uug_conversation.specs.Jobs.{Lists, pending}
 use Rattle.uug_conversation.specs.declared.job.Job.{Job}
 use Rattle.uug_session.specs.declared.phase.Phase.{Phase}
-use Rattle.uug_line.specs.declared.side.Side.{Side}
+use Rattle.uug_conversation.specs.declared.side.Side.{Side}
 use Rattle.uug_script.specs.Fields.{side_word}
 use Rattle.uug_script.specs.ReportText.{ended, phase_word}
 use Rattle.uug_pair.specs.JobsText.{job_line}

@@ -1,6 +1,6 @@
 -- Turns at a line (this project's profile).
 use Rattle.std.specs.Prelude.{◌≡◌, ◌≤◌, ℕ, List, [], ⊤, Result, Ok, Err}
-use Rattle.uug_line.specs.declared.side.Side.{Side}
+use Rattle.uug_conversation.specs.declared.side.Side.{Side}
 use Rattle.uug_pair.specs.declared.turn_fault.TurnFault.{TurnFault}
 use Rattle.uug_pair.specs.declared.turn_fault.TurnFault.TheVariants as faults
 use Rattle.uug_pair.specs.declared.line.TheConstants.{UNREAD_MAX}

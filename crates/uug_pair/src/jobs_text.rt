@@ -7,7 +7,7 @@ ghost use Rattle.uug_pair.specs.JobsText.{Faults, RefusesLine, one_job, with_lin
 
 use std::alloc::{AllocError, Allocator};
 use thiserror::Error;
-use uug_script::{LINE_MAX, split_line};
+use uug_script::{LINE_MAX, split_line, three_words};
 use uug_session::{Job, Queue, QueueFault};
 use uug_talk::{Name, split_word};
 
@@ -26,12 +26,7 @@ pub enum JobsFault {
 fn read_job(first: &[u8], rest: &[u8]) -> Option<Job>
     ensures { result ≡ job_of first.now (words rest.now) }
 {
-    let (source, rest) = split_word(rest)?;
-    let (target, rest) = split_word(rest)?;
-    let (user, rest) = split_word(rest)?;
-    if split_word(rest).is_some() {
-        return None;
-    }
+    let (source, target, user) = three_words(rest)?;
     let source = Name::new(source).ok()?;
     let target = Name::new(target).ok()?;
     let user = Name::new(user).ok()?;

@@ -1,6 +1,6 @@
 ghost use Rattle.std.specs.Prelude.{◌≡◌, ℕ, ◌+◌, ◌<◌, ◌≤◌, length, IfOk, OnErr, OnOk};
-ghost use Rattle.uug_line.specs.Sides.{other};
-ghost use Rattle.uug_line.specs.declared.side.Side.{Side};
+ghost use Rattle.uug_conversation.specs.Turns.{other};
+ghost use Rattle.uug_conversation.specs.declared.side.Side.{Side};
 ghost use Rattle.uug_session.specs.Engine.{HasFailed};
 
 use thiserror::Error;

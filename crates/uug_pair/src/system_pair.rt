@@ -1,5 +1,5 @@
 //! Two folders, and the socket between their ends.
-ghost use Rattle.std.specs.Prelude.{◌≡◌, ◌≤◌, ◌↔◌, ◌&&◌, false, IfErr, IfOk};
+ghost use Rattle.std.specs.Prelude.{◌≡◌, ◌≢◌, ◌≤◌, ◌↔◌, ◌&&◌, false, IfErr, IfOk};
 ghost use Rattle.uug_talk.specs.Name.{IsName};
 ghost use Rattle.uug_tool.specs.Streams.{CountsFault};
 ghost use Rattle.uug_pair.specs.Noise.{is_in_range};
@@ -64,16 +64,38 @@ pub fn pair_run<A: Allocator + Copy, R: Files + Net + Alloc + Clone + Drop, O: O
         return Err(ToolFault::Usage);
     };
     let (mut caller, mut called) = make_ends(alloc, rt, dir_a, dir_b, &mut noise)?;
-    let mut line = connect(rt, socket)?;
-    pair_over(
+    let result = run_ends(
         alloc,
+        rt,
+        socket,
         &mut caller,
         &mut called,
-        &mut line,
         &mut noise,
-        TURNS_MAX,
         output,
-    )
+    );
+    drop(caller);
+    drop(called);
+    result
+}
+
+/// Joins both ends by a socket, and runs them.
+fn run_ends<A: Allocator + Copy, R: Files + Net + Alloc + Clone + Drop, O: Output>(
+    alloc: A,
+    rt: &R,
+    socket: &str,
+    caller: &mut SystemEnd<'_, R, A>,
+    called: &mut SystemEnd<'_, R, A>,
+    noise: &mut Noise,
+    output: &mut O,
+) -> Result<u8, ToolFault>
+    ensures status { IfOk result (λ status. status ≤ 1) }
+    ensures write { result ≡ Err ToolFault.Write
+        → CountsFault (O.fault_count output.old) (O.fault_count output.new) }
+    ensures no_other { IfErr result IsRunFault }
+    ensures no_usage { result ≢ Err ToolFault.Usage }
+{
+    let mut line = connect(rt, socket)?;
+    pair_over(alloc, caller, called, &mut line, noise, TURNS_MAX, output)
 }
 
 /// Both ends over their folders, as these stand.
@@ -107,8 +129,14 @@ fn make_ends<'a, A: Allocator + Copy, R: Files + Alloc + Clone + Drop>(
         called_jobs,
         called_files,
         noise,
-    )?;
-    Ok((caller, called))
+    );
+    match called {
+        Ok(called) => Ok((caller, called)),
+        Err(_) => {
+            drop(caller);
+            Err(ToolFault::Memory)
+        }
+    }
 }
 
 /// The jobs of the folder `dir`.
@@ -139,17 +167,24 @@ fn make_end<'a, A: Allocator + Copy, R: Files>(
     files: Vec<Stored<A>, A>,
     noise: &mut Noise,
 ) -> Result<SystemEnd<'a, R, A>, AllocError> {
-    let spool = FolderSpool::new(alloc, files, SystemFolder::new(alloc, rt, dir)?);
+    let folder = SystemFolder::new(alloc, rt, dir)?;
+    let jobs_file = SystemText::new(alloc, rt, dir, "jobs")?;
+    let spool = FolderSpool::new(alloc, files, folder);
     let made = match side {
         Side::Caller => Node::caller(alloc, place(b"a", b"b"), jobs, spool),
         Side::Called => Node::called(alloc, place(b"b", b"a"), jobs, spool),
     };
-    let Ok(node) = made else {
-        return Err(AllocError);
+    let node = match made {
+        Ok(node) => node,
+        Err(refused) => {
+            drop(refused);
+            return Err(AllocError);
+        }
     };
+    let seat = Seat::new(alloc, node, noise)?;
     Ok(PairEnd {
-        seat: Seat::new(alloc, node, noise)?,
-        jobs: SystemText::new(alloc, rt, dir, "jobs")?,
+        seat,
+        jobs: jobs_file,
     })
 }
 

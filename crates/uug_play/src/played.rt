@@ -150,7 +150,9 @@ pub fn play_script<A: Allocator + Copy>(alloc: A, text: &[u8]) -> Result<Played<
     ensures fault { IfErr result (IsScriptFault text.now) }
 {
     let report = run_script(alloc, text)?;
-    match shown(alloc, &report) {
+    let played = shown(alloc, &report);
+    drop(report);
+    match played {
         Ok(played) => Ok(played),
         Err(_) => Err(ToolFault::Memory),
     }
@@ -191,7 +193,9 @@ pub fn play_script_verbosely<A: Allocator + Copy>(
     ensures fault { IfErr result (IsScriptFault text.now) }
 {
     let report = run_script(alloc, text)?;
-    match shown_verbosely(alloc, &report) {
+    let played = shown_verbosely(alloc, &report);
+    drop(report);
+    match played {
         Ok(played) => Ok(played),
         Err(_) => Err(ToolFault::Memory),
     }

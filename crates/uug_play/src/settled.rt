@@ -25,19 +25,26 @@ fn settled<A: Allocator + Copy>(alloc: A, report: Report<A>) -> Result<Played<A>
         → IsBehind setup events (string_bytes last.text) last.status) }
 {
     let report = settle(alloc, report)?;
-    let last = shown(alloc, &report)?;
-    Ok(last)
+    let last = shown(alloc, &report);
+    drop(report);
+    Ok(last?)
 }
 
 /// The text of the report, and after it that of what it settles to, or why it may not.
 fn shown_settled<A: Allocator + Copy>(alloc: A, report: Report<A>) -> Result<Played<A>, RunFault>
     ensures { IfOk result (λ played. GoesOnFrom report (string_bytes played.text) played.status) }
 {
-    let Played { mut text, status } = shown(alloc, &report)?;
     if let Some(why) = why_unsettled(&report) {
+        let played = shown(alloc, &report);
+        drop(report);
+        let Played { mut text, status } = played?;
         add_unsettled(&mut text, why)?;
         return Ok(Played { text, status });
     }
+    let Ok(Played { mut text, .. }) = shown(alloc, &report) else {
+        drop(report);
+        return Err(RunFault::Memory);
+    };
     let last = settled(alloc, report)?;
     text.push_str(&last.text)?;
     Ok(Played {

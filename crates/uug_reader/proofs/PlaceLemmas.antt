@@ -14,15 +14,9 @@ use Rattle.uug_reader.specs.Code.Place.{item_at, item_beside, IsFirst, IsBeside,
 use Rattle.uug_reader.specs.Reading.{Reading, Shows, IsWaiting}
 use Rattle.uug_reader.specs.Shown.{item_of}
 use Rattle.uug_reader.specs.Search.{left_by, after_search}
-use Rattle.uug_reader.proofs.FindingLemmas.{StandsFirst-append, stands_not_nothing, waiting_fits}
+use Rattle.uug_reader.proofs.FindingLemmas.{StandsFirst-append, stands_not_nothing}
 use Rattle.uug_reader.proofs.ScanLemmas.{Finds-none, Finds-append, Finds-join, IsScan-rest}
 use Rattle.uug_reader.proofs.SearchLemmas.{search_finds_item, search_finds_rest}
-use Rattle.uug_reader.specs.Code.PacketLaws.{PacketLaws}
-
-pub record HasFound (s : List ℕ) (result : Bool) (new : Reading) : Type 0 where
-  pub found : IsTrue result → (item : Item) × Shows item new
-  pub none : IsFalse result → IsWaiting new
-  pub nothing : IsFalse result ↔ FindsNothing s
 
 pub record ShowsSearched (s : List ℕ) (result : Option Found) (new : Reading) : Type 0 where
   pub shows : MatchOption result (IsWaiting new) (λ found. Shows (item_of found) new)
@@ -78,90 +72,82 @@ AreBytes-append [] t h k i = k i
 AreBytes-append (b ∷ s) t h k zero = h zero
 AreBytes-append (b ∷ s) t h k (suc i) = AreBytes-append s t (λ j. h (suc j)) k i
 
-module _ (laws : PacketLaws) where
-  IsBeside-append : (standing : Standing) (beside s t : List ℕ) → IsBeside standing beside s → IsBeside standing beside (s ++ t)
-  IsBeside-append standing beside s t h = record {
-    stands = StandsFirst-append laws s t (item_beside standing.place beside) standing.size h.stands;
-    some = h.some;
-    within = omega (arith, h.within, length-append s t);
-  }
+IsBeside-append : (standing : Standing) (beside s t : List ℕ) → IsBeside standing beside s → IsBeside standing beside (s ++ t)
+IsBeside-append standing beside s t h = record {
+  stands = StandsFirst-append s t (item_beside standing.place beside) standing.size h.stands;
+  some = h.some;
+  within = omega (arith, h.within, length-append s t);
+}
 
-  shown-append : (shown : Option Standing) (beside s t : List ℕ) → IfSome shown (λ standing. IsBeside standing beside s) → IfSome shown (λ standing. IsBeside standing beside (s ++ t))
-  shown-append None beside s t h = tt
-  shown-append (Some standing) beside s t h = IsBeside-append standing beside s t h
+shown-append : (shown : Option Standing) (beside s t : List ℕ) → IfSome shown (λ standing. IsBeside standing beside s) → IfSome shown (λ standing. IsBeside standing beside (s ++ t))
+shown-append None beside s t h = tt
+shown-append (Some standing) beside s t h = IsBeside-append standing beside s t h
 
-  -- ---- two pieces
+-- ---- two pieces
 
-  -- noise at the front of the first is noise at the front of both
-  pub passes_piece : (front back : List ℕ) (passed : ℕ) → passed ≤ length front → PassesNoise front (drop passed front) → PassesNoise (front ++ back) (drop passed (front ++ back))
-  passes_piece front back passed within passes =
-      subst (PassesNoise (front ++ back)) (sym (drop-append-le passed front back within)) (Finds-append laws front (drop passed front) back [] passes)
+-- noise at the front of the first is noise at the front of both
+pub passes_piece : (front back : List ℕ) (passed : ℕ) → passed ≤ length front → PassesNoise front (drop passed front) → PassesNoise (front ++ back) (drop passed (front ++ back))
+passes_piece front back passed within passes =
+    subst (PassesNoise (front ++ back)) (sym (drop-append-le passed front back within)) (Finds-append front (drop passed front) back [] passes)
 
-  -- what stands first in the first piece does so in both
-  pub stands_in_piece : (front back beside : List ℕ) (passed : ℕ) (standing : Standing) → passed ≤ length front → IsBeside standing beside (drop passed front) → IsBeside standing beside (drop passed (front ++ back))
-  stands_in_piece front back beside passed standing within h =
-      subst (IsBeside standing beside) (sym (drop-append-le passed front back within)) (IsBeside-append standing beside (drop passed front) back h)
+-- what stands first in the first piece does so in both
+pub stands_in_piece : (front back beside : List ℕ) (passed : ℕ) (standing : Standing) → passed ≤ length front → IsBeside standing beside (drop passed front) → IsBeside standing beside (drop passed (front ++ back))
+stands_in_piece front back beside passed standing within h =
+    subst (IsBeside standing beside) (sym (drop-append-le passed front back within)) (IsBeside-append standing beside (drop passed front) back h)
 
-  -- what more is passed
-  drop-joined : (front back : List ℕ) (passed later : ℕ) → passed ≤ length front → drop later (drop passed front ++ back) ≡ drop (passed + later) (front ++ back)
-  drop-joined front back passed later within =
-      ap (drop later) (sym (drop-append-le passed front back within)) ∙ drop-drop later passed (front ++ back)
+-- what more is passed
+drop-joined : (front back : List ℕ) (passed later : ℕ) → passed ≤ length front → drop later (drop passed front ++ back) ≡ drop (passed + later) (front ++ back)
+drop-joined front back passed later within =
+    ap (drop later) (sym (drop-append-le passed front back within)) ∙ drop-drop later passed (front ++ back)
 
-  pub passes_joined : (front back : List ℕ) (passed later : ℕ) → passed ≤ length front → PassesNoise front (drop passed front) → (let joined = drop passed front ++ back in PassesNoise joined (drop later joined)) → PassesNoise (front ++ back) (drop (passed + later) (front ++ back))
-  passes_joined front back passed later within passes more =
-      subst (PassesNoise (front ++ back)) (drop-joined front back passed later within)
-      (Finds-join laws (front ++ back) (drop passed front ++ back) (drop later (drop passed front ++ back)) [] [] (Finds-append laws front (drop passed front) back [] passes) more)
+pub passes_joined : (front back : List ℕ) (passed later : ℕ) → passed ≤ length front → PassesNoise front (drop passed front) → (let joined = drop passed front ++ back in PassesNoise joined (drop later joined)) → PassesNoise (front ++ back) (drop (passed + later) (front ++ back))
+passes_joined front back passed later within passes more =
+    subst (PassesNoise (front ++ back)) (drop-joined front back passed later within)
+    (Finds-join (front ++ back) (drop passed front ++ back) (drop later (drop passed front ++ back)) [] [] (Finds-append front (drop passed front) back [] passes) more)
 
-  pub stands_joined : (front back beside : List ℕ) (passed later : ℕ) (first : Option Standing) → passed ≤ length front → StandsBeside first beside (drop later (drop passed front ++ back)) → StandsBeside first beside (drop (passed + later) (front ++ back))
-  stands_joined front back beside passed later first within h =
-      subst (StandsBeside first beside) (drop-joined front back passed later within) h
+pub stands_joined : (front back beside : List ℕ) (passed later : ℕ) (first : Option Standing) → passed ≤ length front → StandsBeside first beside (drop later (drop passed front ++ back)) → StandsBeside first beside (drop (passed + later) (front ++ back))
+stands_joined front back beside passed later first within h =
+    subst (StandsBeside first beside) (drop-joined front back passed later within) h
 
-  -- ---- what a reader does
+-- ---- what a reader does
 
-  -- bytes are appended
-  pub Holds-pushed : (old new : Buffer ℕ) (beside t : List ℕ) (shown : Option Standing) → Holds old beside shown → new ≡ buffer (old.items ++ t) old.capacity → length old.items + length t ≤ old.capacity → Holds new beside shown
-  Holds-pushed old new beside t shown h is fits = record {
-    room = ap (λ (b : Buffer ℕ). b.capacity) is ∙ h.room;
-    fits = omega (arith, ap (λ (b : Buffer ℕ). length b.items) is, length-append old.items t, fits, h.room);
-    first = subst (λ (b : Buffer ℕ). IfSome shown (λ standing. IsBeside standing beside b.items)) (sym is) (shown-append shown beside old.items t h.first);
-  }
+-- bytes are appended
+pub Holds-pushed : (old new : Buffer ℕ) (beside t : List ℕ) (shown : Option Standing) → Holds old beside shown → new ≡ buffer (old.items ++ t) old.capacity → length old.items + length t ≤ old.capacity → Holds new beside shown
+Holds-pushed old new beside t shown h is fits = record {
+  room = ap (λ (b : Buffer ℕ). b.capacity) is ∙ h.room;
+  fits = omega (arith, ap (λ (b : Buffer ℕ). length b.items) is, length-append old.items t, fits, h.room);
+  first = subst (λ (b : Buffer ℕ). IfSome shown (λ standing. IsBeside standing beside b.items)) (sym is) (shown-append shown beside old.items t h.first);
+}
 
-  -- what a search finds is what the function finds
-  pub found_exactly : (s beside : List ℕ) (passed : ℕ) (first : Option Standing) → AreBytes s → PassesNoise s (drop passed s) → StandsBeside first beside (drop passed s) → after_search s ≡ left passed first s
-  found_exactly s beside passed None bytes passes waits =
-      ap left_by ((search_finds_rest laws s (drop passed s) bytes).1 (passes, waits))
-  found_exactly s beside passed (Some first) bytes passes h =
-      ap left_by ((search_finds_item laws s (drop passed s) (item_beside first.place beside) first.size bytes).1 (passes, h.stands))
+-- what a search finds is what the function finds
+pub found_exactly : (s beside : List ℕ) (passed : ℕ) (first : Option Standing) → AreBytes s → PassesNoise s (drop passed s) → StandsBeside first beside (drop passed s) → after_search s ≡ left passed first s
+found_exactly s beside passed None bytes passes waits =
+    ap left_by ((search_finds_rest s (drop passed s) bytes).1 (passes, waits))
+found_exactly s beside passed (Some first) bytes passes h =
+    ap left_by ((search_finds_item s (drop passed s) (item_beside first.place beside) first.size bytes).1 (passes, h.stands))
 
-  pub shown_exactly : (s beside : List ℕ) (shown : Option Standing) → AreBytes s → is_some shown ≡ true → IfSome shown (λ standing. IsBeside standing beside s) → after_search s ≡ left 0 shown s
-  shown_exactly s beside shown bytes some h =
-      found_exactly s beside 0 shown bytes (Finds-none laws s) (shown_stands shown beside s some h)
+pub shown_exactly : (s beside : List ℕ) (shown : Option Standing) → AreBytes s → is_some shown ≡ true → IfSome shown (λ standing. IsBeside standing beside s) → after_search s ≡ left 0 shown s
+shown_exactly s beside shown bytes some h =
+    found_exactly s beside 0 shown bytes (Finds-none s) (shown_stands shown beside s some h)
 
-  pub has_found : (s others beside : List ℕ) (first : Option Standing) → PassesNoise s others → StandsBeside first beside others → HasFound s (is_some first) (record { bytes = others; shown_size = size_of first })
-  has_found s others beside None passes waits = record {
-    found = λ h. absurd (cc);
-    none = λ h. (waits, waiting_fits laws others waits, refl);
-    nothing = (λ h. (others, IsScan-rest laws s others passes waits), λ h. refl);
-  }
-  has_found s others beside (Some first) passes h = record {
-    found = λ _. (item_beside first.place beside, (h.stands, h.some));
-    none = λ h'. absurd (cc);
-    nothing = (λ h'. absurd (cc), λ nothing. absurd (stands_not_nothing laws s others (item_beside first.place beside) first.size passes h.stands nothing));
-  }
+pub nothing_found : (s others beside : List ℕ) (first : Option Standing) → PassesNoise s others → StandsBeside first beside others → IsFalse (is_some first) ↔ FindsNothing s
+nothing_found s others beside None passes waits = (λ h. (others, IsScan-rest s others passes waits), λ h. refl)
+nothing_found s others beside (Some first) passes h =
+    (λ h'. absurd (cc), λ nothing. absurd (stands_not_nothing s others (item_beside first.place beside) first.size passes h.stands nothing))
 
-  -- ---- what a reader shows then
+-- ---- what a reader shows then
 
-  pub shows_searched : (s : List ℕ) (new : Reading) (answer : Bool) (result : Option Found) → PassesNoise s new.bytes → (IsTrue answer → (item : Item) × Shows item new) → (IsFalse answer → IsWaiting new) → (IsFalse answer ↔ FindsNothing s) → MatchOption result (new.shown_size ≡ 0) (λ found. Shows (item_of found) new) → ShowsSearched s result new
-  shows_searched s new true None passes here ends nothing shows =
-      absurd (omega (arith, (here refl).1.1, shows))
-  shows_searched s new false None passes here ends nothing shows = record {
-    shows = ends refl;
-    none = (λ _. nothing.0 refl, λ _. refl);
-    first = tt;
-  }
-  shows_searched s new false (Some item) passes here ends nothing shows = absurd (omega (arith, shows.1, (ends refl).2))
-  shows_searched s new true (Some item) passes here ends nothing shows = record {
-    shows = shows;
-    none = (λ h. absurd (cc), λ h. absurd (cc (nothing.1 h)));
-    first = (new.bytes, new.shown_size, passes, shows.0);
-  }
+pub shows_searched : (s : List ℕ) (new : Reading) (answer : Bool) (result : Option Found) → PassesNoise s new.bytes → (IsTrue answer → (item : Item) × Shows item new) → (IsFalse answer → IsWaiting new) → (IsFalse answer ↔ FindsNothing s) → MatchOption result (new.shown_size ≡ 0) (λ found. Shows (item_of found) new) → ShowsSearched s result new
+shows_searched s new true None passes here ends nothing shows =
+    absurd (omega (arith, (here refl).1.1, shows))
+shows_searched s new false None passes here ends nothing shows = record {
+  shows = ends refl;
+  none = (λ _. nothing.0 refl, λ _. refl);
+  first = tt;
+}
+shows_searched s new false (Some item) passes here ends nothing shows = absurd (omega (arith, shows.1, (ends refl).2))
+shows_searched s new true (Some item) passes here ends nothing shows = record {
+  shows = shows;
+  none = (λ h. absurd (cc), λ h. absurd (cc (nothing.1 h)));
+  first = (new.bytes, new.shown_size, passes, shows.0);
+}

@@ -7,12 +7,9 @@ use Rattle.uug_packet.specs.declared.header.TheConstants.{CONTROL_K}
 use Rattle.uug_packet.specs.Decoded.{decoded}
 use Rattle.uug_packet.specs.Packet.{PacketValue}
 use Rattle.uug_packet.specs.WellFormed.{IsWellFormed}
+use Rattle.uug_packet.proofs.WellFormedLemmas.{IsWellFormed-decoded}
 use Rattle.uug_reader.specs.Cut.{found, bad}
 use Rattle.uug_reader.specs.Search.{Search, waiting, standing, search_by, search_of}
-
--- what is needed of packets: what is read is one
-abbrev pub ReadAreWellFormed : Type 0
-ReadAreWellFormed = (s : List ℕ) (p : PacketValue) (n : ℕ) → decoded s ≡ Ok (p, n) → IsWellFormed p
 
 abbrev FindsRight : Search → Type 0
 FindsRight (waiting rest) = ⊤
@@ -23,22 +20,22 @@ right_if : (b : Bool) (x y : Search) → FindsRight x → FindsRight y → Finds
 right_if true x y h k = h
 right_if false x y h k = k
 
-right_by : ReadAreWellFormed → (r : Result (PacketValue × ℕ) NoPacket) (s : List ℕ) (later : Search) → decoded s ≡ r
+right_by : (r : Result (PacketValue × ℕ) NoPacket) (s : List ℕ) (later : Search) → decoded s ≡ r
     → FindsRight later → FindsRight (search_by r s later)
-right_by read (Ok front) s later is h = read s front.0 front.1 is
-right_by read (Err refusals.Short) s later is h = tt
-right_by read (Err refusals.BadLength) s later is h = tt
-right_by read (Err refusals.BadSum) s later is h =
+right_by (Ok front) s later is h = IsWellFormed-decoded s front.0 front.1 is
+right_by (Err refusals.Short) s later is h = tt
+right_by (Err refusals.BadLength) s later is h = tt
+right_by (Err refusals.BadSum) s later is h =
     right_if (slice_index s 1 == CONTROL_K) later (standing bad 1 s) h tt
-right_by read (Err refusals.BadStart) s later is h = h
-right_by read (Err refusals.BadK) s later is h = h
-right_by read (Err refusals.BadXor) s later is h = h
-right_by read (Err refusals.BadKind) s later is h = h
+right_by (Err refusals.BadStart) s later is h = h
+right_by (Err refusals.BadK) s later is h = h
+right_by (Err refusals.BadXor) s later is h = h
+right_by (Err refusals.BadKind) s later is h = h
 
-right : ReadAreWellFormed → (s : List ℕ) → FindsRight (search_of s)
-right read [] = tt
-right read (b ∷ s) = right_by read (decoded (b ∷ s)) (b ∷ s) (search_of s) refl (right read s)
+right : (s : List ℕ) → FindsRight (search_of s)
+right [] = tt
+right (b ∷ s) = right_by (decoded (b ∷ s)) (b ∷ s) (search_of s) refl (right s)
 
-pub found_well_formed : ReadAreWellFormed → (s others : List ℕ) (p : PacketValue) (n : ℕ)
+pub found_well_formed : (s others : List ℕ) (p : PacketValue) (n : ℕ)
     → search_of s ≡ standing (found p) n others → IsWellFormed p
-found_well_formed read s others p n is = subst FindsRight is (right read s)
+found_well_formed s others p n is = subst FindsRight is (right s)

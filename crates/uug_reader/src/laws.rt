@@ -1,5 +1,4 @@
-//! Laws of the cut and the scan of a stream, and of a reader: each is the contract of a function that
-//! does nothing but name the laws that it rests on.
+//! Laws of the cut and the scan of a stream, and of a reader: each is the contract of a function that does nothing.
 ghost use Rattle.std.specs.Prelude.{◌≡◌, ℕ, ◌+◌, ◌≤◌, ◌↔◌, List, [], ◌∷◌, ◌++◌, length, drop};
 ghost use Rattle.uug_packet.specs.Bytes.{AreBytes};
 ghost use Rattle.uug_packet.specs.Packet.{PacketValue};
@@ -13,9 +12,6 @@ ghost use Rattle.uug_reader.specs.Reading.{Reading, fresh, Shows};
 ghost use Rattle.uug_reader.specs.Scan.{Finds, IsScan};
 ghost use Rattle.uug_reader.specs.Search.{search_of, standing, waiting};
 
-use crate::packet_laws::packet_laws;
-use uug_packet::laws::packets_are_well_formed;
-
 /// The limit of a reader, in numbers.
 pub fn limits()
     ensures { READER_SIZE ≡ 4102 }
@@ -27,9 +23,7 @@ pub fn one_cut()
         → (parts : List Part) × (rest : List ℕ) × IsCut s parts rest }
     ensures only { (s rest other : List ℕ) (parts others : List Part) →
         IsCut s parts rest → IsCut s others other → (parts ≡ others) × (rest ≡ other) }
-{
-    packet_laws();
-}
+{}
 
 /// Each stream of bytes has one scan: these items and this rest, and no others.
 pub fn one_scan()
@@ -37,9 +31,7 @@ pub fn one_scan()
         → (items : List Item) × (rest : List ℕ) × IsScan s items rest }
     ensures only { (s rest other : List ℕ) (items others : List Item) →
         IsScan s items rest → IsScan s others other → (items ≡ others) × (rest ≡ other) }
-{
-    packet_laws();
-}
+{}
 
 /// It doesn't matter where a stream is cut into pieces. The items of the first piece are those of the whole stream,
 /// whose others are those of the rest of the first piece and the bytes behind it. The parts are so too.
@@ -48,9 +40,7 @@ pub fn scan_in_pieces()
         IsScan s items rest → IsScan (rest ++ t) more last → IsScan (s ++ t) (items ++ more) last }
     ensures cut { (s t rest last : List ℕ) (parts more : List Part) →
         IsCut s parts rest → IsCut (rest ++ t) more last → IsCut (s ++ t) (parts ++ more) last }
-{
-    packet_laws();
-}
+{}
 
 /// Noise, an item, and the scan of what is behind it are the scan of the whole. So are noise and a rest that waits.
 pub fn scan_from_the_first()
@@ -58,9 +48,7 @@ pub fn scan_from_the_first()
         PassesNoise s others → StandsFirst item n others → IsScan (drop n others) items rest →
         IsScan s (item ∷ items) rest }
     ensures rest { (s rest : List ℕ) → PassesNoise s rest → Waits rest → IsScan s [] rest }
-{
-    packet_laws();
-}
+{}
 
 /// What is found from the front of some bytes, step by step: nothing yet, an item that stands first, and more behind what
 /// was found. It is found as well where more bytes follow. Each item takes at least a byte.
@@ -74,9 +62,7 @@ pub fn found_in_steps()
         → Finds (s ++ t) items (others ++ t) }
     ensures fewer { (s others : List ℕ) (items : List Item) → Finds s items others
         → length others + length items ≤ length s }
-{
-    packet_laws();
-}
+{}
 
 /// The items of two lists of parts, one behind the other, are those of the one and then those of the other.
 pub fn items_joined()
@@ -94,9 +80,7 @@ pub fn found_again()
         (others ≡ s ++ t) × (other ≡ item) × (m ≡ n) }
     ensures some { (s t : List ℕ) (item : Item) (n : ℕ) →
         StandsFirst item n s → FindsNothing (s ++ t) → ⊥ }
-{
-    packet_laws();
-}
+{}
 
 /// The search as a function gives just what stands first behind noise, or the rest that waits there.
 pub fn search_finds_the_first()
@@ -105,17 +89,13 @@ pub fn search_finds_the_first()
         × StandsFirst item n others) }
     ensures rest { (s rest : List ℕ) → AreBytes s
         → (search_of s ≡ waiting rest) ↔ (PassesNoise s rest × Waits rest) }
-{
-    packet_laws();
-}
+{}
 
 /// What the search finds as a packet is a well-formed one, whatever the stream.
 pub fn found_packets_are_well_formed()
     ensures { (s others : List ℕ) (p : PacketValue) (n : ℕ)
         → search_of s ≡ standing (found p) n others → IsWellFormed p }
-{
-    packets_are_well_formed();
-}
+{}
 
 /// Whatever calls a reader had since it was made or cleared, the items that it dropped are the first of the
 /// scan of all bytes that it accepted, and the others are those of the scan of what it holds.
@@ -126,9 +106,7 @@ pub fn dropped_are_first()
         AreBytes (all_accepted calls) → Make calls fresh now
         → IsScan (all_accepted calls) items rest →
         (later : List Item) × IsScan now.bytes later rest × (items ≡ all_dropped calls ++ later) }
-{
-    packet_laws();
-}
+{}
 
 /// The item that is shown stays so, whatever is pushed, searched and shown, until it is dropped, and just that item is.
 pub fn shown_is_dropped()
@@ -136,6 +114,4 @@ pub fn shown_is_dropped()
         Shows item old → Make calls old new → all_dropped calls ≡ [] → Shows item new }
     ensures same { (item other : Item) (now : Reading) →
         Shows item now → StandsFirst other now.shown_size now.bytes → other ≡ item }
-{
-    packet_laws();
-}
+{}

@@ -3,7 +3,6 @@
 
 mod found;
 pub mod laws;
-mod packet_laws;
 mod place;
 mod reader;
 mod ring;

@@ -1,7 +1,6 @@
 ghost use Rattle.std.specs.Prelude.{◌≡◌, ◌-◌, ◌<◌, ◌≤◌, min, [], ◌++◌, length, take, drop, IfOk};
 
 use crate::found::Found;
-use crate::packet_laws::packet_laws;
 use crate::place::{Beside, Standing, show};
 use crate::ring::{drop_front, find_first};
 use circular_buffer::HeapCircularBuffer;
@@ -64,12 +63,12 @@ impl<A: Allocator> Reader<A> {
         ensures bytes { self.new.bytes ≡ self.old.bytes ++ take result piece.now }
         ensures shown { self.new.shown_size ≡ self.old.shown_size }
     {
-        packet_laws();
         self.ring.fill_from_slice(piece)
     }
 
     /// Drops what is no part of an item from the front, up to the first item, and says whether there is one. That
     /// item is shown until it is dropped. Where there is none, at least one byte fits.
+    #[tactic(auto, using(crate::proofs::FindingLemmas::waiting_fits))]
     pub fn search(&mut self) -> bool
         ensures passes { PassesNoise self.old.bytes self.new.bytes }
         ensures found { IsTrue result → (item : Item) × Shows item self.new }
@@ -77,7 +76,6 @@ impl<A: Allocator> Reader<A> {
         ensures nothing { IsFalse result ↔ FindsNothing self.old.bytes }
         ensures exact { self.new ≡ after_search self.old.bytes }
     {
-        packet_laws();
         let first = find_first(&mut self.ring, &mut self.beside, self.shown);
         self.shown = first;
         first.is_some()
@@ -99,7 +97,6 @@ impl<A: Allocator> Reader<A> {
         ensures first { IfSome result (λ found. FindsFirst self.old.bytes (item_of found)) }
         ensures* after { sem 𝓛 (EndsSearched A.row A.Allocator self.entry result) }
     {
-        packet_laws();
         self.search();
         self.showing()
     }

@@ -7,7 +7,6 @@ ghost use Rattle.uug_reader.specs.Finding.{PassesNoise};
 ghost use Rattle.uug_reader.specs.Code.Place.{IsBeside, item_at, item_beside, left, LiesIn, StandsBeside};
 ghost use Rattle.uug_reader.specs.Search.{after_search};
 
-use crate::packet_laws::packet_laws;
 use crate::place::{Beside, Place, Standing};
 use crate::search::{Search, search_in};
 use circular_buffer::HeapCircularBuffer;
@@ -29,7 +28,6 @@ pub fn find_first<A: Allocator>(
     ensures stands { StandsBeside result beside.new.items ring.new.items }
     ensures exact { after_search ring.old.items ≡ left 0 result ring.new.items }
 {
-    packet_laws();
     are_bytes(ring);
     if shown.is_some() {
         return shown;
@@ -80,7 +78,6 @@ fn search_pieces(front: &[u8], back: &[u8], beside: &mut Beside) -> Search
     ensures stands { StandsBeside result.first beside.new.items
         (drop result.passed (front.now ++ back.now)) }
 {
-    packet_laws();
     let search = search_in(front);
     if let Some(standing) = search.first {
         lay(standing.place, &front[search.passed..], beside);

@@ -8,7 +8,6 @@ ghost use Rattle.uug_reader.specs.Cut.{found};
 ghost use Rattle.uug_reader.specs.Finding.{PassesNoise};
 ghost use Rattle.uug_reader.specs.Code.Place.{BeginsWith, item_at, LiesIn, StandsThere};
 
-use crate::packet_laws::packet_laws;
 use crate::place::{Place, Standing};
 use uug_packet::{CONTROL_K, NoPacket, Packet, decode, message_start};
 
@@ -84,7 +83,6 @@ pub fn search_in(bytes: &[u8]) -> Search
     ensures passes { PassesNoise bytes.now (drop result.passed bytes.now) }
     ensures stands { StandsThere result.first (drop result.passed bytes.now) }
 {
-    packet_laws();
     let mut passed = 0;
     while let Some(part) = first_part(&bytes[passed..]) {
         let first = match part {

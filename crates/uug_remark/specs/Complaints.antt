@@ -7,7 +7,7 @@ use Rattle.uug_remark.specs.declared.complaint.Complaint.{Complaint}
 use Rattle.uug_remark.specs.declared.complaint.Complaint.TheVariants as code
 use Rattle.uug_remark.specs.declared.field.Field.{Field}
 use Rattle.uug_remark.specs.declared.field.Field.TheVariants as fields
-use Rattle.uug_remark.specs.declared.statement.Statement.{Statement}
+use Rattle.uug_remark.specs.declared.statement.StatementKind.{StatementKind}
 use Rattle.uug_remark.specs.Fitting.{fits}
 use Rattle.uug_remark.specs.Statements.{field_at, statement_of}
 
@@ -43,11 +43,11 @@ word_at None word behind = too_many word
 word_at (Some field) word behind = if fits field word then behind else wrong field word
 
 -- the words of a statement from this place on
-abbrev pub complaint_at : Statement → (place : ℕ) → List (List ℕ) → Wrong
+abbrev pub complaint_at : StatementKind → (place : ℕ) → List (List ℕ) → Wrong
 complaint_at statement place [] = missing_at (field_at statement place)
 complaint_at statement place (word ∷ more) = word_at (field_at statement place) word (complaint_at statement (place + 1) more)
 
-abbrev pub complaint_by : Option Statement → List ℕ → List (List ℕ) → Wrong
+abbrev pub complaint_by : Option StatementKind → List ℕ → List (List ℕ) → Wrong
 complaint_by None first more = unknown first
 complaint_by (Some statement) first more = complaint_at statement 0 more
 

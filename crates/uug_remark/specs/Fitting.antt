@@ -6,12 +6,12 @@ use Rattle.std.specs.Str.{bytes_eq}
 use Rattle.uug_link.specs.declared.limits.TheConstants.{MESSAGE_MAX, WINDOW_MAX}
 use Rattle.uug_talk.specs.declared.call.TheConstants.{NUMBER_MAX}
 use Rattle.uug_talk.specs.Number.{number_of}
+use Rattle.uug_script.specs.declared.fields.TheConstants.{MODE_DIGITS}
 use Rattle.uug_script.specs.declared.line.TheConstants.{BYTES_MAX, TURNS_MAX}
 use Rattle.uug_talk.specs.Mode.{mode_read}
 use Rattle.uug_talk.specs.Name.{name_read}
 use Rattle.uug_remark.specs.declared.field.Field.{Field}
 use Rattle.uug_remark.specs.declared.field.Field.TheVariants.{Side, Name, Copy, Window, Size, Mode, Bytes, Count, Turns, Number, Byte}
-use Rattle.uug_remark.specs.declared.field.TheConstants.{MODE_DIGITS}
 
 abbrev pub is_more_than_0 : Option ℕ → Bool
 is_more_than_0 None = false

@@ -3,13 +3,13 @@ use Rattle.std.specs.Prelude.{◌||◌, ℕ, Bool, List, [], ◌∷◌, codes, s
 use Rattle.std.specs.Str.{bytes_eq}
 use Rattle.uug_remark.specs.declared.field.Field.{Field}
 use Rattle.uug_remark.specs.declared.field.Field.TheVariants as fields
-use Rattle.uug_remark.specs.declared.statement.Statement.{Statement}
-use Rattle.uug_remark.specs.declared.statement.Statement.TheVariants.{Place, File, Send, Request, Refuse, Number, Quiet, Move, Damage, Tell, Call, Flow}
+use Rattle.uug_remark.specs.declared.statement.StatementKind.{StatementKind}
+use Rattle.uug_remark.specs.declared.statement.StatementKind.TheVariants.{Place, File, Send, Request, Refuse, Number, Quiet, Move, Damage, Tell, Call, Flow}
 
 abbrev pub is_refusal : List ℕ → Bool
 is_refusal word = bytes_eq word (codes "deny") || bytes_eq word (codes "later") || bytes_eq word (codes "immovable")
 
-abbrev pub event_of : List ℕ → Option Statement
+abbrev pub event_of : List ℕ → Option StatementKind
 event_of word =
     if bytes_eq word (codes "pass") || bytes_eq word (codes "drop") then Some Move else
     (if bytes_eq word (codes "flip") || bytes_eq word (codes "insert") then Some Damage else
@@ -17,7 +17,7 @@ event_of word =
     (if bytes_eq word (codes "call") then Some Call else
     (if bytes_eq word (codes "flow") then Some Flow else None))))
 
-abbrev pub statement_of : List ℕ → Option Statement
+abbrev pub statement_of : List ℕ → Option StatementKind
 statement_of word =
     if bytes_eq word (codes "caller") || bytes_eq word (codes "called") then Some Place else
     (if bytes_eq word (codes "file") then Some File else
@@ -28,7 +28,7 @@ statement_of word =
     (if bytes_eq word (codes "quiet") then Some Quiet else event_of word))))))
 
 -- what the words behind the first have to be
-abbrev pub fields_of : Statement → List Field
+abbrev pub fields_of : StatementKind → List Field
 fields_of Place = fields.Name ∷ fields.Window ∷ fields.Size ∷ []
 fields_of File = fields.Side ∷ fields.Name ∷ fields.Mode ∷ fields.Bytes ∷ []
 fields_of Send = fields.Side ∷ fields.Name ∷ fields.Name ∷ fields.Name ∷ fields.Copy ∷ []
@@ -42,5 +42,5 @@ fields_of Tell = fields.Side ∷ []
 fields_of Call = []
 fields_of Flow = fields.Turns ∷ []
 
-abbrev pub field_at : Statement → ℕ → Option Field
+abbrev pub field_at : StatementKind → ℕ → Option Field
 field_at statement place = slice_get (fields_of statement) place

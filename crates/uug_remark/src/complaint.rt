@@ -5,7 +5,7 @@ ghost use Rattle.uug_remark.specs.Complaints.{complaint_at, complaint_of, missin
 ghost use Rattle.uug_remark.specs.Statements.{field_at as has_field};
 
 use crate::field::Field;
-use crate::statement::{Statement, field_at, statement_of};
+use crate::statement::{StatementKind, field_at, statement_of};
 use uug_script::LINE_MAX;
 use uug_talk::split_word;
 
@@ -29,7 +29,7 @@ pub enum Complaint<'a> {
 }
 
 /// What is missing where a statement ends before this place.
-fn missing_at<'a>(statement: Statement, place: usize) -> Complaint<'a>
+fn missing_at<'a>(statement: StatementKind, place: usize) -> Complaint<'a>
     ensures { shown result ≡ missing_at (has_field statement place) }
 {
     match field_at(statement, place) {
@@ -39,7 +39,7 @@ fn missing_at<'a>(statement: Statement, place: usize) -> Complaint<'a>
 }
 
 /// The first word that is wrong behind the one with which the statement begins.
-fn complaint_behind(statement: Statement, text: &[u8]) -> Complaint<'_>
+fn complaint_behind(statement: StatementKind, text: &[u8]) -> Complaint<'_>
     ensures { shown result ≡ complaint_at statement 0 (words text.now) }
 {
     let mut place = 0;

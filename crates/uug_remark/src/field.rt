@@ -3,11 +3,8 @@ ghost use Rattle.std.specs.Prelude.{◌≡◌};
 ghost use Rattle.uug_remark.specs.Fitting.{fits, are_hex_digits};
 
 use uug_link::{MESSAGE_MAX, WINDOW_MAX};
-use uug_script::{BYTES_MAX, TURNS_MAX};
+use uug_script::{BYTES_MAX, MODE_DIGITS, TURNS_MAX};
 use uug_talk::{NUMBER_MAX, Name, read_mode, read_number};
-
-/// The most octal digits of a mode in a script.
-const MODE_DIGITS: usize = 4;
 
 /// What a word of a line has to be.
 #[derive(Clone, Copy, Debug, PartialEq, Eq)]

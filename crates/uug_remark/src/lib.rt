@@ -11,4 +11,4 @@ pub use complaint::{Complaint, complaint_of};
 pub use field::Field;
 pub use play::play_remarked;
 pub use remark::{add_remark, script_remark};
-pub use statement::Statement;
+pub use statement::StatementKind;

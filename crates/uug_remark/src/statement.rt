@@ -1,13 +1,13 @@
 //! The statements of a script, and the words that each has behind its first.
 ghost use Rattle.std.specs.Prelude.{◌≡◌, ◌<◌, IfSome, length, slice_get};
-ghost use Rattle.std.specs.Str.{bytes_eq};
 ghost use Rattle.uug_remark.specs.Statements.{event_of, field_at, is_refusal, statement_of};
 
 use crate::field::Field;
+use uug_script::spells;
 
 /// A kind of statement: those of one kind have the same words behind their first.
 #[derive(Clone, Copy, Debug, PartialEq, Eq)]
-pub enum Statement {
+pub enum StatementKind {
     /// `caller NAME WINDOW SIZE`, and the same of the called end.
     Place,
     /// `file SIDE NAME MODE HEX`.
@@ -34,12 +34,6 @@ pub enum Statement {
     Flow,
 }
 
-fn spells(word: &[u8], text: &[u8]) -> bool
-    ensures { result ≡ bytes_eq word.now text.now }
-{
-    word == text
-}
-
 /// Whether the word is one of a statement that refuses files.
 fn is_refusal(word: &[u8]) -> bool
     ensures { result ≡ is_refusal word.now }
@@ -48,42 +42,42 @@ fn is_refusal(word: &[u8]) -> bool
 }
 
 /// The statement that begins with this word.
-pub fn statement_of(first: &[u8]) -> Option<Statement>
+pub fn statement_of(first: &[u8]) -> Option<StatementKind>
     ensures { result ≡ statement_of first.now }
 {
     if spells(first, b"caller") || spells(first, b"called") {
-        Some(Statement::Place)
+        Some(StatementKind::Place)
     } else if spells(first, b"file") {
-        Some(Statement::File)
+        Some(StatementKind::File)
     } else if spells(first, b"send") {
-        Some(Statement::Send)
+        Some(StatementKind::Send)
     } else if spells(first, b"request") {
-        Some(Statement::Request)
+        Some(StatementKind::Request)
     } else if is_refusal(first) {
-        Some(Statement::Refuse)
+        Some(StatementKind::Refuse)
     } else if spells(first, b"number") {
-        Some(Statement::Number)
+        Some(StatementKind::Number)
     } else if spells(first, b"quiet") {
-        Some(Statement::Quiet)
+        Some(StatementKind::Quiet)
     } else {
         event_of(first)
     }
 }
 
 /// The statement of an event that begins with this word.
-fn event_of(first: &[u8]) -> Option<Statement>
+fn event_of(first: &[u8]) -> Option<StatementKind>
     ensures { result ≡ event_of first.now }
 {
     if spells(first, b"pass") || spells(first, b"drop") {
-        Some(Statement::Move)
+        Some(StatementKind::Move)
     } else if spells(first, b"flip") || spells(first, b"insert") {
-        Some(Statement::Damage)
+        Some(StatementKind::Damage)
     } else if spells(first, b"timeout") || spells(first, b"hangup") {
-        Some(Statement::Tell)
+        Some(StatementKind::Tell)
     } else if spells(first, b"call") {
-        Some(Statement::Call)
+        Some(StatementKind::Call)
     } else if spells(first, b"flow") {
-        Some(Statement::Flow)
+        Some(StatementKind::Flow)
     } else {
         None
     }
@@ -99,17 +93,17 @@ fn pick(fields: &[Field], place: usize) -> Option<Field>
 
 /// What the word has to be that stands in this place behind the first, counted from 0, or `None` where there is no such
 /// place.
-pub fn field_at(statement: Statement, place: usize) -> Option<Field>
+pub fn field_at(statement: StatementKind, place: usize) -> Option<Field>
     ensures exact { result ≡ field_at statement place }
     ensures within { IfSome result (λ _. place < 5) }
 {
     match statement {
-        Statement::Place => pick(&[Field::Name, Field::Window, Field::Size], place),
-        Statement::File => pick(
+        StatementKind::Place => pick(&[Field::Name, Field::Window, Field::Size], place),
+        StatementKind::File => pick(
             &[Field::Side, Field::Name, Field::Mode, Field::Bytes],
             place,
         ),
-        Statement::Send => pick(
+        StatementKind::Send => pick(
             &[
                 Field::Side,
                 Field::Name,
@@ -119,13 +113,16 @@ pub fn field_at(statement: Statement, place: usize) -> Option<Field>
             ],
             place,
         ),
-        Statement::Request => pick(&[Field::Side, Field::Name, Field::Name, Field::Name], place),
-        Statement::Refuse => pick(&[Field::Side, Field::Name], place),
-        Statement::Number => pick(&[Field::Side, Field::Number], place),
-        Statement::Move => pick(&[Field::Side, Field::Count], place),
-        Statement::Damage => pick(&[Field::Side, Field::Byte], place),
-        Statement::Quiet | Statement::Tell => pick(&[Field::Side], place),
-        Statement::Call => None,
-        Statement::Flow => pick(&[Field::Turns], place),
+        StatementKind::Request => pick(
+            &[Field::Side, Field::Name, Field::Name, Field::Name],
+            place,
+        ),
+        StatementKind::Refuse => pick(&[Field::Side, Field::Name], place),
+        StatementKind::Number => pick(&[Field::Side, Field::Number], place),
+        StatementKind::Move => pick(&[Field::Side, Field::Count], place),
+        StatementKind::Damage => pick(&[Field::Side, Field::Byte], place),
+        StatementKind::Quiet | StatementKind::Tell => pick(&[Field::Side], place),
+        StatementKind::Call => None,
+        StatementKind::Flow => pick(&[Field::Turns], place),
     }
 }

@@ -4,7 +4,7 @@ use Rattle.uug_link.specs.Announced.{quiet_as}
 use Rattle.uug_conversation.specs.Jobs.{Lists, at_start, pending, added as job_added}
 use Rattle.uug_conversation.specs.declared.job.Job.{Job}
 use Rattle.uug_conversation.specs.declared.queue.TheConstants.{JOBS_MAX}
-use Rattle.uug_line.specs.declared.side.Side.TheVariants.{Caller, Called}
+use Rattle.uug_conversation.specs.declared.side.Side.TheVariants.{Caller, Called}
 use Rattle.uug_script.specs.declared.fault.ScriptFault.{ScriptFault}
 use Rattle.uug_script.specs.declared.script.Script.{Script}
 use Rattle.uug_script.specs.Fields.{◌>>=◌}

@@ -1,6 +1,6 @@
 -- The words that are written of a job say it.
 use Rattle.std.proofs.Common.{Some, None, refl}
-use Rattle.uug_line.specs.declared.side.Side.{Side}
+use Rattle.uug_conversation.specs.declared.side.Side.{Side}
 use Rattle.uug_conversation.specs.declared.job.Job.{Job}
 use Rattle.uug_conversation.specs.declared.job.Job.TheVariants.{Send, Request}
 use Rattle.uug_conversation.specs.Party.{HasNames}

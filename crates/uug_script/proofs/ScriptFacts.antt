@@ -10,7 +10,7 @@ use Rattle.uug_conversation.specs.declared.job.Job.TheVariants.{Send}
 use Rattle.uug_line.specs.declared.event.Event.TheVariants.{Flip, Call}
 use Rattle.uug_session.specs.declared.phase.Phase.TheVariants.{Ended}
 use Rattle.uug_script.specs.declared.report.EndNumbers.{EndNumbers}
-use Rattle.uug_line.specs.declared.side.Side.TheVariants.{Caller, Called}
+use Rattle.uug_conversation.specs.declared.side.Side.TheVariants.{Caller, Called}
 use Rattle.uug_line.specs.declared.verdict.LineVerdict.TheVariants.{Clean, Fooled}
 use Rattle.uug_script.specs.Lines.{lines}
 use Rattle.uug_script.specs.Meaning.{event, number, of_end, quiet}

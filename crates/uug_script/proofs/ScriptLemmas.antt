@@ -3,7 +3,7 @@ use Rattle.std.proofs.Common.{◌≡◌, ℕ, zero, suc, ◌+◌, List, [], ◌�
 use Rattle.uug_line.specs.declared.event.Event.{Event}
 use Rattle.uug_line.specs.declared.event.Event.TheVariants.{Pass}
 use Rattle.uug_script.specs.declared.line.TheConstants.{BYTES_MAX}
-use Rattle.uug_line.specs.declared.side.Side.TheVariants.{Caller, Called}
+use Rattle.uug_conversation.specs.declared.side.Side.TheVariants.{Caller, Called}
 use Rattle.uug_script.specs.Script.{flow_events}
 
 one_turn_more : (n : ℕ) → flow_events (suc n) ≡ flow_events n ++ Pass Called BYTES_MAX ∷ Pass Caller BYTES_MAX ∷ []

@@ -8,15 +8,15 @@ use Rattle.uug_talk.specs.Name.{IsName}
 use Rattle.uug_talk.specs.Words.{words}
 use Rattle.uug_line.specs.declared.event.Event.TheVariants.{Pass, Drop, Flip, Insert, Timeout, HangUp, Call}
 use Rattle.uug_script.specs.declared.line.TheConstants.{BYTES_MAX, LINE_MAX, TURNS_MAX}
-use Rattle.uug_line.specs.declared.side.Side.{Side}
-use Rattle.uug_line.specs.declared.side.Side.TheVariants.{Caller, Called}
+use Rattle.uug_conversation.specs.declared.side.Side.{Side}
+use Rattle.uug_conversation.specs.declared.side.Side.TheVariants.{Caller, Called}
 use Rattle.uug_talk.specs.declared.call.TheConstants.{NUMBER_MAX}
 use Rattle.uug_talk.specs.Number.{number_of}
 use Rattle.uug_script.specs.Fields.{◌>>=◌, side_word, side_of, name_of, mode_of_word, hex_bytes, byte_of, announcement_of, is_comment}
 use Rattle.hex.specs.Hex.{decode_of}
 use Rattle.uug_script.specs.LineSays.{WritesNumber, NamesCopy, LineSays, TextSays, blank, comment, end_line, file_line, send_line, request_line, deny_line, later_line, immovable_line, number_line, quiet_line, pass_line, drop_line, flip_line, insert_line, timeout_line, hangup_line, call_line, flow_line}
 use Rattle.uug_script.specs.Meaning.{LineMeaning, nothing, of_end, event, flow, place, file, job, deny, later, immovable, number, quiet, file_meaning, of_side}
-use Rattle.uug_script.specs.ReadLine.{place_of, file_of, last_name_of, send_of, request_of, side_and_name, side_and_number, side_and_byte, one_side, call_of, flow_of, deny_of, later_of, immovable_of, number_line_of, quiet_of, pass_of, drop_of, flip_of, insert_of, timeout_of, hang_up_of, event_by, line_by, line_of_words, line_of}
+use Rattle.uug_script.specs.ReadLine.{place_of, file_of, last_name_of, send_of, request_of, side_and_name, side_and_number, side_and_byte, one_side, call_of, flow_of, event_by, line_by, line_of_words, line_of}
 use Rattle.uug_script.proofs.WordTableLemmas.{bind_some, same_bytes, name_of_name, name_is, number_written, writes_number, announcement_written, announces, mode_written, writes_mode, bytes_written, writes_bytes, byte_written, writes_byte}
 
 -- ---- what the table says is read
@@ -239,68 +239,36 @@ spelled_says : (first : List ℕ) (spelled ws : List (List ℕ)) (x m : LineMean
     → LineSays (first ∷ ws) m
 spelled_says first spelled ws x m e h f = subst (λ rest. LineSays (first ∷ rest) m) e (as_meaning (first ∷ spelled) x m h (some_is f))
 
-deny_says : (ws : List (List ℕ)) (m : LineMeaning) → deny_of ws ≡ Some m → LineSays (codes "deny" ∷ ws) m
-deny_says ws m e =
-    let p = bind_some (side_and_name ws) (λ p. Some (of_end p.0 (deny p.1))) m e in
+-- a side and a name, a side and a number, a side and a byte, and a side alone
+named_says : (first : List ℕ) (means : Side → List ℕ → LineMeaning)
+    → ((side : Side) (name : List ℕ) → IsName name → LineSays (first ∷ side_word side ∷ name ∷ []) (means side name))
+    → (ws : List (List ℕ)) (m : LineMeaning) → side_and_name ws >>= (λ p. Some (means p.0 p.1)) ≡ Some m → LineSays (first ∷ ws) m
+named_says first means says ws m e =
+    let p = bind_some (side_and_name ws) (λ p. Some (means p.0 p.1)) m e in
     let w = side_and_name_is ws p.0 p.1 in
-    spelled_says (codes "deny") (side_word p.0.0 ∷ p.0.1 ∷ []) ws (of_end p.0.0 (deny p.0.1)) m w.spelled (deny_line w.named) p.2
+    spelled_says first (side_word p.0.0 ∷ p.0.1 ∷ []) ws (means p.0.0 p.0.1) m w.spelled (says p.0.0 p.0.1 w.named) p.2
 
-later_says : (ws : List (List ℕ)) (m : LineMeaning) → later_of ws ≡ Some m → LineSays (codes "later" ∷ ws) m
-later_says ws m e =
-    let p = bind_some (side_and_name ws) (λ p. Some (of_end p.0 (later p.1))) m e in
-    let w = side_and_name_is ws p.0 p.1 in
-    spelled_says (codes "later") (side_word p.0.0 ∷ p.0.1 ∷ []) ws (of_end p.0.0 (later p.0.1)) m w.spelled (later_line w.named) p.2
+numbered_says : (first : List ℕ) (most : ℕ) (means : Side → ℕ → LineMeaning)
+    → ((side : Side) (word : List ℕ) (n : ℕ) → WritesNumber most word n → LineSays (first ∷ side_word side ∷ word ∷ []) (means side n))
+    → (ws : List (List ℕ)) (m : LineMeaning) → side_and_number most ws >>= (λ p. Some (means p.0 p.1)) ≡ Some m → LineSays (first ∷ ws) m
+numbered_says first most means says ws m e =
+    let p = bind_some (side_and_number most ws) (λ p. Some (means p.0 p.1)) m e in
+    let w = side_and_number_is most ws p.0 p.1 in
+    spelled_says first (side_word p.0.0 ∷ w.word ∷ []) ws (means p.0.0 p.0.1) m w.spelled (says p.0.0 w.word p.0.1 w.written) p.2
 
-immovable_says : (ws : List (List ℕ)) (m : LineMeaning) → immovable_of ws ≡ Some m → LineSays (codes "immovable" ∷ ws) m
-immovable_says ws m e =
-    let p = bind_some (side_and_name ws) (λ p. Some (of_end p.0 (immovable p.1))) m e in
-    let w = side_and_name_is ws p.0 p.1 in
-    spelled_says (codes "immovable") (side_word p.0.0 ∷ p.0.1 ∷ []) ws (of_end p.0.0 (immovable p.0.1)) m w.spelled (immovable_line w.named) p.2
-
-number_says : (ws : List (List ℕ)) (m : LineMeaning) → number_line_of ws ≡ Some m → LineSays (codes "number" ∷ ws) m
-number_says ws m e =
-    let p = bind_some (side_and_number NUMBER_MAX ws) (λ p. Some (of_end p.0 (number p.1))) m e in
-    let w = side_and_number_is NUMBER_MAX ws p.0 p.1 in
-    spelled_says (codes "number") (side_word p.0.0 ∷ w.word ∷ []) ws (of_end p.0.0 (number p.0.1)) m w.spelled (number_line w.written) p.2
-
-quiet_says : (ws : List (List ℕ)) (m : LineMeaning) → quiet_of ws ≡ Some m → LineSays (codes "quiet" ∷ ws) m
-quiet_says ws m e =
-    let s = bind_some (one_side ws) (λ s. Some (of_end s quiet)) m e in
-    spelled_says (codes "quiet") (side_word s.0 ∷ []) ws (of_end s.0 quiet) m (one_side_is ws s.0 s.1) quiet_line s.2
-
-pass_says : (ws : List (List ℕ)) (m : LineMeaning) → pass_of ws ≡ Some m → LineSays (codes "pass" ∷ ws) m
-pass_says ws m e =
-    let p = bind_some (side_and_number BYTES_MAX ws) (λ p. Some (event (Pass p.0 p.1))) m e in
-    let w = side_and_number_is BYTES_MAX ws p.0 p.1 in
-    spelled_says (codes "pass") (side_word p.0.0 ∷ w.word ∷ []) ws (event (Pass p.0.0 p.0.1)) m w.spelled (pass_line w.written) p.2
-
-drop_says : (ws : List (List ℕ)) (m : LineMeaning) → drop_of ws ≡ Some m → LineSays (codes "drop" ∷ ws) m
-drop_says ws m e =
-    let p = bind_some (side_and_number BYTES_MAX ws) (λ p. Some (event (Drop p.0 p.1))) m e in
-    let w = side_and_number_is BYTES_MAX ws p.0 p.1 in
-    spelled_says (codes "drop") (side_word p.0.0 ∷ w.word ∷ []) ws (event (Drop p.0.0 p.0.1)) m w.spelled (drop_line w.written) p.2
-
-flip_says : (ws : List (List ℕ)) (m : LineMeaning) → flip_of ws ≡ Some m → LineSays (codes "flip" ∷ ws) m
-flip_says ws m e =
-    let p = bind_some (side_and_byte ws) (λ p. Some (event (Flip p.0 p.1))) m e in
+byte_says : (first : List ℕ) (means : Side → ℕ → LineMeaning)
+    → ((side : Side) (hex : List ℕ) (b : ℕ) → decode_of hex ≡ Ok (b ∷ []) → LineSays (first ∷ side_word side ∷ hex ∷ []) (means side b))
+    → (ws : List (List ℕ)) (m : LineMeaning) → side_and_byte ws >>= (λ p. Some (means p.0 p.1)) ≡ Some m → LineSays (first ∷ ws) m
+byte_says first means says ws m e =
+    let p = bind_some (side_and_byte ws) (λ p. Some (means p.0 p.1)) m e in
     let w = side_and_byte_is ws p.0 p.1 in
-    spelled_says (codes "flip") (side_word p.0.0 ∷ w.word ∷ []) ws (event (Flip p.0.0 p.0.1)) m w.spelled (flip_line w.written) p.2
+    spelled_says first (side_word p.0.0 ∷ w.word ∷ []) ws (means p.0.0 p.0.1) m w.spelled (says p.0.0 w.word p.0.1 w.written) p.2
 
-insert_says : (ws : List (List ℕ)) (m : LineMeaning) → insert_of ws ≡ Some m → LineSays (codes "insert" ∷ ws) m
-insert_says ws m e =
-    let p = bind_some (side_and_byte ws) (λ p. Some (event (Insert p.0 p.1))) m e in
-    let w = side_and_byte_is ws p.0 p.1 in
-    spelled_says (codes "insert") (side_word p.0.0 ∷ w.word ∷ []) ws (event (Insert p.0.0 p.0.1)) m w.spelled (insert_line w.written) p.2
-
-timeout_says : (ws : List (List ℕ)) (m : LineMeaning) → timeout_of ws ≡ Some m → LineSays (codes "timeout" ∷ ws) m
-timeout_says ws m e =
-    let s = bind_some (one_side ws) (λ s. Some (event (Timeout s))) m e in
-    spelled_says (codes "timeout") (side_word s.0 ∷ []) ws (event (Timeout s.0)) m (one_side_is ws s.0 s.1) timeout_line s.2
-
-hang_up_says : (ws : List (List ℕ)) (m : LineMeaning) → hang_up_of ws ≡ Some m → LineSays (codes "hangup" ∷ ws) m
-hang_up_says ws m e =
-    let s = bind_some (one_side ws) (λ s. Some (event (HangUp s))) m e in
-    spelled_says (codes "hangup") (side_word s.0 ∷ []) ws (event (HangUp s.0)) m (one_side_is ws s.0 s.1) hangup_line s.2
+alone_says : (first : List ℕ) (means : Side → LineMeaning) → ((side : Side) → LineSays (first ∷ side_word side ∷ []) (means side))
+    → (ws : List (List ℕ)) (m : LineMeaning) → one_side ws >>= (λ s. Some (means s)) ≡ Some m → LineSays (first ∷ ws) m
+alone_says first means says ws m e =
+    let s = bind_some (one_side ws) (λ s. Some (means s)) m e in
+    spelled_says first (side_word s.0 ∷ []) ws (means s.0) m (one_side_is ws s.0 s.1) (says s.0) s.2
 
 call_says : (ws : List (List ℕ)) (m : LineMeaning) → call_of ws ≡ Some m → LineSays (codes "call" ∷ ws) m
 call_says [] m e = as_meaning (codes "call" ∷ []) (event Call) m call_line (some_is e)
@@ -313,40 +281,42 @@ flow_says (word ∷ []) m e =
     as_meaning (codes "flow" ∷ word ∷ []) (flow n.0) m (flow_line (writes_number TURNS_MAX word n.0 n.1)) (some_is n.2)
 flow_says (a ∷ b ∷ more) m e = absurd cc
 
--- by the first word
-by_word : {P : Type 0} (first word : List ℕ) (x y : Option LineMeaning) (m : LineMeaning) → (if bytes_eq first word then x else y) ≡ Some m
-    → (word ≡ first → x ≡ Some m → P) → (y ≡ Some m → P) → P
-by_word {P = P} first word x y m e here elsewhere = by_test (bytes_eq first word) refl e where
-  by_test : (b : Bool) → bytes_eq first word ≡ b → (if b then x else y) ≡ Some m → P
-  by_test true t f = here (sym (same_bytes first word t)) f
-  by_test false t f = elsewhere f
-
 with_first : (word first : List ℕ) (ws : List (List ℕ)) (m : LineMeaning) → word ≡ first → LineSays (word ∷ ws) m → LineSays (first ∷ ws) m
 with_first word first ws m e h = subst (λ w. LineSays (w ∷ ws) m) e h
 
+-- by the first word
+by_word : (first word : List ℕ) (ws : List (List ℕ)) (x y : Option LineMeaning) (m : LineMeaning)
+    → (if bytes_eq first word then x else y) ≡ Some m
+    → (x ≡ Some m → LineSays (word ∷ ws) m) → (y ≡ Some m → LineSays (first ∷ ws) m) → LineSays (first ∷ ws) m
+by_word first word ws x y m e here elsewhere = by_test (bytes_eq first word) refl e where
+  by_test : (b : Bool) → bytes_eq first word ≡ b → (if b then x else y) ≡ Some m → LineSays (first ∷ ws) m
+  by_test true t f = with_first word first ws m (sym (same_bytes first word t)) (here f)
+  by_test false t f = elsewhere f
+
 event_says : (first : List ℕ) (ws : List (List ℕ)) (m : LineMeaning) → event_by first ws ≡ Some m → LineSays (first ∷ ws) m
 event_says first ws m e =
-    by_word first (codes "pass") _ _ m e (λ k f. with_first _ first ws m k (pass_says ws m f)) (λ e.
-    by_word first (codes "drop") _ _ m e (λ k f. with_first _ first ws m k (drop_says ws m f)) (λ e.
-    by_word first (codes "flip") _ _ m e (λ k f. with_first _ first ws m k (flip_says ws m f)) (λ e.
-    by_word first (codes "insert") _ _ m e (λ k f. with_first _ first ws m k (insert_says ws m f)) (λ e.
-    by_word first (codes "timeout") _ _ m e (λ k f. with_first _ first ws m k (timeout_says ws m f)) (λ e.
-    by_word first (codes "hangup") _ _ m e (λ k f. with_first _ first ws m k (hang_up_says ws m f)) (λ e.
-    by_word first (codes "call") _ _ m e (λ k f. with_first _ first ws m k (call_says ws m f)) (λ e.
-    by_word first (codes "flow") _ _ m e (λ k f. with_first _ first ws m k (flow_says ws m f)) (λ e. absurd cc))))))))
+    by_word first (codes "pass") ws _ _ m e (numbered_says _ _ (λ s n. event (Pass s n)) (λ s w n h. pass_line h) ws m) (λ e.
+    by_word first (codes "drop") ws _ _ m e (numbered_says _ _ (λ s n. event (Drop s n)) (λ s w n h. drop_line h) ws m) (λ e.
+    by_word first (codes "flip") ws _ _ m e (byte_says _ (λ s b. event (Flip s b)) (λ s w b h. flip_line h) ws m) (λ e.
+    by_word first (codes "insert") ws _ _ m e (byte_says _ (λ s b. event (Insert s b)) (λ s w b h. insert_line h) ws m) (λ e.
+    by_word first (codes "timeout") ws _ _ m e (alone_says _ (λ s. event (Timeout s)) (λ s. timeout_line) ws m) (λ e.
+    by_word first (codes "hangup") ws _ _ m e (alone_says _ (λ s. event (HangUp s)) (λ s. hangup_line) ws m) (λ e.
+    by_word first (codes "call") ws _ _ m e (call_says ws m) (λ e.
+    by_word first (codes "flow") ws _ _ m e (flow_says ws m) (λ e. absurd cc))))))))
 
 line_says : (first : List ℕ) (ws : List (List ℕ)) (m : LineMeaning) → line_by first ws ≡ Some m → LineSays (first ∷ ws) m
 line_says first ws m e =
-    by_word first (codes "caller") _ _ m e (λ k f. with_first _ first ws m k (place_says Caller ws m f)) (λ e.
-    by_word first (codes "called") _ _ m e (λ k f. with_first _ first ws m k (place_says Called ws m f)) (λ e.
-    by_word first (codes "file") _ _ m e (λ k f. with_first _ first ws m k (file_says ws m f)) (λ e.
-    by_word first (codes "send") _ _ m e (λ k f. with_first _ first ws m k (send_says ws m f)) (λ e.
-    by_word first (codes "request") _ _ m e (λ k f. with_first _ first ws m k (request_says ws m f)) (λ e.
-    by_word first (codes "deny") _ _ m e (λ k f. with_first _ first ws m k (deny_says ws m f)) (λ e.
-    by_word first (codes "later") _ _ m e (λ k f. with_first _ first ws m k (later_says ws m f)) (λ e.
-    by_word first (codes "immovable") _ _ m e (λ k f. with_first _ first ws m k (immovable_says ws m f)) (λ e.
-    by_word first (codes "number") _ _ m e (λ k f. with_first _ first ws m k (number_says ws m f)) (λ e.
-    by_word first (codes "quiet") _ _ m e (λ k f. with_first _ first ws m k (quiet_says ws m f)) (λ e. event_says first ws m e))))))))))
+    by_word first (codes "caller") ws _ _ m e (place_says Caller ws m) (λ e.
+    by_word first (codes "called") ws _ _ m e (place_says Called ws m) (λ e.
+    by_word first (codes "file") ws _ _ m e (file_says ws m) (λ e.
+    by_word first (codes "send") ws _ _ m e (send_says ws m) (λ e.
+    by_word first (codes "request") ws _ _ m e (request_says ws m) (λ e.
+    by_word first (codes "deny") ws _ _ m e (named_says _ (λ s n. of_end s (deny n)) (λ s n h. deny_line h) ws m) (λ e.
+    by_word first (codes "later") ws _ _ m e (named_says _ (λ s n. of_end s (later n)) (λ s n h. later_line h) ws m) (λ e.
+    by_word first (codes "immovable") ws _ _ m e (named_says _ (λ s n. of_end s (immovable n)) (λ s n h. immovable_line h) ws m) (λ e.
+    by_word first (codes "number") ws _ _ m e (numbered_says _ _ (λ s n. of_end s (number n)) (λ s w n h. number_line h) ws m) (λ e.
+    by_word first (codes "quiet") ws _ _ m e (alone_says _ (λ s. of_end s quiet) (λ s. quiet_line) ws m) (λ e.
+    event_says first ws m e))))))))))
 
 comment_is : (first : List ℕ) → is_comment first ≡ true → (letters : List ℕ) × (35 ∷ letters ≡ first)
 comment_is [] e = absurd cc

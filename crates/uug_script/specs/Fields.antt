@@ -1,5 +1,5 @@
 -- What single words of a script's line say (this project's profile), as functions.
-use Rattle.std.specs.Prelude.{◌==◌, ◌&&◌, ℕ, Bool, List, [], length, codes, nat_eq, nat_lt, nat_le, slice_index, Option, Some, None, Result, Ok, Err, if◌then◌else◌, false}
+use Rattle.std.specs.Prelude.{◌==◌, ℕ, Bool, List, [], length, codes, nat_eq, nat_le, slice_index, Option, Some, None, Result, Ok, Err, if◌then◌else◌, false}
 use Rattle.std.specs.List.{starts_with}
 use Rattle.std.specs.Result.{result_ok}
 use Rattle.std.specs.Str.{bytes_eq}
@@ -11,8 +11,8 @@ use Rattle.uug_talk.specs.Mode.{mode_read}
 use Rattle.uug_talk.specs.Name.{name_read}
 use Rattle.uug_talk.specs.Number.{number_of}
 use Rattle.uug_script.specs.declared.fields.TheConstants.{MODE_DIGITS}
-use Rattle.uug_line.specs.declared.side.Side.{Side}
-use Rattle.uug_line.specs.declared.side.Side.TheVariants.{Caller, Called}
+use Rattle.uug_conversation.specs.declared.side.Side.{Side}
+use Rattle.uug_conversation.specs.declared.side.Side.TheVariants.{Caller, Called}
 
 -- the second step, where the first gave a value
 infixl 10 ◌>>=◌

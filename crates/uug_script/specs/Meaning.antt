@@ -6,12 +6,12 @@ use Rattle.uug_conversation.specs.Holdings.{Kept, kept_file}
 use Rattle.uug_conversation.specs.declared.job.Job.{Job}
 use Rattle.uug_script.specs.Fields.{hex_bytes}
 use Rattle.uug_line.specs.declared.event.Event.{Event}
-use Rattle.uug_script.specs.declared.line.EndLine.{EndLine}
-use Rattle.uug_script.specs.declared.line.EndLine.TheVariants as end_line
-use Rattle.uug_script.specs.declared.line.Line.{Line}
-use Rattle.uug_script.specs.declared.line.Line.TheVariants as line
+use Rattle.uug_script.specs.declared.line.EndStatement.{EndStatement}
+use Rattle.uug_script.specs.declared.line.EndStatement.TheVariants as end_line
+use Rattle.uug_script.specs.declared.line.Statement.{Statement}
+use Rattle.uug_script.specs.declared.line.Statement.TheVariants as line
 use Rattle.uug_script.specs.declared.mode.Mode.{Mode}
-use Rattle.uug_line.specs.declared.side.Side.{Side}
+use Rattle.uug_conversation.specs.declared.side.Side.{Side}
 
 -- of an end's set-up
 pub data EndMeaning : Type 0 where
@@ -55,7 +55,7 @@ abbrev pub of_side : Side → Option EndMeaning → Option LineMeaning
 of_side side None = None
 of_side side (Some m) = Some (of_end side m)
 
-abbrev pub end_meaning : EndLine → Option EndMeaning
+abbrev pub end_meaning : EndStatement → Option EndMeaning
 end_meaning (end_line.Place name announce) = Some (place name (announced announce))
 end_meaning (end_line.File name mode hex) = file_meaning name mode.bits (hex_bytes hex.now)
 end_meaning (end_line.Job j) = Some (job j)
@@ -65,12 +65,12 @@ end_meaning (end_line.Immovable name) = Some (immovable name)
 end_meaning (end_line.Number n) = Some (number n)
 end_meaning end_line.Quiet = Some quiet
 
-abbrev pub line_meaning : Line → Option LineMeaning
+abbrev pub line_meaning : Statement → Option LineMeaning
 line_meaning line.Nothing = Some nothing
 line_meaning (line.End side e) = of_side side (end_meaning e)
 line_meaning (line.Event e) = Some (event e)
 line_meaning (line.Flow n) = Some (flow n)
 
-abbrev pub meaning_of : Option Line → Option LineMeaning
+abbrev pub meaning_of : Option Statement → Option LineMeaning
 meaning_of None = None
 meaning_of (Some l) = line_meaning l

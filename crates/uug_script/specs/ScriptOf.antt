@@ -8,8 +8,8 @@ use Rattle.uug_script.specs.declared.draft.EndDraft.{EndDraft}
 use Rattle.uug_script.specs.declared.draft.EndPlace.{EndPlace}
 use Rattle.uug_script.specs.declared.fault.ScriptFault.{ScriptFault}
 use Rattle.uug_script.specs.declared.fault.ScriptFault.TheVariants as fault
-use Rattle.uug_script.specs.declared.line.EndLine.{EndLine}
-use Rattle.uug_script.specs.declared.line.Line.{Line}
+use Rattle.uug_script.specs.declared.line.EndStatement.{EndStatement}
+use Rattle.uug_script.specs.declared.line.Statement.{Statement}
 use Rattle.uug_script.specs.declared.script.Script.{Script}
 use Rattle.uug_script.specs.Fields.{◌>>=◌, hex_bytes}
 use Rattle.uug_script.specs.Lines.{lines}
@@ -77,10 +77,10 @@ script_said_by (Some s) = Some (script_said s)
 abbrev pub file_added : List ℕ → ℕ → List ℕ → EndSaid → Option EndSaid
 file_added name mode hex end = file_meaning name mode (hex_bytes hex) >>= (λ m. end_added m end)
 
-abbrev pub end_line_added : EndLine → EndSaid → Option EndSaid
+abbrev pub end_line_added : EndStatement → EndSaid → Option EndSaid
 end_line_added line end = end_meaning line >>= (λ m. end_added m end)
 
-abbrev pub line_added : Line → Said → Option Said
+abbrev pub line_added : Statement → Said → Option Said
 line_added line said = line_meaning line >>= (λ m. added m said)
 
 -- the fault says the first bad line; want of memory is left open

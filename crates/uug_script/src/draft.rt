@@ -9,7 +9,7 @@ ghost use Rattle.uug_script.specs.ScriptOf.{file_added, end_line_added, line_add
 
 use crate::fault::LineFault;
 use crate::fields::spells;
-use crate::line::{BYTES_MAX, EndLine, Line, read_line};
+use crate::line::{BYTES_MAX, EndStatement, Statement, read_line};
 use crate::mode::Mode;
 use crate::script::Script;
 use hex::FromHexError;
@@ -140,21 +140,21 @@ impl<A: Allocator + Copy> EndDraft<A> {
     }
 
     /// Adds what a line says of the end.
-    fn add(&mut self, alloc: A, line: &EndLine<'_>) -> Result<(), LineFault>
+    fn add(&mut self, alloc: A, line: &EndStatement<'_>) -> Result<(), LineFault>
         ensures ok { OnOk result
             (end_line_added line.now (said_of_end self.old) ≡ Some (said_of_end self.new)) }
         ensures fault { IfErr result (λ fault.
             Refuses fault (end_line_added line.now (said_of_end self.old))) }
     {
         match line {
-            EndLine::Place(name, announce) => self.set_place(*name, *announce),
-            EndLine::File(name, mode, hex) => self.add_file(alloc, *name, *mode, hex),
-            EndLine::Job(job) => self.add_job(*job),
-            EndLine::Deny(name) => Ok(self.spool.deny(*name)?),
-            EndLine::Later(name) => Ok(self.spool.later(*name)?),
-            EndLine::Immovable(name) => Ok(self.spool.immovable(*name)?),
-            EndLine::Number(number) => self.set_number(*number),
-            EndLine::Quiet => self.set_quiet(),
+            EndStatement::Place(name, announce) => self.set_place(*name, *announce),
+            EndStatement::File(name, mode, hex) => self.add_file(alloc, *name, *mode, hex),
+            EndStatement::Job(job) => self.add_job(*job),
+            EndStatement::Deny(name) => Ok(self.spool.deny(*name)?),
+            EndStatement::Later(name) => Ok(self.spool.later(*name)?),
+            EndStatement::Immovable(name) => Ok(self.spool.immovable(*name)?),
+            EndStatement::Number(number) => self.set_number(*number),
+            EndStatement::Quiet => self.set_quiet(),
         }
     }
 
@@ -217,18 +217,18 @@ impl<A: Allocator + Copy> Draft<A> {
     }
 
     /// Adds what a line says.
-    fn add(&mut self, alloc: A, line: &Line<'_>) -> Result<(), LineFault>
+    fn add(&mut self, alloc: A, line: &Statement<'_>) -> Result<(), LineFault>
         ensures ok { OnOk result
             (line_added line.now (said_by self.old) ≡ Some (said_by self.new)) }
         ensures fault { IfErr result (λ fault.
             Refuses fault (line_added line.now (said_by self.old))) }
     {
         match line {
-            Line::Nothing => Ok(()),
-            Line::End(Side::Caller, line) => self.caller.add(alloc, line),
-            Line::End(Side::Called, line) => self.called.add(alloc, line),
-            Line::Event(event) => Ok(add_event(&mut self.events, *event)?),
-            Line::Flow(turns) => Ok(add_flow(&mut self.events, *turns)?),
+            Statement::Nothing => Ok(()),
+            Statement::End(Side::Caller, line) => self.caller.add(alloc, line),
+            Statement::End(Side::Called, line) => self.called.add(alloc, line),
+            Statement::Event(event) => Ok(add_event(&mut self.events, *event)?),
+            Statement::Flow(turns) => Ok(add_flow(&mut self.events, *turns)?),
         }
     }
 

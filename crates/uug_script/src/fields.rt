@@ -14,7 +14,7 @@ use uug_talk::{Name, read_mode, read_number};
 pub const MODE_DIGITS: usize = 4;
 
 /// Whether a word is this one.
-pub(crate) fn spells(word: &[u8], text: &[u8]) -> bool
+pub fn spells(word: &[u8], text: &[u8]) -> bool
     ensures { result ≡ bytes_eq word.now text.now }
 {
     word == text

@@ -29,26 +29,6 @@ fn add_words<A: Allocator>(
     write!(text, "{first} {side} {source} {target} {user}")
 }
 
-/// Appends the words of a Send job's line, of whose file a copy of this name was made.
-fn add_copied<A: Allocator>(
-    text: &mut String<A>,
-    side: Side,
-    source: &Name,
-    target: &Name,
-    user: &Name,
-    temp: &Name,
-) -> Result<(), AllocError>
-    ensures { OnOk result (string_bytes text.new ≡ string_bytes text.old
-        ++ joined (codes "send" ∷ side_word side ∷ source.now ∷ target.now ∷ user.now ∷ temp.now ∷ [])) }
-{
-    let side = side_word(side);
-    let source = source.as_str();
-    let target = target.as_str();
-    let user = user.as_str();
-    let temp = temp.as_str();
-    write!(text, "send {side} {source} {target} {user} {temp}")
-}
-
 /// Appends the words of the line by which a script gives the job to the end on this side, with one space between each two.
 pub fn add_job_words<A: Allocator>(
     text: &mut String<A>,
@@ -62,14 +42,15 @@ pub fn add_job_words<A: Allocator>(
             source,
             target,
             user,
-            temp: Some(temp),
-        } => add_copied(text, side, source, target, user, temp),
-        Job::Send {
-            source,
-            target,
-            user,
-            temp: None,
-        } => add_words(text, "send", side, source, target, user),
+            temp,
+        } => {
+            add_words(text, "send", side, source, target, user)?;
+            let Some(temp) = temp else {
+                return Ok(());
+            };
+            let temp = temp.as_str();
+            write!(text, " {temp}")
+        }
         Job::Request {
             source,
             target,

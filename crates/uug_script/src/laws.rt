@@ -2,7 +2,7 @@
 ghost use Rattle.std.specs.Prelude.{◌≡◌, ℕ, List, Ok, Err};
 ghost use Rattle.uug_script.specs.declared.fields.TheConstants.{MODE_DIGITS};
 ghost use Rattle.uug_script.specs.declared.line.TheConstants.{LINE_MAX, BYTES_MAX, TURNS_MAX};
-ghost use Rattle.uug_line.specs.declared.side.Side.{Side};
+ghost use Rattle.uug_conversation.specs.declared.side.Side.{Side};
 ghost use Rattle.uug_conversation.specs.declared.job.Job.{Job};
 ghost use Rattle.uug_conversation.specs.Party.{HasNames};
 ghost use Rattle.uug_script.specs.IsScript.{IsScript, IsFirstBad};

@@ -6,6 +6,7 @@ ghost use Rattle.uug_script.specs.ReadLine.{line_of, place_of, file_of, send_of,
 
 use crate::fields::{read_announce, read_byte, read_name, read_short_mode, read_side, spells};
 use crate::mode::Mode;
+use crate::words::{four_words, one_word, three_words, two_words};
 use uug_line::{Event, Side};
 use uug_link::Announce;
 use uug_session::Job;
@@ -22,11 +23,11 @@ pub const TURNS_MAX: u32 = 100_000;
 
 /// What a line says.
 #[derive(Clone, Copy, Debug)]
-pub(crate) enum Line<'a> {
+pub(crate) enum Statement<'a> {
     /// Nothing: it has no word, or is a comment.
     Nothing,
     /// Something of an end's set-up.
-    End(Side, EndLine<'a>),
+    End(Side, EndStatement<'a>),
     /// What happens next.
     Event(Event),
     /// So many times all bytes for the called end come to it, and then all for the caller.
@@ -35,7 +36,7 @@ pub(crate) enum Line<'a> {
 
 /// What a line says of an end's set-up.
 #[derive(Clone, Copy, Debug)]
-pub(crate) enum EndLine<'a> {
+pub(crate) enum EndStatement<'a> {
     /// What the end is called, and what it announces.
     Place(Name, Announce),
     /// A file to give, its bytes as they are written.
@@ -55,36 +56,25 @@ pub(crate) enum EndLine<'a> {
 }
 
 /// `caller NAME WINDOW SIZE`, or the same of the called end.
-fn read_place(side: Side, text: &[u8]) -> Option<Line<'_>>
+fn read_place(side: Side, text: &[u8]) -> Option<Statement<'_>>
     ensures { meaning_of result ≡ place_of side (words text.now) }
 {
-    let (name, rest) = split_word(text)?;
-    let (window, rest) = split_word(rest)?;
-    let (size, rest) = split_word(rest)?;
-    if split_word(rest).is_some() {
-        return None;
-    }
-    let place = EndLine::Place(read_name(name)?, read_announce(window, size)?);
-    Some(Line::End(side, place))
+    let (name, window, size) = three_words(text)?;
+    let place = EndStatement::Place(read_name(name)?, read_announce(window, size)?);
+    Some(Statement::End(side, place))
 }
 
 /// `file SIDE NAME MODE HEX`.
-fn read_file(text: &[u8]) -> Option<Line<'_>>
+fn read_file(text: &[u8]) -> Option<Statement<'_>>
     ensures { meaning_of result ≡ file_of (words text.now) }
 {
-    let (side, rest) = split_word(text)?;
-    let (name, rest) = split_word(rest)?;
-    let (mode, rest) = split_word(rest)?;
-    let (hex, rest) = split_word(rest)?;
-    if split_word(rest).is_some() {
-        return None;
-    }
-    let file = EndLine::File(read_name(name)?, read_short_mode(mode)?, hex);
-    Some(Line::End(read_side(side)?, file))
+    let (side, name, mode, hex) = four_words(text)?;
+    let file = EndStatement::File(read_name(name)?, read_short_mode(mode)?, hex);
+    Some(Statement::End(read_side(side)?, file))
 }
 
 /// `send SIDE SOURCE TARGET USER [TEMP]`.
-fn read_send(text: &[u8]) -> Option<Line<'_>>
+fn read_send(text: &[u8]) -> Option<Statement<'_>>
     ensures { meaning_of result ≡ send_of (words text.now) }
 {
     let (side, rest) = split_word(text)?;
@@ -97,50 +87,37 @@ fn read_send(text: &[u8]) -> Option<Line<'_>>
         user: read_name(user)?,
         temp: read_last_name(rest)?,
     };
-    Some(Line::End(read_side(side)?, EndLine::Job(job)))
+    Some(Statement::End(read_side(side)?, EndStatement::Job(job)))
 }
 
 /// The name in the last word, if there is a word.
 fn read_last_name(text: &[u8]) -> Option<Option<Name>>
     ensures { result ≡ last_name_of (words text.now) }
 {
-    let Some((word, rest)) = split_word(text) else {
+    if split_word(text).is_none() {
         return Some(None);
-    };
-    if split_word(rest).is_some() {
-        return None;
     }
-    Some(Some(read_name(word)?))
+    Some(Some(read_name(one_word(text)?)?))
 }
 
 /// `request SIDE SOURCE TARGET USER`.
-fn read_request(text: &[u8]) -> Option<Line<'_>>
+fn read_request(text: &[u8]) -> Option<Statement<'_>>
     ensures { meaning_of result ≡ request_of (words text.now) }
 {
-    let (side, rest) = split_word(text)?;
-    let (source, rest) = split_word(rest)?;
-    let (target, rest) = split_word(rest)?;
-    let (user, rest) = split_word(rest)?;
-    if split_word(rest).is_some() {
-        return None;
-    }
+    let (side, source, target, user) = four_words(text)?;
     let job = Job::Request {
         source: read_name(source)?,
         target: read_name(target)?,
         user: read_name(user)?,
     };
-    Some(Line::End(read_side(side)?, EndLine::Job(job)))
+    Some(Statement::End(read_side(side)?, EndStatement::Job(job)))
 }
 
 /// A side and a name, and no more.
 fn read_side_and_name(text: &[u8]) -> Option<(Side, Name)>
     ensures { result ≡ side_and_name (words text.now) }
 {
-    let (side, rest) = split_word(text)?;
-    let (name, rest) = split_word(rest)?;
-    if split_word(rest).is_some() {
-        return None;
-    }
+    let (side, name) = two_words(text)?;
     Some((read_side(side)?, read_name(name)?))
 }
 
@@ -148,11 +125,7 @@ fn read_side_and_name(text: &[u8]) -> Option<(Side, Name)>
 fn read_side_and_number(text: &[u8], most: u32) -> Option<(Side, u32)>
     ensures { result ≡ side_and_number most (words text.now) }
 {
-    let (side, rest) = split_word(text)?;
-    let (number, rest) = split_word(rest)?;
-    if split_word(rest).is_some() {
-        return None;
-    }
+    let (side, number) = two_words(text)?;
     Some((read_side(side)?, read_number(number, most)?))
 }
 
@@ -160,11 +133,7 @@ fn read_side_and_number(text: &[u8], most: u32) -> Option<(Side, u32)>
 fn read_side_and_byte(text: &[u8]) -> Option<(Side, u8)>
     ensures { result ≡ side_and_byte (words text.now) }
 {
-    let (side, rest) = split_word(text)?;
-    let (byte, rest) = split_word(rest)?;
-    if split_word(rest).is_some() {
-        return None;
-    }
+    let (side, byte) = two_words(text)?;
     Some((read_side(side)?, read_byte(byte)?))
 }
 
@@ -172,124 +141,117 @@ fn read_side_and_byte(text: &[u8]) -> Option<(Side, u8)>
 fn read_one_side(text: &[u8]) -> Option<Side>
     ensures { result ≡ one_side (words text.now) }
 {
-    let (side, rest) = split_word(text)?;
-    if split_word(rest).is_some() {
-        return None;
-    }
-    read_side(side)
+    read_side(one_word(text)?)
 }
 
 /// `call`.
-fn read_call(text: &[u8]) -> Option<Line<'_>>
+fn read_call(text: &[u8]) -> Option<Statement<'_>>
     ensures { meaning_of result ≡ call_of (words text.now) }
 {
     if split_word(text).is_some() {
         return None;
     }
-    Some(Line::Event(Event::Call))
+    Some(Statement::Event(Event::Call))
 }
 
 /// `flow N`.
-fn read_flow(text: &[u8]) -> Option<Line<'_>>
+fn read_flow(text: &[u8]) -> Option<Statement<'_>>
     ensures { meaning_of result ≡ flow_of (words text.now) }
 {
-    let (number, rest) = split_word(text)?;
-    if split_word(rest).is_some() {
-        return None;
-    }
-    Some(Line::Flow(read_number(number, TURNS_MAX)?))
+    let number = one_word(text)?;
+    Some(Statement::Flow(read_number(number, TURNS_MAX)?))
 }
 
 /// `deny SIDE NAME`.
-fn read_deny(text: &[u8]) -> Option<Line<'_>>
+fn read_deny(text: &[u8]) -> Option<Statement<'_>>
     ensures { meaning_of result ≡ deny_of (words text.now) }
 {
     let (side, name) = read_side_and_name(text)?;
-    Some(Line::End(side, EndLine::Deny(name)))
+    Some(Statement::End(side, EndStatement::Deny(name)))
 }
 
 /// `later SIDE NAME`.
-fn read_later(text: &[u8]) -> Option<Line<'_>>
+fn read_later(text: &[u8]) -> Option<Statement<'_>>
     ensures { meaning_of result ≡ later_of (words text.now) }
 {
     let (side, name) = read_side_and_name(text)?;
-    Some(Line::End(side, EndLine::Later(name)))
+    Some(Statement::End(side, EndStatement::Later(name)))
 }
 
 /// `immovable SIDE NAME`.
-fn read_immovable(text: &[u8]) -> Option<Line<'_>>
+fn read_immovable(text: &[u8]) -> Option<Statement<'_>>
     ensures { meaning_of result ≡ immovable_of (words text.now) }
 {
     let (side, name) = read_side_and_name(text)?;
-    Some(Line::End(side, EndLine::Immovable(name)))
+    Some(Statement::End(side, EndStatement::Immovable(name)))
 }
 
 /// `number SIDE N`.
-fn read_number_line(text: &[u8]) -> Option<Line<'_>>
+fn read_number_line(text: &[u8]) -> Option<Statement<'_>>
     ensures { meaning_of result ≡ number_line_of (words text.now) }
 {
     let (side, number) = read_side_and_number(text, NUMBER_MAX)?;
-    Some(Line::End(side, EndLine::Number(number)))
+    Some(Statement::End(side, EndStatement::Number(number)))
 }
 
 /// `quiet SIDE`.
-fn read_quiet(text: &[u8]) -> Option<Line<'_>>
+fn read_quiet(text: &[u8]) -> Option<Statement<'_>>
     ensures { meaning_of result ≡ quiet_of (words text.now) }
 {
     let side = read_one_side(text)?;
-    Some(Line::End(side, EndLine::Quiet))
+    Some(Statement::End(side, EndStatement::Quiet))
 }
 
 /// `pass SIDE N`.
-fn read_pass(text: &[u8]) -> Option<Line<'_>>
+fn read_pass(text: &[u8]) -> Option<Statement<'_>>
     ensures { meaning_of result ≡ pass_of (words text.now) }
 {
     let (side, n) = read_side_and_number(text, BYTES_MAX)?;
-    Some(Line::Event(Event::Pass { side, n }))
+    Some(Statement::Event(Event::Pass { side, n }))
 }
 
 /// `drop SIDE N`.
-fn read_drop(text: &[u8]) -> Option<Line<'_>>
+fn read_drop(text: &[u8]) -> Option<Statement<'_>>
     ensures { meaning_of result ≡ drop_of (words text.now) }
 {
     let (side, n) = read_side_and_number(text, BYTES_MAX)?;
-    Some(Line::Event(Event::Drop { side, n }))
+    Some(Statement::Event(Event::Drop { side, n }))
 }
 
 /// `flip SIDE HH`.
-fn read_flip(text: &[u8]) -> Option<Line<'_>>
+fn read_flip(text: &[u8]) -> Option<Statement<'_>>
     ensures { meaning_of result ≡ flip_of (words text.now) }
 {
     let (side, mask) = read_side_and_byte(text)?;
-    Some(Line::Event(Event::Flip { side, mask }))
+    Some(Statement::Event(Event::Flip { side, mask }))
 }
 
 /// `insert SIDE HH`.
-fn read_insert(text: &[u8]) -> Option<Line<'_>>
+fn read_insert(text: &[u8]) -> Option<Statement<'_>>
     ensures { meaning_of result ≡ insert_of (words text.now) }
 {
     let (side, byte) = read_side_and_byte(text)?;
-    Some(Line::Event(Event::Insert { side, byte }))
+    Some(Statement::Event(Event::Insert { side, byte }))
 }
 
 /// `timeout SIDE`.
-fn read_timeout(text: &[u8]) -> Option<Line<'_>>
+fn read_timeout(text: &[u8]) -> Option<Statement<'_>>
     ensures { meaning_of result ≡ timeout_of (words text.now) }
 {
     let side = read_one_side(text)?;
-    Some(Line::Event(Event::Timeout { side }))
+    Some(Statement::Event(Event::Timeout { side }))
 }
 
 /// `hangup SIDE`.
-fn read_hang_up(text: &[u8]) -> Option<Line<'_>>
+fn read_hang_up(text: &[u8]) -> Option<Statement<'_>>
     ensures { meaning_of result ≡ hang_up_of (words text.now) }
 {
     let side = read_one_side(text)?;
-    Some(Line::Event(Event::HangUp { side }))
+    Some(Statement::Event(Event::HangUp { side }))
 }
 
 /// A line of an end's set-up, or of an event, by its first word.
-fn read_by<'a>(first: &[u8], rest: &'a [u8]) -> Option<Line<'a>>
+fn read_by<'a>(first: &[u8], rest: &'a [u8]) -> Option<Statement<'a>>
     ensures { meaning_of result ≡ line_by first.now (words rest.now) }
 {
     if spells(first, b"caller") {
@@ -318,7 +280,7 @@ fn read_by<'a>(first: &[u8], rest: &'a [u8]) -> Option<Line<'a>>
 }
 
 /// A line of an event, by its first word.
-fn read_event<'a>(first: &[u8], rest: &'a [u8]) -> Option<Line<'a>>
+fn read_event<'a>(first: &[u8], rest: &'a [u8]) -> Option<Statement<'a>>
     ensures { meaning_of result ≡ event_by first.now (words rest.now) }
 {
     if spells(first, b"pass") {
@@ -343,17 +305,17 @@ fn read_event<'a>(first: &[u8], rest: &'a [u8]) -> Option<Line<'a>>
 }
 
 /// What a line says, or `None` where it is bad. The bytes of a file are not looked at.
-pub(crate) fn read_line(line: &[u8]) -> Option<Line<'_>>
+pub(crate) fn read_line(line: &[u8]) -> Option<Statement<'_>>
     ensures { meaning_of result ≡ line_of line.now }
 {
     if line.len() > LINE_MAX {
         return None;
     }
     let Some((first, rest)) = split_word(line) else {
-        return Some(Line::Nothing);
+        return Some(Statement::Nothing);
     };
     if first.starts_with(b"#") {
-        return Some(Line::Nothing);
+        return Some(Statement::Nothing);
     }
     read_by(first, rest)
 }

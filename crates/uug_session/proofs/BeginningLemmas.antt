@@ -5,11 +5,12 @@ use Rattle.uug_link.specs.State.{State as LinkState}
 use Rattle.uug_session.specs.EndStep.{Identity, Stage, first_link}
 use Rattle.uug_session.specs.Engine.{IsHailing, IsReady}
 use Rattle.uug_conversation.specs.Talking.{Talking}
-use Rattle.uug_conversation.specs.Turns.{Side, caller, called}
+use Rattle.uug_conversation.specs.declared.side.Side.{Side}
+use Rattle.uug_conversation.specs.declared.side.Side.TheVariants.{Caller, Called}
 
 none_at_first : (side : Side) (own : Announced) → length (first_link side own).unacked ≡ 0
-none_at_first caller own = refl
-none_at_first called own = refl
+none_at_first Caller own = refl
+none_at_first Called own = refl
 
 pub none_in_greeting : (stage : Stage) (id : Identity) (own : Announced) (link : LinkState) (talking : Talking)
     → IsReady stage id own link talking → IsHailing stage → length link.unacked ≡ 0

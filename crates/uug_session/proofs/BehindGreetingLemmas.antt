@@ -3,7 +3,7 @@ use Rattle.std.proofs.Common.{◌≡◌, ◌≢◌, ℕ, zero, suc, Bool, true, 
 use Rattle.uug_link.specs.State.{State}
 use Rattle.uug_link.specs.Step.{Effect, OutcomeValue, nothing, up, taken, closed, gave_up, halted, step, packet_found, bad_found, timed_out}
 use Rattle.uug_session.specs.declared.greeting.Greeting.{Greeting}
-use Rattle.uug_session.specs.Arriving.{Hearer, Came, all_taken, stopped, held_in, holds, takes_up, takes_up_to}
+use Rattle.uug_session.specs.Arriving.{Buffered, Arrival, all_taken, stopped, held_in, holds, takes_up, takes_up_to}
 use Rattle.uug_session.specs.EndStep.{Stage, hailing, linked, ended, Emitted, EndEvent, EndState, Identity, text_found, long_text_found, packet_found_whole, broken_found, time_ran_out, line_lost, behind_link, end_step, late_link, linked_step, message_of, rises_at, stage_step, takes_by, talks_by}
 use Rattle.uug_session.specs.Finding.{Finding, finds_nothing, finds, finds_packet, finding}
 use Rattle.uug_session.specs.Greeting.{number_by}
@@ -18,12 +18,12 @@ use Rattle.uug_session.proofs.NumberLemmas.{step_number}
 abbrev pub with_front : List Emitted → NodeEnd → NodeEnd
 with_front front x = record { state = x.state; emitted = front ++ x.emitted; failures = x.failures }
 
-abbrev pub came_behind : List Emitted → Came NodeEnd → Came NodeEnd
+abbrev pub came_behind : List Emitted → Arrival NodeEnd → Arrival NodeEnd
 came_behind front (all_taken y) = all_taken (record { held = y.held; end = with_front front y.end })
 came_behind front (stopped y) = stopped (record { held = y.held; end = with_front front y.end })
 
 module _ (h : Holdings) (id : Identity) where
-  abbrev takes_from : ℕ → (bytes : List ℕ) → EndState Talk → List Emitted → List Bool → Came NodeEnd
+  abbrev takes_from : ℕ → (bytes : List ℕ) → EndState Talk → List Emitted → List Bool → Arrival NodeEnd
   takes_from n bytes e emitted failures =
       takes_up_to n (node_taker h id) (holds (node_taker h id) bytes (record { state = e; emitted = emitted; failures = failures }))
 
@@ -48,18 +48,18 @@ module _ (h : Holdings) (id : Identity) where
   front_stays (suc n) front bytes x = front_up n (front_stays n) front x (finding x.state.stage bytes)
 
 -- what came with this in front
-pub record CameWithout (front : List Emitted) (came : Came NodeEnd) (now : Hearer NodeEnd) : Type 0 where
+pub record CameWithout (front : List Emitted) (came : Arrival NodeEnd) (now : Buffered NodeEnd) : Type 0 where
   pub later : List Emitted
   pub came_is : came ≡ all_taken (record { held = now.held; end = record { state = now.end.state; emitted = later; failures = now.end.failures } })
   pub emitted : front ++ later ≡ now.end.emitted
 
-pub came_without : (front : List Emitted) (came : Came NodeEnd) (now : Hearer NodeEnd) → came_behind front came ≡ all_taken now → CameWithout front came now
+pub came_without : (front : List Emitted) (came : Arrival NodeEnd) (now : Buffered NodeEnd) → came_behind front came ≡ all_taken now → CameWithout front came now
 came_without front (all_taken y) now is =
-    let same : ◌≡◌ {A = Hearer NodeEnd} (record { held = y.held; end = with_front front y.end }) now = cc in
+    let same : ◌≡◌ {A = Buffered NodeEnd} (record { held = y.held; end = with_front front y.end }) now = cc in
     record {
       later = y.end.emitted;
-      came_is = ap (λ (z : Hearer NodeEnd). all_taken (record { held = z.held; end = record { state = z.end.state; emitted = y.end.emitted; failures = z.end.failures } })) same;
-      emitted = ap (λ (z : Hearer NodeEnd). z.end.emitted) same;
+      came_is = ap (λ (z : Buffered NodeEnd). all_taken (record { held = z.held; end = record { state = z.end.state; emitted = y.end.emitted; failures = z.end.failures } })) same;
+      emitted = ap (λ (z : Buffered NodeEnd). z.end.emitted) same;
     }
 came_without front (stopped y) now is = cc
 
@@ -112,7 +112,7 @@ module _ (k : Keeper Talk) (id : Identity) where
   step_greeted number linked event s c is = linked_greeted number event s c
   step_greeted number (ended how) event s c is = tt
 
-abbrev pub CameGreeted : Came NodeEnd → Type 0
+abbrev pub CameGreeted : Arrival NodeEnd → Type 0
 CameGreeted (all_taken y) = HasGreeted y.end.state.stage
 CameGreeted (stopped y) = HasGreeted y.end.state.stage
 
@@ -136,7 +136,7 @@ module _ (h : Holdings) (id : Identity) where
 
 -- ---- and its number stays
 
-abbrev pub CameWith : Option ℕ → Came NodeEnd → Type 0
+abbrev pub CameWith : Option ℕ → Arrival NodeEnd → Type 0
 CameWith number (all_taken y) = y.end.state.number ≡ number
 CameWith number (stopped y) = y.end.state.number ≡ number
 

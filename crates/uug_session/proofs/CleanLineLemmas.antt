@@ -23,8 +23,9 @@ use Rattle.uug_session.specs.declared.greeting.Greeting.{Greeting}
 use Rattle.uug_session.specs.Greeting.{GreetingStep, first_greeting, goes_on, fails, called_text, is_expected, name_in_caller_text, number_by, number_came, risen}
 use Rattle.uug_talk.proofs.CallLemmas.{call_with_number, call_without_number}
 use Rattle.uug_session.specs.WholeGreeting.{GreetingRun, GreetsBy, GreetEachOther, IsNumber, BecomeOf, behind_text, step_behind, texts_came, saying_first, written_texts}
-use Rattle.uug_session.proofs.SaidTextLemmas.{HearsWhole, texts_of-written, run_says, said_called}
-use Rattle.uug_session.proofs.WholeGreetingLemmas.{StreamLaws, first_stand, one_run}
+use Rattle.uug_session.proofs.SaidTextLemmas.{texts_of-written, run_says, said_called}
+use Rattle.uug_session.proofs.WholeGreetingLemmas.{first_stand, one_run}
+use Rattle.uug_talk.proofs.StreamTextLemmas.{reads}
 
 -- a run of these texts, with nothing behind them
 abbrev run_of : (me peer : List ℕ) → List (List ℕ) → Option ℕ → Greeting → GreetingRun
@@ -97,42 +98,41 @@ pub record Answer (caller meant called expected : List ℕ) (m n : Option ℕ) (
   pub at_caller_is : at_caller ≡ run_of caller meant (called_text called ∷ at_called.says) m (first_greeting CalledName)
   pub at_called_is : at_called ≡ run_of called expected at_caller.says n (first_greeting CallerName)
 
-module _ (hears : HearsWhole) (laws : StreamLaws) where
-  hears_said : (me peer : List ℕ) (number : Option ℕ) (g : Greeting) (texts : List (List ℕ)) (run : GreetingRun) (behind : List ℕ) → All IsHailText texts → GreetsBy me peer number g (written_texts texts) run behind → run ≡ run_of me peer texts number g
-  hears_said me peer number g texts run behind h k =
-      one_run laws me peer number g (written_texts texts) run behind k
-      ∙ ap (λ (f : StreamTexts). texts_came me peer f.texts f.end number g) (texts_of-written hears texts h)
+hears_said : (me peer : List ℕ) (number : Option ℕ) (g : Greeting) (texts : List (List ℕ)) (run : GreetingRun) (behind : List ℕ) → All IsHailText texts → GreetsBy me peer number g (written_texts texts) run behind → run ≡ run_of me peer texts number g
+hears_said me peer number g texts run behind h k =
+    one_run me peer number g (written_texts texts) run behind k
+    ∙ ap (λ (f : StreamTexts). texts_came me peer f.texts f.end number g) (texts_of-written texts h)
 
-  said_by : (me peer : List ℕ) (number : Option ℕ) (g : Greeting) (delivered : List ℕ) (run : GreetingRun) (behind : List ℕ) → IsName me → IsNumber number → GreetsBy me peer number g delivered run behind → All IsHailText run.says
-  said_by me peer number g delivered run behind h k_n k =
-      subst (λ (r : GreetingRun). All IsHailText r.says) (sym k.came) (run_says me peer k.found.texts k.found.end number g h k_n)
+said_by : (me peer : List ℕ) (number : Option ℕ) (g : Greeting) (delivered : List ℕ) (run : GreetingRun) (behind : List ℕ) → IsName me → IsNumber number → GreetsBy me peer number g delivered run behind → All IsHailText run.says
+said_by me peer number g delivered run behind h k_n k =
+    subst (λ (r : GreetingRun). All IsHailText r.says) (sym k.came) (run_says me peer k.found.texts k.found.end number g h k_n)
 
-  heard_by_caller : (caller meant called expected : List ℕ) (m n : Option ℕ) (at_caller at_called : GreetingRun) (met : GreetEachOther caller meant called expected m n at_caller at_called)
-      → GreetsBy caller meant m (first_greeting CalledName) (written_texts (called_text called ∷ met.called_hears.heard.says)) met.caller_hears.heard met.caller_left
-  heard_by_caller caller meant called expected m n at_caller at_called met =
-      subst (λ (r : GreetingRun). GreetsBy caller meant m (first_greeting CalledName) (written_texts r.says) met.caller_hears.heard met.caller_left) met.called_hears.whole met.caller_hears.greets
+heard_by_caller : (caller meant called expected : List ℕ) (m n : Option ℕ) (at_caller at_called : GreetingRun) (met : GreetEachOther caller meant called expected m n at_caller at_called)
+    → GreetsBy caller meant m (first_greeting CalledName) (written_texts (called_text called ∷ met.called_hears.heard.says)) met.caller_hears.heard met.caller_left
+heard_by_caller caller meant called expected m n at_caller at_called met =
+    subst (λ (r : GreetingRun). GreetsBy caller meant m (first_greeting CalledName) (written_texts r.says) met.caller_hears.heard met.caller_left) met.called_hears.whole met.caller_hears.greets
 
-  heard_by_called : (caller meant called expected : List ℕ) (m n : Option ℕ) (at_caller at_called : GreetingRun) (met : GreetEachOther caller meant called expected m n at_caller at_called)
-      → GreetsBy called expected n (first_greeting CallerName) (written_texts met.caller_hears.heard.says) met.called_hears.heard met.called_left
-  heard_by_called caller meant called expected m n at_caller at_called met =
-      subst (λ (r : GreetingRun). GreetsBy called expected n (first_greeting CallerName) (written_texts r.says) met.called_hears.heard met.called_left) met.caller_hears.whole met.called_hears.greets
+heard_by_called : (caller meant called expected : List ℕ) (m n : Option ℕ) (at_caller at_called : GreetingRun) (met : GreetEachOther caller meant called expected m n at_caller at_called)
+    → GreetsBy called expected n (first_greeting CallerName) (written_texts met.caller_hears.heard.says) met.called_hears.heard met.called_left
+heard_by_called caller meant called expected m n at_caller at_called met =
+    subst (λ (r : GreetingRun). GreetsBy called expected n (first_greeting CallerName) (written_texts r.says) met.called_hears.heard met.called_left) met.caller_hears.whole met.called_hears.greets
 
-  pub answer : (caller meant called expected : List ℕ) (m n : Option ℕ) (at_caller at_called : GreetingRun) → IsName caller → IsName called → IsNumber m → IsNumber n
-      → (met : GreetEachOther caller meant called expected m n at_caller at_called) → Answer caller meant called expected m n met.caller_hears.heard met.called_hears.heard
-  answer caller meant called expected m n at_caller at_called h k k_m k_n met =
-      let at_one = heard_by_caller caller meant called expected m n at_caller at_called met in
-      let at_other = heard_by_called caller meant called expected m n at_caller at_called met in
-      let caller_said = met.caller_hears.heard.says in
-      let called_said = met.called_hears.heard.says in
-      record {
-        at_caller_is = hears_said caller meant m (first_greeting CalledName) (called_text called ∷ called_said) met.caller_hears.heard met.caller_left
-            (All-cons IsHailText (called_text called) called_said (said_called called k)
-            (said_by called expected n (first_greeting CallerName) (written_texts caller_said) met.called_hears.heard met.called_left k k_n at_other))
-            at_one;
-        at_called_is = hears_said called expected n (first_greeting CallerName) caller_said met.called_hears.heard met.called_left
-            (said_by caller meant m (first_greeting CalledName) (written_texts (called_text called ∷ called_said)) met.caller_hears.heard met.caller_left h k_m at_one)
-            at_other;
-      }
+pub answer : (caller meant called expected : List ℕ) (m n : Option ℕ) (at_caller at_called : GreetingRun) → IsName caller → IsName called → IsNumber m → IsNumber n
+    → (met : GreetEachOther caller meant called expected m n at_caller at_called) → Answer caller meant called expected m n met.caller_hears.heard met.called_hears.heard
+answer caller meant called expected m n at_caller at_called h k k_m k_n met =
+    let at_one = heard_by_caller caller meant called expected m n at_caller at_called met in
+    let at_other = heard_by_called caller meant called expected m n at_caller at_called met in
+    let caller_said = met.caller_hears.heard.says in
+    let called_said = met.called_hears.heard.says in
+    record {
+      at_caller_is = hears_said caller meant m (first_greeting CalledName) (called_text called ∷ called_said) met.caller_hears.heard met.caller_left
+          (All-cons IsHailText (called_text called) called_said (said_called called k)
+          (said_by called expected n (first_greeting CallerName) (written_texts caller_said) met.called_hears.heard met.called_left k k_n at_other))
+          at_one;
+      at_called_is = hears_said called expected n (first_greeting CallerName) caller_said met.called_hears.heard met.called_left
+          (said_by caller meant m (first_greeting CalledName) (written_texts (called_text called ∷ called_said)) met.caller_hears.heard met.caller_left h k_m at_one)
+          at_other;
+    }
 
 -- what becomes of what each hears becomes of its whole greeting
 pub become_whole : (caller meant called expected : List ℕ) (m n : Option ℕ) (at_caller at_called : GreetingRun) (one other : Greeted) (m_then n_then : Option ℕ) (met : GreetEachOther caller meant called expected m n at_caller at_called)
@@ -256,29 +256,28 @@ wrong_number caller meant called expected m n at_caller at_called h k e f other 
 
 -- ---- two ends can greet each other
 
-module _ (hears : HearsWhole) (laws : StreamLaws) where
-  has_written : (texts : List (List ℕ)) → All IsHailText texts → HasTexts (written_texts texts) (record { texts = texts; end = Rest [] })
-  has_written texts h = subst (λ (f : StreamTexts). HasTexts (written_texts texts) f) (texts_of-written hears texts h) (laws.some (written_texts texts))
+has_written : (texts : List (List ℕ)) → All IsHailText texts → HasTexts (written_texts texts) (record { texts = texts; end = Rest [] })
+has_written texts h = subst (λ (f : StreamTexts). HasTexts (written_texts texts) f) (texts_of-written texts h) (reads (written_texts texts))
 
-  greets_said : (me peer : List ℕ) (number : Option ℕ) (g : Greeting) (texts : List (List ℕ)) (run : GreetingRun) → All IsHailText texts → run ≡ run_of me peer texts number g → (behind : List ℕ) × GreetsBy me peer number g (written_texts texts) run behind
-  greets_said me peer number g texts run h e =
-      let has = has_written texts h in
-      let stand = first_stand texts run.used has.rest (written_texts texts) has.before in
-      (stand.0, record { found = record { texts = texts; end = Rest [] }; texts = has; came = e; left = stand.1 })
+greets_said : (me peer : List ℕ) (number : Option ℕ) (g : Greeting) (texts : List (List ℕ)) (run : GreetingRun) → All IsHailText texts → run ≡ run_of me peer texts number g → (behind : List ℕ) × GreetsBy me peer number g (written_texts texts) run behind
+greets_said me peer number g texts run h e =
+    let has = has_written texts h in
+    let stand = first_stand texts run.used has.rest (written_texts texts) has.before in
+    (stand.0, record { found = record { texts = texts; end = Rest [] }; texts = has; came = e; left = stand.1 })
 
-  pub greet : (caller meant called expected : List ℕ) (m n : Option ℕ) (at_caller at_called : GreetingRun) → IsName caller → IsName called → IsNumber m → IsNumber n
-      → Answer caller meant called expected m n at_caller at_called → GreetEachOther caller meant called expected m n at_caller (saying_first (called_text called ∷ []) at_called)
-  greet caller meant called expected m n at_caller at_called h k k_m k_n a =
-      let says_called : All IsHailText at_called.says = subst (λ (r : GreetingRun). All IsHailText r.says) (sym a.at_called_is) (run_says called expected at_caller.says (Rest []) n (first_greeting CallerName) k k_n) in
-      let says_caller : All IsHailText at_caller.says = subst (λ (r : GreetingRun). All IsHailText r.says) (sym a.at_caller_is) (run_says caller meant (called_text called ∷ at_called.says) (Rest []) m (first_greeting CalledName) h k_m) in
-      let at_one = greets_said caller meant m (first_greeting CalledName) (called_text called ∷ at_called.says) at_caller (All-cons IsHailText (called_text called) at_called.says (said_called called k) says_called) a.at_caller_is in
-      let at_other = greets_said called expected n (first_greeting CallerName) at_caller.says at_called says_caller a.at_called_is in
-      record {
-        caller_left = at_one.0;
-        called_left = at_other.0;
-        caller_hears = record { heard = at_caller; greets = at_one.1; whole = refl };
-        called_hears = record { heard = at_called; greets = at_other.1; whole = refl };
-      }
+pub greet : (caller meant called expected : List ℕ) (m n : Option ℕ) (at_caller at_called : GreetingRun) → IsName caller → IsName called → IsNumber m → IsNumber n
+    → Answer caller meant called expected m n at_caller at_called → GreetEachOther caller meant called expected m n at_caller (saying_first (called_text called ∷ []) at_called)
+greet caller meant called expected m n at_caller at_called h k k_m k_n a =
+    let says_called : All IsHailText at_called.says = subst (λ (r : GreetingRun). All IsHailText r.says) (sym a.at_called_is) (run_says called expected at_caller.says (Rest []) n (first_greeting CallerName) k k_n) in
+    let says_caller : All IsHailText at_caller.says = subst (λ (r : GreetingRun). All IsHailText r.says) (sym a.at_caller_is) (run_says caller meant (called_text called ∷ at_called.says) (Rest []) m (first_greeting CalledName) h k_m) in
+    let at_one = greets_said caller meant m (first_greeting CalledName) (called_text called ∷ at_called.says) at_caller (All-cons IsHailText (called_text called) at_called.says (said_called called k) says_called) a.at_caller_is in
+    let at_other = greets_said called expected n (first_greeting CallerName) at_caller.says at_called says_caller a.at_called_is in
+    record {
+      caller_left = at_one.0;
+      called_left = at_other.0;
+      caller_hears = record { heard = at_caller; greets = at_one.1; whole = refl };
+      called_hears = record { heard = at_called; greets = at_other.1; whole = refl };
+    }
 
 -- by whether the caller reached the end that it meant, whether the called end expects it, and whether it expects its number
 caller_run : (caller : List ℕ) (m : Option ℕ) → (reached expected same : Bool) → GreetingRun

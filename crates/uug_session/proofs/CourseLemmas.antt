@@ -4,7 +4,7 @@ use Rattle.std.proofs.lemmas.Bool.Decides.{nat_tests}
 use Rattle.std.proofs.lemmas.List.{append-nil, map-append}
 use Rattle.std.proofs.lemmas.List.Elements.{All-nil, All-append, All-weaker}
 use Rattle.uug_reader.specs.Reading.{Reading}
-use Rattle.uug_session.specs.Arriving.{Taker, Hearer, all_taken, takes_piece}
+use Rattle.uug_session.specs.Arriving.{Receiver, Buffered, all_taken, takes_piece}
 use Rattle.uug_session.specs.EndStep.{Stage, Emitted, Identity}
 use Rattle.uug_session.specs.Engine.{EngineState, HasFailed, end_of, entry_of, with_stage}
 use Rattle.uug_conversation.specs.Holdings.{Kept, Holdings}
@@ -20,7 +20,7 @@ at s e texts packets = record { engine = with_stage s e; texts = texts; packets 
 abbrev pub end_at : Holdings → List Kept → List Emitted → List Bool → EngineState → NodeEnd
 end_at h kept said failures e = record { state = end_of h kept e; emitted = said; failures = failures }
 
-abbrev pub hearer_with : List ℕ → NodeEnd → Hearer NodeEnd
+abbrev pub hearer_with : List ℕ → NodeEnd → Buffered NodeEnd
 hearer_with bytes x = record { held = bytes; end = x }
 
 -- ---- what is said of some calls
@@ -79,7 +79,7 @@ joined h kept later_kept last_kept failure bytes others a b c first second = rec
       ∙ ap (λ (s : List Emitted). takes_piece t more (hearer_of h last_kept s later c)) (append_assoc said first.course.emitted second.course.emitted);
   requests = then_keeps (struck_jobs a) (struck_jobs b) (struck_jobs c) kept later_kept last_kept first.requests second.requests;
 } where
-  t : Taker NodeEnd
+  t : Receiver NodeEnd
   t = node_taker h a.engine.identity
 
   behind : (more : List ℕ) (said : List Emitted) (later : List Bool)
@@ -158,7 +158,7 @@ takes_both h kept later_kept last_kept failure bytes others a b c first second =
       ∙ behind (said ++ first.course.emitted) later
       ∙ ap (λ (s : List Emitted). all_taken (hearer_of h last_kept s later c)) (append_assoc said first.course.emitted second.course.emitted);
 } where
-  t : Taker NodeEnd
+  t : Receiver NodeEnd
   t = node_taker h a.engine.identity
 
   behind : (said : List Emitted) (later : List Bool)

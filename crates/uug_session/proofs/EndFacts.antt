@@ -9,7 +9,7 @@ use Rattle.uug_conversation.specs.Jobs.{at_start}
 use Rattle.uug_conversation.specs.Keeper.{Keeper}
 use Rattle.uug_conversation.specs.Party.{Party}
 use Rattle.uug_conversation.specs.Talk.{Talk, unopened, end_keeper}
-use Rattle.uug_conversation.specs.Turns.{caller, called}
+use Rattle.uug_conversation.specs.declared.side.Side.TheVariants.{Caller, Called}
 use Rattle.uug_conversation.specs.View.{conversation_view}
 use Rattle.uug_conversation.proofs.ConversationFacts.{sender, taker}
 use Rattle.uug_conversation.proofs.FactParties.{no_exception, send, y}
@@ -62,10 +62,10 @@ rounds (suc n) ka kb ida idb both = rounds n ka kb ida idb (round ka kb ida idb 
 -- ---- the caller sends an empty file
 
 abbrev pub caller_id : Identity
-caller_id = record { side = caller; me = codes "a"; peer = codes "b" }
+caller_id = record { side = Caller; me = codes "a"; peer = codes "b" }
 
 abbrev pub called_id : Identity
-called_id = record { side = called; me = codes "b"; peer = codes "a" }
+called_id = record { side = Called; me = codes "b"; peer = codes "a" }
 
 -- window 2, size 32
 abbrev pub announced : Announced
@@ -83,11 +83,11 @@ talk_of p = unopened (at_start p.jobs [] []) []
 -- the ends themselves, and the two numbers of each
 abbrev pub by_themselves : (a b : Party) → Both Talk
 by_themselves a b =
-    rounds 12 (end_keeper caller a.holdings) (end_keeper called b.holdings) caller_id called_id (begun (talk_of a) (talk_of b))
+    rounds 12 (end_keeper Caller a.holdings) (end_keeper Called b.holdings) caller_id called_id (begun (talk_of a) (talk_of b))
 
 abbrev pub by_numbers : (a b : Party) → Both Count
 by_numbers a b =
-    rounds 12 (count_keeper (conversation_view caller a b)) (count_keeper (conversation_view called a b))
+    rounds 12 (count_keeper (conversation_view Caller a b)) (count_keeper (conversation_view Called a b))
     caller_id called_id (begun nothing_yet nothing_yet)
 
 -- both ends are done, and by themselves they come to what the numbers say

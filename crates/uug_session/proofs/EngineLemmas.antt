@@ -3,20 +3,22 @@ use Rattle.std.proofs.Common.{◌≡◌, ◌≢◌, ℕ, Bool, true, false, List
 use Rattle.std.proofs.lemmas.List.{append-nil, append_assoc, map-append}
 use Rattle.uug_link.specs.declared.phase.Phase.{Phase}
 use Rattle.uug_link.specs.declared.phase.Phase.TheVariants as phases
+use Rattle.uug_link.specs.Announced.{Announced}
 use Rattle.uug_link.specs.Entries.{EntryValue}
 use Rattle.uug_link.specs.declared.outcome.Outcome.{Outcome}
 use Rattle.uug_link.specs.declared.outcome.Outcome.TheVariants.{Nothing, Up, Taken, Closed}
 use Rattle.uug_link.specs.Follows.{answered, written}
 use Rattle.uug_link.specs.Outcomes.{MovesPhase}
-use Rattle.uug_link.specs.State.{State}
+use Rattle.uug_link.specs.State.{State, IsUp}
+use Rattle.uug_link.specs.Terms.{size_of_code}
 use Rattle.uug_link.specs.Step.{Effect, Emission, OutcomeValue, nothing, up, taken, closed, gave_up, halted, packet_found, step, to_begin, to_close}
 use Rattle.uug_packet.specs.Packet.{PacketValue}
 use Rattle.uug_session.specs.declared.end.End.{End}
 use Rattle.uug_session.specs.declared.end.End.TheVariants as ends
 use Rattle.uug_session.specs.declared.greeting.Greeted.{Greeted}
 use Rattle.uug_session.specs.declared.greeting.Greeted.TheVariants.{GoesOn, LinkBegins, Ended}
-use Rattle.uug_session.specs.EndStep.{Stage, linked, ended, EndEffect, EndState, Emitted, says_text, Identity, begins_link, behind_link, ends_so, goes_on, goes_on_with, greeted_so, how_it_ends, is_up, late_link, leave, message_of, packet_came, packets, sending_nothing, speaks_by, takes_by, talks_by, then_closes}
-use Rattle.uug_session.specs.Engine.{Does, EngineState, Spoken, StandsStill, TakesUp, after_speaking, end_of, entry_of, packet_effect, spoken_of, spoken_with}
+use Rattle.uug_session.specs.EndStep.{Stage, linked, ended, EndEffect, EndState, Emitted, says_text, Identity, begins_link, behind_link, ends_so, goes_on, goes_on_with, greeted_so, how_it_ends, is_up, late_link, leave, message_of, packet_came, packets, sending_nothing, speaks_by, takes_by, talks_by, then_closes, first_link}
+use Rattle.uug_session.specs.Engine.{Does, EngineState, Spoken, StandsStill, TakesUp, after_speaking, end_of, entry_of, packet_effect, spoken_of, spoken_with, IsReady}
 use Rattle.uug_conversation.specs.Holdings.{Kept, Holdings}
 use Rattle.uug_conversation.specs.Keeper.{Keeper}
 use Rattle.uug_conversation.specs.declared.reaction.Saying.{Saying}
@@ -25,7 +27,10 @@ use Rattle.uug_conversation.specs.Outgoing.{messages_of}
 use Rattle.uug_session.specs.Says.{entry_of_text}
 use Rattle.uug_conversation.specs.Talk.{Talk, end_keeper}
 use Rattle.uug_conversation.specs.Talking.{Talking, talk_of}
-use Rattle.uug_conversation.specs.Turns.{Side, caller, called}
+use Rattle.uug_conversation.specs.declared.side.Side.{Side}
+use Rattle.uug_conversation.specs.declared.side.Side.TheVariants.{Caller, Called}
+use Rattle.uug_link.proofs.OutcomeLemmas.{moves_of}
+use Rattle.uug_link.proofs.TermsLemmas.{size_stays}
 
 -- packets stand in an outbox as they are written
 pub packets_written : (es : List Emission) → map entry_of (packets es) ≡ map written es
@@ -36,6 +41,23 @@ packets_written (e ∷ es) = ap (λ (rest : List EntryValue). written e ∷ rest
 pub taken_is_up : (o : OutcomeValue) (before after : Phase) → o ≡ taken → MovesPhase o before after
     → (before ≡ phases.Up) × (after ≡ phases.Up)
 taken_is_up o before after e moves = subst (λ (x : OutcomeValue). MovesPhase x before after) e moves
+
+first_not_up : (side : Side) (own : Announced) → IsUp (first_link side own) → ⊥
+first_not_up Caller own e = cc
+first_not_up Called own e = cc
+
+-- what an end is ready with stays where its link takes a message
+pub ready_behind_taken : (stage : Stage) (id : Identity) (own : Announced) (s after : State) (p : PacketValue) (talking : Talking)
+    → IsReady stage id own s talking → (step s (packet_found p)).outcome ≡ taken → after ≡ (step s (packet_found p)).state
+    → IsReady stage id own after talking
+ready_behind_taken stage id own s after p talking ready is same =
+    let e = step s (packet_found p) in
+    let was_up : IsUp s = (taken_is_up e.outcome s.phase e.state.phase is (moves_of s (packet_found p) tt)).0 in
+    subst (λ (x : State). IsReady stage id own x talking) (sym same) (record {
+      first = λ hails. absurd (first_not_up id.side own (subst IsUp (ready.first hails) was_up));
+      opened = λ up. ready.opened was_up;
+      size = λ up. ready.size was_up ∙ ap size_of_code (sym (size_stays s (packet_found p) was_up));
+    })
 
 -- ---- the session goes on
 
@@ -162,13 +184,13 @@ texts_written (text ∷ texts) = ap (λ (rest : List EntryValue). entry_of_text 
 
 begun_behind : {C : Type 0} (number : Option ℕ) (side : Side) (said : List Emitted) (s : State) (c : C)
     → map entry_of (begins_link number side s c said).emitted ≡ map entry_of said ++ map entry_of (begins_link number side s c []).emitted
-begun_behind number caller said s c = map-append entry_of said (packets (step s to_begin).emitted)
-begun_behind number called said s c = sym (append-nil (map entry_of said))
+begun_behind number Caller said s c = map-append entry_of said (packets (step s to_begin).emitted)
+begun_behind number Called said s c = sym (append-nil (map entry_of said))
 
 begun_state : {C : Type 0} (number : Option ℕ) (side : Side) (said : List Emitted) (s : State) (c : C)
     → (begins_link number side s c said).state ≡ (begins_link number side s c []).state
-begun_state number caller said s c = refl
-begun_state number called said s c = refl
+begun_state number Caller said s c = refl
+begun_state number Called said s c = refl
 
 led_behind : {C : Type 0} (number : Option ℕ) (id : Identity) (greeted : Greeted) (said : List Emitted) (s : State) (c : C)
     → map entry_of (greeted_so number id greeted said s c).emitted

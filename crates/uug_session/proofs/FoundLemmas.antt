@@ -1,33 +1,25 @@
 -- What is found in all bytes that came, by whatever takes it up: their texts, and the items of the link.
-use Rattle.std.proofs.Common.{◌≡◌, ◌≢◌, ◌↔◌, ℕ, zero, suc, ◌<◌, ◌≤◌, List, [], ◌∷◌, ◌++◌, length, drop, slice_index, Option, Some, None, refl, sym, ap, subst, ◌∙◌, append_assoc, arith}
+use Rattle.std.proofs.Common.{◌≡◌, ◌≢◌, ℕ, zero, suc, ◌<◌, ◌≤◌, List, [], ◌∷◌, ◌++◌, length, drop, slice_index, Option, Some, None, refl, sym, ap, subst, ◌∙◌, append_assoc, arith}
 use Rattle.std.proofs.lemmas.List.{append-nil}
 use Rattle.uug_packet.specs.Bytes.{AreBytes}
-use Rattle.uug_packet.specs.Waits.{Waits}
 use Rattle.uug_reader.specs.Cut.{Part, packet, broken, noise, CutsOff, Item, found, bad}
-use Rattle.uug_reader.specs.Finding.{StandsFirst, PassesNoise}
+use Rattle.uug_reader.specs.Finding.{StandsFirst}
 use Rattle.uug_reader.specs.Scan.{Finds}
 use Rattle.uug_reader.specs.Search.{Search, waiting, standing, search_of}
 use Rattle.uug_talk.specs.StreamTexts.{StreamTexts, TooLong, StandBefore}
 use Rattle.uug_session.specs.declared.greeting.Greeting.{Greeting}
-use Rattle.uug_session.specs.Arriving.{Taker, Hearer, Came, all_taken, stopped, held_in, holds, takes_if, takes_up, takes_all, takes_piece}
+use Rattle.uug_session.specs.Arriving.{Receiver, Buffered, Arrival, all_taken, stopped, held_in, holds, takes_if, takes_up, takes_all, takes_piece}
 use Rattle.uug_session.specs.EndStep.{Stage, hailing, linked, ended, text_found, broken_found}
-use Rattle.uug_session.specs.Finding.{Finding, text_finding, item_finding, finding, behind_long_text, LeavesFewer, FindingLaws}
+use Rattle.uug_session.specs.Finding.{Finding, text_finding, item_finding, finding, behind_long_text, LeavesFewer}
 use Rattle.uug_session.specs.Found.{Hails, BehindTexts, hails_on, hails_no_more, finds_long_text, FindsTexts, takes_item, BehindItems, links_on, links_no_more, stops_at, FindsItems}
-use Rattle.uug_session.specs.Code.HearingLaws.{HearingLaws}
 use Rattle.uug_session.specs.TextsFound.{Taken}
 use Rattle.uug_session.specs.TextsHeld.{TextSearch, text_waits, text_stands, text_too_long, size_of_text, search_text}
 use Rattle.uug_talk.specs.Texts.{Passing}
-use Rattle.uug_session.proofs.ArrivingLemmas.{takes_first}
+use Rattle.uug_session.proofs.ArrivingLemmas.{takes_next, found_fewer}
 use Rattle.uug_session.proofs.TextCallLemmas.{taken_right_behind, taken_more, taken_searched, first_taken, taken_are_first, taken_too_long}
 use Rattle.uug_session.proofs.TextSearchLemmas.{finds_none}
-
--- what the laws of the scan say of steps and of the search
-pub record ScanLaws : Type 0 where
-  pub item : (s : List ℕ) (item : Item) (n : ℕ) → StandsFirst item n s → Finds s (item ∷ []) (drop n s)
-  pub more : (s middle others : List ℕ) (items more : List Item) → Finds s items middle → Finds middle more others → Finds s (items ++ more) others
-  pub behind : (s others t : List ℕ) (items : List Item) → Finds s items others → Finds (s ++ t) items (others ++ t)
-  pub stands : (s others : List ℕ) (item : Item) (n : ℕ) → AreBytes s → (search_of s ≡ standing item n others) ↔ (PassesNoise s others × StandsFirst item n others)
-  pub waits : (s rest : List ℕ) → AreBytes s → (search_of s ≡ waiting rest) ↔ (PassesNoise s rest × Waits rest)
+use Rattle.uug_reader.proofs.ScanLemmas.{Finds-append, Finds-item, Finds-join}
+use Rattle.uug_reader.proofs.SearchLemmas.{search_finds_item, search_finds_rest}
 
 -- ---- bytes behind others
 
@@ -72,9 +64,9 @@ linked_or_not (ended how) yes_it no_it = no_it (λ e. cc)
 
 -- ---- texts
 
-module _ (laws : HearingLaws) (steps : FindingLaws) (X : Type 0) (t : Taker X) where
+module _ (X : Type 0) (t : Receiver X) where
   -- bytes are taken up from there on
-  abbrev Goes : List ℕ → X → Came X
+  abbrev Goes : List ℕ → X → Arrival X
   Goes bytes x = takes_all t (holds t bytes x)
 
   -- texts that are found in the bytes left
@@ -82,7 +74,7 @@ module _ (laws : HearingLaws) (steps : FindingLaws) (X : Type 0) (t : Taker X) w
   TextsFound came n = (before : List (List ℕ)) (bytes : List ℕ) (x : X) → length bytes < n → Hails (t.stage_of x)
       → Taken before came bytes → FindsTexts t came before x (Goes bytes x)
 
-  text_and_more : (came : List ℕ) (before : List (List ℕ)) (text : List ℕ) (x : X) (now : Came X) → Hails (t.stage_of x)
+  text_and_more : (came : List ℕ) (before : List (List ℕ)) (text : List ℕ) (x : X) (now : Arrival X) → Hails (t.stage_of x)
       → FindsTexts t came (before ++ text ∷ []) (t.takes (text_found text) x) now → FindsTexts t came before x now
   text_and_more came before text x now hails more = record {
     texts = text ∷ more.texts;
@@ -113,23 +105,23 @@ module _ (laws : HearingLaws) (steps : FindingLaws) (X : Type 0) (t : Taker X) w
     last = x;
     takes = refl;
     behind = hails_on rest (g, hails)
-        ((taken_are_first laws before came bytes taken).texts
-        ∙ ap (λ (found : StreamTexts). before ++ found.texts) (finds_none laws bytes rest e).none)
+        ((taken_are_first before came bytes taken).texts
+        ∙ ap (λ (found : StreamTexts). before ++ found.texts) (finds_none bytes rest e).none)
         (subst (λ texts. Taken texts came rest) (sym (append-nil before))
-        (taken_searched laws before came bytes (text_waits rest) (λ no. cc) e taken))
+        (taken_searched before came bytes (text_waits rest) (λ no. cc) e taken))
         (ap (λ (s : Stage). all_taken (record { held = held_in s rest; end = x })) hails);
   }
   by_text came n more before bytes x g (text_stands text others) e enough fewer hails taken =
       let behind = drop (size_of_text text) others in
       let y = t.takes (text_found text) x in
       text_and_more came before text x (Goes behind y) (g, hails)
-      (text_taken came n more before text behind y (omega (arith, enough, fewer)) (first_taken laws before came bytes text others taken e))
+      (text_taken came n more before text behind y (omega (arith, enough, fewer)) (first_taken before came bytes text others taken e))
   by_text came n more before bytes x g text_too_long e enough fewer hails taken = record {
     texts = [];
     last = x;
     takes = refl;
     behind = finds_long_text (behind_long_text Passing bytes) (g, hails)
-        (taken_too_long laws before came bytes taken e
+        (taken_too_long before came bytes taken e
         ∙ ap (λ (texts : List (List ℕ)). record { texts = texts; end = TooLong }) (sym (append-nil before))) refl;
   }
 
@@ -138,20 +130,20 @@ module _ (laws : HearingLaws) (steps : FindingLaws) (X : Type 0) (t : Taker X) w
   texts_up_to came (suc n) before bytes x enough hails taken =
       let at : finding (t.stage_of x) bytes ≡ text_finding bytes (search_text bytes) = ap (λ (s : Stage). finding s bytes) hails.1 in
       subst (FindsTexts t came before x)
-      (sym (takes_first steps X t bytes x ∙ ap (λ (f : Finding). takes_up (takes_all t) t f x) at))
+      (sym (takes_next X t bytes x ∙ ap (λ (f : Finding). takes_up (takes_all t) t f x) at))
       (by_text came n (texts_up_to came n) before bytes x hails.0 (search_text bytes) refl (omega (arith, enough))
-      (subst (λ (f : Finding). LeavesFewer f bytes) at (steps.fewer (t.stage_of x) bytes)) hails.1 taken)
+      (subst (λ (f : Finding). LeavesFewer f bytes) at (found_fewer (t.stage_of x) bytes)) hails.1 taken)
 
-  pub texts_found : (came piece : List ℕ) (before : List (List ℕ)) (h : Hearer X) → Hails (t.stage_of h.end) → Taken before came h.held
+  pub texts_found : (came piece : List ℕ) (before : List (List ℕ)) (h : Buffered X) → Hails (t.stage_of h.end) → Taken before came h.held
       → FindsTexts t (came ++ piece) before h.end (takes_piece t piece h)
   texts_found came piece before h hails taken =
       texts_up_to (came ++ piece) (suc (length (h.held ++ piece))) before (h.held ++ piece) h.end (omega arith) hails
-      (taken_more laws before came h.held piece taken)
+      (taken_more before came h.held piece taken)
 
 -- ---- items
 
-module _ (laws : ScanLaws) (steps : FindingLaws) (X : Type 0) (t : Taker X) where
-  abbrev GoesOn : List ℕ → X → Came X
+module _ (X : Type 0) (t : Receiver X) where
+  abbrev GoesOn : List ℕ → X → Arrival X
   GoesOn bytes x = takes_all t (holds t bytes x)
 
   -- items that are found in the bytes left
@@ -168,16 +160,16 @@ module _ (laws : ScanLaws) (steps : FindingLaws) (X : Type 0) (t : Taker X) wher
   stands_here : (came bytes : List ℕ) (before : List Item) (item : Item) (size : ℕ) (from : List ℕ) → AreBytes bytes
       → search_of bytes ≡ standing item size from → Finds came before bytes → StandsHere came before item size from
   stands_here came bytes before item size from are e finds_it =
-      let stands = (laws.stands bytes from item size are).0 e in
+      let stands = (search_finds_item bytes from item size are).0 e in
       let front : Finds came before from =
-      subst (λ items. Finds came items from) (append-nil before) (laws.more came bytes from before [] finds_it stands.0) in
+      subst (λ items. Finds came items from) (append-nil before) (Finds-join came bytes from before [] finds_it stands.0) in
       record {
         front = front;
         first = stands.1;
-        behind = laws.more came from (drop size from) before (item ∷ []) front (laws.item from item size stands.1);
+        behind = Finds-join came from (drop size from) before (item ∷ []) front (Finds-item from item size stands.1);
       }
 
-  item_and_more : (came : List ℕ) (before : List Item) (item : Item) (x y : X) (now : Came X) → t.stage_of x ≡ linked
+  item_and_more : (came : List ℕ) (before : List Item) (item : Item) (x y : X) (now : Arrival X) → t.stage_of x ≡ linked
       → takes_item t item x ≡ Some y → FindsItems t came (before ++ item ∷ []) y now → FindsItems t came before x now
   item_and_more came before item x y now on e more = record {
     items = item ∷ more.items;
@@ -217,12 +209,12 @@ module _ (laws : ScanLaws) (steps : FindingLaws) (X : Type 0) (t : Taker X) wher
       → AreBytes bytes → t.stage_of x ≡ linked → Finds came before bytes
       → FindsItems t came before x (takes_up (takes_all t) t (item_finding search) x)
   by_item came n more all before bytes x (waiting rest) e enough fewer are on finds_it =
-      let waits = (laws.waits bytes rest are).0 e in record {
+      let waits = (search_finds_rest bytes rest are).0 e in record {
         items = [];
         last = x;
         takes = refl;
         behind = links_on rest on
-            (record { finds = laws.more came bytes rest before [] finds_it waits.0; waits = waits.1 })
+            (record { finds = Finds-join came bytes rest before [] finds_it waits.0; waits = waits.1 })
             (ap (λ (s : Stage). all_taken (record { held = held_in s rest; end = x })) on);
       }
   by_item came n more all before bytes x (standing (found p) size from) e enough fewer are on finds_it =
@@ -241,13 +233,13 @@ module _ (laws : ScanLaws) (steps : FindingLaws) (X : Type 0) (t : Taker X) wher
   items_up_to came (suc n) all before bytes x enough are on finds_it =
       let at : finding (t.stage_of x) bytes ≡ item_finding (search_of bytes) = ap (λ (s : Stage). finding s bytes) on in
       subst (FindsItems t came before x)
-      (sym (takes_first steps X t bytes x ∙ ap (λ (f : Finding). takes_up (takes_all t) t f x) at))
+      (sym (takes_next X t bytes x ∙ ap (λ (f : Finding). takes_up (takes_all t) t f x) at))
       (by_item came n (items_up_to came n all) all before bytes x (search_of bytes) refl (omega (arith, enough))
-      (subst (λ (f : Finding). LeavesFewer f bytes) at (steps.fewer (t.stage_of x) bytes)) are on finds_it)
+      (subst (λ (f : Finding). LeavesFewer f bytes) at (found_fewer (t.stage_of x) bytes)) are on finds_it)
 
-  pub items_found : (came piece : List ℕ) (before : List Item) (h : Hearer X) → AreBytes (came ++ piece) → t.stage_of h.end ≡ linked
+  pub items_found : (came piece : List ℕ) (before : List Item) (h : Buffered X) → AreBytes (came ++ piece) → t.stage_of h.end ≡ linked
       → Finds came before h.held → FindsItems t (came ++ piece) before h.end (takes_piece t piece h)
   items_found came piece before h all on finds_it =
-      let with_piece : Finds (came ++ piece) before (h.held ++ piece) = laws.behind came h.held piece before finds_it in
+      let with_piece : Finds (came ++ piece) before (h.held ++ piece) = Finds-append came h.held piece before finds_it in
       items_up_to (came ++ piece) (suc (length (h.held ++ piece))) all before (h.held ++ piece) h.end (omega arith)
       (bytes_found (came ++ piece) (h.held ++ piece) before with_piece all) on with_piece

@@ -16,7 +16,6 @@ use Rattle.uug_session.specs.EndStep.{Stage, hailing, Emitted, EndEffect, EndSta
 use Rattle.uug_session.specs.Engine.{BeginsSession, CountsFaults, Does, EngineState, bare, end_of, entry_of, stage_late}
 use Rattle.uug_session.specs.Greeting.{GreetingStep, fails, greeting_at_first, number_by, text_came, timed_out}
 use Rattle.uug_session.specs.GreetingCalls.{Hearing, hears_text, hears_long_text, hears_nothing, greets_to, text_in, Brings, GreetsAt, DoesStep, GreetsOn, GreetsThrough}
-use Rattle.uug_session.specs.Code.HearingLaws.{HearingLaws}
 use Rattle.uug_conversation.specs.Holdings.{Holdings}
 use Rattle.uug_conversation.specs.Jobs.{Lists}
 use Rattle.uug_session.specs.Node.{NodeState, ItemValue, text_item, packet_item, bad_item, ShowsItem, TakesItem, offered_at, searched_at, texts_searched}
@@ -26,7 +25,8 @@ use Rattle.uug_conversation.specs.Talk.{Talk, end_keeper}
 use Rattle.uug_conversation.specs.Talking.{Talking, talking_has_parted}
 use Rattle.uug_session.specs.TextsFound.{Taken}
 use Rattle.uug_session.specs.TextsHeld.{TextsHeld, TextSearch, text_waits, text_stands, text_too_long, search_text}
-use Rattle.uug_conversation.specs.Turns.{Side, caller, called}
+use Rattle.uug_conversation.specs.declared.side.Side.{Side}
+use Rattle.uug_conversation.specs.declared.side.Side.TheVariants.{Caller, Called}
 use Rattle.uug_session.proofs.TextCallLemmas.{stands_dropped, taken_more, taken_right_behind, taken_searched, taken_too_long}
 
 -- ---- a step as it is told
@@ -36,8 +36,8 @@ as_told e = record { state = record { stage = e.state.stage; link = e.state.link
 
 link_told : {C : Type 0} (number : Option ℕ) (side : Side) (said : List Emitted) (s : State) (c : C)
     → as_told (begins_link number side s c said) ≡ begins_link number side s tt said
-link_told number caller said s c = refl
-link_told number called said s c = refl
+link_told number Caller said s c = refl
+link_told number Called said s c = refl
 
 greeted_told : {C : Type 0} (number : Option ℕ) (id : Identity) (greeted : Greeted) (said : List Emitted) (s : State) (c : C)
     → as_told (greeted_so number id greeted said s c) ≡ greeted_so number id greeted said s tt
@@ -104,7 +104,7 @@ step_done {C = C} id step added old new c end_after stage link number does adds 
           ∙ ap (λ (e : EndEffect (Unit {0})). map entry_of e.emitted) same;
     }
 
-module _ (laws : HearingLaws) (h : Holdings) (most : ℕ) where
+module _ (h : Holdings) (most : ℕ) where
   looked : (g : Greeting) (texts : List (List ℕ)) (came : List ℕ) (added : List EntryValue) (old new : NodeState)
       → old.engine.stage ≡ hailing g → Taken texts came old.texts.bytes → (r : TextSearch) → search_text old.texts.bytes ≡ r
       → new ≡ texts_searched r old → entries_of new ≡ entries_of old ++ added → CallStep old.engine.identity looks g texts came added old new
@@ -113,16 +113,16 @@ module _ (laws : HearingLaws) (h : Holdings) (most : ℕ) where
       (ap (λ (n : NodeState). n.engine.link) is) (ap (λ (n : NodeState). n.engine.number) is) (ap (λ (n : NodeState). n.engine.identity) is)
       (none_added added old new (ap entries_of is) adds)
       (still_taken texts came rest new.texts.bytes (ap (λ (n : NodeState). n.texts.bytes) is)
-      (taken_searched laws texts came old.texts.bytes (text_waits rest) (λ no. cc) e taken))
+      (taken_searched texts came old.texts.bytes (text_waits rest) (λ no. cc) e taken))
   looked g texts came added old new stage taken (text_stands text others) e is adds =
       quiet_step old.engine.identity looks g texts came added old new tt (ap (λ (n : NodeState). n.engine.stage) is ∙ stage)
       (ap (λ (n : NodeState). n.engine.link) is) (ap (λ (n : NodeState). n.engine.number) is) (ap (λ (n : NodeState). n.engine.identity) is)
       (none_added added old new (ap entries_of is) adds)
       (still_taken texts came others new.texts.bytes (ap (λ (n : NodeState). n.texts.bytes) is)
-      (taken_searched laws texts came old.texts.bytes (text_stands text others) (λ no. cc) e taken))
+      (taken_searched texts came old.texts.bytes (text_stands text others) (λ no. cc) e taken))
   looked g texts came added old new stage taken text_too_long e is adds = record {
     x = Some hears_long_text;
-    brings = taken_too_long laws texts came old.texts.bytes taken e;
+    brings = taken_too_long texts came old.texts.bytes taken e;
     does = record {
       stage = ap (λ (n : NodeState). n.engine.stage) is;
       link = ap (λ (n : NodeState). n.engine.link) is;
@@ -156,7 +156,7 @@ module _ (laws : HearingLaws) (h : Holdings) (most : ℕ) where
       let held = ap (λ (r : TextsHeld). r.bytes) t.left.0 in
       let stand : StandBefore (texts ++ text ∷ []) new.node.texts.bytes (came ++ []) =
       subst (λ (bytes : List ℕ). StandBefore (texts ++ text ∷ []) bytes (came ++ [])) (sym held)
-      (subst (StandBefore (texts ++ text ∷ []) (drop old.node.texts.shown_size old.node.texts.bytes)) (sym (append-nil came)) (stands_dropped laws texts came text old.node.texts shows taken)) in
+      (subst (StandBefore (texts ++ text ∷ []) (drop old.node.texts.shown_size old.node.texts.bytes)) (sym (append-nil came)) (stands_dropped texts came text old.node.texts shows taken)) in
       record {
         x = Some (hears_text text);
         brings = tt;
@@ -189,7 +189,7 @@ module _ (laws : HearingLaws) (h : Holdings) (most : ℕ) where
       quiet_step old.node.engine.identity (offers bytes) g texts came added old.node new.node refl
       (ap (λ (e : EngineState). e.stage) engine ∙ stage) (ap (λ (e : EngineState). e.link) engine) (ap (λ (e : EngineState). e.number) engine) (ap (λ (e : EngineState). e.identity) engine)
       (none_added added old.node new.node (ap (λ (e : EngineState). e.outbox.entries) engine) adds)
-      (subst (Taken texts (came ++ bytes)) (sym (ap (λ (n : NodeState). n.texts.bytes) there)) (taken_more laws texts came old.node.texts.bytes bytes taken))
+      (subst (Taken texts (came ++ bytes)) (sym (ap (λ (n : NodeState). n.texts.bytes) there)) (taken_more texts came old.node.texts.bytes bytes taken))
   one_call looks g texts came added old new stage taken (is, same) adds =
       looked g texts came added old.node new.node stage taken (search_text old.node.texts.bytes) refl
       (is ∙ ap (λ (s : Stage). searched_at s old.node) stage) adds

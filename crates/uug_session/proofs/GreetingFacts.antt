@@ -13,14 +13,15 @@ use Rattle.uug_session.specs.declared.greeting.Greeting.{Greeting}
 use Rattle.uug_session.specs.EndStep.{hailing, says_text, EndEffect, Identity, begins_session}
 use Rattle.uug_session.specs.Greeting.{GreetingStep, first_greeting, lets_in, text_came, timed_out}
 use Rattle.uug_session.specs.Says.{written_text}
-use Rattle.uug_conversation.specs.Turns.{Side, caller, called}
+use Rattle.uug_conversation.specs.declared.side.Side.{Side}
+use Rattle.uug_conversation.specs.declared.side.Side.TheVariants.{Caller, Called}
 use Rattle.uug_session.specs.WholeGreeting.{GreetingRun, whole_greeting}
 
 abbrev at_caller : List ℕ → GreetingRun
-at_caller delivered = whole_greeting caller (codes "a") (codes "b") None delivered
+at_caller delivered = whole_greeting Caller (codes "a") (codes "b") None delivered
 
 abbrev at_called : List ℕ → GreetingRun
-at_called delivered = whole_greeting called (codes "b") (codes "a") None delivered
+at_called delivered = whole_greeting Called (codes "b") (codes "a") None delivered
 
 abbrev run : List (List ℕ) → Greeted → ℕ → GreetingRun
 run says greeted used = record { says = says; greeted = greeted; used = used; number = None }
@@ -97,10 +98,10 @@ called_runs = record {
 -- ---- ends that keep a number
 
 abbrev caller_with : Option ℕ → List ℕ → GreetingRun
-caller_with number delivered = whole_greeting caller (codes "a") (codes "b") number delivered
+caller_with number delivered = whole_greeting Caller (codes "a") (codes "b") number delivered
 
 abbrev called_with : Option ℕ → List ℕ → GreetingRun
-called_with number delivered = whole_greeting called (codes "b") (codes "a") number delivered
+called_with number delivered = whole_greeting Called (codes "b") (codes "a") number delivered
 
 abbrev numbered_run : Option ℕ → List (List ℕ) → Greeted → ℕ → GreetingRun
 numbered_run number says greeted used = record { says = says; greeted = greeted; used = used; number = number }
@@ -178,8 +179,8 @@ pub record BeginsGreeting {C : Type 0} (id : Identity) (number : Option ℕ) (e 
 
 pub begins_greeting : {C : Type 0} (side : Side) (me peer : List ℕ) (own : Announced) (number : Option ℕ) (c : C)
     → let id : Identity = record { side = side; me = me; peer = peer } in BeginsGreeting id number (begins_session id own number c)
-begins_greeting caller me peer own number c = record { says = refl; awaited = first_greeting CalledName; stands = refl; goes_on = refl; keeps = refl }
-begins_greeting called me peer own number c = record { says = refl; awaited = first_greeting CallerName; stands = refl; goes_on = refl; keeps = refl }
+begins_greeting Caller me peer own number c = record { says = refl; awaited = first_greeting CalledName; stands = refl; goes_on = refl; keeps = refl }
+begins_greeting Called me peer own number c = record { says = refl; awaited = first_greeting CallerName; stands = refl; goes_on = refl; keeps = refl }
 
 -- ---- timeouts
 

@@ -9,11 +9,10 @@ use Rattle.uug_session.specs.declared.end.End.{End}
 use Rattle.uug_session.specs.declared.greeting.Greeted.{Greeted}
 use Rattle.uug_session.specs.declared.greeting.Greeted.TheVariants.{GoesOn, LinkBegins, Ended}
 use Rattle.uug_session.specs.declared.greeting.Greeting.{Greeting}
-use Rattle.uug_session.specs.Arriving.{Came, Hearer, all_taken, held_in, holds, takes_all, takes_piece}
+use Rattle.uug_session.specs.Arriving.{Arrival, Buffered, all_taken, held_in, holds, takes_all, takes_piece}
 use Rattle.uug_session.specs.EndStep.{Stage, hailing, linked, Emitted, EndEffect, EndState, Identity, begins_link, begins_session, first_link, first_words, packets, says_text}
 use Rattle.uug_session.specs.Engine.{end_of, entry_of}
-use Rattle.uug_session.specs.Finding.{FindingLaws, finding, finds_nothing, text_finding}
-use Rattle.uug_session.specs.Code.HearingLaws.{HearingLaws}
+use Rattle.uug_session.specs.Finding.{finding, finds_nothing, text_finding}
 use Rattle.uug_conversation.specs.Holdings.{Holdings}
 use Rattle.uug_session.specs.Node.{NodeState, bytes_at, held_bytes}
 use Rattle.uug_session.specs.NodeArriving.{NodeEnd, hearer_of, node_taker}
@@ -21,7 +20,8 @@ use Rattle.uug_session.specs.NodeGreeting.{HasHeard, GreetsStill, HasEnded, HasB
 use Rattle.uug_session.specs.Says.{entry_of_text}
 use Rattle.uug_conversation.specs.Talk.{Talk}
 use Rattle.uug_session.specs.TextsHeld.{TextsHeld}
-use Rattle.uug_conversation.specs.Turns.{Side, caller, called}
+use Rattle.uug_conversation.specs.declared.side.Side.{Side}
+use Rattle.uug_conversation.specs.declared.side.Side.TheVariants.{Caller, Called}
 use Rattle.uug_session.specs.WholeGreeting.{GreetingRun, Greets}
 use Rattle.uug_session.proofs.ArrivingLemmas.{found_nothing}
 use Rattle.uug_session.proofs.BehindGreetingLemmas.{CameGreeted, CameWith, CameWithout, came_without, front_stays, HasGreeted, hails_not, stays_greeted, stays_with, with_front}
@@ -29,7 +29,6 @@ use Rattle.uug_session.proofs.CallLemmas.{begun_with}
 use Rattle.uug_session.proofs.CourseLemmas.{hearer_with}
 use Rattle.uug_session.proofs.NodeGreetingLemmas.{ComesTo, Waits, from_start, node_by}
 use Rattle.uug_session.proofs.NumberLemmas.{begun_number}
-use Rattle.uug_session.proofs.WholeGreetingLemmas.{OneFirstText}
 
 entries_said : (texts : List (List ℕ)) → map entry_of (map says_text texts) ≡ map entry_of_text texts
 entries_said [] = refl
@@ -51,21 +50,21 @@ link_in_front : (number : Option ℕ) (side : Side) (s : State) (c : Talk) (fail
     let x : NodeEnd = record { state = alone.state; emitted = []; failures = failures } in
     let y : NodeEnd = record { state = e.state; emitted = e.emitted; failures = failures } in
     with_front (said ++ alone.emitted) x ≡ y
-link_in_front number caller s c failures said =
+link_in_front number Caller s c failures said =
     ap (λ (e : List Emitted). record { state = record { stage = linked; link = (step s to_begin).state; keeper = c; number = number }; emitted = e; failures = failures })
     (append-nil (said ++ packets (step s to_begin).emitted))
-link_in_front number called s c failures said =
+link_in_front number Called s c failures said =
     ap (λ (e : List Emitted). record { state = record { stage = linked; link = s; keeper = c; number = number }; emitted = e; failures = failures })
     (append-nil (said ++ []) ∙ append-nil said)
 
 link_stage : (number : Option ℕ) (side : Side) (s : State) (c : Talk) → (begins_link number side s c []).state.stage ≡ linked
-link_stage number caller s c = refl
-link_stage number called s c = refl
+link_stage number Caller s c = refl
+link_stage number Called s c = refl
 
-module _ (laws : HearingLaws) (steps : FindingLaws) (first_text : OneFirstText) (h : Holdings) (id : Identity) (own : Announced) where
+module _ (h : Holdings) (id : Identity) (own : Announced) where
   pub whole : (number : Option ℕ) (talk : Talk) (failures : List Bool) (came behind : List ℕ) (run : GreetingRun) → Greets id.side id.me id.peer number came run behind
-      → ComesTo laws steps h id (first_link id.side own) talk failures number came run behind
-  whole number talk failures came behind run m = from_start laws steps h id (first_link id.side own) talk failures first_text number came behind run m
+      → ComesTo h id (first_link id.side own) talk failures number came run behind
+  whole number talk failures came behind run m = from_start h id (first_link id.side own) talk failures number came behind run m
 
   module _ (number : Option ℕ) (entries : List EntryValue) (came : List ℕ) (now : NodeState) (m : HasHeard h id own number entries came now) where
     abbrev c : Talk
@@ -81,7 +80,7 @@ module _ (laws : HearingLaws) (steps : FindingLaws) (first_text : OneFirstText) 
     abbrev emitted : List Emitted
     emitted = first_words id.side id.me ++ m.takes.course.emitted
 
-    abbrev t_goes : List ℕ → NodeEnd → Came NodeEnd
+    abbrev t_goes : List ℕ → NodeEnd → Arrival NodeEnd
     t_goes bytes x = takes_all (node_taker h id) (holds (node_taker h id) bytes x)
 
     start_is : end_of h m.kept m.start.engine ≡ (begins_session id own number c).state
@@ -112,7 +111,7 @@ module _ (laws : HearingLaws) (steps : FindingLaws) (first_text : OneFirstText) 
         all_entries ∙ ap (λ (e : List Emitted). entries ++ map entry_of e) (sym is) ∙ ap (λ (e : List EntryValue). entries ++ e) (entries_said texts)
 
     module _ (behind : List ℕ) (run : GreetingRun) (greets : Greets id.side id.me id.peer number came run behind) where
-      comes : ComesTo laws steps h id s c failures number came run behind
+      comes : ComesTo h id s c failures number came run behind
       comes = whole number c failures came behind run greets
 
       leads : (greeted : Greeted) → run.greeted ≡ greeted → t_goes behind (node_by run.number id s c failures [] greeted run.says) ≡ all_taken (hearer_of h m.kept_now emitted [] now)
@@ -124,14 +123,14 @@ module _ (laws : HearingLaws) (steps : FindingLaws) (first_text : OneFirstText) 
           let rest : Waits (GoesOn g) behind = subst (λ (x : Greeted). Waits x behind) is comes.waits in
           let found : finding (hailing g) behind ≡ finds_nothing rest.0 = ap (text_finding behind) rest.1 in
           let same : all_taken (hearer_with rest.0 (node_by run.number id s c failures [] (GoesOn g) run.says)) ≡ all_taken (hearer_of h m.kept_now emitted [] now) =
-          sym (found_nothing steps NodeEnd (node_taker h id) behind rest.0 (node_by run.number id s c failures [] (GoesOn g) run.says) found) ∙ leads (GoesOn g) is in
+          sym (found_nothing NodeEnd (node_taker h id) behind rest.0 (node_by run.number id s c failures [] (GoesOn g) run.says) found) ∙ leads (GoesOn g) is in
           let hearer : hearer_with rest.0 (node_by run.number id s c failures [] (GoesOn g) run.says) ≡ hearer_of h m.kept_now emitted [] now = cc in
           record {
-            stage = sym (ap (λ (z : Hearer NodeEnd). z.end.state.stage) hearer);
-            keeps = sym (ap (λ (z : Hearer NodeEnd). z.end.state.number) hearer);
-            says = texts_entries run.says (ap (λ (z : Hearer NodeEnd). z.end.emitted) hearer);
-            link = sym (ap (λ (z : Hearer NodeEnd). z.end.state.link) hearer);
-            waits = found ∙ ap (λ (z : Hearer NodeEnd). finds_nothing z.held) hearer;
+            stage = sym (ap (λ (z : Buffered NodeEnd). z.end.state.stage) hearer);
+            keeps = sym (ap (λ (z : Buffered NodeEnd). z.end.state.number) hearer);
+            says = texts_entries run.says (ap (λ (z : Buffered NodeEnd). z.end.emitted) hearer);
+            link = sym (ap (λ (z : Buffered NodeEnd). z.end.state.link) hearer);
+            waits = found ∙ ap (λ (z : Buffered NodeEnd). finds_nothing z.held) hearer;
           }
 
       pub has_ended : (how : End) → run.greeted ≡ Ended how → HasEnded entries run.says run.number how now
@@ -139,9 +138,9 @@ module _ (laws : HearingLaws) (steps : FindingLaws) (first_text : OneFirstText) 
           let same : all_taken (hearer_with [] (node_by run.number id s c failures [] (Ended how) run.says)) ≡ all_taken (hearer_of h m.kept_now emitted [] now) = leads (Ended how) is in
           let hearer : hearer_with [] (node_by run.number id s c failures [] (Ended how) run.says) ≡ hearer_of h m.kept_now emitted [] now = cc in
           record {
-            stage = sym (ap (λ (z : Hearer NodeEnd). z.end.state.stage) hearer);
-            keeps = sym (ap (λ (z : Hearer NodeEnd). z.end.state.number) hearer);
-            says = texts_entries run.says (ap (λ (z : Hearer NodeEnd). z.end.emitted) hearer);
+            stage = sym (ap (λ (z : Buffered NodeEnd). z.end.state.stage) hearer);
+            keeps = sym (ap (λ (z : Buffered NodeEnd). z.end.state.number) hearer);
+            says = texts_entries run.says (ap (λ (z : Buffered NodeEnd). z.end.emitted) hearer);
           }
 
       abbrev begun : EndEffect Talk

@@ -8,7 +8,7 @@ use Rattle.uug_link.specs.declared.phase.Phase.TheVariants as phases
 use Rattle.uug_link.specs.Announced.{Announced}
 use Rattle.uug_link.specs.InRange.{IsAnnouncement, IsInRange, MayMeet, AreWellFormed}
 use Rattle.uug_link.specs.Outcomes.{IsComing, MayAnswer, MovesPhase}
-use Rattle.uug_link.specs.State.{State, IsStarting, IsUp, caller_state, called_state, is_halted}
+use Rattle.uug_link.specs.State.{State, IsStarting, IsUp, is_halted}
 use Rattle.uug_link.specs.Step.{Effect, Emission, Event, OutcomeValue, nothing, up, taken, closed, gave_up, halted, answers_halted, on_event, step, to_begin, packet_found, bad_found, timed_out, to_send, to_close}
 use Rattle.uug_link.specs.Terms.{size_of_code}
 use Rattle.uug_packet.specs.Packet.{PacketValue}
@@ -25,45 +25,41 @@ use Rattle.uug_session.specs.InRange.{BeginsFresh, CanBeWritten, HasSize, IsEndI
 use Rattle.uug_conversation.specs.Keeper.{Keeper}
 use Rattle.uug_conversation.specs.Machine as machine
 use Rattle.uug_conversation.specs.Talk.{Talk, behind_first, end_keeper, first_of, opened_with, replied, taking, with_first_sent}
-use Rattle.uug_conversation.specs.Turns.{Side, caller, called, Said, all_messages, said_messages}
-use Rattle.uug_conversation.proofs.FitLemmas.{MessagesFit, said_fit}
+use Rattle.uug_conversation.specs.Turns.{Said, all_messages, said_messages}
+use Rattle.uug_conversation.specs.declared.side.Side.{Side}
+use Rattle.uug_conversation.specs.declared.side.Side.TheVariants.{Caller, Called}
+use Rattle.uug_conversation.proofs.FitLemmas.{said_fit}
+use Rattle.uug_link.proofs.InRangeLemmas.{range_at_first, range_stays, emits_well_formed}
+use Rattle.uug_link.proofs.OutcomeLemmas.{answers_of, moves_of}
+use Rattle.uug_link.proofs.TermsLemmas.{size_stays}
 
 abbrev Fits : ℕ → List ℕ → Type 0
 Fits size message = length message ≤ size
 
--- what is needed of links
-pub record LinkLaws : Type 0 where
-  pub first : (own : Announced) → IsAnnouncement own → IsInRange (caller_state own) × IsInRange (called_state own)
-  pub stays : (s : State) (e : Event) → IsInRange s → MayMeet s e → IsInRange (step s e).state
-  pub emitted : (s : State) (e : Event) → IsInRange s → MayMeet s e → AreWellFormed (step s e).emitted
-  pub answers : (s : State) (e : Event) → MayAnswer (step s e).outcome e
-  pub phases : (s : State) (e : Event) → IsComing e → MovesPhase (step s e).outcome s.phase (step s e).state.phase
-  pub size_stays : (s : State) (e : Event) → IsUp s → (step s e).state.size_code ≡ s.size_code
-
 -- ---- what waits is no longer than the size
 
-all_fit : MessagesFit → (size : ℕ) (says : List Said) → All (Fits size) (all_messages size says)
-all_fit f size [] = All-nil (Fits size)
-all_fit f size (said ∷ more) =
-    All-append (Fits size) (said_messages size said) (all_messages size more) (said_fit f size said) (all_fit f size more)
+all_fit : (size : ℕ) (says : List Said) → All (Fits size) (all_messages size says)
+all_fit size [] = All-nil (Fits size)
+all_fit size (said ∷ more) =
+    All-append (Fits size) (said_messages size said) (all_messages size more) (said_fit size said) (all_fit size more)
 
-has_size_opened : MessagesFit → (side : Side) (h : Holdings) (size : ℕ) (talk : Talk)
+has_size_opened : (side : Side) (h : Holdings) (size : ℕ) (talk : Talk)
     → HasSize size (opened_with side h size talk)
-has_size_opened f side h size talk =
-    record { is = refl; fit = all_fit f size (machine.opening side h talk.machine.lists).says }
+has_size_opened side h size talk =
+    record { is = refl; fit = all_fit size (machine.opening side h talk.machine.lists).says }
 
-has_size_replied : MessagesFit → (size own : ℕ) (talk : Talk) (reply : machine.Reply) → talk.size ≡ own → own ≡ size
+has_size_replied : (size own : ℕ) (talk : Talk) (reply : machine.Reply) → talk.size ≡ own → own ≡ size
     → All (Fits size) talk.waiting → HasSize size (replied own talk.waiting talk.kept reply)
-has_size_replied f size own talk reply is same fit = record {
+has_size_replied size own talk reply is same fit = record {
   is = same;
   fit = All-append (Fits size) talk.waiting (all_messages own reply.says) fit
-      (subst (λ (n : ℕ). All (Fits size) (all_messages n reply.says)) (sym same) (all_fit f size reply.says));
+      (subst (λ (n : ℕ). All (Fits size) (all_messages n reply.says)) (sym same) (all_fit size reply.says));
 }
 
-has_size_taking : MessagesFit → (h : Holdings) (message : List ℕ) (size : ℕ) (talk : Talk)
+has_size_taking : (h : Holdings) (message : List ℕ) (size : ℕ) (talk : Talk)
     → HasSize size talk → HasSize size (taking h message talk)
-has_size_taking f h message size talk s =
-    has_size_replied f size talk.size talk (machine.step h talk.machine message) refl s.is s.fit
+has_size_taking h message size talk s =
+    has_size_replied size talk.size talk (machine.step h talk.machine message) refl s.is s.fit
 
 first_fits : (size : ℕ) (waiting : List (List ℕ)) (message : List ℕ) → All (Fits size) waiting
     → first_of waiting ≡ Some message → Fits size message
@@ -185,12 +181,12 @@ record IsFine (side : Side) (x : EndEffect Talk) : Type 0 where
 
 -- behind the greeting the side does not matter
 fresh_linked : (side : Side) (s : State) → BeginsFresh side linked s
-fresh_linked caller s = tt
-fresh_linked called s = tt
+fresh_linked Caller s = tt
+fresh_linked Called s = tt
 
 fresh_ended : (side : Side) (how : End) (s : State) → BeginsFresh side (ended how) s
-fresh_ended caller how s = tt
-fresh_ended called how s = tt
+fresh_ended Caller how s = tt
+fresh_ended Called how s = tt
 
 -- ---- sends
 
@@ -205,7 +201,7 @@ none_out = All-nil (λ (x : Emission). IsWellFormed x.packet)
 sends_none : (s : State) (talk : Talk) → IsInRange s → Suits s talk → FineSending (sending_nothing s talk)
 sends_none s talk range suits = record { link = range; talk = suits; emissions = none_out }
 
-module _ (laws : LinkLaws) (f : MessagesFit) (on : Side) (h : Holdings) where
+module _ (on : Side) (h : Holdings) where
   abbrev k : Keeper Talk
   k = end_keeper on h
 
@@ -221,12 +217,12 @@ module _ (laws : LinkLaws) (f : MessagesFit) (on : Side) (h : Holdings) where
       let may : MayMeet s (to_send message) = (is_up, first_fits (size_of_code s.size_code) talk.waiting message size.fit e) in
       let left : HasSize (size_of_code s.size_code) (with_first_sent talk) =
       record { is = size.is; fit = rest_fit (size_of_code s.size_code) talk.waiting size.fit } in
-      let after = fine (step s (to_send message)).state (with_first_sent talk) (laws.stays s (to_send message) range may)
+      let after = fine (step s (to_send message)).state (with_first_sent talk) (range_stays s (to_send message) range may)
       (suits_later s (step s (to_send message)).state (with_first_sent talk) (λ again. left) (λ again. is_up) (sent_size s message)) in
       record {
         link = after.link;
         talk = after.talk;
-        emissions = joined_emissions (step s (to_send message)).emitted _ (laws.emitted s (to_send message) range may) after.emissions;
+        emissions = joined_emissions (step s (to_send message)).emitted _ (emits_well_formed s (to_send message) range may) after.emissions;
       }
 
   room_fine : (more : State → Talk → Sending Talk) (room : Bool) (s : State) (talk : Talk) → SendsFine more → has_room s ≡ room
@@ -243,9 +239,9 @@ module _ (laws : LinkLaws) (f : MessagesFit) (on : Side) (h : Holdings) where
   closes_fine : (over : Bool) (x : Sending Talk) → FineSending x → FineSending (closes_by over x)
   closes_fine false x fine = fine
   closes_fine true x fine = record {
-    link = laws.stays x.link to_close fine.link tt;
+    link = range_stays x.link to_close fine.link tt;
     talk = suits_down (step x.link to_close).state x.keeper (closed_down x.link);
-    emissions = joined_emissions x.emissions (step x.link to_close).emitted fine.emissions (laws.emitted x.link to_close fine.link tt);
+    emissions = joined_emissions x.emissions (step x.link to_close).emitted fine.emissions (emits_well_formed x.link to_close fine.link tt);
   }
 
   speaks_fine : (b : Bool) → SendsFine (speaks_by b k)
@@ -287,8 +283,8 @@ module _ (laws : LinkLaws) (f : MessagesFit) (on : Side) (h : Holdings) where
 
   closed_fine : (e : Effect) → FineEffect e → FineEffect (then_closes e)
   closed_fine e fine = record {
-    state = laws.stays e.state to_close fine.state tt;
-    emitted = joined_emissions e.emitted (step e.state to_close).emitted fine.emitted (laws.emitted e.state to_close fine.state tt);
+    state = range_stays e.state to_close fine.state tt;
+    emitted = joined_emissions e.emitted (step e.state to_close).emitted fine.emitted (emits_well_formed e.state to_close fine.state tt);
   }
 
   talks_fine : (number : Option ℕ) (bad : Bool) (id : Identity) (e : Effect) (before after : Talk) → FineEffect e → Suits e.state after
@@ -303,7 +299,7 @@ module _ (laws : LinkLaws) (f : MessagesFit) (on : Side) (h : Holdings) where
       ends_fine number id (k.has_parted talk) ends.SpoolFault (then_closes e) talk true (closed_fine e fine) (closed_down e.state)
   takes_fine number false id e message talk fine suits =
       talks_fine number (k.is_bad (taking h message talk)) id e talk (taking h message talk) fine
-      (λ is_up. has_size_taking f h message (size_of_code e.state.size_code) talk (suits is_up))
+      (λ is_up. has_size_taking h message (size_of_code e.state.size_code) talk (suits is_up))
 
   -- what a link did on an event
   record FineAnswer (s : State) (o : OutcomeValue) (e : Effect) : Type 0 where
@@ -332,7 +328,7 @@ module _ (laws : LinkLaws) (f : MessagesFit) (on : Side) (h : Holdings) where
       (suits_moved s e talk suits (was_up s.phase e.state.phase a.phases.1) a.size_stays)
   behind_fine number id device_failed up s e message talk a suits =
       goes_on_fine number id.side false e (opened_with on h (size_of_code e.state.size_code) talk) a.effect
-      (λ is_up. has_size_opened f on h (size_of_code e.state.size_code) talk)
+      (λ is_up. has_size_opened on h (size_of_code e.state.size_code) talk)
   behind_fine number id device_failed taken s e message talk a suits =
       takes_fine number (device_failed && k.asks_spool message talk) id e message talk a.effect
       (suits_moved s e talk suits (λ is_up. a.phases.0) a.size_stays)
@@ -346,14 +342,14 @@ module _ (laws : LinkLaws) (f : MessagesFit) (on : Side) (h : Holdings) where
   -- ---- the events of the link
 
   effect_fine : (s : State) (event : Event) → IsInRange s → MayMeet s event → FineEffect (step s event)
-  effect_fine s event range may = record { state = laws.stays s event range may; emitted = laws.emitted s event range may }
+  effect_fine s event range may = record { state = range_stays s event range may; emitted = emits_well_formed s event range may }
 
   answer_fine : (s : State) (event : Event) → IsComing event → IsInRange s → MayMeet s event
       → FineAnswer s (step s event).outcome (step s event)
   answer_fine s event comes range may = record {
     effect = effect_fine s event range may;
-    phases = laws.phases s event comes;
-    size_stays = laws.size_stays s event;
+    phases = moves_of s event comes;
+    size_stays = size_stays s event;
   }
 
   packet_fine : (number : Option ℕ) (id : Identity) (device_failed : Bool) (p : PacketValue) (s : State) (talk : Talk) → IsWellFormed p
@@ -388,21 +384,21 @@ module _ (laws : LinkLaws) (f : MessagesFit) (on : Side) (h : Holdings) where
 
   begun_fine : (number : Option ℕ) (side : Side) (g : Greeting) (s : State) (talk : Talk) (said : List Emitted) → AllCan said → IsInRange s
       → BeginsFresh side (hailing g) s → Suits s talk → IsFine side (begins_link number side s talk said)
-  begun_fine number caller g s talk said out range fresh suits = record {
+  begun_fine number Caller g s talk said out range fresh suits = record {
     state = record {
-      link = laws.stays s to_begin range fresh;
+      link = range_stays s to_begin range fresh;
       fresh = tt;
       talk = suits_down (step s to_begin).state talk (begun_down s);
     };
     emitted = All-append CanBeWritten said (packets (step s to_begin).emitted) out
-        (packets_can (step s to_begin).emitted (laws.emitted s to_begin range fresh));
+        (packets_can (step s to_begin).emitted (emits_well_formed s to_begin range fresh));
   }
-  begun_fine number called g s talk said out range fresh suits =
+  begun_fine number Called g s talk said out range fresh suits =
       record { state = record { link = range; fresh = tt; talk = suits }; emitted = out }
 
   still_fresh : (side : Side) (g next : Greeting) (s : State) → BeginsFresh side (hailing g) s → BeginsFresh side (hailing next) s
-  still_fresh caller g next s fresh = fresh
-  still_fresh called g next s fresh = tt
+  still_fresh Caller g next s fresh = fresh
+  still_fresh Called g next s fresh = tt
 
   greeted_fine : (number : Option ℕ) (id : Identity) (g : Greeting) (greeted : Greeted) (said : List Emitted) (s : State) (talk : Talk) → AllCan said
       → IsInRange s → BeginsFresh id.side (hailing g) s → Suits s talk → IsFine id.side (greeted_so number id greeted said s talk)
@@ -444,7 +440,7 @@ module _ (laws : LinkLaws) (f : MessagesFit) (on : Side) (h : Holdings) where
   linked_fine id broken_found e may r = bad_fine e.number id e.link e.keeper r.link r.talk
   linked_fine id time_ran_out e may r =
       late_fine e.number id (k.has_parted e.keeper) (step e.link timed_out).outcome e.link (step e.link timed_out) e.keeper
-      (laws.answers e.link timed_out) (answer_fine e.link timed_out tt r.link tt) r.talk
+      (answers_of e.link timed_out) (answer_fine e.link timed_out tt r.link tt) r.talk
   linked_fine id line_lost e may r = record {
     state = record { link = r.link; fresh = fresh_ended id.side (how_it_ends (k.has_parted e.keeper) ends.HungUp) e.link; talk = r.talk };
     emitted = All-nil CanBeWritten;
@@ -468,22 +464,22 @@ module _ (laws : LinkLaws) (f : MessagesFit) (on : Side) (h : Holdings) where
 
 -- ---- a session begins
 
-first_in_range : LinkLaws → (side : Side) (own : Announced) → IsAnnouncement own → IsInRange (first_link side own)
-first_in_range laws caller own h = (laws.first own h).0
-first_in_range laws called own h = (laws.first own h).1
+first_in_range : (side : Side) (own : Announced) → IsAnnouncement own → IsInRange (first_link side own)
+first_in_range Caller own h = (range_at_first own h).0
+first_in_range Called own h = (range_at_first own h).1
 
 first_fresh : (side : Side) (own : Announced) (g : Greeting) → BeginsFresh side (hailing g) (first_link side own)
-first_fresh caller own g = refl
-first_fresh called own g = tt
+first_fresh Caller own g = refl
+first_fresh Called own g = tt
 
 first_down : (side : Side) (own : Announced) → IsDown (first_link side own).phase
-first_down caller own = tt
-first_down called own = tt
+first_down Caller own = tt
+first_down Called own = tt
 
-pub end_begins : LinkLaws → (id : Identity) (own : Announced) (number : Option ℕ) (talk : Talk) → IsAnnouncement own
+pub end_begins : (id : Identity) (own : Announced) (number : Option ℕ) (talk : Talk) → IsAnnouncement own
     → IsEndInRange id.side (begins_session id own number talk).state
-end_begins laws id own number talk h = record {
-  link = first_in_range laws id.side own h;
+end_begins id own number talk h = record {
+  link = first_in_range id.side own h;
   fresh = first_fresh id.side own _;
   talk = suits_down (first_link id.side own) talk (first_down id.side own);
 }

@@ -7,7 +7,7 @@ use Rattle.uug_link.specs.Terms.{size_of_code}
 use Rattle.uug_session.specs.declared.greeting.Greeted.{Greeted}
 use Rattle.uug_session.specs.declared.greeting.Greeted.TheVariants.{GoesOn as greeting_goes_on, LinkBegins, Ended}
 use Rattle.uug_session.specs.declared.greeting.Greeting.{Greeting}
-use Rattle.uug_session.specs.Arriving.{Taker, Hearer, Came, all_taken, stopped, held_in, holds, takes_up, takes_up_to, takes_piece}
+use Rattle.uug_session.specs.Arriving.{Receiver, Buffered, Arrival, all_taken, stopped, held_in, holds, takes_up, takes_up_to, takes_piece}
 use Rattle.uug_session.specs.EndStep.{Stage, hailing, linked, ended, EndState, Emitted, Identity, Sending, has_room, is_up, sends_next, sends_by, sends_up_to, sends, closes_by, speaks_by, goes_on, talks_by, takes_by, behind_link, message_of, late_link, begins_link, greeted_so, EndEvent, text_found, long_text_found, packet_found_whole, broken_found, time_ran_out, line_lost, hailing_step, linked_step, stage_step, end_step}
 use Rattle.uug_session.specs.Finding.{Finding, finds_nothing, finds, finds_packet, finding}
 use Rattle.uug_session.specs.Greeting.{number_by, text_came, timed_out as greeting_timed_out}
@@ -15,7 +15,8 @@ use Rattle.uug_conversation.specs.Holdings.{Holdings}
 use Rattle.uug_conversation.specs.Keeper.{Keeper}
 use Rattle.uug_session.specs.NodeArriving.{NodeEnd, fails_first, fails_later, node_taker, with_effect}
 use Rattle.uug_conversation.specs.Talk.{Talk, end_keeper}
-use Rattle.uug_conversation.specs.Turns.{Side, caller, called}
+use Rattle.uug_conversation.specs.declared.side.Side.{Side}
+use Rattle.uug_conversation.specs.declared.side.Side.TheVariants.{Caller, Called}
 
 -- ---- each step of an end
 
@@ -76,8 +77,8 @@ module _ (C : Type 0) (k : Keeper C) (P : C → Type 0)
   late_keeps number id has_parted halted e c p = p
 
   begins_keeps : (number : Option ℕ) (side : Side) (s : State) (c : C) (said : List Emitted) → P c → P (begins_link number side s c said).state.keeper
-  begins_keeps number caller s c said p = p
-  begins_keeps number called s c said p = p
+  begins_keeps number Caller s c said p = p
+  begins_keeps number Called s c said p = p
 
   greeted_keeps : (number : Option ℕ) (id : Identity) (greeted : Greeted) (said : List Emitted) (s : State) (c : C) → P c → P (greeted_so number id greeted said s c).state.keeper
   greeted_keeps number id (greeting_goes_on g) said s c p = p
@@ -112,22 +113,22 @@ module _ (C : Type 0) (k : Keeper C) (P : C → Type 0)
 
 -- ---- bytes that come
 
-abbrev pub end_in : Came NodeEnd → NodeEnd
+abbrev pub end_in : Arrival NodeEnd → NodeEnd
 end_in (all_taken r) = r.end
 end_in (stopped r) = r.end
 
-abbrev pub talk_in : Came NodeEnd → Talk
+abbrev pub talk_in : Arrival NodeEnd → Talk
 talk_in came = (end_in came).state.keeper
 
 module _ (id : Identity) (h : Holdings) (P : Talk → Type 0)
     (steps : (event : EndEvent) (e : EndState Talk) → P e.keeper → P (end_step (end_keeper id.side h) id event e).state.keeper) where
-  abbrev t : Taker NodeEnd
+  abbrev t : Receiver NodeEnd
   t = node_taker h id
 
-  abbrev Keeps : (Hearer NodeEnd → Came NodeEnd) → Type 0
-  Keeps more = (r : Hearer NodeEnd) → P r.end.state.keeper → P (talk_in (more r))
+  abbrev Keeps : (Buffered NodeEnd → Arrival NodeEnd) → Type 0
+  Keeps more = (r : Buffered NodeEnd) → P r.end.state.keeper → P (talk_in (more r))
 
-  found_keeps : (more : Hearer NodeEnd → Came NodeEnd) (f : Finding) (x : NodeEnd) → Keeps more → P x.state.keeper → P (talk_in (takes_up more t f x))
+  found_keeps : (more : Buffered NodeEnd → Arrival NodeEnd) (f : Finding) (x : NodeEnd) → Keeps more → P x.state.keeper → P (talk_in (takes_up more t f x))
   found_keeps more (finds_nothing rest) x keep p = p
   found_keeps more (finds event behind) x keep p = keep (holds t behind (t.takes event x)) (steps event x.state p)
   found_keeps more (finds_packet packet from behind) x keep p =
@@ -138,5 +139,5 @@ module _ (id : Identity) (h : Holdings) (P : Talk → Type 0)
   taken_keeps zero r p = p
   taken_keeps (suc n) r p = found_keeps (takes_up_to n t) (finding r.end.state.stage r.held) r.end (taken_keeps n) p
 
-  pub piece_keeps : (piece : List ℕ) (r : Hearer NodeEnd) → P r.end.state.keeper → P (talk_in (takes_piece t piece r))
+  pub piece_keeps : (piece : List ℕ) (r : Buffered NodeEnd) → P r.end.state.keeper → P (talk_in (takes_piece t piece r))
   piece_keeps piece r p = taken_keeps (suc (length (held_in r.end.state.stage (r.held ++ piece)))) (holds t (r.held ++ piece) r.end) p

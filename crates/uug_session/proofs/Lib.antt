@@ -1,23 +1,23 @@
-mod CallLemmas
+pub mod CallLemmas
 mod EndFacts
 mod EndStepFacts
 mod MadeLemmas
 mod GreetingCallLemmas
 mod GreetingFacts
-mod InRangeLemmas
+pub mod InRangeLemmas
 mod KeeperLemmas
 mod LinkEndLemmas
 mod LongTextLemmas
 mod OwnRequestLemmas
 mod SameJobsLemmas
-mod ShownItemLemmas
-mod TextCallLemmas
+pub mod ShownItemLemmas
+pub mod TextCallLemmas
 mod TextSearchFacts
-mod TextSearchLemmas
+pub mod TextSearchLemmas
 mod TimeoutLemmas
 mod ToldFacts
-mod ToldLemmas
-mod TwoEndsLemmas
+pub mod ToldLemmas
+pub mod TwoEndsLemmas
 pub mod ArrivingLemmas
 pub mod BeginningLemmas
 pub mod BehindGreetingLemmas

@@ -4,9 +4,9 @@ use Rattle.uug_link.specs.declared.limits.TheConstants.{WINDOW_MAX}
 use Rattle.uug_link.specs.declared.phase.Phase.{Phase}
 use Rattle.uug_link.specs.declared.phase.Phase.TheVariants as phases
 use Rattle.uug_link.specs.Announced.{Announced}
-use Rattle.uug_link.specs.Outcomes.{IsComing, MayAnswer, MovesPhase}
+use Rattle.uug_link.specs.Outcomes.{MayAnswer, MovesPhase}
 use Rattle.uug_link.specs.State.{State, IsStarting, is_halted}
-use Rattle.uug_link.specs.Step.{Effect, Event, OutcomeValue, nothing, up, taken, closed, gave_up, halted, answers_halted, on_event, step, to_begin, packet_found, bad_found, timed_out, to_send, to_close}
+use Rattle.uug_link.specs.Step.{Effect, OutcomeValue, nothing, up, taken, closed, gave_up, halted, answers_halted, on_event, step, to_begin, packet_found, bad_found, timed_out, to_send, to_close}
 use Rattle.uug_link.specs.Terms.{size_of_code}
 use Rattle.uug_session.specs.declared.greeting.Greeted.{Greeted}
 use Rattle.uug_session.specs.declared.greeting.Greeted.TheVariants.{GoesOn, LinkBegins, Ended}
@@ -17,14 +17,11 @@ use Rattle.uug_session.specs.Engine.{IsEnded}
 use Rattle.uug_session.specs.Greeting.{number_by, text_came, timed_out as greeting_timed_out}
 use Rattle.uug_conversation.specs.Keeper.{Keeper}
 use Rattle.uug_session.specs.Phases.{EndsWithItsLink, phase_at}
-use Rattle.uug_conversation.specs.Turns.{Side, caller, called}
+use Rattle.uug_conversation.specs.declared.side.Side.{Side}
+use Rattle.uug_conversation.specs.declared.side.Side.TheVariants.{Caller, Called}
+use Rattle.uug_link.proofs.OutcomeLemmas.{answers_of, moves_of}
 
 -- ---- links
-
--- what is needed of them
-pub record LinkAnswers : Type 0 where
-  pub answers : (s : State) (e : Event) → MayAnswer (step s e).outcome e
-  pub phases : (s : State) (e : Event) → IsComing e → MovesPhase (step s e).outcome s.phase (step s e).state.phase
 
 abbrev IsAlive : Phase → Type 0
 IsAlive phase = phase ≢ phases.Halted
@@ -69,12 +66,12 @@ came_up : (after : Phase) → after ≡ phases.Up → IsAlive after
 came_up after e = λ is. up_lives (sym e ∙ is)
 
 first_lives : (side : Side) (own : Announced) → IsAlive (first_link side own).phase
-first_lives caller own = fresh_lives
-first_lives called own = starting_lives
+first_lives Caller own = fresh_lives
+first_lives Called own = starting_lives
 
 -- ---- an end
 
-module _ (laws : LinkAnswers) (C : Type 0) (k : Keeper C) where
+module _ (C : Type 0) (k : Keeper C) where
   abbrev SendsLive : (State → C → Sending C) → Type 0
   SendsLive more = (s : State) (c : C) → IsAlive s.phase → IsAlive (more s c).link.phase
 
@@ -133,8 +130,8 @@ module _ (laws : LinkAnswers) (C : Type 0) (k : Keeper C) where
   late_lives number id has_parted halted before e c lives may moves = absurd (lives moves.0)
 
   begins_lives : (number : Option ℕ) (side : Side) (s : State) (c : C) (said : List Emitted) → IsAlive s.phase → EndsWithItsLink (begins_link number side s c said).state
-  begins_lives number caller s c said lives = begun_lives s lives
-  begins_lives number called s c said lives = lives
+  begins_lives number Caller s c said lives = begun_lives s lives
+  begins_lives number Called s c said lives = lives
 
   greeted_lives : (number : Option ℕ) (id : Identity) (greeted : Greeted) (said : List Emitted) (s : State) (c : C) → IsAlive s.phase
       → EndsWithItsLink (greeted_so number id greeted said s c).state
@@ -155,13 +152,13 @@ module _ (laws : LinkAnswers) (C : Type 0) (k : Keeper C) where
       → EndsWithItsLink (linked_step k id event e).state
   linked_ends id (packet_found_whole device_failed packet) e ends lives =
       let x = step e.link (packet_found packet) in
-      behind_lives e.number id device_failed x.outcome e.link.phase x (message_of packet) e.keeper lives (laws.phases e.link (packet_found packet) tt)
+      behind_lives e.number id device_failed x.outcome e.link.phase x (message_of packet) e.keeper lives (moves_of e.link (packet_found packet) tt)
   linked_ends id broken_found e ends lives =
       let x = step e.link bad_found in
-      behind_lives e.number id false x.outcome e.link.phase x [] e.keeper lives (laws.phases e.link bad_found tt)
+      behind_lives e.number id false x.outcome e.link.phase x [] e.keeper lives (moves_of e.link bad_found tt)
   linked_ends id time_ran_out e ends lives =
       let x = step e.link timed_out in
-      late_lives e.number id (k.has_parted e.keeper) x.outcome e.link.phase x e.keeper lives (laws.answers e.link timed_out) (laws.phases e.link timed_out tt)
+      late_lives e.number id (k.has_parted e.keeper) x.outcome e.link.phase x e.keeper lives (answers_of e.link timed_out) (moves_of e.link timed_out tt)
   linked_ends id line_lost e ends lives = λ is. tt
   linked_ends id (text_found text) e ends lives = ends
   linked_ends id long_text_found e ends lives = ends

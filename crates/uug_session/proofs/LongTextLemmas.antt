@@ -6,16 +6,10 @@ use Rattle.uug_talk.specs.Texts.{Heard, Passing, Open, Whole, Holds, is_whole, w
 use Rattle.uug_session.specs.declared.greeting.Greeting.{Greeting}
 use Rattle.uug_session.specs.EndStep.{hailing, text_found, long_text_found}
 use Rattle.uug_session.specs.Finding.{finds, behind_byte, behind_long_text, text_finding, finding, found_with, LeavesFewer}
-use Rattle.uug_session.specs.Code.HearingLaws.{HearingLaws}
 use Rattle.uug_session.specs.Says.{start_byte}
 use Rattle.uug_session.specs.TextsHeld.{TextSearch, text_waits, text_stands, text_too_long, size_of_text, search_heard, search_text}
 use Rattle.uug_session.proofs.TextsHeldLemmas.{cut_at_text, found_waiting, nothing_heard}
-
--- what is heard of a piece with more behind it, as the law of the crate below gives it
-pub record HearsInPieces : Type 0 where
-  pub goes_on : (heard next : Heard) (piece more : List ℕ) (used : ℕ) → hear heard piece ≡ Some (used, next) → is_whole next ≡ false
-      → hear heard (piece ++ more) ≡ used_before used (hear next more)
-  pub too_long : (heard : Heard) (piece more : List ℕ) → hear heard piece ≡ None → hear heard (piece ++ more) ≡ None
+use Rattle.uug_talk.proofs.TextLemmas.{took, took_of, goes_on, stays_whole, stays_too_long}
 
 -- ---- where a text becomes too long
 
@@ -102,105 +96,104 @@ drop_passed passed bytes used size within =
     let n : length passed + used - size ≡ length passed + (used - size) = omega arith in
     ap (λ (k : ℕ). drop k (passed ++ bytes)) n ∙ drop-append-add passed bytes (used - size)
 
-module _ (laws : HearingLaws) (pieces : HearsInPieces) where
-  shifted : (passed bytes : List ℕ) (o : Option (ℕ × Heard)) → hear Passing bytes ≡ o
-      → search_heard (passed ++ bytes) (used_before (length passed) o) ≡ search_heard bytes o
-  shifted passed bytes None e = refl
-  shifted passed bytes (Some (used, Passing)) e = refl
-  shifted passed bytes (Some (used, Open text)) e =
-      let h : Holds (Open text) (take used bytes) = laws.holds Passing (Open text) [] bytes used (nothing_heard Passing refl) e in
-      let w = found_waiting bytes (Open text) used refl ((laws.used Passing (Open text) bytes used e).1 refl) h in
-      ap text_waits (drop_passed passed bytes used (waiting_of (Open text)) w.within)
-  shifted passed bytes (Some (used, Whole text)) e =
-      let h : Holds (Whole text) (take used bytes) = laws.holds Passing (Whole text) [] bytes used (nothing_heard Passing refl) e in
-      let c = cut_at_text bytes text used (laws.used Passing (Whole text) bytes used e).0 h in
-      ap (text_stands text) (drop_passed passed bytes used (size_of_text text) c.size)
+shifted : (passed bytes : List ℕ) (o : Option (ℕ × Heard)) → hear Passing bytes ≡ o
+    → search_heard (passed ++ bytes) (used_before (length passed) o) ≡ search_heard bytes o
+shifted passed bytes None e = refl
+shifted passed bytes (Some (used, Passing)) e = refl
+shifted passed bytes (Some (used, Open text)) e =
+    let h : Holds (Open text) (take used bytes) = took bytes Passing (Open text) [] used (nothing_heard Passing refl) e in
+    let w = found_waiting bytes (Open text) used refl ((took_of bytes Passing (Open text) used e).1 refl) h in
+    ap text_waits (drop_passed passed bytes used (waiting_of (Open text)) w.within)
+shifted passed bytes (Some (used, Whole text)) e =
+    let h : Holds (Whole text) (take used bytes) = took bytes Passing (Whole text) [] used (nothing_heard Passing refl) e in
+    let c = cut_at_text bytes text used (took_of bytes Passing (Whole text) used e).0 h in
+    ap (text_stands text) (drop_passed passed bytes used (size_of_text text) c.size)
 
-  -- behind bytes that are passed over the same is found
-  found_behind : (g : Greeting) (passed bytes : List ℕ) (used : ℕ) (heard : Heard) → hear Passing passed ≡ Some (used, heard) → is_whole heard ≡ false
-      → hear heard bytes ≡ hear Passing bytes → behind_long_text heard bytes ≡ behind_long_text Passing bytes
-      → finding (hailing g) (passed ++ bytes) ≡ finding (hailing g) bytes
-  found_behind g passed bytes used heard e partial same behind =
-      let all : used ≡ length passed = (laws.used Passing heard passed used e).1 partial in
-      let there : hear Passing (passed ++ bytes) ≡ used_before (length passed) (hear Passing bytes) =
-      pieces.goes_on Passing heard passed bytes used e partial ∙ ap (λ (k : ℕ). used_before k (hear heard bytes)) all ∙ ap (used_before (length passed)) same in
-      let search : search_text (passed ++ bytes) ≡ search_text bytes =
-      ap (search_heard (passed ++ bytes)) there ∙ shifted passed bytes (hear Passing bytes) refl in
-      ap (text_finding (passed ++ bytes)) search
-      ∙ same_finding (passed ++ bytes) bytes (search_text bytes) (behind_heard Passing heard passed bytes used e partial ∙ behind)
+-- behind bytes that are passed over the same is found
+found_behind : (g : Greeting) (passed bytes : List ℕ) (used : ℕ) (heard : Heard) → hear Passing passed ≡ Some (used, heard) → is_whole heard ≡ false
+    → hear heard bytes ≡ hear Passing bytes → behind_long_text heard bytes ≡ behind_long_text Passing bytes
+    → finding (hailing g) (passed ++ bytes) ≡ finding (hailing g) bytes
+found_behind g passed bytes used heard e partial same behind =
+    let all : used ≡ length passed = (took_of passed Passing heard used e).1 partial in
+    let there : hear Passing (passed ++ bytes) ≡ used_before (length passed) (hear Passing bytes) =
+    goes_on passed bytes Passing heard used e partial ∙ ap (λ (k : ℕ). used_before k (hear heard bytes)) all ∙ ap (used_before (length passed)) same in
+    let search : search_text (passed ++ bytes) ≡ search_text bytes =
+    ap (search_heard (passed ++ bytes)) there ∙ shifted passed bytes (hear Passing bytes) refl in
+    ap (text_finding (passed ++ bytes)) search
+    ∙ same_finding (passed ++ bytes) bytes (search_text bytes) (behind_heard Passing heard passed bytes used e partial ∙ behind)
 
-  -- what is heard in front of the bytes, where no text is whole with them and none too long
-  record HearsBefore (passed : List ℕ) : Type 0 where
-    used : ℕ
-    heard : Heard
-    is : hear Passing passed ≡ Some (used, heard)
-    partial : is_whole heard ≡ false
+-- what is heard in front of the bytes, where no text is whole with them and none too long
+record HearsBefore (passed : List ℕ) : Type 0 where
+  used : ℕ
+  heard : Heard
+  is : hear Passing passed ≡ Some (used, heard)
+  partial : is_whole heard ≡ false
 
-  hears_before : (passed bytes text : List ℕ) (used : ℕ) → hear Passing (passed ++ bytes) ≡ Some (used, Open text) → HearsBefore passed
-  hears_before passed bytes text used e = by_heard (hear Passing passed) refl where
-    by_heard : (o : Option (ℕ × Heard)) → hear Passing passed ≡ o → HearsBefore passed
-    by_heard None is = absurd (let no : ◌≡◌ {A = Option (ℕ × Heard)} None (Some (used, Open text)) = sym (pieces.too_long Passing passed bytes is) ∙ e in cc)
-    by_heard (Some (n, Passing)) is = record { used = n; heard = Passing; is = is; partial = refl }
-    by_heard (Some (n, Open other)) is = record { used = n; heard = Open other; is = is; partial = refl }
-    by_heard (Some (n, Whole other)) is =
-        let no : ◌≡◌ {A = Option (ℕ × Heard)} (Some (n, Whole other)) (Some (used, Open text)) = sym (laws.stays_whole Passing (Whole other) passed bytes n is refl) ∙ e in
-        let same : ◌≡◌ {A = ℕ × Heard} (n, Whole other) (used, Open text) = cc in
-        absurd (let whole : true ≡ false = ap (λ (z : ℕ × Heard). is_whole z.1) same in cc)
+hears_before : (passed bytes text : List ℕ) (used : ℕ) → hear Passing (passed ++ bytes) ≡ Some (used, Open text) → HearsBefore passed
+hears_before passed bytes text used e = by_heard (hear Passing passed) refl where
+  by_heard : (o : Option (ℕ × Heard)) → hear Passing passed ≡ o → HearsBefore passed
+  by_heard None is = absurd (let no : ◌≡◌ {A = Option (ℕ × Heard)} None (Some (used, Open text)) = sym (stays_too_long passed bytes Passing is) ∙ e in cc)
+  by_heard (Some (n, Passing)) is = record { used = n; heard = Passing; is = is; partial = refl }
+  by_heard (Some (n, Open other)) is = record { used = n; heard = Open other; is = is; partial = refl }
+  by_heard (Some (n, Whole other)) is =
+      let no : ◌≡◌ {A = Option (ℕ × Heard)} (Some (n, Whole other)) (Some (used, Open text)) = sym (stays_whole passed bytes Passing (Whole other) n is refl) ∙ e in
+      let same : ◌≡◌ {A = ℕ × Heard} (n, Whole other) (used, Open text) = cc in
+      absurd (let whole : true ≡ false = ap (λ (z : ℕ × Heard). is_whole z.1) same in cc)
 
-  -- the front of a text that is not whole: what came before it is passed over
-  open_more : (g : Greeting) (bytes more text : List ℕ) (used : ℕ) → hear Passing bytes ≡ Some (used, Open text)
-      → finding (hailing g) (bytes ++ more) ≡ finding (hailing g) (drop (used - waiting_of (Open text)) bytes ++ more)
-  open_more g bytes more text used e =
-      ap (λ z. finding (hailing g) (z ++ more)) spelled
-      ∙ ap (finding (hailing g)) (append_assoc h.before (start_byte ∷ text) more)
-      ∙ found_behind g h.before (start_byte ∷ (text ++ more)) k.used k.heard k.is k.partial (hears_anew k.heard (text ++ more) k.partial) (passes_anew k.heard (text ++ more) k.partial)
-      ∙ ap (λ z. finding (hailing g) (z ++ more)) (sym rest) where
-        all : used ≡ length bytes
-        all = (laws.used Passing (Open text) bytes used e).1 refl
+-- the front of a text that is not whole: what came before it is passed over
+open_more : (g : Greeting) (bytes more text : List ℕ) (used : ℕ) → hear Passing bytes ≡ Some (used, Open text)
+    → finding (hailing g) (bytes ++ more) ≡ finding (hailing g) (drop (used - waiting_of (Open text)) bytes ++ more)
+open_more g bytes more text used e =
+    ap (λ z. finding (hailing g) (z ++ more)) spelled
+    ∙ ap (finding (hailing g)) (append_assoc h.before (start_byte ∷ text) more)
+    ∙ found_behind g h.before (start_byte ∷ (text ++ more)) k.used k.heard k.is k.partial (hears_anew k.heard (text ++ more) k.partial) (passes_anew k.heard (text ++ more) k.partial)
+    ∙ ap (λ z. finding (hailing g) (z ++ more)) (sym rest) where
+      all : used ≡ length bytes
+      all = (took_of bytes Passing (Open text) used e).1 refl
 
-        h : Holds (Open text) bytes
-        h = subst (Holds (Open text)) (take_all used bytes (omega (arith, all))) (laws.holds Passing (Open text) [] bytes used (nothing_heard Passing refl) e)
+      h : Holds (Open text) bytes
+      h = subst (Holds (Open text)) (take_all used bytes (omega (arith, all))) (took bytes Passing (Open text) [] used (nothing_heard Passing refl) e)
 
-        spelled : bytes ≡ h.before ++ start_byte ∷ text
-        spelled = h.spelled
+      spelled : bytes ≡ h.before ++ start_byte ∷ text
+      spelled = h.spelled
 
-        k : HearsBefore h.before
-        k = hears_before h.before (start_byte ∷ text) text used (ap (hear Passing) (sym spelled) ∙ e)
+      k : HearsBefore h.before
+      k = hears_before h.before (start_byte ∷ text) text used (ap (hear Passing) (sym spelled) ∙ e)
 
-        rest : drop (used - waiting_of (Open text)) bytes ≡ start_byte ∷ text
-        rest = ap (drop (used - waiting_of (Open text))) spelled
-            ∙ drop_at h.before (start_byte ∷ text) (used - waiting_of (Open text)) (omega (arith, all, ap length spelled, length-append h.before (start_byte ∷ text)))
+      rest : drop (used - waiting_of (Open text)) bytes ≡ start_byte ∷ text
+      rest = ap (drop (used - waiting_of (Open text))) spelled
+          ∙ drop_at h.before (start_byte ∷ text) (used - waiting_of (Open text)) (omega (arith, all, ap length spelled, length-append h.before (start_byte ∷ text)))
 
-  whole_more : (bytes more text : List ℕ) (used : ℕ) → hear Passing bytes ≡ Some (used, Whole text)
-      → drop (size_of_text text) (drop (used - size_of_text text) (bytes ++ more)) ≡ drop (size_of_text text) (drop (used - size_of_text text) bytes) ++ more
-  whole_more bytes more text used e =
-      let within : used ≤ length bytes = (laws.used Passing (Whole text) bytes used e).0 in
-      let c = cut_at_text bytes text used within (laws.holds Passing (Whole text) [] bytes used (nothing_heard Passing refl) e) in
+whole_more : (bytes more text : List ℕ) (used : ℕ) → hear Passing bytes ≡ Some (used, Whole text)
+    → drop (size_of_text text) (drop (used - size_of_text text) (bytes ++ more)) ≡ drop (size_of_text text) (drop (used - size_of_text text) bytes) ++ more
+whole_more bytes more text used e =
+    let within : used ≤ length bytes = (took_of bytes Passing (Whole text) used e).0 in
+    let c = cut_at_text bytes text used within (took bytes Passing (Whole text) [] used (nothing_heard Passing refl) e) in
+    let size : size_of_text text ≤ used = c.size in
+    ap (drop (size_of_text text)) (drop-append-le (used - size_of_text text) bytes more (omega arith))
+    ∙ drop-append-le (size_of_text text) (drop (used - size_of_text text) bytes) more (omega (arith, length-drop (used - size_of_text text) bytes))
+
+pub text_more : (g : Greeting) (bytes more : List ℕ) → finding (hailing g) (bytes ++ more) ≡ found_with (hailing g) more (finding (hailing g) bytes)
+text_more g bytes more = by_heard (hear Passing bytes) refl where
+  by_heard : (o : Option (ℕ × Heard)) → hear Passing bytes ≡ o
+      → finding (hailing g) (bytes ++ more) ≡ found_with (hailing g) more (text_finding bytes (search_heard bytes o))
+  by_heard None e =
+      ap (λ o. text_finding (bytes ++ more) (search_heard (bytes ++ more) o)) (stays_too_long bytes more Passing e)
+      ∙ ap (finds long_text_found) ((passes_long Passing bytes e).more more)
+  by_heard (Some (used, Passing)) e = found_behind g bytes more used Passing e refl refl refl
+  by_heard (Some (used, Open text)) e = open_more g bytes more text used e
+  by_heard (Some (used, Whole text)) e =
+      ap (λ o. text_finding (bytes ++ more) (search_heard (bytes ++ more) o)) (stays_whole bytes more Passing (Whole text) used e refl)
+      ∙ ap (finds (text_found text)) (whole_more bytes more text used e)
+
+pub text_fewer : (g : Greeting) (bytes : List ℕ) → LeavesFewer (finding (hailing g) bytes) bytes
+text_fewer g bytes = by_heard (hear Passing bytes) refl where
+  by_heard : (o : Option (ℕ × Heard)) → hear Passing bytes ≡ o → LeavesFewer (text_finding bytes (search_heard bytes o)) bytes
+  by_heard None e = (passes_long Passing bytes e).fewer
+  by_heard (Some (used, Passing)) e = omega arith
+  by_heard (Some (used, Open text)) e = omega (arith, length-drop (used - waiting_of (Open text)) bytes)
+  by_heard (Some (used, Whole text)) e =
+      let within : used ≤ length bytes = (took_of bytes Passing (Whole text) used e).0 in
+      let c = cut_at_text bytes text used within (took bytes Passing (Whole text) [] used (nothing_heard Passing refl) e) in
       let size : size_of_text text ≤ used = c.size in
-      ap (drop (size_of_text text)) (drop-append-le (used - size_of_text text) bytes more (omega arith))
-      ∙ drop-append-le (size_of_text text) (drop (used - size_of_text text) bytes) more (omega (arith, length-drop (used - size_of_text text) bytes))
-
-  pub text_more : (g : Greeting) (bytes more : List ℕ) → finding (hailing g) (bytes ++ more) ≡ found_with (hailing g) more (finding (hailing g) bytes)
-  text_more g bytes more = by_heard (hear Passing bytes) refl where
-    by_heard : (o : Option (ℕ × Heard)) → hear Passing bytes ≡ o
-        → finding (hailing g) (bytes ++ more) ≡ found_with (hailing g) more (text_finding bytes (search_heard bytes o))
-    by_heard None e =
-        ap (λ o. text_finding (bytes ++ more) (search_heard (bytes ++ more) o)) (pieces.too_long Passing bytes more e)
-        ∙ ap (finds long_text_found) ((passes_long Passing bytes e).more more)
-    by_heard (Some (used, Passing)) e = found_behind g bytes more used Passing e refl refl refl
-    by_heard (Some (used, Open text)) e = open_more g bytes more text used e
-    by_heard (Some (used, Whole text)) e =
-        ap (λ o. text_finding (bytes ++ more) (search_heard (bytes ++ more) o)) (laws.stays_whole Passing (Whole text) bytes more used e refl)
-        ∙ ap (finds (text_found text)) (whole_more bytes more text used e)
-
-  pub text_fewer : (g : Greeting) (bytes : List ℕ) → LeavesFewer (finding (hailing g) bytes) bytes
-  text_fewer g bytes = by_heard (hear Passing bytes) refl where
-    by_heard : (o : Option (ℕ × Heard)) → hear Passing bytes ≡ o → LeavesFewer (text_finding bytes (search_heard bytes o)) bytes
-    by_heard None e = (passes_long Passing bytes e).fewer
-    by_heard (Some (used, Passing)) e = omega arith
-    by_heard (Some (used, Open text)) e = omega (arith, length-drop (used - waiting_of (Open text)) bytes)
-    by_heard (Some (used, Whole text)) e =
-        let within : used ≤ length bytes = (laws.used Passing (Whole text) bytes used e).0 in
-        let c = cut_at_text bytes text used within (laws.holds Passing (Whole text) [] bytes used (nothing_heard Passing refl) e) in
-        let size : size_of_text text ≤ used = c.size in
-        omega (arith, length-drop (used - size_of_text text) bytes, length-drop (size_of_text text) (drop (used - size_of_text text) bytes))
+      omega (arith, length-drop (used - size_of_text text) bytes, length-drop (size_of_text text) (drop (used - size_of_text text) bytes))

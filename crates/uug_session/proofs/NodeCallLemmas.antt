@@ -5,12 +5,11 @@ use Rattle.uug_link.specs.Entries.{EntryValue, Held}
 use Rattle.uug_reader.specs.Cut.{Item}
 use Rattle.uug_reader.specs.Reading.{Reading}
 use Rattle.uug_reader.specs.Search.{standing, search_of}
-use Rattle.uug_session.specs.Arriving.{Hearer, takes_piece}
+use Rattle.uug_session.specs.Arriving.{Buffered, takes_piece}
 use Rattle.uug_session.specs.EndStep.{Stage, hailing, linked, ended, Emitted, time_ran_out, unmoved}
 use Rattle.uug_session.specs.Engine.{CountsFaults, Does, EngineState, HasFailed, bare, end_of, entry_of, with_outbox}
 use Rattle.uug_session.specs.Finding.{finding, finds_nothing}
 use Rattle.uug_conversation.specs.Holdings.{Kept, Holdings}
-use Rattle.uug_session.specs.Code.ItemLaws.{ItemLaws}
 use Rattle.uug_session.specs.Node.{NodeState, ItemValue, text_item, packet_item, bad_item, IsAsBefore, IsLeft, bytes_at, effect_of, offered_at, texts_searched, searched}
 use Rattle.uug_session.specs.NodeArriving.{GoesOn, IsAtRest, NodeEnd, hearer_of, node_taker}
 use Rattle.uug_session.specs.NodeCalls.{Adds, Beside, HaveNoTimeout, HoldsTheSame, NodeCall, offers as offers_call, looks, takes, refuses, times_out, refuses_timeout, clears, KeepsNothing, Makes, Make, all_offered, taken_in, ShowsWhatIsFound}
@@ -70,7 +69,7 @@ with_others h kept kept_after failure bytes a b before after g is = record {
   requests = g.requests;
 }
 
-module _ (laws : ItemLaws) (h : Holdings) where
+module _ (h : Holdings) where
   -- ---- whatever is called but a timeout
 
   record Leads (most : ℕ) (bytes : List ℕ) (added : List EntryValue) (old new : Beside) : Type 0 where
@@ -91,7 +90,7 @@ module _ (laws : ItemLaws) (h : Holdings) where
     by_search (text_waits rest) = shows
     by_search (text_stands text others) = shows
     by_search text_too_long = shows
-  looked_shows linked e texts packets shows = searched_shows_at laws h linked e texts packets refl
+  looked_shows linked e texts packets shows = searched_shows_at h linked e texts packets refl
   looked_shows (ended how) e texts packets shows = shows
 
   left_shows : (item : ItemValue) (before after : NodeState) → IsLeft item before after → ShowsWhatIsFound after
@@ -149,7 +148,7 @@ module _ (laws : ItemLaws) (h : Holdings) where
   cleared_hearer : (old new : Beside) (said : List Emitted) (failures : List Bool) → new.node.engine ≡ with_outbox new.node.engine.outbox old.node.engine → HoldsTheSame old new
       → hearer_of h new.kept said failures new.node ≡ hearer_of h old.kept said failures old.node
   cleared_hearer old new said failures is same =
-      let by : EngineState → TextsHeld → Reading → List Kept → Hearer NodeEnd =
+      let by : EngineState → TextsHeld → Reading → List Kept → Buffered NodeEnd =
       λ e texts packets kept. hearer_of h kept said failures (record { engine = e; texts = texts; packets = packets }) in
       let engine = with_outbox new.node.engine.outbox old.node.engine in
       ap (λ (e : EngineState). by e new.node.texts new.node.packets new.kept) is
@@ -181,27 +180,27 @@ module _ (laws : ItemLaws) (h : Holdings) where
       → Makes h most call old new → Adds call added old new → Leads most (taken_in call) added old new
   one_call most (offers_call bytes) added old new other shows (is, same) adds =
       kept_same most bytes added old new same
-      (λ failure. subst (λ (n : NodeState). GoesOn h old.kept old.kept failure bytes old.node n) (sym is) (offers laws h old.kept failure bytes old.node))
+      (λ failure. subst (λ (n : NodeState). GoesOn h old.kept old.kept failure bytes old.node n) (sym is) (offers h old.kept failure bytes old.node))
       adds
       (subst ShowsWhatIsFound (sym is) (offered_shows old.node.engine.stage bytes old.node shows))
   one_call most looks added old new other shows (is, same) adds =
       kept_same most [] added old new same
-      (λ failure. searches_to laws h old.kept old.kept failure old.node new.node is refl)
+      (λ failure. searches_to h old.kept old.kept failure old.node new.node is refl)
       adds
       (subst ShowsWhatIsFound (sym is) (looked_shows old.node.engine.stage old.node.engine old.node.texts old.node.packets shows))
   one_call most (takes took) added old new other shows (counts, shown) adds =
       leads most [] added old new
-      (takes_shown laws h old.node new.node old.kept new.kept (CountsFaults most old.faults new.faults) (HasFailed most old.faults new.faults)
+      (takes_shown h old.node new.node old.kept new.kept (CountsFaults most old.faults new.faults) (HasFailed most old.faults new.faults)
       (λ failed. failed) took (λ is. shows) shown).0
       adds counts (left_shows shown.0 old.node new.node shown.2.left)
   one_call most refuses added old new other shows (counts, same) adds =
       leads most [] added old new
-      (refused laws h old.node new.node old.kept new.kept (HasFailed most old.faults new.faults) same)
+      (refused h old.node new.node old.kept new.kept (HasFailed most old.faults new.faults) same)
       adds (omega (arith, counts)) (same_shows old.node new.node same.packets shows)
   one_call most times_out added old new other shows makes adds = absurd other
   one_call most refuses_timeout added old new other shows (does, same) adds =
       leads most [] added old new
-      (refused laws h old.node new.node old.kept new.kept (HasFailed most old.faults new.faults) (refused_late old new does same))
+      (refused h old.node new.node old.kept new.kept (HasFailed most old.faults new.faults) (refused_late old new does same))
       adds (omega (arith, same.spool.faults)) (same_shows old.node new.node same.packets shows)
   one_call most clears added old new other shows (is, same) adds =
       subst (λ (more : List EntryValue). Leads most [] more old new) (sym adds.0) (cleared most old new is same shows)

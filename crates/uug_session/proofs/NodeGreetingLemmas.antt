@@ -7,22 +7,23 @@ use Rattle.uug_talk.specs.StreamTexts.{StreamTexts, StandBefore, texts_of}
 use Rattle.uug_session.specs.declared.greeting.Greeted.{Greeted}
 use Rattle.uug_session.specs.declared.greeting.Greeted.TheVariants.{GoesOn, LinkBegins, Ended}
 use Rattle.uug_session.specs.declared.greeting.Greeting.{Greeting}
-use Rattle.uug_session.specs.Arriving.{Taker, Came, holds, takes_all}
+use Rattle.uug_session.specs.Arriving.{Receiver, Arrival, holds, takes_all}
 use Rattle.uug_session.specs.EndStep.{hailing, linked, ended, Emitted, EndEffect, Identity, begins_link, greeted_so, long_text_found, packets, says_text, text_found}
-use Rattle.uug_session.specs.Finding.{text_finding, behind_long_text, FindingLaws, LeavesFewer}
+use Rattle.uug_session.specs.Finding.{text_finding, behind_long_text, LeavesFewer}
 use Rattle.uug_session.specs.Greeting.{first_texts, greeting_at_first, number_by, text_came}
-use Rattle.uug_session.specs.Code.HearingLaws.{HearingLaws}
 use Rattle.uug_conversation.specs.Holdings.{Holdings}
 use Rattle.uug_session.specs.NodeArriving.{NodeEnd, node_taker}
 use Rattle.uug_conversation.specs.Talk.{Talk}
 use Rattle.uug_session.specs.TextsFound.{FindsText}
 use Rattle.uug_session.specs.TextsHeld.{TextSearch, text_waits, text_stands, text_too_long, size_of_text, search_text}
-use Rattle.uug_conversation.specs.Turns.{Side, caller, called}
+use Rattle.uug_conversation.specs.declared.side.Side.{Side}
+use Rattle.uug_conversation.specs.declared.side.Side.TheVariants.{Caller, Called}
 use Rattle.uug_session.specs.WholeGreeting.{Greets, GreetingRun, GreetsBy, greeting_run, saying_first, step_behind, texts_came}
 use Rattle.uug_talk.specs.Texts.{Passing}
-use Rattle.uug_session.proofs.ArrivingLemmas.{found_event}
+use Rattle.uug_session.proofs.ArrivingLemmas.{found_event, found_fewer}
 use Rattle.uug_session.proofs.TextSearchLemmas.{finds_text, finds_none, finds_too_long}
-use Rattle.uug_session.proofs.WholeGreetingLemmas.{OneFirstText, StreamLaws, one_left, one_run}
+use Rattle.uug_session.proofs.WholeGreetingLemmas.{one_left, one_run}
+use Rattle.uug_talk.proofs.StreamTextLemmas.{reads}
 
 -- ---- texts that are said one after another
 
@@ -52,10 +53,10 @@ link_by number side s c failures before says =
 
 same_link : (number : Option ℕ) (side : Side) (s : State) (c : Talk) (failures : List Bool) (before : List Emitted) (first later : List (List ℕ))
     → link_by number side s c failures (before ++ map says_text first) later ≡ link_by number side s c failures before (first ++ later)
-same_link number caller s c failures before first later =
+same_link number Caller s c failures before first later =
     ap (λ (e : List Emitted). record { state = record { stage = linked; link = (step s to_begin).state; keeper = c; number = number }; emitted = e; failures = failures })
     (said_all before first later (packets (step s to_begin).emitted))
-same_link number called s c failures before first later =
+same_link number Called s c failures before first later =
     ap (λ (e : List Emitted). record { state = record { stage = linked; link = s; keeper = c; number = number }; emitted = e; failures = failures }) (said_both before first later)
 
 same_node : (number : Option ℕ) (id : Identity) (s : State) (c : Talk) (failures : List Bool) (before : List Emitted) (first later : List (List ℕ)) (greeted : Greeted)
@@ -86,11 +87,11 @@ stands_first bytes text others f =
       refl,
     )
 
-module _ (laws : HearingLaws) (steps : FindingLaws) (h : Holdings) (id : Identity) (s : State) (c : Talk) (failures : List Bool) where
-  abbrev pub t : Taker NodeEnd
+module _ (h : Holdings) (id : Identity) (s : State) (c : Talk) (failures : List Bool) where
+  abbrev pub t : Receiver NodeEnd
   t = node_taker h id
 
-  abbrev pub Goes : List ℕ → NodeEnd → Came NodeEnd
+  abbrev pub Goes : List ℕ → NodeEnd → Arrival NodeEnd
   Goes bytes x = takes_all t (holds t bytes x)
 
   abbrev pub hails : (said : List Emitted) → (number : Option ℕ) → Greeting → NodeEnd
@@ -132,14 +133,14 @@ module _ (laws : HearingLaws) (steps : FindingLaws) (h : Holdings) (id : Identit
   by_search : (n : ℕ) → GreetsWithin n → (said : List Emitted) (number : Option ℕ) (g : Greeting) (bytes : List ℕ) (search : TextSearch) → search_text bytes ≡ search
       → length bytes ≤ n → LeavesFewer (text_finding bytes search) bytes → GreetsSo said number g bytes (texts_of bytes)
   by_search n more said number g bytes (text_waits rest) is enough fewer =
-      subst (GreetsSo said number g bytes) (sym (finds_none laws bytes rest is).none) (record {
+      subst (GreetsSo said number g bytes) (sym (finds_none bytes rest is).none) (record {
         behind = bytes;
         left = refl;
         same = ap (λ (e : List Emitted). Goes bytes (hails e number g)) (sym (append-nil said));
         waits = (rest, is);
       })
   by_search n more said number g bytes (text_stands text others) is enough fewer =
-      let found : FindsText bytes text others = finds_text laws bytes text others is in
+      let found : FindsText bytes text others = finds_text bytes text others is in
       let behind = drop (size_of_text text) others in
       let step = text_came id.me id.peer number g text in
       let stand : StandBefore (text ∷ []) behind bytes = stands_first bytes text others found in
@@ -147,21 +148,21 @@ module _ (laws : HearingLaws) (steps : FindingLaws) (h : Holdings) (id : Identit
       subst (GreetsSo said number g bytes) (sym found.texts) (record {
         behind = rest.0;
         left = rest.1;
-        same = found_event steps NodeEnd t bytes behind (text_found text) (hails said number g) (ap (text_finding bytes) is) ∙ rest.2;
+        same = found_event NodeEnd t bytes behind (text_found text) (hails said number g) (ap (text_finding bytes) is) ∙ rest.2;
         waits = rest.3;
       })
   by_search n more said number g bytes text_too_long is enough fewer =
-      subst (GreetsSo said number g bytes) (sym (finds_too_long laws bytes is)) (record {
+      subst (GreetsSo said number g bytes) (sym (finds_too_long bytes is)) (record {
         behind = bytes;
         left = refl;
-        same = found_event steps NodeEnd t bytes (behind_long_text Passing bytes) long_text_found (hails said number g) (ap (text_finding bytes) is);
+        same = found_event NodeEnd t bytes (behind_long_text Passing bytes) long_text_found (hails said number g) (ap (text_finding bytes) is);
         waits = tt;
       })
 
   pub greets_up_to : (n : ℕ) → GreetsWithin n
   greets_up_to zero said number g bytes enough = absurd (omega (arith, enough))
   greets_up_to (suc n) said number g bytes enough =
-      by_search n (greets_up_to n) said number g bytes (search_text bytes) refl (omega (arith, enough)) (steps.fewer (hailing g) bytes)
+      by_search n (greets_up_to n) said number g bytes (search_text bytes) refl (omega (arith, enough)) (found_fewer (hailing g) bytes)
 
   -- ---- from the start of a session
 
@@ -170,18 +171,17 @@ module _ (laws : HearingLaws) (steps : FindingLaws) (h : Holdings) (id : Identit
         ≡ Goes behind (node_by run.number id s c failures [] run.greeted run.says)
     pub waits : Waits run.greeted behind
 
-  pub from_start : OneFirstText → (number : Option ℕ) (came behind : List ℕ) (run : GreetingRun) → Greets id.side id.me id.peer number came run behind → ComesTo number came run behind
-  from_start first_text number came behind run m =
+  pub from_start : (number : Option ℕ) (came behind : List ℕ) (run : GreetingRun) → Greets id.side id.me id.peer number came run behind → ComesTo number came run behind
+  from_start number came behind run m =
       let g = greeting_at_first id.side in
       let first = first_texts id.side id.me in
-      let streams : StreamLaws = record { some = laws.some; only = laws.only } in
       let so = greets_up_to (suc (length came)) (map says_text first) number g came (omega arith) in
       let whole = greeting_run id.me id.peer number g came in
-      let same : m.heard ≡ whole = one_run streams id.me id.peer number g came m.heard behind m.greets in
+      let same : m.heard ≡ whole = one_run id.me id.peer number g came m.heard behind m.greets in
       let all : run ≡ saying_first first whole = m.whole ∙ ap (saying_first first) same in
       let left : so.behind ≡ behind =
-      one_left streams first_text id.me id.peer number g came whole so.behind behind
-      (record { found = texts_of came; texts = laws.some came; came = refl; left = so.left })
+      one_left id.me id.peer number g came whole so.behind behind
+      (record { found = texts_of came; texts = reads came; came = refl; left = so.left })
       (subst (λ (r : GreetingRun). GreetsBy id.me id.peer number g came r behind) same m.greets) in
       subst (λ (r : GreetingRun). ComesTo number came r behind) (sym all)
       (subst (ComesTo number came (saying_first first whole)) left (record {

@@ -11,12 +11,11 @@ use Rattle.uug_reader.specs.Cut.{Item, found, bad}
 use Rattle.uug_reader.specs.Reading.{Reading}
 use Rattle.uug_reader.specs.Search.{Search, waiting, standing, search_of, left_by}
 use Rattle.uug_session.specs.declared.greeting.Greeting.{Greeting}
-use Rattle.uug_session.specs.Arriving.{Taker, held_in, holds, takes_all, takes_piece}
+use Rattle.uug_session.specs.Arriving.{Receiver, held_in, holds, takes_all, takes_piece}
 use Rattle.uug_session.specs.EndStep.{Stage, hailing, linked, ended, EndState, Emitted, EndEffect, Identity, text_found, packet_found_whole, broken_found, bad_came, behind_link, message_of, packet_came, takes_by, talks_by}
 use Rattle.uug_session.specs.Engine.{Does, EngineState, end_of, with_stage}
 use Rattle.uug_session.specs.Finding.{Finding, finds, finds_packet, text_finding, item_finding, finding, found_with, LeavesFewer}
 use Rattle.uug_conversation.specs.Holdings.{Kept, Holdings}
-use Rattle.uug_session.specs.Code.ItemLaws.{ItemLaws}
 use Rattle.uug_conversation.specs.Keeper.{Keeper}
 use Rattle.uug_session.specs.Node.{NodeState, ItemValue, text_item, packet_item, bad_item, ShowsItem, TakesItem, TakesShown, IsAsBefore, IsLeft, bytes_at, held_bytes, item_size, struck_jobs, texts_searched, searched, effect_of, event_of}
 use Rattle.uug_session.specs.NodeArriving.{NodeEnd, with_effect, node_taker, GoesOn, IsAtRest}
@@ -25,11 +24,14 @@ use Rattle.uug_conversation.specs.OwnRequests.{KeepsWhatItAskedFor}
 use Rattle.uug_conversation.specs.Talk.{Talk, end_keeper}
 use Rattle.uug_conversation.specs.Talking.{talk_of}
 use Rattle.uug_session.specs.TextsHeld.{TextsHeld, TextSearch, text_waits, text_stands, text_too_long, search_text, ShowsText}
-use Rattle.uug_session.proofs.ArrivingLemmas.{held_fewer, held_same, found_event, found_packet}
+use Rattle.uug_session.proofs.ArrivingLemmas.{held_fewer, held_same, found_event, found_packet, found_more, found_fewer}
 use Rattle.uug_session.proofs.PacketSearchLemmas.{Within, search_within, IsFoundAgain, search_again, read_stands}
 use Rattle.uug_session.proofs.CourseLemmas.{at, end_at, hearer_with, quiet, joined}
 use Rattle.uug_session.proofs.OwnRequestLemmas.{event_keeps}
 use Rattle.uug_session.proofs.NodeSearchLemmas.{searched_rests, searches}
+use Rattle.uug_session.proofs.TextSearchLemmas.{finds_text}
+use Rattle.uug_session.proofs.TextCallLemmas.{found_again}
+use Rattle.uug_packet.proofs.DecodedLemmas.{decoded-spelling}
 
 -- an answer that has nothing says what is so where there is nothing
 pub none_shown : {X : Type 0} (o : Option X) (P : Type 0) (Q : X → Type 0) → is_some o ≡ false → MatchOption o P Q → P
@@ -107,13 +109,13 @@ counted_at (text_item text) failed failure h = All-nil (λ f. f ≡ true → fai
 counted_at (packet_item p) failed failure h = All-cons (λ f. f ≡ true → failure) failed [] h (All-nil (λ f. f ≡ true → failure))
 counted_at bad_item failed failure h = All-nil (λ f. f ≡ true → failure)
 
-module _ (laws : ItemLaws) (h : Holdings) where
+module _ (h : Holdings) where
   -- ---- an item is taken up
 
   found_text : (g : Greeting) (text : List ℕ) (texts : TextsHeld) (packets : Reading) → ShowsText text texts → finding (hailing g) texts.bytes ≡ shown_finding (text_item text) texts packets
   found_text g text texts packets shows =
       let there : search_text texts.bytes ≡ text_stands text texts.bytes =
-      subst (λ (z : List ℕ). search_text z ≡ text_stands text z) (append-nil texts.bytes) (laws.again text [] texts shows) in
+      subst (λ (z : List ℕ). search_text z ≡ text_stands text z) (append-nil texts.bytes) (found_again text [] texts shows) in
       ap (text_finding texts.bytes) there ∙ ap (λ (k : ℕ). finds (text_found text) (drop k texts.bytes)) (sym shows.size)
 
   found_shown : (item : ItemValue) (there : Item) (texts : TextsHeld) (packets : Reading) → search_of packets.bytes ≡ standing there packets.shown_size packets.bytes
@@ -124,7 +126,7 @@ module _ (laws : ItemLaws) (h : Holdings) where
       let others = packets.bytes in
       let count : length (take size others) ≡ size = omega (arith, shows.0.1, length-take size others) in
       let read : decoded others ≡ Ok (p, size) =
-      ap decoded (sym (take-append-drop size others)) ∙ laws.read p (take size others) (drop size others) shows.0.0 ∙ ap (λ (k : ℕ). Ok (p, k)) count in
+      ap decoded (sym (take-append-drop size others)) ∙ decoded-spelling p (take size others) (drop size others) shows.0.0 ∙ ap (λ (k : ℕ). Ok (p, k)) count in
       ap item_finding (read_stands others p size (omega (arith, shows.0.1, shows.1)) read)
   found_shown bad_item bad texts packets is shows = ap item_finding is
   found_shown bad_item (found p) texts packets is shows =
@@ -143,13 +145,13 @@ module _ (laws : ItemLaws) (h : Holdings) where
   shown_is_found (ended how) e texts packets item sound shows = absurd shows
 
   -- what a node comes to behind an item
-  comes_to : (t : Taker NodeEnd) (bytes behind more : List ℕ) (x y z : NodeEnd) (after : List ℕ)
+  comes_to : (t : Receiver NodeEnd) (bytes behind more : List ℕ) (x y z : NodeEnd) (after : List ℕ)
       → takes_all t (holds t (bytes ++ more) x) ≡ takes_all t (holds t (behind ++ more) y) → z ≡ y → after ≡ held_in (t.stage_of z) behind
       → takes_piece t more (hearer_with bytes x) ≡ takes_piece t more (hearer_with after z)
   comes_to t bytes behind more x y z after leads same left =
       leads
       ∙ ap (λ (w : NodeEnd). takes_all t (holds t (behind ++ more) w)) (sym same)
-      ∙ ap (takes_all t) (held_same laws.findings NodeEnd t behind more z)
+      ∙ ap (takes_all t) (held_same NodeEnd t behind more z)
       ∙ ap (λ (bs : List ℕ). takes_piece t more (hearer_with bs z)) (sym left)
 
   left_behind : (s : Stage) (e : EngineState) (texts : TextsHeld) (packets : Reading) (item : ItemValue) (kept kept_after : List Kept) (failed : Bool) (after : NodeState)
@@ -179,21 +181,21 @@ module _ (laws : ItemLaws) (h : Holdings) where
       ≡ takes_all t (holds t (behind_item item texts packets ++ more) (with_effect (effect_of h kept (event_of failed item) (with_stage s e)) later x))
   leads_behind (hailing g) e texts packets (text_item text) kept failed is shows more said later =
       let behind = drop texts.shown_size texts.bytes in
-      found_event laws.findings NodeEnd (node_taker h e.identity) (texts.bytes ++ more) (behind ++ more) (text_found text) (end_at h kept said later (with_stage (hailing g) e))
-      (laws.findings.more (hailing g) texts.bytes more ∙ ap (found_with (hailing g) more) is)
+      found_event NodeEnd (node_taker h e.identity) (texts.bytes ++ more) (behind ++ more) (text_found text) (end_at h kept said later (with_stage (hailing g) e))
+      (found_more (hailing g) texts.bytes more ∙ ap (found_with (hailing g) more) is)
   leads_behind (hailing g) e texts packets (packet_item p) kept failed is shows more said later = absurd shows
   leads_behind (hailing g) e texts packets bad_item kept failed is shows more said later = absurd shows
   leads_behind linked e texts packets (text_item text) kept failed is shows more said later = absurd shows
   leads_behind linked e texts packets (packet_item p) kept failed is shows more said later =
       let behind = drop packets.shown_size packets.bytes in
       let x : NodeEnd = end_at h kept said (failed ∷ later) (with_stage linked e) in
-      found_packet laws.findings NodeEnd (node_taker h e.identity) (packets.bytes ++ more) (packets.bytes ++ more) (behind ++ more) p x
+      found_packet NodeEnd (node_taker h e.identity) (packets.bytes ++ more) (packets.bytes ++ more) (behind ++ more) p x
       (with_effect (effect_of h kept (packet_found_whole failed p) (with_stage linked e)) later x)
-      (laws.findings.more linked packets.bytes more ∙ ap (found_with linked more) is) refl
+      (found_more linked packets.bytes more ∙ ap (found_with linked more) is) refl
   leads_behind linked e texts packets bad_item kept failed is shows more said later =
       let behind = drop packets.shown_size packets.bytes in
-      found_event laws.findings NodeEnd (node_taker h e.identity) (packets.bytes ++ more) (behind ++ more) broken_found (end_at h kept said later (with_stage linked e))
-      (laws.findings.more linked packets.bytes more ∙ ap (found_with linked more) is)
+      found_event NodeEnd (node_taker h e.identity) (packets.bytes ++ more) (behind ++ more) broken_found (end_at h kept said later (with_stage linked e))
+      (found_more linked packets.bytes more ∙ ap (found_with linked more) is)
   leads_behind (ended how) e texts packets item kept failed is shows more said later = absurd shows
 
   takes_at : (s : Stage) (e : EngineState) (texts : TextsHeld) (packets : Reading) (item : ItemValue) (kept kept_after : List Kept) (counts : Bool → Type 0) (failure : Type 0) (after : NodeState) (took : Bool) → (counts true → failure)
@@ -237,7 +239,7 @@ module _ (laws : ItemLaws) (h : Holdings) where
       let bytes = bytes_at s (at s e texts packets) in
       let behind = behind_item item texts packets in
       let left : held_bytes after ≡ held_in after.engine.stage behind = left_behind s e texts packets item kept kept_after did.device_failed after shows did.left did.does in
-      let fewer : length behind < length bytes = behind_fewer item bytes texts packets (subst (λ (f : Finding). LeavesFewer f bytes) is (laws.findings.fewer s bytes)) in
+      let fewer : length behind < length bytes = behind_fewer item bytes texts packets (subst (λ (f : Finding). LeavesFewer f bytes) is (found_fewer s bytes)) in
       let count : length (held_bytes after) ≡ length (held_in after.engine.stage behind) = ap length left in
       let most : length (held_in after.engine.stage behind) ≤ length behind = held_fewer after.engine.stage behind in
       omega arith
@@ -271,9 +273,9 @@ module _ (laws : ItemLaws) (h : Holdings) where
   searched_fewer_at : (s : Stage) (e : EngineState) (texts : TextsHeld) (packets : Reading) → let n = at s e texts packets in length (held_bytes (searched n)) ≤ length (bytes_at s n)
   searched_fewer_at (hailing g) e texts packets = by_search (search_text texts.bytes) refl where
     by_search : (r : TextSearch) → search_text texts.bytes ≡ r → length (held_bytes (texts_searched r (at (hailing g) e texts packets))) ≤ length texts.bytes
-    by_search (text_waits rest) is = subst (λ (f : Finding). LeavesFewer f texts.bytes) (ap (text_finding texts.bytes) is) (laws.findings.fewer (hailing g) texts.bytes)
+    by_search (text_waits rest) is = subst (λ (f : Finding). LeavesFewer f texts.bytes) (ap (text_finding texts.bytes) is) (found_fewer (hailing g) texts.bytes)
     by_search (text_stands text others) is =
-        let f = laws.stands texts.bytes text others is in
+        let f = finds_text texts.bytes text others is in
         omega (arith, ap length f.spelled, length-append f.passed others)
     by_search text_too_long is = omega arith
   searched_fewer_at linked e texts packets = by_search (search_of packets.bytes) (search_within packets.bytes) where
@@ -302,18 +304,18 @@ module _ (laws : ItemLaws) (h : Holdings) where
 
   pub searches_to : (kept kept_after : List Kept) (failure : Type 0) (n m : NodeState) → m ≡ searched n → kept_after ≡ kept → GoesOn h kept kept_after failure [] n m
   searches_to kept kept_after failure n m is same =
-      subst (λ (k : List Kept). GoesOn h kept k failure [] n m) (sym same) (subst (λ (z : NodeState). GoesOn h kept kept failure [] n z) (sym is) (searches laws h kept failure n))
+      subst (λ (k : List Kept). GoesOn h kept k failure [] n m) (sym same) (subst (λ (z : NodeState). GoesOn h kept kept failure [] n z) (sym is) (searches h kept failure n))
 
   pub rests_behind : (n m : NodeState) → m ≡ searched n → item_size m ≡ 0 → IsAtRest m
   rests_behind n m is none =
-      subst IsAtRest (sym is) (searched_rests laws h n (subst (λ (z : NodeState). item_size z ≡ 0) is none))
+      subst IsAtRest (sym is) (searched_rests h n (subst (λ (z : NodeState). item_size z ≡ 0) is none))
 
   pub takes_next : (kept kept_after : List Kept) (counts : Bool → Type 0) (failure : Type 0) → (counts true → failure) → (n m after : NodeState) (took : Bool) → m ≡ searched n
       → TakesShown h kept kept_after counts m after took → GoesOn h kept kept_after failure [] n after × (length (held_bytes after) < length (held_bytes n))
   takes_next kept kept_after counts failure told n m after took is shown =
       let both = takes_shown (searched n) after kept kept_after counts failure told took (searched_shows n)
       (subst (λ (z : NodeState). TakesShown h kept kept_after counts z after took) is shown) in (
-        joined h kept kept kept_after failure [] [] n (searched n) after (searches laws h kept failure n) both.0,
+        joined h kept kept kept_after failure [] [] n (searched n) after (searches h kept failure n) both.0,
         let fewer = searched_fewer n in omega (arith, both.1),
       )
 

@@ -20,7 +20,8 @@ use Rattle.uug_session.specs.Node.{NodeState, ShowsItem, TakesItem, IsLeft, text
 use Rattle.uug_conversation.specs.Talk.{Talk, end_keeper}
 use Rattle.uug_conversation.specs.Talking.{Talking, talk_of}
 use Rattle.uug_session.specs.TextsHeld.{TextsHeld, ShowsText}
-use Rattle.uug_conversation.specs.Turns.{Side, caller, called}
+use Rattle.uug_conversation.specs.declared.side.Side.{Side}
+use Rattle.uug_conversation.specs.declared.side.Side.TheVariants.{Caller, Called}
 
 pub shows_bad : (stage : Stage) (texts : TextsHeld) (packets : Reading) (f : Found) → linked ≡ stage → f ≡ founds.Bad
     → Shows (item_of f) packets → ShowsItem stage texts packets bad_item
@@ -36,9 +37,9 @@ begun_beside : (number : Option ℕ) (h : Holdings) (kept : List Kept) (side : S
     → Does (begins_link number side s e.talking said) (bare after) e after
     → Does (begins_link number side s (talk_of h kept e.talking) said) (end_of h kept after) e after
 unfolding beside
-begun_beside number h kept caller said s e after does =
+begun_beside number h kept Caller said s e after does =
     record { end = ap (beside h kept) does.end; emitted = does.emitted; identity = does.identity; own = does.own }
-begun_beside number h kept called said s e after does =
+begun_beside number h kept Called said s e after does =
     record { end = ap (beside h kept) does.end; emitted = does.emitted; identity = does.identity; own = does.own }
 
 pub greeted_beside : (number : Option ℕ) (h : Holdings) (kept : List Kept) (id : Identity) (greeted : Greeted) (said : List Emitted) (s : State) (e after : EngineState)
@@ -52,8 +53,8 @@ greeted_beside number h kept id (Ended how) said s e after does =
     record { end = ap (beside h kept) does.end; emitted = does.emitted; identity = does.identity; own = does.own }
 
 begun_takes_nothing : (number : Option ℕ) (side : Side) (said : List Emitted) (s : State) (talk : Talk) → false ≡ (begins_link number side s talk said).took
-begun_takes_nothing number caller said s talk = refl
-begun_takes_nothing number called said s talk = refl
+begun_takes_nothing number Caller said s talk = refl
+begun_takes_nothing number Called said s talk = refl
 
 greeted_takes_nothing : (number : Option ℕ) (id : Identity) (greeted : Greeted) (said : List Emitted) (s : State) (talk : Talk)
     → false ≡ (greeted_so number id greeted said s talk).took

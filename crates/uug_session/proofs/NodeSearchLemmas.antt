@@ -12,14 +12,15 @@ use Rattle.uug_session.specs.EndStep.{Stage, hailing, linked, ended, Emitted, Id
 use Rattle.uug_session.specs.Engine.{EngineState, with_stage}
 use Rattle.uug_session.specs.Finding.{finds_nothing, finds, text_finding, item_finding, finding, found_with, behind_long_text}
 use Rattle.uug_conversation.specs.Holdings.{Kept, Holdings}
-use Rattle.uug_session.specs.Code.ItemLaws.{ItemLaws}
 use Rattle.uug_session.specs.Node.{NodeState, accepted, accepted_at, bytes_at, held_bytes, item_size, offered_at, offered, struck_jobs, texts_searched, searched_at, searched}
 use Rattle.uug_session.specs.NodeArriving.{NodeEnd, node_taker, hearer_of, GoesOn, TakesAll, IsAtRest}
 use Rattle.uug_session.specs.TextsHeld.{TextsHeld, TextSearch, text_waits, text_stands, text_too_long, size_of_text, search_text}
-use Rattle.uug_session.proofs.ArrivingLemmas.{held_same, same_with, same_found, nothing_again, found_nothing, found_event, in_pieces}
+use Rattle.uug_session.proofs.ArrivingLemmas.{held_same, same_with, same_found, nothing_again, found_nothing, found_event, in_pieces, found_more}
 use Rattle.uug_session.proofs.PacketSearchLemmas.{Within, search_within, some_size, IsFoundAgain, search_again}
 use Rattle.uug_session.proofs.CourseLemmas.{at, end_at, hearer_with, quiet, joined}
 use Rattle.uug_session.proofs.OwnRequestLemmas.{takes_all_keeps}
+use Rattle.uug_session.proofs.TextSearchLemmas.{finds_text}
+use Rattle.uug_session.proofs.TextCallLemmas.{found_again}
 
 -- no more is taken of a piece than it has
 accepted_most_at : (s : Stage) (n : NodeState) (piece : List ℕ) → accepted_at s n piece ≤ length piece
@@ -47,7 +48,7 @@ held_stays (hailing g) n = refl
 held_stays linked n = refl
 held_stays (ended how) n = refl
 
-module _ (laws : ItemLaws) (h : Holdings) where
+module _ (h : Holdings) where
   pub offers : (kept : List Kept) (failure : Type 0) (bytes : List ℕ) (n : NodeState) → GoesOn h kept kept failure bytes n (offered bytes n)
   offers kept failure bytes n =
       quiet h kept kept failure bytes n (offered bytes n) (ap (λ (e : EngineState). e.outbox.entries) engine) (ap (λ (e : EngineState). e.identity) engine) (ap (λ (e : EngineState). e.own) engine) (ap (λ (e : EngineState). e.talking.machine.lists.struck) engine) refl same where
@@ -67,7 +68,7 @@ module _ (laws : ItemLaws) (h : Holdings) where
             let t = node_taker h n.engine.identity in
             let x : NodeEnd = end_at h kept said later n.engine in
             ap (λ (bs : List ℕ). takes_all t (holds t bs x)) (sym (append_assoc (held_bytes n) bytes more))
-            ∙ ap (takes_all t) (held_same laws.findings NodeEnd t (held_bytes n ++ bytes) more x)
+            ∙ ap (takes_all t) (held_same NodeEnd t (held_bytes n ++ bytes) more x)
             ∙ ap (λ (bs : List ℕ). takes_piece t more (hearer_with bs x)) (sym held)
             ∙ ap (λ (e : EngineState). takes_piece t more (hearer_with (held_bytes (offered bytes n)) (end_at h kept said later e))) (sym engine)
 
@@ -85,10 +86,10 @@ module _ (laws : ItemLaws) (h : Holdings) where
 
   shows_standing : (stream text others : List ℕ) → search_text stream ≡ text_stands text others → search_text others ≡ text_stands text others
   shows_standing stream text others e =
-      let f = laws.stands stream text others e in
+      let f = finds_text stream text others e in
       let held : TextsHeld = record { bytes = others; shown_size = size_of_text text } in
       subst (λ (z : List ℕ). search_text z ≡ text_stands text z) (append-nil others)
-      (laws.again text [] held (record { size = refl; within = f.within; first = f.stands }))
+      (found_again text [] held (record { size = refl; within = f.within; first = f.stands }))
 
   found_at_text : (g : Greeting) (bytes text others : List ℕ) → search_text bytes ≡ text_stands text others → finding (hailing g) bytes ≡ finding (hailing g) others
   found_at_text g bytes text others e =
@@ -108,12 +109,12 @@ module _ (laws : ItemLaws) (h : Holdings) where
       let x : NodeEnd = end_at h kept said later (with_stage (hailing g) e) in
       let behind = behind_long_text _ texts.bytes in
       let there : finding (hailing g) (texts.bytes ++ more) ≡ finds long_text_found (behind ++ more) =
-      laws.findings.more (hailing g) texts.bytes more ∙ ap (λ (r : TextSearch). found_with (hailing g) more (text_finding texts.bytes r)) is in
-      found_event laws.findings NodeEnd t (texts.bytes ++ more) (behind ++ more) long_text_found x there
+      found_more (hailing g) texts.bytes more ∙ ap (λ (r : TextSearch). found_with (hailing g) more (text_finding texts.bytes r)) is in
+      found_event NodeEnd t (texts.bytes ++ more) (behind ++ more) long_text_found x there
       ∙ ap (λ (s : List Emitted). takes_all t (hearer_with [] (end_at h kept s later (with_stage (ended ends.BadTalk) e)))) (append-nil said)
 
   waits_same : (s : Stage) (bytes rest more : List ℕ) → finding s bytes ≡ finds_nothing rest → finding s (bytes ++ more) ≡ finding s (rest ++ more)
-  waits_same s bytes rest more is = laws.findings.more s bytes more ∙ ap (found_with s more) is
+  waits_same s bytes rest more is = found_more s bytes more ∙ ap (found_with s more) is
 
   search_leads : (s : Stage) (e : EngineState) (texts : TextsHeld) (packets : Reading) (kept : List Kept) (more : List ℕ) (said : List Emitted) (later : List Bool)
       → takes_piece (node_taker h e.identity) more (hearer_of h kept said later (at s e texts packets))
@@ -129,11 +130,11 @@ module _ (laws : ItemLaws) (h : Holdings) where
         → takes_piece (node_taker h e.identity) more (hearer_of h kept said later n)
         ≡ takes_piece (node_taker h e.identity) more (hearer_of h kept said later (texts_searched r n))
     by_search (text_waits rest) is =
-        same_found laws.findings NodeEnd (node_taker h e.identity) (texts.bytes ++ more) (rest ++ more) x
+        same_found NodeEnd (node_taker h e.identity) (texts.bytes ++ more) (rest ++ more) x
         (waits_same (hailing g) texts.bytes rest more (ap (text_finding texts.bytes) is))
     by_search (text_stands text others) is =
-        same_found laws.findings NodeEnd (node_taker h e.identity) (texts.bytes ++ more) (others ++ more) x
-        (same_with laws.findings (hailing g) texts.bytes others more (found_at_text g texts.bytes text others is))
+        same_found NodeEnd (node_taker h e.identity) (texts.bytes ++ more) (others ++ more) x
+        (same_with (hailing g) texts.bytes others more (found_at_text g texts.bytes text others is))
     by_search text_too_long is = too_long_ends g e texts packets kept is more said later
   search_leads linked e texts packets kept more said later = by_search (search_of packets.bytes) refl where
     n : NodeState
@@ -146,11 +147,11 @@ module _ (laws : ItemLaws) (h : Holdings) where
         → takes_piece (node_taker h e.identity) more (hearer_of h kept said later n)
         ≡ takes_piece (node_taker h e.identity) more (hearer_of h kept said later (record n { packets = left_by r }))
     by_search (waiting rest) is =
-        same_found laws.findings NodeEnd (node_taker h e.identity) (packets.bytes ++ more) (rest ++ more) x
+        same_found NodeEnd (node_taker h e.identity) (packets.bytes ++ more) (rest ++ more) x
         (waits_same linked packets.bytes rest more (ap item_finding is))
     by_search (standing item size others) is =
-        same_found laws.findings NodeEnd (node_taker h e.identity) (packets.bytes ++ more) (others ++ more) x
-        (same_with laws.findings linked packets.bytes others more (found_at_item packets.bytes others item size is))
+        same_found NodeEnd (node_taker h e.identity) (packets.bytes ++ more) (others ++ more) x
+        (same_with linked packets.bytes others more (found_at_item packets.bytes others item size is))
   search_leads (ended how) e texts packets kept more said later = refl
 
   search_stays : (s : Stage) (n : NodeState) → ((searched_at s n).engine.outbox.entries ≡ n.engine.outbox.entries)
@@ -179,7 +180,7 @@ module _ (laws : ItemLaws) (h : Holdings) where
     n = at (hailing g) e texts packets
 
     by_search : (r : TextSearch) → search_text texts.bytes ≡ r → item_size (texts_searched r n) ≡ 0 → IsAtRest (texts_searched r n)
-    by_search (text_waits rest) is none = nothing_again laws.findings (hailing g) texts.bytes rest (ap (text_finding texts.bytes) is)
+    by_search (text_waits rest) is none = nothing_again (hailing g) texts.bytes rest (ap (text_finding texts.bytes) is)
     by_search (text_stands text others) is none = absurd (omega (arith, none))
     by_search text_too_long is none = refl
   rests linked e texts packets = by_search (search_of packets.bytes) refl where
@@ -187,7 +188,7 @@ module _ (laws : ItemLaws) (h : Holdings) where
     n = at linked e texts packets
 
     by_search : (r : Search) → search_of packets.bytes ≡ r → item_size (record n { packets = left_by r }) ≡ 0 → IsAtRest (record n { packets = left_by r })
-    by_search (waiting rest) is none = nothing_again laws.findings linked packets.bytes rest (ap item_finding is)
+    by_search (waiting rest) is none = nothing_again linked packets.bytes rest (ap item_finding is)
     by_search (standing item size others) is none =
         let there : Within packets.bytes (standing item size others) = subst (Within packets.bytes) is (search_within packets.bytes) in
         absurd (let some = some_size item size there.0 in omega (arith, none))
@@ -203,7 +204,7 @@ module _ (laws : ItemLaws) (h : Holdings) where
       let t = node_taker h id in
       let x : NodeEnd = end_at h kept said later n.engine in
       ap (λ (bs : List ℕ). takes_all t (holds t bs x)) (append-nil (held_bytes n))
-      ∙ found_nothing laws.findings NodeEnd t (held_bytes n) (held_bytes n) x rest
+      ∙ found_nothing NodeEnd t (held_bytes n) (held_bytes n) x rest
       ∙ ap (λ (bs : List ℕ). all_taken (hearer_with bs x)) (held_stays n.engine.stage n)
 
   pub takes_all_of : (kept kept_after : List Kept) (failure : Type 0) (bytes : List ℕ) (before after : NodeState)
@@ -223,7 +224,7 @@ module _ (laws : ItemLaws) (h : Holdings) where
     course = all.course;
     goes_on = λ more said later.
         let t = node_taker h before.engine.identity in
-        in_pieces laws.findings NodeEnd t bytes more (hearer_of h kept said (all.course.failures ++ later) before)
+        in_pieces NodeEnd t bytes more (hearer_of h kept said (all.course.failures ++ later) before)
         ∙ ap (then_takes t more) (all.taken said later);
     requests = takes_all_keeps h kept kept_after failure bytes before after all;
   }

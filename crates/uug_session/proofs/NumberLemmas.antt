@@ -17,7 +17,8 @@ use Rattle.uug_session.specs.declared.greeting.Greeting.{Greeting}
 use Rattle.uug_session.specs.EndStep.{Stage, hailing, linked, ended, Emitted, EndEvent, EndState, Identity, text_found, long_text_found, packet_found_whole, broken_found, time_ran_out, line_lost, begins_link, behind_link, end_step, greeted_so, hailing_step, late_link, linked_step, message_of, rises_at, stage_step, takes_by, talks_by}
 use Rattle.uug_session.specs.Greeting.{GreetingStep, begins_with, goes_on, is_expected, name_in_caller_text, number_by, number_came, offers_g, risen, text_came, timed_out as greeting_timed_out}
 use Rattle.uug_conversation.specs.Keeper.{Keeper}
-use Rattle.uug_conversation.specs.Turns.{Side, caller, called}
+use Rattle.uug_conversation.specs.declared.side.Side.{Side}
+use Rattle.uug_conversation.specs.declared.side.Side.TheVariants.{Caller, Called}
 use Rattle.uug_session.specs.WholeGreeting.{GreetingRun, Greets, IsRefusal, has_let_in, step_behind, texts_came}
 
 -- ---- on the link
@@ -65,8 +66,8 @@ linked_number k id long_text_found e = refl
 
 pub begun_number : {C : Type 0} (number : Option ℕ) (side : Side) (s : State) (c : C) (said : List Emitted)
     → (begins_link number side s c said).state.number ≡ number
-begun_number number caller s c said = refl
-begun_number number called s c said = refl
+begun_number number Caller s c said = refl
+begun_number number Called s c said = refl
 
 greeted_number : {C : Type 0} (number : Option ℕ) (id : Identity) (greeted : Greeted) (said : List Emitted) (s : State) (c : C)
     → (greeted_so number id greeted said s c).state.number ≡ number
@@ -226,14 +227,14 @@ caller_runs me peer (text ∷ texts) end number t =
 -- ---- from the start
 
 pub called_number : (me peer : List ℕ) (number : Option ℕ) (delivered left : List ℕ) (run : GreetingRun)
-    → Greets called me peer number delivered run left → CalledNumber number run
+    → Greets Called me peer number delivered run left → CalledNumber number run
 called_number me peer number delivered left run m =
     let heard : CalledNumber number m.heard =
     subst (CalledNumber number) (sym m.greets.came) (called_runs me peer m.greets.found.texts m.greets.found.end number 0) in
     subst (CalledNumber number) (sym m.whole) (record { let_in = heard.let_in; refused = heard.refused; begun = heard.begun })
 
 pub caller_number : (me peer : List ℕ) (number : Option ℕ) (delivered left : List ℕ) (run : GreetingRun)
-    → Greets caller me peer number delivered run left → CallerNumber number run
+    → Greets Caller me peer number delivered run left → CallerNumber number run
 caller_number me peer number delivered left run m =
     let heard : CallerNumber number m.heard =
     subst (CallerNumber number) (sym m.greets.came) (caller_runs me peer m.greets.found.texts m.greets.found.end number 0) in
@@ -241,10 +242,10 @@ caller_number me peer number delivered left run m =
 
 pub begun_risen : (side : Side) (me peer : List ℕ) (number : Option ℕ) (delivered left : List ℕ) (run : GreetingRun)
     → Greets side me peer number delivered run left → run.greeted ≡ LinkBegins → run.number ≡ risen number
-begun_risen caller me peer number delivered left run m = (caller_number me peer number delivered left run m).begun
-begun_risen called me peer number delivered left run m = (called_number me peer number delivered left run m).begun
+begun_risen Caller me peer number delivered left run m = (caller_number me peer number delivered left run m).begun
+begun_risen Called me peer number delivered left run m = (called_number me peer number delivered left run m).begun
 
 pub refused_stays : (side : Side) (me peer : List ℕ) (number : Option ℕ) (delivered left : List ℕ) (run : GreetingRun) (how : End)
     → Greets side me peer number delivered run left → run.greeted ≡ Ended how → IsRefusal how → run.number ≡ number
-refused_stays caller me peer number delivered left run how m = (caller_number me peer number delivered left run m).refused how
-refused_stays called me peer number delivered left run how m = (called_number me peer number delivered left run m).refused how
+refused_stays Caller me peer number delivered left run how m = (caller_number me peer number delivered left run m).refused how
+refused_stays Called me peer number delivered left run how m = (called_number me peer number delivered left run m).refused how

@@ -15,7 +15,7 @@ use Rattle.uug_session.specs.declared.greeting.AwaitedText.TheVariants.{CalledNa
 use Rattle.uug_session.specs.declared.greeting.Greeted.{Greeted}
 use Rattle.uug_session.specs.declared.greeting.Greeted.TheVariants.{GoesOn, LinkBegins, Ended}
 use Rattle.uug_session.specs.declared.greeting.Greeting.{Greeting}
-use Rattle.uug_session.specs.Arriving.{Taker, Hearer, Came, holds, held_in, takes_up, takes_up_to, takes_piece}
+use Rattle.uug_session.specs.Arriving.{Receiver, Buffered, Arrival, holds, held_in, takes_up, takes_up_to, takes_piece}
 use Rattle.uug_session.specs.EndStep.{Stage, hailing, linked, ended, Emitted, EndEvent, EndState, Identity, text_found, long_text_found, packet_found_whole, broken_found, time_ran_out, line_lost, begins_link, begins_session, behind_link, end_step, greeted_so, hailing_step, how_it_ends, late_link, linked_step, message_of, stage_step, takes_by, talks_by}
 use Rattle.uug_session.specs.Engine.{BeginsSession, Does, EngineState, bare, end_of, hung_up, stage_late, with_stage}
 use Rattle.uug_session.specs.Finding.{Finding, finds_nothing, finds, finds_packet, finding}
@@ -28,7 +28,8 @@ use Rattle.uug_session.specs.NodeArriving.{NodeEnd, TakesAll, fails_first, fails
 use Rattle.uug_session.specs.NumberStanding.{EndsWithNumber, KeepsNumber, NumberStands, number_while}
 use Rattle.uug_conversation.specs.Talk.{end_keeper}
 use Rattle.uug_conversation.specs.Talking.{Talking, talking_has_parted}
-use Rattle.uug_conversation.specs.Turns.{Side, caller, called}
+use Rattle.uug_conversation.specs.declared.side.Side.{Side}
+use Rattle.uug_conversation.specs.declared.side.Side.TheVariants.{Caller, Called}
 use Rattle.uug_session.specs.WholeGreeting.{IsRefusal}
 use Rattle.uug_session.proofs.KeeperLemmas.{end_in}
 
@@ -148,8 +149,8 @@ waited n now g h = either (Leads n now) (nat_lt (g.timeouts + 1) TIMEOUTS_MAX) _
 
 begun : {C : Type 0} (n number : Option ℕ) (side : Side) (s : State) (c : C) (said : List Emitted) → number ≡ risen n
     → Stands n (begins_link number side s c said).state
-begun n number caller s c said h = h
-begun n number called s c said h = h
+begun n number Caller s c said h = h
+begun n number Called s c said h = h
 
 greeted : {C : Type 0} (n number : Option ℕ) (id : Identity) (to : Greeted) (said : List Emitted) (s : State) (c : C) → LeadsTo n to number
     → Stands n (greeted_so number id to said s c).state
@@ -190,13 +191,13 @@ event_keeps h kept event e number stands = stepped number (end_keeper e.identity
 -- ---- bytes that come
 
 module _ (n : Option ℕ) (id : Identity) (h : Holdings) where
-  abbrev t : Taker NodeEnd
+  abbrev t : Receiver NodeEnd
   t = node_taker h id
 
-  abbrev Keeps : (Hearer NodeEnd → Came NodeEnd) → Type 0
-  Keeps more = (r : Hearer NodeEnd) → Stands n r.end.state → Stands n (end_in (more r)).state
+  abbrev Keeps : (Buffered NodeEnd → Arrival NodeEnd) → Type 0
+  Keeps more = (r : Buffered NodeEnd) → Stands n r.end.state → Stands n (end_in (more r)).state
 
-  found : (more : Hearer NodeEnd → Came NodeEnd) (f : Finding) (x : NodeEnd) → Keeps more → Stands n x.state
+  found : (more : Buffered NodeEnd → Arrival NodeEnd) (f : Finding) (x : NodeEnd) → Keeps more → Stands n x.state
       → Stands n (end_in (takes_up more t f x)).state
   found more (finds_nothing rest) x keep p = p
   found more (finds event rest) x keep p = keep (holds t rest (t.takes event x)) (stepped n (end_keeper id.side h) id event x.state p)
@@ -209,15 +210,15 @@ module _ (n : Option ℕ) (id : Identity) (h : Holdings) where
   taken_up zero r p = p
   taken_up (suc m) r p = found (takes_up_to m t) (finding r.end.state.stage r.held) r.end (taken_up m) p
 
-  piece_keeps : (piece : List ℕ) (r : Hearer NodeEnd) → Stands n r.end.state → Stands n (end_in (takes_piece t piece r)).state
+  piece_keeps : (piece : List ℕ) (r : Buffered NodeEnd) → Stands n r.end.state → Stands n (end_in (takes_piece t piece r)).state
   piece_keeps piece r p = taken_up (suc (length (held_in r.end.state.stage (r.held ++ piece)))) (holds t (r.held ++ piece) r.end) p
 
 pub takes_all_keeps : (h : Holdings) (kept kept_after : List Kept) (failure : Type 0) (bytes : List ℕ) (before after : NodeState)
     → TakesAll h kept kept_after failure bytes before after → KeepsNumber before.engine after.engine
 takes_all_keeps h kept kept_after failure bytes before after g = record {
   stands = λ number stands.
-      let from : Hearer NodeEnd = hearer_of h kept [] (g.course.failures ++ []) before in
-      subst (λ (c : Came NodeEnd). Stands number (end_in c).state) (g.taken [] [])
+      let from : Buffered NodeEnd = hearer_of h kept [] (g.course.failures ++ []) before in
+      subst (λ (c : Arrival NodeEnd). Stands number (end_in c).state) (g.taken [] [])
       (piece_keeps number before.engine.identity h bytes from stands);
 }
 
@@ -252,8 +253,8 @@ lost_keeps e = record { stands = λ number stands. lost_at number e.number (talk
 
 first : {C : Type 0} (side : Side) (me peer : List ℕ) (own : Announced) (number : Option ℕ) (c : C)
     → let id : Identity = record { side = side; me = me; peer = peer } in Stands number (begins_session id own number c).state
-first caller me peer own number c = refl
-first called me peer own number c = refl
+first Caller me peer own number c = refl
+first Called me peer own number c = refl
 
 pub begins_right : (id : Identity) (own : Announced) (number : Option ℕ) (l : Lists) (entries : List EntryValue) (after : EngineState)
     → BeginsSession id own number l entries after → NumberStands number after.stage after.number

@@ -11,7 +11,8 @@ use Rattle.uug_session.specs.EndStep.{says_text, EndEvent, EndState, Emitted, Id
 use Rattle.uug_session.specs.Greeting.{number_by, text_came, long_text_came, timed_out as greeting_timed_out}
 use Rattle.uug_conversation.specs.Keeper.{Keeper}
 use Rattle.uug_session.specs.Sending.{HasClosedWhereItIsOver, GoesOnAt}
-use Rattle.uug_conversation.specs.Turns.{Side, caller, called}
+use Rattle.uug_conversation.specs.declared.side.Side.{Side}
+use Rattle.uug_conversation.specs.declared.side.Side.TheVariants.{Caller, Called}
 use Rattle.uug_session.proofs.RoomLemmas.{begun_is_down, halted_is_down, late_effect}
 
 -- a link that is down is no case of it
@@ -85,9 +86,9 @@ late_open number k id parted halted e c was = was
 
 begins_link_open : {C : Type 0} (number : Option ℕ) (k : Keeper C) (side : Side) (s : State) (c : C) (said : List Emitted) → is_up s.phase ≡ false
     → HasClosedWhereItIsOver k (begins_link number side s c said).state
-begins_link_open number k caller s c said down =
+begins_link_open number k Caller s c said down =
     not_up (is_up (step s to_begin).state.phase) (k.is_over c) (begun_is_down (is_halted s.phase) s refl)
-begins_link_open number k called s c said down = not_up (is_up s.phase) (k.is_over c) down
+begins_link_open number k Called s c said down = not_up (is_up s.phase) (k.is_over c) down
 
 greeted_open : {C : Type 0} (number : Option ℕ) (k : Keeper C) (id : Identity) (g : Greeted) (says : List Emitted) (s : State) (c : C)
     → is_up s.phase ≡ false → HasClosedWhereItIsOver k (greeted_so number id g says s c).state
@@ -131,8 +132,8 @@ pub stays_open : {C : Type 0} (k : Keeper C) (id : Identity) (event : EndEvent) 
 stays_open k id event e was = step_open k id e.stage event e refl was
 
 first_open : (side : Side) (own : Announced) → is_up (first_link side own).phase ≡ false
-first_open caller own = refl
-first_open called own = refl
+first_open Caller own = refl
+first_open Called own = refl
 
 pub begins_open : {C : Type 0} (k : Keeper C) (id : Identity) (own : Announced) (number : Option ℕ) (c : C)
     → HasClosedWhereItIsOver k (begins_session id own number c).state

@@ -15,7 +15,7 @@ use Rattle.uug_conversation.specs.declared.job.Job.{Job}
 use Rattle.uug_conversation.specs.declared.job.Job.TheVariants as job
 use Rattle.uug_conversation.specs.declared.verdict.Verdict.{Verdict}
 use Rattle.uug_conversation.specs.declared.verdict.Verdict.TheVariants.{Yes, Never, Later}
-use Rattle.uug_session.specs.Arriving.{Hearer, Came, takes_piece}
+use Rattle.uug_session.specs.Arriving.{Buffered, Arrival, takes_piece}
 use Rattle.uug_conversation.specs.Choice.{Choice, choice, fetched_by, send_choice}
 use Rattle.uug_session.specs.EndStep.{EndState, Identity, EndEvent, end_step}
 use Rattle.uug_session.specs.Engine.{EngineState, end_of}
@@ -26,7 +26,9 @@ use Rattle.uug_session.specs.Node.{NodeState, effect_of, struck_jobs}
 use Rattle.uug_session.specs.NodeArriving.{NodeEnd, TakesAll, hearer_of, node_taker}
 use Rattle.uug_conversation.specs.OwnRequests.{OwnRequestEntries, none, not_asked_for, asked_for, sent, KeepsWhatItAskedFor}
 use Rattle.uug_conversation.specs.Talk.{Talk, end_keeper, opened_with, taking}
-use Rattle.uug_conversation.specs.Turns.{Side, caller, called, Said, the_answer}
+use Rattle.uug_conversation.specs.Turns.{Said, the_answer}
+use Rattle.uug_conversation.specs.declared.side.Side.{Side}
+use Rattle.uug_conversation.specs.declared.side.Side.TheVariants.{Caller, Called}
 use Rattle.uug_session.proofs.KeeperLemmas.{piece_keeps, step_keeps, talk_in}
 
 -- ---- from one time to a later one
@@ -259,8 +261,8 @@ after_step h s message =
     after_part (nat_lt (limit_of g.kind) (length g.bytes)) g h s
 
 after_opening : (side : Side) (h : Holdings) (l : Lists) → KeepsIn l.struck (opening side h l)
-after_opening caller h l = chooses h l []
-after_opening called h l = quiet l.struck
+after_opening Caller h l = chooses h l []
+after_opening Called h l = quiet l.struck
 
 -- ---- an end
 
@@ -296,7 +298,7 @@ module _ (id : Identity) (h : Holdings) (struck : List Job) (kept : List Kept) w
   event_since event e is =
       step_keeps Talk (end_keeper id.side h) Since opened_keeps taking_keeps (λ talk same. same) id event e is
 
-  piece_since : (piece : List ℕ) (r : Hearer NodeEnd) → Since r.end.state.keeper → Since (talk_in (takes_piece (node_taker h id) piece r))
+  piece_since : (piece : List ℕ) (r : Buffered NodeEnd) → Since r.end.state.keeper → Since (talk_in (takes_piece (node_taker h id) piece r))
   piece_since piece r is = piece_keeps id h Since event_since piece r is
 
 pub event_keeps : (h : Holdings) (kept : List Kept) (event : EndEvent) (e : EngineState)
@@ -310,6 +312,6 @@ pub takes_all_keeps : (h : Holdings) (kept kept_after : List Kept) (failure : Ty
     → TakesAll h kept kept_after failure bytes before after
     → KeepsWhatItAskedFor (struck_jobs before) (struck_jobs after) kept kept_after
 takes_all_keeps h kept kept_after failure bytes before after g =
-    let from : Hearer NodeEnd = hearer_of h kept [] (g.course.failures ++ []) before in
-    subst (λ (c : Came NodeEnd). KeepsWhatItAskedFor (struck_jobs before) (talk_in c).machine.lists.struck kept (talk_in c).kept) (g.taken [] [])
+    let from : Buffered NodeEnd = hearer_of h kept [] (g.course.failures ++ []) before in
+    subst (λ (c : Arrival NodeEnd). KeepsWhatItAskedFor (struck_jobs before) (talk_in c).machine.lists.struck kept (talk_in c).kept) (g.taken [] [])
     (piece_since before.engine.identity h (struck_jobs before) kept bytes from (nothing_new (struck_jobs before) kept))

@@ -2,14 +2,15 @@
 use Rattle.std.proofs.Common.{◌≡◌, ℕ, ◌+◌, ◌≤◌, List, [], ◌∷◌, ◌++◌, Option, length, take, refl, sym, ap, subst, ◌∙◌, append_assoc, arith}
 use Rattle.std.proofs.lemmas.List.{take-append-le, take_all}
 use Rattle.std.proofs.Math.Seq.{take-append-add}
-use Rattle.uug_talk.specs.StreamTexts.{StreamTexts, TextsEnd, Rest, TooLong, HasTexts, StandBefore, texts_of}
+use Rattle.uug_talk.specs.StreamTexts.{TextsEnd, Rest, TooLong, HasTexts, StandBefore, texts_of}
 use Rattle.uug_session.specs.declared.greeting.Greeted.{Greeted}
 use Rattle.uug_session.specs.declared.greeting.Greeted.TheVariants.{GoesOn, LinkBegins, Ended}
 use Rattle.uug_session.specs.declared.greeting.Greeting.{Greeting}
 use Rattle.uug_session.specs.Greeting.{greeting_at_first, first_texts, number_by, text_came}
-use Rattle.uug_conversation.specs.Turns.{Side}
+use Rattle.uug_conversation.specs.declared.side.Side.{Side}
 use Rattle.uug_session.specs.WholeGreeting.{GreetingRun, GreetsBy, Greets, IsOver, run_behind, behind_text, step_behind, texts_came}
-use Rattle.uug_session.proofs.WholeGreetingLemmas.{StreamLaws, OneFirstText, one_rest}
+use Rattle.uug_session.proofs.WholeGreetingLemmas.{one_rest}
+use Rattle.uug_talk.proofs.StreamTextLemmas.{reads, in_pieces, too_long_for_good}
 
 -- ---- the texts of two streams, one behind the other
 
@@ -100,112 +101,103 @@ stand_join (text ∷ texts) later rest middle stream (front, behind, e, first, m
 
 -- ---- the law
 
-pub record PiecesLaws : Type 0 where
-  pub rest : (stream more : List ℕ) (texts : List (List ℕ)) (rest : List ℕ) (found : StreamTexts)
-      → HasTexts stream (record { texts = texts; end = Rest rest }) → HasTexts (rest ++ more) found
-      → HasTexts (stream ++ more) (record { texts = texts ++ found.texts; end = found.end })
-  pub too_long : (stream more : List ℕ) (texts : List (List ℕ))
-      → HasTexts stream (record { texts = texts; end = TooLong })
-      → HasTexts (stream ++ more) (record { texts = texts; end = TooLong })
-
 -- what the run is by its texts
 record ByTexts (me peer : List ℕ) (number : Option ℕ) (g : Greeting) (delivered : List ℕ) (run : GreetingRun) (rest : List ℕ) (texts : List (List ℕ)) (end : TextsEnd) : Type 0 where
   has : HasTexts delivered (record { texts = texts; end = end })
   came : run ≡ texts_came me peer texts end number g
   left : StandBefore (take run.used texts) rest delivered
 
-module _ (laws : StreamLaws) (pieces : PiecesLaws) (first_text : OneFirstText) where
-  on_by : (me peer : List ℕ) (number : Option ℕ) (g next : Greeting) (delivered more rest left : List ℕ) (run later : GreetingRun) (texts : List (List ℕ)) (bytes : List ℕ)
-      → ByTexts me peer number g delivered run rest texts (Rest bytes) → run.greeted ≡ GoesOn next → run.used ≡ length texts
-      → GreetsBy me peer run.number next (rest ++ more) later left → GreetsBy me peer number g (delivered ++ more) (run_behind run later) left
-  unfolding goes_behind
-  on_by me peer number g next delivered more rest left run later texts bytes b e n k =
-      let whole : take run.used texts ≡ texts = take_all run.used texts (omega (arith, n)) in
-      let stand : StandBefore texts rest delivered = subst (λ (t : List (List ℕ)). StandBefore t rest delivered) whole b.left in
-      let same : bytes ≡ rest = sym b.has.ends.0 ∙ one_rest first_text texts b.has.rest rest delivered b.has.before stand in
-      let has : HasTexts delivered (record { texts = texts; end = Rest rest }) = subst (λ (r : List ℕ). HasTexts delivered (record { texts = texts; end = Rest r })) same b.has in
-      let greeted : (texts_came me peer texts (Rest bytes) number g).greeted ≡ GoesOn next = ap (λ (r : GreetingRun). r.greeted) (sym b.came) ∙ e in
-      let came : texts_came me peer (texts ++ k.found.texts) k.found.end number g ≡ run_behind run later =
-      came_more me peer texts k.found.texts bytes k.found.end number g
-      ∙ ap (goes_behind (λ k' m. texts_came me peer k.found.texts k.found.end k' m) (texts_came me peer texts (Rest bytes) number g)) greeted
-      ∙ ap (λ (r : GreetingRun). run_behind r (texts_came me peer k.found.texts k.found.end r.number next)) (sym b.came)
-      ∙ ap (run_behind run) (sym k.came) in
-      let taken : texts ++ take later.used k.found.texts ≡ take (run.used + later.used) (texts ++ k.found.texts) =
-      sym (take-append-add texts k.found.texts later.used) ∙ ap (λ m. take (m + later.used) (texts ++ k.found.texts)) (sym n) in
-      record {
-        found = record { texts = texts ++ k.found.texts; end = k.found.end };
-        texts = pieces.rest delivered more texts rest k.found has k.texts;
-        came = sym came;
-        left = subst (λ (t : List (List ℕ)). StandBefore t left (delivered ++ more)) taken
-            (stand_join texts (take later.used k.found.texts) left (rest ++ more) (delivered ++ more) (stand_more texts rest delivered more stand) k.left);
-      }
+on_by : (me peer : List ℕ) (number : Option ℕ) (g next : Greeting) (delivered more rest left : List ℕ) (run later : GreetingRun) (texts : List (List ℕ)) (bytes : List ℕ)
+    → ByTexts me peer number g delivered run rest texts (Rest bytes) → run.greeted ≡ GoesOn next → run.used ≡ length texts
+    → GreetsBy me peer run.number next (rest ++ more) later left → GreetsBy me peer number g (delivered ++ more) (run_behind run later) left
+unfolding goes_behind
+on_by me peer number g next delivered more rest left run later texts bytes b e n k =
+    let whole : take run.used texts ≡ texts = take_all run.used texts (omega (arith, n)) in
+    let stand : StandBefore texts rest delivered = subst (λ (t : List (List ℕ)). StandBefore t rest delivered) whole b.left in
+    let same : bytes ≡ rest = sym b.has.ends.0 ∙ one_rest texts b.has.rest rest delivered b.has.before stand in
+    let has : HasTexts delivered (record { texts = texts; end = Rest rest }) = subst (λ (r : List ℕ). HasTexts delivered (record { texts = texts; end = Rest r })) same b.has in
+    let greeted : (texts_came me peer texts (Rest bytes) number g).greeted ≡ GoesOn next = ap (λ (r : GreetingRun). r.greeted) (sym b.came) ∙ e in
+    let came : texts_came me peer (texts ++ k.found.texts) k.found.end number g ≡ run_behind run later =
+    came_more me peer texts k.found.texts bytes k.found.end number g
+    ∙ ap (goes_behind (λ k' m. texts_came me peer k.found.texts k.found.end k' m) (texts_came me peer texts (Rest bytes) number g)) greeted
+    ∙ ap (λ (r : GreetingRun). run_behind r (texts_came me peer k.found.texts k.found.end r.number next)) (sym b.came)
+    ∙ ap (run_behind run) (sym k.came) in
+    let taken : texts ++ take later.used k.found.texts ≡ take (run.used + later.used) (texts ++ k.found.texts) =
+    sym (take-append-add texts k.found.texts later.used) ∙ ap (λ m. take (m + later.used) (texts ++ k.found.texts)) (sym n) in
+    record {
+      found = record { texts = texts ++ k.found.texts; end = k.found.end };
+      texts = in_pieces delivered more texts rest k.found has k.texts;
+      came = sym came;
+      left = subst (λ (t : List (List ℕ)). StandBefore t left (delivered ++ more)) taken
+          (stand_join texts (take later.used k.found.texts) left (rest ++ more) (delivered ++ more) (stand_more texts rest delivered more stand) k.left);
+    }
 
-  on_end : (me peer : List ℕ) (number : Option ℕ) (g next : Greeting) (delivered more rest left : List ℕ) (run later : GreetingRun) (texts : List (List ℕ)) (end : TextsEnd)
-      → ByTexts me peer number g delivered run rest texts end → run.greeted ≡ GoesOn next
-      → GreetsBy me peer run.number next (rest ++ more) later left → GreetsBy me peer number g (delivered ++ more) (run_behind run later) left
-  on_end me peer number g next delivered more rest left run later texts end b e k =
-      let uses = uses_all me peer texts end number g next (ap (λ (r : GreetingRun). r.greeted) (sym b.came) ∙ e) in
-      on_by me peer number g next delivered more rest left run later texts uses.rest.0
-      (subst (λ (x : TextsEnd). ByTexts me peer number g delivered run rest texts x) uses.rest.1 b) e
-      (ap (λ (r : GreetingRun). r.used) b.came ∙ uses.all) k
+on_end : (me peer : List ℕ) (number : Option ℕ) (g next : Greeting) (delivered more rest left : List ℕ) (run later : GreetingRun) (texts : List (List ℕ)) (end : TextsEnd)
+    → ByTexts me peer number g delivered run rest texts end → run.greeted ≡ GoesOn next
+    → GreetsBy me peer run.number next (rest ++ more) later left → GreetsBy me peer number g (delivered ++ more) (run_behind run later) left
+on_end me peer number g next delivered more rest left run later texts end b e k =
+    let uses = uses_all me peer texts end number g next (ap (λ (r : GreetingRun). r.greeted) (sym b.came) ∙ e) in
+    on_by me peer number g next delivered more rest left run later texts uses.rest.0
+    (subst (λ (x : TextsEnd). ByTexts me peer number g delivered run rest texts x) uses.rest.1 b) e
+    (ap (λ (r : GreetingRun). r.used) b.came ∙ uses.all) k
 
-  pub goes_on_with_more : (me peer : List ℕ) (number : Option ℕ) (g next : Greeting) (delivered more rest left : List ℕ) (run later : GreetingRun)
-      → GreetsBy me peer number g delivered run rest → run.greeted ≡ GoesOn next
-      → GreetsBy me peer run.number next (rest ++ more) later left → GreetsBy me peer number g (delivered ++ more) (run_behind run later) left
-  goes_on_with_more me peer number g next delivered more rest left run later h e k =
-      on_end me peer number g next delivered more rest left run later h.found.texts h.found.end (record { has = h.texts; came = h.came; left = h.left }) e k
+pub goes_on_with_more : (me peer : List ℕ) (number : Option ℕ) (g next : Greeting) (delivered more rest left : List ℕ) (run later : GreetingRun)
+    → GreetsBy me peer number g delivered run rest → run.greeted ≡ GoesOn next
+    → GreetsBy me peer run.number next (rest ++ more) later left → GreetsBy me peer number g (delivered ++ more) (run_behind run later) left
+goes_on_with_more me peer number g next delivered more rest left run later h e k =
+    on_end me peer number g next delivered more rest left run later h.found.texts h.found.end (record { has = h.texts; came = h.came; left = h.left }) e k
 
-  over_run : (more : Option ℕ → Greeting → GreetingRun) (run : GreetingRun) (greeted : Greeted) → IsOver greeted → goes_behind more run greeted ≡ run
-  unfolding goes_behind
-  over_run more run (GoesOn g) h = absurd h
-  over_run more run LinkBegins h = refl
-  over_run more run (Ended how) h = refl
+over_run : (more : Option ℕ → Greeting → GreetingRun) (run : GreetingRun) (greeted : Greeted) → IsOver greeted → goes_behind more run greeted ≡ run
+unfolding goes_behind
+over_run more run (GoesOn g) h = absurd h
+over_run more run LinkBegins h = refl
+over_run more run (Ended how) h = refl
 
-  over_end : (me peer : List ℕ) (number : Option ℕ) (g : Greeting) (delivered more rest : List ℕ) (run : GreetingRun) (texts : List (List ℕ)) (end : TextsEnd)
-      → ByTexts me peer number g delivered run rest texts end → IsOver run.greeted → GreetsBy me peer number g (delivered ++ more) run (rest ++ more)
-  over_end me peer number g delivered more rest run texts TooLong b o = record {
-    found = record { texts = texts; end = TooLong };
-    texts = pieces.too_long delivered more texts b.has;
-    came = b.came;
-    left = stand_more (take run.used texts) rest delivered more b.left;
-  }
-  over_end me peer number g delivered more rest run texts (Rest bytes) b o =
-      let later = texts_of (bytes ++ more) in
-      let over : IsOver (texts_came me peer texts (Rest bytes) number g).greeted = subst (λ (r : GreetingRun). IsOver r.greeted) b.came o in
-      let came : run ≡ texts_came me peer (texts ++ later.texts) later.end number g =
-      b.came ∙ sym (came_more me peer texts later.texts bytes later.end number g
-      ∙ over_run (λ k m. texts_came me peer later.texts later.end k m) (texts_came me peer texts (Rest bytes) number g) (texts_came me peer texts (Rest bytes) number g).greeted over) in
-      let within : run.used ≤ length texts = subst (λ (r : GreetingRun). r.used ≤ length texts) (sym b.came) (used_within me peer texts (Rest bytes) number g) in
-      record {
-        found = record { texts = texts ++ later.texts; end = later.end };
-        texts = pieces.rest delivered more texts bytes later b.has (laws.some (bytes ++ more));
-        came = came;
-        left = subst (λ (t : List (List ℕ)). StandBefore t (rest ++ more) (delivered ++ more)) (sym (take-append-le run.used texts later.texts within))
-            (stand_more (take run.used texts) rest delivered more b.left);
-      }
+over_end : (me peer : List ℕ) (number : Option ℕ) (g : Greeting) (delivered more rest : List ℕ) (run : GreetingRun) (texts : List (List ℕ)) (end : TextsEnd)
+    → ByTexts me peer number g delivered run rest texts end → IsOver run.greeted → GreetsBy me peer number g (delivered ++ more) run (rest ++ more)
+over_end me peer number g delivered more rest run texts TooLong b o = record {
+  found = record { texts = texts; end = TooLong };
+  texts = too_long_for_good delivered more texts b.has;
+  came = b.came;
+  left = stand_more (take run.used texts) rest delivered more b.left;
+}
+over_end me peer number g delivered more rest run texts (Rest bytes) b o =
+    let later = texts_of (bytes ++ more) in
+    let over : IsOver (texts_came me peer texts (Rest bytes) number g).greeted = subst (λ (r : GreetingRun). IsOver r.greeted) b.came o in
+    let came : run ≡ texts_came me peer (texts ++ later.texts) later.end number g =
+    b.came ∙ sym (came_more me peer texts later.texts bytes later.end number g
+    ∙ over_run (λ k m. texts_came me peer later.texts later.end k m) (texts_came me peer texts (Rest bytes) number g) (texts_came me peer texts (Rest bytes) number g).greeted over) in
+    let within : run.used ≤ length texts = subst (λ (r : GreetingRun). r.used ≤ length texts) (sym b.came) (used_within me peer texts (Rest bytes) number g) in
+    record {
+      found = record { texts = texts ++ later.texts; end = later.end };
+      texts = in_pieces delivered more texts bytes later b.has (reads (bytes ++ more));
+      came = came;
+      left = subst (λ (t : List (List ℕ)). StandBefore t (rest ++ more) (delivered ++ more)) (sym (take-append-le run.used texts later.texts within))
+          (stand_more (take run.used texts) rest delivered more b.left);
+    }
 
-  pub stays_over : (me peer : List ℕ) (number : Option ℕ) (g : Greeting) (delivered more rest : List ℕ) (run : GreetingRun)
-      → GreetsBy me peer number g delivered run rest → IsOver run.greeted → GreetsBy me peer number g (delivered ++ more) run (rest ++ more)
-  stays_over me peer number g delivered more rest run h o =
-      over_end me peer number g delivered more rest run h.found.texts h.found.end (record { has = h.texts; came = h.came; left = h.left }) o
+pub stays_over : (me peer : List ℕ) (number : Option ℕ) (g : Greeting) (delivered more rest : List ℕ) (run : GreetingRun)
+    → GreetsBy me peer number g delivered run rest → IsOver run.greeted → GreetsBy me peer number g (delivered ++ more) run (rest ++ more)
+stays_over me peer number g delivered more rest run h o =
+    over_end me peer number g delivered more rest run h.found.texts h.found.end (record { has = h.texts; came = h.came; left = h.left }) o
 
-  -- ---- from the start
+-- ---- from the start
 
-  pub whole_goes_on_with_more : (side : Side) (me peer : List ℕ) (number : Option ℕ) (next : Greeting) (delivered more rest left : List ℕ) (run later : GreetingRun)
-      → Greets side me peer number delivered run rest → run.greeted ≡ GoesOn next
-      → GreetsBy me peer run.number next (rest ++ more) later left → Greets side me peer number (delivered ++ more) (run_behind run later) left
-  whole_goes_on_with_more side me peer number next delivered more rest left run later h e k = record {
-    heard = run_behind h.heard later;
-    greets = goes_on_with_more me peer number (greeting_at_first side) next delivered more rest left h.heard later h.greets (ap (λ (r : GreetingRun). r.greeted) (sym h.whole) ∙ e)
-        (subst (λ (r : GreetingRun). GreetsBy me peer r.number next (rest ++ more) later left) h.whole k);
-    whole = ap (λ (r : GreetingRun). run_behind r later) h.whole
-        ∙ ap (λ (s : List (List ℕ)). record { says = s; greeted = later.greeted; used = h.heard.used + later.used; number = later.number }) (append_assoc (first_texts side me) h.heard.says later.says);
-  }
+pub whole_goes_on_with_more : (side : Side) (me peer : List ℕ) (number : Option ℕ) (next : Greeting) (delivered more rest left : List ℕ) (run later : GreetingRun)
+    → Greets side me peer number delivered run rest → run.greeted ≡ GoesOn next
+    → GreetsBy me peer run.number next (rest ++ more) later left → Greets side me peer number (delivered ++ more) (run_behind run later) left
+whole_goes_on_with_more side me peer number next delivered more rest left run later h e k = record {
+  heard = run_behind h.heard later;
+  greets = goes_on_with_more me peer number (greeting_at_first side) next delivered more rest left h.heard later h.greets (ap (λ (r : GreetingRun). r.greeted) (sym h.whole) ∙ e)
+      (subst (λ (r : GreetingRun). GreetsBy me peer r.number next (rest ++ more) later left) h.whole k);
+  whole = ap (λ (r : GreetingRun). run_behind r later) h.whole
+      ∙ ap (λ (s : List (List ℕ)). record { says = s; greeted = later.greeted; used = h.heard.used + later.used; number = later.number }) (append_assoc (first_texts side me) h.heard.says later.says);
+}
 
-  pub whole_stays_over : (side : Side) (me peer : List ℕ) (number : Option ℕ) (delivered more rest : List ℕ) (run : GreetingRun)
-      → Greets side me peer number delivered run rest → IsOver run.greeted → Greets side me peer number (delivered ++ more) run (rest ++ more)
-  whole_stays_over side me peer number delivered more rest run h o = record {
-    heard = h.heard;
-    greets = stays_over me peer number (greeting_at_first side) delivered more rest h.heard h.greets (subst (λ (r : GreetingRun). IsOver r.greeted) h.whole o);
-    whole = h.whole;
-  }
+pub whole_stays_over : (side : Side) (me peer : List ℕ) (number : Option ℕ) (delivered more rest : List ℕ) (run : GreetingRun)
+    → Greets side me peer number delivered run rest → IsOver run.greeted → Greets side me peer number (delivered ++ more) run (rest ++ more)
+whole_stays_over side me peer number delivered more rest run h o = record {
+  heard = h.heard;
+  greets = stays_over me peer number (greeting_at_first side) delivered more rest h.heard h.greets (subst (λ (r : GreetingRun). IsOver r.greeted) h.whole o);
+  whole = h.whole;
+}

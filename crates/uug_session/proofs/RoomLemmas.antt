@@ -19,7 +19,8 @@ use Rattle.uug_conversation.specs.Keeper.{Keeper}
 use Rattle.uug_session.specs.Node.{effect_of}
 use Rattle.uug_conversation.specs.Talk.{Talk, end_keeper}
 use Rattle.uug_session.specs.Sending.{HasSaidWhatItCan, NodeHasSaidWhatItCan, SaidAt}
-use Rattle.uug_conversation.specs.Turns.{Side, caller, called}
+use Rattle.uug_conversation.specs.declared.side.Side.{Side}
+use Rattle.uug_conversation.specs.declared.side.Side.TheVariants.{Caller, Called}
 
 -- ---- where there is no room
 
@@ -183,11 +184,11 @@ abbrev pub late_effect : (lasts : Bool) → State → Effect
 late_effect lasts s =
     if lasts
     then record {
-      state = record s { timeouts = s.timeouts + 1; told = 0 };
+      state = record s { timeouts = s.timeouts + 1; reject_left = 0 };
       emitted = repeated s.role s.phase s;
       outcome = nothing;
     }
-    else answers (record s { phase = Halted; timeouts = TIMEOUTS_MAX; told = 0 }) close gave_up
+    else answers (record s { phase = Halted; timeouts = TIMEOUTS_MAX; reject_left = 0 }) close gave_up
 
 late_room_by : (lasts : Bool) (s : State) → has_room s ≡ false → has_room (late_effect lasts s).state ≡ false
 late_room_by true s none = none
@@ -221,9 +222,9 @@ begun_is_down false s is = refl
 
 begins_said : {C : Type 0} (number : Option ℕ) (k : Keeper C) (side : Side) (s : State) (c : C) (said : List Emitted) → is_up s.phase ≡ false
     → HasSaidWhatItCan k (begins_link number side s c said).state
-begins_said number k caller s c said down =
+begins_said number k Caller s c said down =
     inl (down_has_no_room (step s to_begin).state (begun_is_down (is_halted s.phase) s refl))
-begins_said number k called s c said down = inl (down_has_no_room s down)
+begins_said number k Called s c said down = inl (down_has_no_room s down)
 
 greeted_said : {C : Type 0} (number : Option ℕ) (k : Keeper C) (id : Identity) (g : Greeted) (says : List Emitted) (s : State) (c : C)
     → is_up s.phase ≡ false → HasSaidWhatItCan k (greeted_so number id g says s c).state
@@ -267,8 +268,8 @@ pub stays_said : {C : Type 0} (k : Keeper C) (id : Identity) (event : EndEvent) 
 stays_said k id event e within said = step_said k id e.stage event e refl said within
 
 first_said : (side : Side) (own : Announced) → is_up (first_link side own).phase ≡ false
-first_said caller own = refl
-first_said called own = refl
+first_said Caller own = refl
+first_said Called own = refl
 
 pub begins_so : {C : Type 0} (k : Keeper C) (id : Identity) (own : Announced) (number : Option ℕ) (c : C)
     → HasSaidWhatItCan k (begins_session id own number c).state

@@ -10,7 +10,7 @@ use Rattle.uug_talk.specs.declared.hail.TheConstants.{HAIL_MAX}
 use Rattle.uug_talk.specs.Call.{call_text, number_in_call}
 use Rattle.uug_talk.specs.Name.{IsName}
 use Rattle.uug_talk.specs.StreamTexts.{TextsEnd, Rest, TooLong, texts_of, with_text}
-use Rattle.uug_talk.specs.Texts.{IsPlain, IsHailText, Heard, Passing, Open, Whole, Holds, heard_byte, one_used, hear}
+use Rattle.uug_talk.specs.Texts.{IsPlain, IsHailText, Passing, Open, Whole, heard_byte, one_used, hear}
 use Rattle.std.specs.Str.{bytes_eq}
 use Rattle.uug_session.specs.declared.greeting.AwaitedText.{AwaitedText}
 use Rattle.uug_session.specs.declared.greeting.AwaitedText.TheVariants.{CalledName, CallerName, Admission, Protocols, Choice}
@@ -21,6 +21,7 @@ use Rattle.uug_session.specs.Greeting.{GreetingStep, called_text, begins_with, i
 use Rattle.uug_session.specs.Says.{written_text}
 use Rattle.uug_talk.proofs.CallLemmas.{hail_with_number, hail_without_number}
 use Rattle.uug_session.specs.WholeGreeting.{GreetingRun, IsNumber, written_texts, with_no_text, step_behind, texts_came}
+use Rattle.uug_talk.proofs.StreamTextLemmas.{of_whole}
 
 hear_whole : (text bytes : List ℕ) → hear (Whole text) bytes ≡ Some (0, Whole text)
 hear_whole text [] = refl
@@ -53,22 +54,18 @@ hear_written text rest h =
     ∙ ap (option_and_then one_used) (hear_text [] text rest h.plain (omega (arith, h.short)))
     ∙ ap (λ k. Some (k, Whole text)) n
 
-abbrev pub HearsWhole : Type 0
-HearsWhole = (heard : Heard) (before piece text : List ℕ) (used : ℕ) → Holds heard before → hear heard piece ≡ Some (used, Whole text)
-    → texts_of (before ++ piece) ≡ with_text text (texts_of (drop used piece))
-
 behind_written : (text rest : List ℕ) → drop (length text + 2) (written_text text ++ rest) ≡ rest
 behind_written text rest =
     let n : length text + 2 ≡ length (written_text text) = omega (arith, length-append text (0 ∷ [])) in
     ap (λ k. drop k (written_text text ++ rest)) n ∙ drop-append_seam (written_text text) rest
 
 -- the texts of written texts are those texts
-pub texts_of-written : HearsWhole → (texts : List (List ℕ)) → All IsHailText texts → texts_of (written_texts texts) ≡ record { texts = texts; end = Rest [] }
-texts_of-written law [] h = refl
-texts_of-written law (text ∷ texts) h =
-    law Passing [] (written_text text ++ written_texts texts) text (length text + 2) (All-nil (λ b. b ≢ 16)) (hear_written text (written_texts texts) (All-head IsHailText text texts h))
+pub texts_of-written : (texts : List (List ℕ)) → All IsHailText texts → texts_of (written_texts texts) ≡ record { texts = texts; end = Rest [] }
+texts_of-written [] h = refl
+texts_of-written (text ∷ texts) h =
+    of_whole Passing [] (written_text text ++ written_texts texts) text (length text + 2) (All-nil (λ b. b ≢ 16)) (hear_written text (written_texts texts) (All-head IsHailText text texts h))
     ∙ ap (λ bytes. with_text text (texts_of bytes)) (behind_written text (written_texts texts))
-    ∙ ap (with_text text) (texts_of-written law texts (All-tail IsHailText text texts h))
+    ∙ ap (with_text text) (texts_of-written texts (All-tail IsHailText text texts h))
 
 -- ---- what is said may be written as texts
 

@@ -4,7 +4,7 @@ use Rattle.std.proofs.lemmas.List.{append-nil}
 use Rattle.std.proofs.lemmas.List.Sorted.{IsPermutation-refl, IsPermutation-sym, IsPermutation-trans, IsPermutation-append_left, IsPermutation-middle}
 use Rattle.std.specs.Prelude.{IsPermutation}
 use Rattle.uug_conversation.specs.declared.job.Job.{Job}
-use Rattle.uug_session.specs.Arriving.{Hearer, Came, takes_piece}
+use Rattle.uug_session.specs.Arriving.{Buffered, Arrival, takes_piece}
 use Rattle.uug_session.specs.EndStep.{EndState, Identity, EndEvent, end_step}
 use Rattle.uug_session.specs.Engine.{EngineState, end_of}
 use Rattle.uug_conversation.specs.Holdings.{Kept, Holdings}
@@ -14,7 +14,7 @@ use Rattle.uug_session.specs.Node.{NodeState, effect_of}
 use Rattle.uug_session.specs.NodeArriving.{NodeEnd, GoesOn, TakesAll, hearer_of, node_taker}
 use Rattle.uug_conversation.specs.Sharing.{OnlyMoves, HaveSameJobs, all_jobs}
 use Rattle.uug_conversation.specs.Talk.{Talk, end_keeper, opened_with, taking}
-use Rattle.uug_conversation.specs.Turns.{Side}
+use Rattle.uug_conversation.specs.declared.side.Side.{Side}
 use Rattle.uug_session.proofs.KeeperLemmas.{piece_keeps, step_keeps, talk_in}
 use Rattle.uug_conversation.proofs.MachineMoveLemmas.{after_opening, after_step, stays, then_moves}
 
@@ -86,7 +86,7 @@ event_moves h kept event e =
 
 -- ---- bytes that come
 
-piece_moves : (id : Identity) (h : Holdings) (l : Lists) (piece : List ℕ) (r : Hearer NodeEnd)
+piece_moves : (id : Identity) (h : Holdings) (l : Lists) (piece : List ℕ) (r : Buffered NodeEnd)
     → OnlyMoves l r.end.state.keeper.machine.lists → OnlyMoves l (talk_in (takes_piece (node_taker h id) piece r)).machine.lists
 piece_moves id h l piece r is = piece_keeps id h (Moved id.side h l) (step_moves id.side h l id) piece r is
 
@@ -97,11 +97,11 @@ pub goes_on_together : (h : Holdings) (kept kept_after : List Kept) (failure : T
     → GoesOn h kept kept_after failure bytes before after → HaveSameJobs (jobs_of before) (jobs_of after)
 goes_on_together h kept kept_after failure bytes before after g =
     let id = before.engine.identity in
-    let from : Hearer NodeEnd = hearer_of h kept [] (g.course.failures ++ []) before in
-    let to : Hearer NodeEnd = hearer_of h kept_after ([] ++ g.course.emitted) [] after in
+    let from : Buffered NodeEnd = hearer_of h kept [] (g.course.failures ++ []) before in
+    let to : Buffered NodeEnd = hearer_of h kept_after ([] ++ g.course.emitted) [] after in
     let last : Lists = (talk_in (takes_piece (node_taker h id) [] to)).machine.lists in
     let first : OnlyMoves (jobs_of before) last =
-    subst (λ (c : Came NodeEnd). OnlyMoves (jobs_of before) (talk_in c).machine.lists) (g.goes_on [] [] [])
+    subst (λ (c : Arrival NodeEnd). OnlyMoves (jobs_of before) (talk_in c).machine.lists) (g.goes_on [] [] [])
     (piece_moves id h (jobs_of before) (bytes ++ []) from (stays (jobs_of before))) in
     let second : OnlyMoves (jobs_of after) last = piece_moves id h (jobs_of after) [] to (stays (jobs_of after)) in
     IsPermutation-trans (all_jobs (jobs_of before)) (all_jobs last) (all_jobs (jobs_of after)) (moved_together (jobs_of before) last first)
@@ -110,7 +110,7 @@ goes_on_together h kept kept_after failure bytes before after g =
 pub takes_all_together : (h : Holdings) (kept kept_after : List Kept) (failure : Type 0) (bytes : List ℕ) (before after : NodeState)
     → TakesAll h kept kept_after failure bytes before after → HaveSameJobs (jobs_of before) (jobs_of after)
 takes_all_together h kept kept_after failure bytes before after g =
-    let from : Hearer NodeEnd = hearer_of h kept [] (g.course.failures ++ []) before in
+    let from : Buffered NodeEnd = hearer_of h kept [] (g.course.failures ++ []) before in
     moved_together (jobs_of before) (jobs_of after)
-    (subst (λ (c : Came NodeEnd). OnlyMoves (jobs_of before) (talk_in c).machine.lists) (g.taken [] [])
+    (subst (λ (c : Arrival NodeEnd). OnlyMoves (jobs_of before) (talk_in c).machine.lists) (g.taken [] [])
     (piece_moves before.engine.identity h (jobs_of before) bytes from (stays (jobs_of before))))

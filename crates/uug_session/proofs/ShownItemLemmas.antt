@@ -14,47 +14,49 @@ use Rattle.uug_session.specs.declared.greeting.Greeting.{Greeting}
 use Rattle.uug_session.specs.EndStep.{Stage, hailing, linked, ended, text_found}
 use Rattle.uug_session.specs.Engine.{EngineState}
 use Rattle.uug_session.specs.Finding.{Finding, behind_long_text, finding, finds, finds_nothing, finds_packet, item_finding, text_finding}
-use Rattle.uug_session.specs.Code.ItemLaws.{ItemLaws}
 use Rattle.uug_session.specs.Node.{ItemValue, NodeState, ShowsItem, bad_item, bytes_at, item_size, packet_item, searched, searched_at, shown_size_at, text_item, texts_searched}
 use Rattle.uug_session.specs.ShownItems.{IsShown, ItemFound, NothingFound, finding_of, is_too_long, waits}
 use Rattle.uug_session.specs.TextsHeld.{ShowsText, TextSearch, TextsHeld, after_text_search, search_text, size_of_text, text_stands, text_too_long, text_waits}
 use Rattle.uug_session.proofs.PacketSearchLemmas.{IsFoundAgain, Within, read_stands, search_again, search_within, some_size}
+use Rattle.uug_session.proofs.TextSearchLemmas.{finds_text}
+use Rattle.uug_session.proofs.TextCallLemmas.{shows_shown}
+use Rattle.uug_packet.proofs.DecodedLemmas.{decoded-spelling}
 
 -- ---- the item that is shown
 
-read_front : ItemLaws → (p : PacketValue) (n : ℕ) (s : List ℕ) → IsSpelling p (take n s) → n ≤ length s → decoded s ≡ Ok (p, n)
-read_front laws p n s spelled there =
+read_front : (p : PacketValue) (n : ℕ) (s : List ℕ) → IsSpelling p (take n s) → n ≤ length s → decoded s ≡ Ok (p, n)
+read_front p n s spelled there =
     let count : length (take n s) ≡ n = omega (arith, there, length-take n s) in
-    ap decoded (sym (take-append-drop n s)) ∙ laws.read p (take n s) (drop n s) spelled ∙ ap (λ (k : ℕ). Ok (p, k)) count
+    ap decoded (sym (take-append-drop n s)) ∙ decoded-spelling p (take n s) (drop n s) spelled ∙ ap (λ (k : ℕ). Ok (p, k)) count
 
 abbrev ItemShown : ItemValue → Reading → Type 0
 ItemShown (text_item text) r = ⊥
 ItemShown (packet_item p) r = Shows (found p) r
 ItemShown bad_item r = Shows bad r
 
-item_is : ItemLaws → (item : ItemValue) (s : List ℕ) (x : Search) → Within s x → IsFoundAgain x → ItemShown item (left_by x)
+item_is : (item : ItemValue) (s : List ℕ) (x : Search) → Within s x → IsFoundAgain x → ItemShown item (left_by x)
     → item_finding x ≡ finding_of item (left_by x).bytes (drop (left_by x).shown_size (left_by x).bytes)
-item_is laws (text_item text) s x within again shown = absurd shown
-item_is laws (packet_item p) s (waiting rest) within again shown = absurd (omega (arith, shown.1))
-item_is laws bad_item s (waiting rest) within again shown = absurd (omega (arith, shown.1))
-item_is laws (packet_item p) s (standing item size others) within again shown =
-    let read : decoded others ≡ Ok (p, size) = read_front laws p size others shown.0.0 shown.0.1 in
+item_is (text_item text) s x within again shown = absurd shown
+item_is (packet_item p) s (waiting rest) within again shown = absurd (omega (arith, shown.1))
+item_is bad_item s (waiting rest) within again shown = absurd (omega (arith, shown.1))
+item_is (packet_item p) s (standing item size others) within again shown =
+    let read : decoded others ≡ Ok (p, size) = read_front p size others shown.0.0 shown.0.1 in
     ap item_finding (sym again ∙ read_stands others p size (omega (arith, shown.0.1, shown.1)) read)
-item_is laws bad_item s (standing (found q) size others) within again shown = absurd (omega (arith, within.0, shown.0.1))
-item_is laws bad_item s (standing bad size others) within again shown = refl
+item_is bad_item s (standing (found q) size others) within again shown = absurd (omega (arith, within.0, shown.0.1))
+item_is bad_item s (standing bad size others) within again shown = refl
 
 -- ---- the text that is shown
 
-text_is : ItemLaws → (text stream : List ℕ) (x : TextSearch) → search_text stream ≡ x → ShowsText text (after_text_search x)
+text_is : (text stream : List ℕ) (x : TextSearch) → search_text stream ≡ x → ShowsText text (after_text_search x)
     → text_finding stream x ≡ finds (text_found text) (drop (after_text_search x).shown_size (after_text_search x).bytes)
-text_is laws text stream (text_waits rest) is shows = absurd (omega (arith, shows.size))
-text_is laws text stream text_too_long is shows = absurd (omega (arith, shows.size))
-text_is laws text stream (text_stands first others) is shows =
+text_is text stream (text_waits rest) is shows = absurd (omega (arith, shows.size))
+text_is text stream text_too_long is shows = absurd (omega (arith, shows.size))
+text_is text stream (text_stands first others) is shows =
     let held : TextsHeld = record { bytes = others; shown_size = size_of_text first } in
-    let f = laws.stands stream first others is in
+    let f = finds_text stream first others is in
     let first_shows : ShowsText first held = record { size = refl; within = f.within; first = f.stands } in
     ap (λ (t : List ℕ). finds (text_found t) (drop (size_of_text first) others))
-    (laws.shown_is first held first_shows ∙ sym (laws.shown_is text held shows))
+    (shows_shown first held first_shows ∙ sym (shows_shown text held shows))
 
 -- ---- at each stage
 
@@ -76,49 +78,49 @@ found_with_parts stage item before after is engine found_so =
       finding = subst (λ (x : Stage). of_stages x after.engine.stage) (sym is) (subst (λ (y : Stage). of_stages stage y) (sym at_after) found_so);
     }
 
-text_found_at : ItemLaws → (g : Greeting) (n : NodeState) (x : TextSearch) (item : ItemValue) → n.engine.stage ≡ hailing g
+text_found_at : (g : Greeting) (n : NodeState) (x : TextSearch) (item : ItemValue) → n.engine.stage ≡ hailing g
     → search_text n.texts.bytes ≡ x
     → ShowsItem (texts_searched x n).engine.stage (texts_searched x n).texts (texts_searched x n).packets item
     → ItemFound item n (texts_searched x n)
-text_found_at laws g n text_too_long item is found_so shows = absurd (none_at_end ends.BadTalk (after_text_search text_too_long) n.packets item shows)
-text_found_at laws g n (text_waits rest) item is found_so shows =
+text_found_at g n text_too_long item is found_so shows = absurd (none_at_end ends.BadTalk (after_text_search text_too_long) n.packets item shows)
+text_found_at g n (text_waits rest) item is found_so shows =
     waits_at item (subst (λ (s : Stage). ShowsItem s (after_text_search (text_waits rest)) n.packets item) is shows) where
       waits_at : (i : ItemValue) → ShowsItem (hailing g) (after_text_search (text_waits rest)) n.packets i → ItemFound item n (texts_searched (text_waits rest) n)
       waits_at (text_item text) shown = absurd (omega (arith, shown.size))
       waits_at (packet_item p) shown = absurd shown
       waits_at bad_item shown = absurd shown
-text_found_at laws g n (text_stands first others) item is found_so shows =
+text_found_at g n (text_stands first others) item is found_so shows =
     stands_at item (subst (λ (s : Stage). ShowsItem s (after_text_search (text_stands first others)) n.packets item) is shows) where
       stands_at : (i : ItemValue) → ShowsItem (hailing g) (after_text_search (text_stands first others)) n.packets i
           → ItemFound i n (texts_searched (text_stands first others) n)
       stands_at (text_item text) shown =
           found_with_parts (hailing g) (text_item text) n (texts_searched (text_stands first others) n) is refl
-          (ap (text_finding n.texts.bytes) found_so ∙ text_is laws text n.texts.bytes (text_stands first others) found_so shown)
+          (ap (text_finding n.texts.bytes) found_so ∙ text_is text n.texts.bytes (text_stands first others) found_so shown)
       stands_at (packet_item p) shown = absurd shown
       stands_at bad_item shown = absurd shown
 
-packet_found_at : ItemLaws → (n : NodeState) (item : ItemValue) → n.engine.stage ≡ linked
+packet_found_at : (n : NodeState) (item : ItemValue) → n.engine.stage ≡ linked
     → ShowsItem linked n.texts (after_search n.packets.bytes) item → ItemFound item n (searched_at linked n)
-packet_found_at laws n (text_item text) is shows = absurd shows
-packet_found_at laws n (packet_item p) is shows =
+packet_found_at n (text_item text) is shows = absurd shows
+packet_found_at n (packet_item p) is shows =
     found_with_parts linked (packet_item p) n (searched_at linked n) is refl
-    (item_is laws (packet_item p) n.packets.bytes (search_of n.packets.bytes) (search_within n.packets.bytes) (search_again n.packets.bytes) shows)
-packet_found_at laws n bad_item is shows =
+    (item_is (packet_item p) n.packets.bytes (search_of n.packets.bytes) (search_within n.packets.bytes) (search_again n.packets.bytes) shows)
+packet_found_at n bad_item is shows =
     found_with_parts linked bad_item n (searched_at linked n) is refl
-    (item_is laws bad_item n.packets.bytes (search_of n.packets.bytes) (search_within n.packets.bytes) (search_again n.packets.bytes) shows)
+    (item_is bad_item n.packets.bytes (search_of n.packets.bytes) (search_within n.packets.bytes) (search_again n.packets.bytes) shows)
 
-item_found_at : ItemLaws → (stage : Stage) (n : NodeState) (item : ItemValue) → n.engine.stage ≡ stage
+item_found_at : (stage : Stage) (n : NodeState) (item : ItemValue) → n.engine.stage ≡ stage
     → ShowsItem (searched_at stage n).engine.stage (searched_at stage n).texts (searched_at stage n).packets item
     → ItemFound item n (searched_at stage n)
-item_found_at laws (hailing g) n item is shows = text_found_at laws g n (search_text n.texts.bytes) item is refl shows
-item_found_at laws linked n item is shows =
-    packet_found_at laws n item is (subst (λ (s : Stage). ShowsItem s n.texts (after_search n.packets.bytes) item) is shows)
-item_found_at laws (ended how) n item is shows =
+item_found_at (hailing g) n item is shows = text_found_at g n (search_text n.texts.bytes) item is refl shows
+item_found_at linked n item is shows =
+    packet_found_at n item is (subst (λ (s : Stage). ShowsItem s n.texts (after_search n.packets.bytes) item) is shows)
+item_found_at (ended how) n item is shows =
     absurd (none_at_end how n.texts n.packets item (subst (λ (s : Stage). ShowsItem s n.texts n.packets item) is shows))
 
-pub item_found : ItemLaws → (n : NodeState) (item : ItemValue)
+pub item_found : (n : NodeState) (item : ItemValue)
     → IsShown item (searched n) → ItemFound item n (searched n)
-item_found laws n item shows = item_found_at laws n.engine.stage n item refl shows
+item_found n item shows = item_found_at n.engine.stage n item refl shows
 
 -- ---- nothing is shown
 
@@ -176,9 +178,9 @@ same_item : (item other : ItemValue) (from behind : List ℕ) → finding_of ite
 same_item item other from behind same =
     sym (item_of_finding item from behind) ∙ ap item_in same ∙ item_of_finding other from behind
 
-pub one_item : ItemLaws → (n : NodeState) (item other : ItemValue)
+pub one_item : (n : NodeState) (item other : ItemValue)
     → IsShown item (searched n) → IsShown other (searched n) → item ≡ other
-one_item laws n item other shows also =
-    let a = item_found laws n item shows in
-    let b = item_found laws n other also in
+one_item n item other shows also =
+    let a = item_found n item shows in
+    let b = item_found n other also in
     same_item item other _ _ (sym a.finding ∙ b.finding)

@@ -7,7 +7,8 @@ use Rattle.uug_conversation.specs.Keeper.{Keeper}
 use Rattle.uug_conversation.specs.Party.{Party}
 use Rattle.uug_conversation.specs.Talk.{end_keeper}
 use Rattle.uug_session.specs.Told.{talk_behind, count_of_talker}
-use Rattle.uug_conversation.specs.Turns.{Side, caller, called}
+use Rattle.uug_conversation.specs.declared.side.Side.{Side}
+use Rattle.uug_conversation.specs.declared.side.Side.TheVariants.{Caller, Called}
 use Rattle.uug_session.specs.TwoEnds.{Talker, first_talker, Act, sends, takes, after_act}
 use Rattle.uug_conversation.specs.View.{conversation_view, party}
 use Rattle.uug_conversation.proofs.ConversationFacts.{sender, taker}
@@ -54,20 +55,20 @@ called_acts =
     takes (text (codes "S x y u - D.0 0644")) ∷ sends ∷ takes [] ∷ sends ∷ takes (text (codes "H")) ∷ []
 
 pub record AreTold : Type 0 where
-  pub called_waits : IsAtPlace called [] (record { next = None; parted = false; over = false })
-  pub caller_begins : IsAtPlace caller []
+  pub called_waits : IsAtPlace Called [] (record { next = None; parted = false; over = false })
+  pub caller_begins : IsAtPlace Caller []
       (record { next = Some (text (codes "S x y u - D.0 0644")); parted = false; over = false })
   -- HY waits to be sent
-  pub called_agrees : IsAtPlace called called_acts
+  pub called_agrees : IsAtPlace Called called_acts
       (record { next = Some (text (codes "HY")); parted = false; over = false })
-  pub called_parts : IsAtPlace called (called_acts ++ sends ∷ []) (record { next = None; parted = true; over = false })
+  pub called_parts : IsAtPlace Called (called_acts ++ sends ∷ []) (record { next = None; parted = true; over = false })
   -- HY was taken, and the end's own waits
-  pub caller_waits : IsAtPlace caller caller_acts (record { next = None; parted = false; over = false })
-  pub caller_parts : IsAtPlace caller (caller_acts ++ takes (text (codes "HY")) ∷ [])
+  pub caller_waits : IsAtPlace Caller caller_acts (record { next = None; parted = false; over = false })
+  pub caller_parts : IsAtPlace Caller (caller_acts ++ takes (text (codes "HY")) ∷ [])
       (record { next = Some (text (codes "HY")); parted = true; over = false })
-  pub caller_over : IsAtPlace caller (caller_acts ++ takes (text (codes "HY")) ∷ sends ∷ [])
+  pub caller_over : IsAtPlace Caller (caller_acts ++ takes (text (codes "HY")) ∷ sends ∷ [])
       (record { next = None; parted = true; over = true })
-  pub called_over : IsAtPlace called (called_acts ++ sends ∷ takes (text (codes "HY")) ∷ [])
+  pub called_over : IsAtPlace Called (called_acts ++ sends ∷ takes (text (codes "HY")) ∷ [])
       (record { next = None; parted = true; over = true })
 
 pub are_told : AreTold

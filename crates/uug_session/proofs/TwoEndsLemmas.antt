@@ -9,7 +9,9 @@ use Rattle.uug_conversation.specs.Machine.{step}
 use Rattle.uug_conversation.specs.Messages.{Message, conversation_messages}
 use Rattle.uug_conversation.specs.Party.{Party}
 use Rattle.uug_conversation.specs.Runs.{Progress, taking, taking_all, progress_after, progress_at, IsAt}
-use Rattle.uug_conversation.specs.Turns.{Side, caller, called, other, all_messages}
+use Rattle.uug_conversation.specs.Turns.{other, all_messages}
+use Rattle.uug_conversation.specs.declared.side.Side.{Side}
+use Rattle.uug_conversation.specs.declared.side.Side.TheVariants.{Caller, Called}
 use Rattle.uug_session.specs.TwoEnds.{Talker, progress_of, Two, sends, takes, after_act, Reached, at_first, after, IsTold}
 use Rattle.uug_conversation.specs.View.{Seen, seen, view, conversation_view, own_messages, others_messages, floor, party}
 
@@ -18,10 +20,10 @@ use Rattle.uug_conversation.specs.View.{Seen, seen, view, conversation_view, own
 others_are_own_of : (me speaker : Side) (bytes : List ℕ) (moves : List Move) (keeps : List Kept) (v w : List Seen) →
     others_messages v ≡ own_messages w →
     others_messages (seen me speaker bytes moves keeps ∷ v) ≡ own_messages (seen (other me) speaker bytes moves keeps ∷ w)
-others_are_own_of caller caller bytes moves keeps v w e = e
-others_are_own_of called called bytes moves keeps v w e = e
-others_are_own_of caller called bytes moves keeps v w e = ap (λ z. bytes ∷ z) e
-others_are_own_of called caller bytes moves keeps v w e = ap (λ z. bytes ∷ z) e
+others_are_own_of Caller Caller bytes moves keeps v w e = e
+others_are_own_of Called Called bytes moves keeps v w e = e
+others_are_own_of Caller Called bytes moves keeps v w e = ap (λ z. bytes ∷ z) e
+others_are_own_of Called Caller bytes moves keeps v w e = ap (λ z. bytes ∷ z) e
 
 pub others_are_own : (me : Side) (ms : List Message) → others_messages (view me ms) ≡ own_messages (view (other me) ms)
 others_are_own me [] = refl
@@ -127,39 +129,39 @@ sent_to me a b own others follow k =
     (sent_front (other me) a b others own follow k)
 
 pub record BothKeep (a b : Party) (two : Two) : Type 0 where
-  pub caller_keeps : Keeps caller a b two.caller_end two.called_end
-  pub called_keeps : Keeps called a b two.called_end two.caller_end
+  pub caller_keeps : Keeps Caller a b two.caller_end two.called_end
+  pub called_keeps : Keeps Called a b two.called_end two.caller_end
 
 both_keep : (a b : Party) → AllFollow a b → (two : Two) → Reached a b two → BothKeep a b two
 both_keep a b follow two at_first = record {
-  caller_keeps = record { machine = refl; heard = ([], refl); first = (others_messages (conversation_view caller a b), refl) };
-  called_keeps = record { machine = refl; heard = ([], refl); first = (others_messages (conversation_view called a b), refl) };
+  caller_keeps = record { machine = refl; heard = ([], refl); first = (others_messages (conversation_view Caller a b), refl) };
+  called_keeps = record { machine = refl; heard = ([], refl); first = (others_messages (conversation_view Called a b), refl) };
 }
-both_keep a b follow two (after before caller sends r p) =
+both_keep a b follow two (after before Caller sends r p) =
     let k = both_keep a b follow before r in
     record {
-      caller_keeps = keeps_when_sends caller a b before.caller_end before.called_end k.caller_keeps;
-      called_keeps = other_keeps_when_sends called a b before.called_end before.caller_end a k.called_keeps;
+      caller_keeps = keeps_when_sends Caller a b before.caller_end before.called_end k.caller_keeps;
+      called_keeps = other_keeps_when_sends Called a b before.called_end before.caller_end a k.called_keeps;
     }
-both_keep a b follow two (after before called sends r p) =
+both_keep a b follow two (after before Called sends r p) =
     let k = both_keep a b follow before r in
     record {
-      caller_keeps = other_keeps_when_sends caller a b before.caller_end before.called_end b k.caller_keeps;
-      called_keeps = keeps_when_sends called a b before.called_end before.caller_end k.called_keeps;
+      caller_keeps = other_keeps_when_sends Caller a b before.caller_end before.called_end b k.caller_keeps;
+      called_keeps = keeps_when_sends Called a b before.called_end before.caller_end k.called_keeps;
     }
-both_keep a b follow two (after before caller (takes m) r p) =
+both_keep a b follow two (after before Caller (takes m) r p) =
     let k = both_keep a b follow before r in
     record {
-      caller_keeps = keeps_when_takes caller a b before.caller_end before.called_end m k.caller_keeps p
-          (sent_to caller a b before.caller_end before.called_end follow k.called_keeps);
+      caller_keeps = keeps_when_takes Caller a b before.caller_end before.called_end m k.caller_keeps p
+          (sent_to Caller a b before.caller_end before.called_end follow k.called_keeps);
       called_keeps = record { machine = k.called_keeps.machine; heard = k.called_keeps.heard; first = k.called_keeps.first };
     }
-both_keep a b follow two (after before called (takes m) r p) =
+both_keep a b follow two (after before Called (takes m) r p) =
     let k = both_keep a b follow before r in
     record {
       caller_keeps = record { machine = k.caller_keeps.machine; heard = k.caller_keeps.heard; first = k.caller_keeps.first };
-      called_keeps = keeps_when_takes called a b before.called_end before.caller_end m k.called_keeps p
-          (sent_to called a b before.called_end before.caller_end follow k.caller_keeps);
+      called_keeps = keeps_when_takes Called a b before.called_end before.caller_end m k.called_keeps p
+          (sent_to Called a b before.called_end before.caller_end follow k.caller_keeps);
     }
 
 -- ---- the law
@@ -180,9 +182,9 @@ told me a b own others follow k =
     }
 
 pub two_ends : (a b : Party) → AllFollow a b → (two : Two) → Reached a b two →
-    IsTold caller a b two.caller_end two.called_end × IsTold called a b two.called_end two.caller_end
+    IsTold Caller a b two.caller_end two.called_end × IsTold Called a b two.called_end two.caller_end
 two_ends a b follow two r =
     let k = both_keep a b follow two r in (
-      told caller a b two.caller_end two.called_end follow k.caller_keeps,
-      told called a b two.called_end two.caller_end follow k.called_keeps,
+      told Caller a b two.caller_end two.called_end follow k.caller_keeps,
+      told Called a b two.called_end two.caller_end follow k.called_keeps,
     )

@@ -16,7 +16,8 @@ use Rattle.uug_session.specs.declared.greeting.Greeted.TheVariants.{GoesOn, Link
 use Rattle.uug_session.specs.declared.greeting.Greeting.{Greeting}
 use Rattle.uug_session.specs.Greeting.{GreetingStep, greeting_at_first, first_texts, number_by, text_came, long_text_came, timed_out as greeting_timed_out}
 use Rattle.uug_conversation.specs.Keeper.{Keeper}
-use Rattle.uug_conversation.specs.Turns.{Side, caller, called}
+use Rattle.uug_conversation.specs.declared.side.Side.{Side}
+use Rattle.uug_conversation.specs.declared.side.Side.TheVariants.{Caller, Called}
 
 -- how far an end's session has come
 pub data Stage : Type 0 where
@@ -56,8 +57,8 @@ packets emissions = map sends_packet emissions
 
 -- the text with which an end that is done takes its leave
 abbrev pub final_text : Side → List ℕ
-final_text caller = replicate 6 79
-final_text called = replicate 7 79
+final_text Caller = replicate 6 79
+final_text Called = replicate 7 79
 
 -- a session that ends after HY was sent or taken is done, however it ends
 abbrev pub how_it_ends : (has_parted : Bool) → End → End
@@ -199,12 +200,12 @@ late number id has_parted s c = late_link number id has_parted (step s timed_out
 
 -- the greeting has led to this, and to this number: the caller begins the link
 abbrev pub begins_link : {C : Type 0} → (number : Option ℕ) → Side → State → C → List Emitted → EndEffect C
-begins_link number caller s c said = record {
+begins_link number Caller s c said = record {
   state = record { stage = linked; link = (step s to_begin).state; keeper = c; number = number };
   emitted = said ++ packets (step s to_begin).emitted;
   took = false;
 }
-begins_link number called s c said = record {
+begins_link number Called s c said = record {
   state = record { stage = linked; link = s; keeper = c; number = number };
   emitted = said;
   took = false;
@@ -280,8 +281,8 @@ abbrev pub first_stage : Side → Stage
 first_stage side = hailing (greeting_at_first side)
 
 abbrev pub first_link : Side → Announced → State
-first_link caller own = caller_state own
-first_link called own = called_state own
+first_link Caller own = caller_state own
+first_link Called own = called_state own
 
 -- the called end says its name
 abbrev pub first_words : Side → (me : List ℕ) → List Emitted

@@ -54,8 +54,3 @@ abbrev pub LeavesFewer : Finding → List ℕ → Type 0
 LeavesFewer (finds_nothing rest) bytes = length rest ≤ length bytes
 LeavesFewer (finds event behind) bytes = length behind < length bytes
 LeavesFewer (finds_packet p from behind) bytes = (length from ≤ length bytes) × (length behind < length bytes)
-
--- what the law of findings says, for proofs, which cannot cite a contract
-pub record FindingLaws : Type 0 where
-  pub more : (stage : Stage) (bytes more : List ℕ) → finding stage (bytes ++ more) ≡ found_with stage more (finding stage bytes)
-  pub fewer : (stage : Stage) (bytes : List ℕ) → LeavesFewer (finding stage bytes) bytes

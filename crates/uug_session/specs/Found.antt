@@ -7,7 +7,7 @@ use Rattle.uug_reader.specs.Finding.{StandsFirst}
 use Rattle.uug_reader.specs.Scan.{Finds, IsScan}
 use Rattle.uug_talk.specs.StreamTexts.{TooLong, StandBefore, texts_of}
 use Rattle.uug_session.specs.declared.greeting.Greeting.{Greeting}
-use Rattle.uug_session.specs.Arriving.{Taker, Came, all_taken, stopped, holds, takes_all}
+use Rattle.uug_session.specs.Arriving.{Receiver, Arrival, all_taken, stopped, holds, takes_all}
 use Rattle.uug_session.specs.EndStep.{Stage, hailing, linked, text_found, long_text_found, broken_found}
 use Rattle.uug_session.specs.TextsFound.{Taken}
 
@@ -17,12 +17,12 @@ abbrev pub Hails : Stage → Type 0
 Hails stage = (greeting : Greeting) × (stage ≡ hailing greeting)
 
 -- the texts are taken up, one after the other, each while it hails
-abbrev pub TakesTexts : {X : Type 0} → Taker X → X → (texts : List (List ℕ)) → X → Type 0
+abbrev pub TakesTexts : {X : Type 0} → Receiver X → X → (texts : List (List ℕ)) → X → Type 0
 TakesTexts t x [] y = x ≡ y
 TakesTexts t x (text ∷ texts) y = Hails (t.stage_of x) × TakesTexts t (t.takes (text_found text) x) texts y
 
 -- These texts were taken up of all bytes that came. How it goes on:
-pub data BehindTexts {X : Type 0} (t : Taker X) (came : List ℕ) (texts : List (List ℕ)) (last : X) (now : Came X) : Type 0 where
+pub data BehindTexts {X : Type 0} (t : Receiver X) (came : List ℕ) (texts : List (List ℕ)) (last : X) (now : Arrival X) : Type 0 where
   -- there are no others, and it hails still; this waits
   hails_on : (rest : List ℕ) → Hails (t.stage_of last) → (texts_of came).texts ≡ texts → Taken texts came rest
       → now ≡ all_taken (record { held = rest; end = last }) → BehindTexts t came texts last now
@@ -34,7 +34,7 @@ pub data BehindTexts {X : Type 0} (t : Taker X) (came : List ℕ) (texts : List 
       → now ≡ takes_all t (holds t behind (t.takes long_text_found last)) → BehindTexts t came texts last now
 
 -- Behind these texts, which it has taken up before, it takes up the others of all bytes that came.
-pub record FindsTexts {X : Type 0} (t : Taker X) (came : List ℕ) (before : List (List ℕ)) (x : X) (now : Came X) : Type 0 where
+pub record FindsTexts {X : Type 0} (t : Receiver X) (came : List ℕ) (before : List (List ℕ)) (x : X) (now : Arrival X) : Type 0 where
   pub texts : List (List ℕ)
   pub last : X
   pub takes : TakesTexts t x texts last
@@ -43,18 +43,18 @@ pub record FindsTexts {X : Type 0} (t : Taker X) (came : List ℕ) (before : Lis
 -- ---- the items of the link
 
 -- by an item that is found, if it may be taken up
-abbrev pub takes_item : {X : Type 0} → Taker X → Item → X → Option X
+abbrev pub takes_item : {X : Type 0} → Receiver X → Item → X → Option X
 takes_item t (found packet) x = t.takes_packet packet x
 takes_item t bad x = Some (t.takes broken_found x)
 
 -- the items are taken up, one after the other, each on the link
-abbrev pub TakesItems : {X : Type 0} → Taker X → X → List Item → X → Type 0
+abbrev pub TakesItems : {X : Type 0} → Receiver X → X → List Item → X → Type 0
 TakesItems {X = X} t x [] y = x ≡ y
 TakesItems {X = X} t x (item ∷ items) y =
     (t.stage_of x ≡ linked) × (next : X) × (takes_item t item x ≡ Some next) × TakesItems t next items y
 
 -- These items were taken up of all bytes that came since the link began. How it goes on:
-pub data BehindItems {X : Type 0} (t : Taker X) (came : List ℕ) (items : List Item) (last : X) (now : Came X) : Type 0 where
+pub data BehindItems {X : Type 0} (t : Receiver X) (came : List ℕ) (items : List Item) (last : X) (now : Arrival X) : Type 0 where
   -- there are no others, and what waits is held
   links_on : (rest : List ℕ) → t.stage_of last ≡ linked → IsScan came items rest
       → now ≡ all_taken (record { held = rest; end = last }) → BehindItems t came items last now
@@ -67,7 +67,7 @@ pub data BehindItems {X : Type 0} (t : Taker X) (came : List ℕ) (items : List 
       → now ≡ stopped (record { held = from; end = last }) → BehindItems t came items last now
 
 -- Behind these items, which it has taken up before, it takes up the others of all bytes that came.
-pub record FindsItems {X : Type 0} (t : Taker X) (came : List ℕ) (before : List Item) (x : X) (now : Came X) : Type 0 where
+pub record FindsItems {X : Type 0} (t : Receiver X) (came : List ℕ) (before : List Item) (x : X) (now : Arrival X) : Type 0 where
   pub items : List Item
   pub last : X
   pub takes : TakesItems t x items last

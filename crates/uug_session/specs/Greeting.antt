@@ -14,7 +14,8 @@ use Rattle.uug_session.specs.declared.greeting.AwaitedText.TheVariants.{CalledNa
 use Rattle.uug_session.specs.declared.greeting.Greeted.{Greeted}
 use Rattle.uug_session.specs.declared.greeting.Greeted.TheVariants.{GoesOn, LinkBegins, Ended}
 use Rattle.uug_session.specs.declared.greeting.Greeting.{Greeting}
-use Rattle.uug_conversation.specs.Turns.{Side, caller, called}
+use Rattle.uug_conversation.specs.declared.side.Side.{Side}
+use Rattle.uug_conversation.specs.declared.side.Side.TheVariants.{Caller, Called}
 
 -- what an end says at once, what becomes of its greeting, and whether the number of its conversations rises
 pub record GreetingStep : Type 0 where
@@ -86,13 +87,13 @@ offers_g text = list_any (λ letter. letter == 103) (drop 1 text)
 
 -- each end waits for the other's name
 abbrev pub greeting_at_first : Side → Greeting
-greeting_at_first caller = first_greeting CalledName
-greeting_at_first called = first_greeting CallerName
+greeting_at_first Caller = first_greeting CalledName
+greeting_at_first Called = first_greeting CallerName
 
 -- what an end says before anything is delivered to it: the called end says its name
 abbrev pub first_texts : Side → (me : List ℕ) → List (List ℕ)
-first_texts caller me = []
-first_texts called me = called_text me ∷ []
+first_texts Caller me = []
+first_texts Called me = called_text me ∷ []
 
 -- ---- the table
 

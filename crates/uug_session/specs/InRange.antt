@@ -7,7 +7,8 @@ use Rattle.uug_link.specs.Terms.{size_of_code}
 use Rattle.uug_packet.specs.WellFormed.{IsWellFormed}
 use Rattle.uug_session.specs.EndStep.{EndEvent, packet_found_whole, EndState, Emitted, says_text, sends_packet, Stage, hailing}
 use Rattle.uug_conversation.specs.Talk.{Talk}
-use Rattle.uug_conversation.specs.Turns.{Side, caller}
+use Rattle.uug_conversation.specs.declared.side.Side.{Side}
+use Rattle.uug_conversation.specs.declared.side.Side.TheVariants.{Caller}
 
 -- a text goes out framed; a packet is one
 abbrev pub CanBeWritten : Emitted → Type 0
@@ -26,7 +27,7 @@ pub record HasSize (size : ℕ) (talk : Talk) : Type 0 where
 
 -- in the greeting a caller has not begun its link
 abbrev pub BeginsFresh : Side → Stage → State → Type 0
-BeginsFresh caller (hailing greeting) s = IsFresh s
+BeginsFresh Caller (hailing greeting) s = IsFresh s
 BeginsFresh _ _ s = ⊤
 
 -- The end on the side has a link in range, and once that is up, messages of the size that the other end announced.

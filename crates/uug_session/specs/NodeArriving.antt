@@ -1,6 +1,6 @@
 -- How a node takes up the bytes that come to it, beside its spool (this project's profile).
 use Rattle.std.specs.Prelude.{◌≡◌, ℕ, Bool, true, false, List, [], ◌∷◌, ◌++◌, map, All, Some}
-use Rattle.uug_session.specs.Arriving.{Taker, Hearer, all_taken, takes_piece}
+use Rattle.uug_session.specs.Arriving.{Receiver, Buffered, all_taken, takes_piece}
 use Rattle.uug_session.specs.EndStep.{EndState, Emitted, EndEffect, Identity, packet_found_whole, end_step}
 use Rattle.uug_session.specs.Engine.{end_of, entry_of}
 use Rattle.uug_session.specs.Finding.{finds_nothing, finding}
@@ -30,7 +30,7 @@ abbrev pub with_effect : EndEffect Talk → List Bool → NodeEnd → NodeEnd
 with_effect effect failures x = record { state = effect.state; emitted = x.emitted ++ effect.emitted; failures = failures }
 
 -- each item does what the step of its event says; a packet is always taken up
-abbrev pub node_taker : Holdings → Identity → Taker NodeEnd
+abbrev pub node_taker : Holdings → Identity → Receiver NodeEnd
 node_taker h id = record {
   stage_of = λ x. x.state.stage;
   takes = λ event x. with_effect (end_step (end_keeper id.side h) id event x.state) x.failures x;
@@ -40,7 +40,7 @@ node_taker h id = record {
 }
 
 -- a node that has emitted this so far, with the bytes that it holds
-abbrev pub hearer_of : Holdings → List Kept → (said : List Emitted) → (failures : List Bool) → NodeState → Hearer NodeEnd
+abbrev pub hearer_of : Holdings → List Kept → (said : List Emitted) → (failures : List Bool) → NodeState → Buffered NodeEnd
 hearer_of h kept said failures n = record {
   held = held_bytes n;
   end = record { state = end_of h kept n.engine; emitted = said; failures = failures };

@@ -4,7 +4,7 @@ use Rattle.uug_link.specs.Announced.{Announced}
 use Rattle.uug_link.specs.Entries.{EntryValue}
 use Rattle.uug_session.specs.declared.end.End.{End}
 use Rattle.uug_session.specs.declared.greeting.Greeting.{Greeting}
-use Rattle.uug_session.specs.Arriving.{Hearer, all_taken, takes_piece}
+use Rattle.uug_session.specs.Arriving.{Buffered, all_taken, takes_piece}
 use Rattle.uug_session.specs.EndStep.{hailing, ended, Emitted, EndEffect, Identity, begins_link, first_link, greeted_so, says_text}
 use Rattle.uug_session.specs.Engine.{BeginsSession, HasFailed, entry_of}
 use Rattle.uug_session.specs.Finding.{finding, finds_nothing}
@@ -21,7 +21,7 @@ use Rattle.uug_session.specs.WholeGreeting.{GreetingRun}
 abbrev pub come_to : EndEffect Talk → (failures : List Bool) → NodeEnd
 come_to effect failures = record { state = effect.state; emitted = effect.emitted; failures = failures }
 
-abbrev pub holding_nothing : NodeEnd → Hearer NodeEnd
+abbrev pub holding_nothing : NodeEnd → Buffered NodeEnd
 holding_nothing x = record { held = []; end = x }
 
 -- when its greeting was this run: it has said these texts, and where they led to the link, the caller has begun it

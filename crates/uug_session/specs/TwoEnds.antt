@@ -6,7 +6,9 @@ use Rattle.uug_conversation.specs.Holdings.{Kept}
 use Rattle.uug_conversation.specs.Machine.{State, Reply, step}
 use Rattle.uug_conversation.specs.Party.{Party}
 use Rattle.uug_conversation.specs.Runs.{Progress, opened, progress_at, IsAt}
-use Rattle.uug_conversation.specs.Turns.{Side, caller, called, other, all_messages}
+use Rattle.uug_conversation.specs.Turns.{other, all_messages}
+use Rattle.uug_conversation.specs.declared.side.Side.{Side}
+use Rattle.uug_conversation.specs.declared.side.Side.TheVariants.{Caller, Called}
 use Rattle.uug_conversation.specs.View.{conversation_view, own_messages, others_messages, floor, party}
 
 -- one end: its machine and what it has kept, its messages that wait to be sent, those that were sent, and those of the
@@ -26,12 +28,12 @@ pub record Two : Type 0 where
   pub called_end : Talker
 
 abbrev pub talker : Side → Two → Talker
-talker caller two = two.caller_end
-talker called two = two.called_end
+talker Caller two = two.caller_end
+talker Called two = two.called_end
 
 abbrev pub with_talker : Side → Talker → Two → Two
-with_talker caller t two = record { caller_end = t; called_end = two.called_end }
-with_talker called t two = record { caller_end = two.caller_end; called_end = t }
+with_talker Caller t two = record { caller_end = t; called_end = two.called_end }
+with_talker Called t two = record { caller_end = two.caller_end; called_end = t }
 
 -- when the link has come up
 abbrev pub first_talker : Side → Party → Talker
@@ -44,7 +46,7 @@ first_talker me p = record {
 }
 
 abbrev pub first_two : (a b : Party) → Two
-first_two a b = record { caller_end = first_talker caller a; called_end = first_talker called b }
+first_two a b = record { caller_end = first_talker Caller a; called_end = first_talker Called b }
 
 -- an end sends the first message that waits, or takes a message
 pub data Act : Type 0 where

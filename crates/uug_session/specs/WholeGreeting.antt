@@ -12,7 +12,8 @@ use Rattle.uug_session.specs.declared.greeting.Greeted.TheVariants.{GoesOn, Link
 use Rattle.uug_session.specs.declared.greeting.Greeting.{Greeting}
 use Rattle.uug_session.specs.Greeting.{greeting_at_first, first_texts, long_text_came, number_by, text_came}
 use Rattle.uug_session.specs.Says.{written_text}
-use Rattle.uug_conversation.specs.Turns.{Side, caller, called}
+use Rattle.uug_conversation.specs.declared.side.Side.{Side}
+use Rattle.uug_conversation.specs.declared.side.Side.TheVariants.{Caller, Called}
 
 -- what an end says, one text after another, what becomes of its greeting, how many texts it used for that, and the number
 -- of its conversations that it then keeps
@@ -100,8 +101,8 @@ written_texts (text ∷ texts) = written_text text ++ written_texts texts
 pub record GreetEachOther (caller_name meant called_name expected : List ℕ) (caller_number called_number : Option ℕ) (at_caller at_called : GreetingRun) : Type 0 where
   pub caller_left : List ℕ
   pub called_left : List ℕ
-  pub caller_hears : Greets caller caller_name meant caller_number (written_texts at_called.says) at_caller caller_left
-  pub called_hears : Greets called called_name expected called_number (written_texts at_caller.says) at_called called_left
+  pub caller_hears : Greets Caller caller_name meant caller_number (written_texts at_called.says) at_caller caller_left
+  pub called_hears : Greets Called called_name expected called_number (written_texts at_caller.says) at_called called_left
 
 -- how two greetings ended, and the numbers that the ends then keep
 pub record BecomeOf (at_caller at_called : GreetingRun) (caller_greeted called_greeted : Greeted) (caller_number called_number : Option ℕ) : Type 0 where

@@ -7,7 +7,6 @@ ghost use Rattle.uug_session.specs.NodeArriving.{GoesOn, IsAtRest, TakesAll};
 ghost use Rattle.uug_session.specs.NodeCalls.{IsMadeOfCalls, beside};
 ghost use Rattle.uug_session.specs.Sending.{SaysWhatItCan};
 
-use crate::arriving_laws::item_laws;
 use crate::node::Node;
 use std::alloc::{AllocError, Allocator};
 use thiserror::Error;
@@ -43,7 +42,6 @@ impl<S: Spool, A: Allocator + Copy> Node<S, A> {
         ensures holdings { S.holdings (spool_of self.new) ≡ S.holdings (spool_of self.old) }
         ensures count { S.faults (spool_of self.old) ≤ S.faults (spool_of self.new) }
     {
-        item_laws();
         self.search();
         if self.showing().is_none() {
             return Ok(false);
@@ -103,7 +101,6 @@ impl<S: Spool, A: Allocator + Copy> Node<S, A> {
         ensures holdings { S.holdings (spool_of self.new) ≡ S.holdings (spool_of self.old) }
         ensures count { S.faults (spool_of self.old) ≤ S.faults (spool_of self.new) }
     {
-        item_laws();
         let mut used = 0;
         loop {
             let Ok(()) = self.take_all_found() else {

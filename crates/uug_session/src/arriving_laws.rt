@@ -5,13 +5,12 @@ ghost use Rattle.uug_packet.specs.Bytes.{AreBytes};
 ghost use Rattle.uug_reader.specs.Cut.{Item};
 ghost use Rattle.uug_reader.specs.Scan.{Finds};
 ghost use Rattle.uug_talk.specs.StreamTexts.{StandBefore};
-ghost use Rattle.uug_session.specs.Arriving.{Hearer, Taker, holds, takes_all, takes_piece, takes_up, takes_up_to, then_takes};
+ghost use Rattle.uug_session.specs.Arriving.{Buffered, Receiver, holds, takes_all, takes_piece, takes_up, takes_up_to, then_takes};
 ghost use Rattle.uug_session.specs.EndStep.{Stage, linked};
 ghost use Rattle.uug_session.specs.Engine.{HasFailed};
 ghost use Rattle.uug_session.specs.Finding.{LeavesFewer, finding, found_with};
 ghost use Rattle.uug_session.specs.Found.{FindsItems, FindsTexts, Hails};
 ghost use Rattle.uug_conversation.specs.Holdings.{Holdings, Kept};
-ghost use Rattle.uug_session.specs.Code.ItemLaws.{ItemLaws};
 ghost use Rattle.uug_session.specs.Node.{ItemValue, NodeState, item_size, searched};
 ghost use Rattle.uug_session.specs.NodeArriving.{GoesOn, IsAtRest, TakesAll};
 ghost use Rattle.uug_session.specs.NodeCalls.{Beside, HaveNoTimeout, Make, NodeCall, ShowsWhatIsFound, all_offered};
@@ -20,37 +19,27 @@ ghost use Rattle.uug_session.specs.Sessions.{HoldsNothing};
 ghost use Rattle.uug_session.specs.ShownItems.{IsShown, ItemFound, NothingFound};
 ghost use Rattle.uug_session.specs.TextsFound.{Taken};
 
-use crate::text_laws::{a_shown_text_stays, hearing_laws, text_search_finds_the_first};
-use uug_packet::laws::decoded_is_spelled;
-use uug_reader::laws::{found_in_steps, search_finds_the_first};
-use uug_talk::hearing_in_pieces;
-
 /// What is found in some bytes is found there with more behind them, too; where nothing is found, what waits goes on as
 /// the whole does. Each item takes a byte.
 pub fn what_is_found_stays()
     ensures more { (stage : Stage) (bytes more : List ℕ)
         → finding stage (bytes ++ more) ≡ found_with stage more (finding stage bytes) }
     ensures fewer { (stage : Stage) (bytes : List ℕ) → LeavesFewer (finding stage bytes) bytes }
-{
-    hearing_laws();
-    hearing_in_pieces();
-}
+{}
 
 /// Bytes that come in pieces are taken up as if they came at once: the same is found in them, in the same order, and the
 /// same waits. This holds of whatever takes up what is found.
 pub fn bytes_come_in_any_pieces<X>()
-    ensures pieces { (t : Taker X) (piece more : List ℕ) (h : Hearer X)
+    ensures pieces { (t : Receiver X) (piece more : List ℕ) (h : Buffered X)
         → takes_piece t (piece ++ more) h ≡ then_takes t more (takes_piece t piece h) }
     // Each item takes a byte, so no more of them are found than bytes are held.
-    ensures enough { (t : Taker X) (n : ℕ) (h : Hearer X) → length h.held ≤ n → takes_up_to n t h
+    ensures enough { (t : Receiver X) (n : ℕ) (h : Buffered X) → length h.held ≤ n → takes_up_to n t h
         ≡ takes_all t h }
     // The item that is found next is taken up first, and then the others.
-    ensures first { (t : Taker X) (bytes : List ℕ) (x : X)
+    ensures first { (t : Receiver X) (bytes : List ℕ) (x : X)
         → takes_all t (holds t bytes x) ≡ takes_up (takes_all t) t
         (finding (t.stage_of x) bytes) x }
-{
-    what_is_found_stays();
-}
+{}
 
 /// What a node takes in one piece after another is what it takes in one: behind a piece that was taken up whole, and behind
 /// one for which memory was refused, the rest of it then.
@@ -67,9 +56,7 @@ pub fn pieces_arrive_as_one()
         → GoesOn h kept later_kept (HasFailed most faults middle) used a b
         → TakesAll h later_kept last_kept (HasFailed most middle last) more b c
         → TakesAll h kept last_kept (HasFailed most faults last) (used ++ more) a c }
-{
-    item_laws();
-}
+{}
 
 /// Whatever is called, in whatever order, a node goes through steps: bytes come, and are taken up as if all that came between
 /// two timeouts had come at once, in whatever pieces, and whatever was refused memory; or nothing has come for some time.
@@ -96,9 +83,7 @@ pub fn calls_take_what_comes()
         → ShowsWhatIsFound old.node → Make h most calls added old new
         → ShowsWhatIsFound new.node }
     ensures at_first { (n : NodeState) → HoldsNothing n → ShowsWhatIsFound n }
-{
-    item_laws();
-}
+{}
 
 /// The item that a node shows behind a search is the one that is found next in the bytes that it held, and it is the only
 /// one. Where it shows none, nothing was whole, or the first text was too long.
@@ -110,35 +95,18 @@ pub fn a_search_shows_what_is_found()
         → item ≡ other }
     ensures none { (n : NodeState) → item_size (searched n) ≡ 0 → NothingFound n (searched n) }
     ensures rests { (n : NodeState) → item_size (searched n) ≡ 0 → IsAtRest (searched n) }
-{
-    item_laws();
-}
-
-/// The laws of the items that are found, for the proofs here.
-pub(crate) fn item_laws()
-    ensures { ItemLaws }
-{
-    what_is_found_stays();
-    text_search_finds_the_first();
-    a_shown_text_stays();
-    decoded_is_spelled();
-}
+{}
 
 /// In whatever pieces bytes come, what is found in them is what stands there: in the greeting the texts of all of them, and
 /// then, from the first byte behind the last text on, the items of their scan. This holds of whatever takes up what is found.
 pub fn what_stands_there_is_found<X>()
-    ensures texts { (t : Taker X) (came piece : List ℕ) (before : List (List ℕ)) (h : Hearer X)
+    ensures texts { (t : Receiver X) (came piece : List ℕ) (before : List (List ℕ)) (h : Buffered X)
         → Hails (t.stage_of h.end) → Taken before came h.held
         → FindsTexts t (came ++ piece) before h.end (takes_piece t piece h) }
-    ensures items { (t : Taker X) (came piece : List ℕ) (before : List Item) (h : Hearer X)
+    ensures items { (t : Receiver X) (came piece : List ℕ) (before : List Item) (h : Buffered X)
         → AreBytes (came ++ piece) → t.stage_of h.end ≡ linked → Finds came before h.held
         → FindsItems t (came ++ piece) before h.end (takes_piece t piece h) }
-{
-    hearing_laws();
-    what_is_found_stays();
-    found_in_steps();
-    search_finds_the_first();
-}
+{}
 
 /// What is left behind texts and items that were found in bytes are bytes, and so is what stands in front of others.
 pub fn bytes_are_left()

@@ -16,11 +16,8 @@ ghost use Rattle.uug_conversation.specs.Machine.{State, step, opening};
 ghost use Rattle.uug_conversation.specs.Party.{Party};
 ghost use Rattle.uug_session.specs.Phases.{EndsWithItsLink, phase_at};
 ghost use Rattle.uug_conversation.specs.Talk.{Talk, end_keeper};
-ghost use Rattle.uug_conversation.specs.Turns.{Side};
+ghost use Rattle.uug_conversation.specs.declared.side.Side.{Side};
 ghost use Rattle.uug_conversation.specs.View.{conversation_view, own_messages, party};
-
-use uug_link::laws::{what_a_link_answers, what_a_link_emits_can_be_written};
-use uug_talk::messages_fit;
 
 /// Jobs that were struck and failed in earlier sessions change nothing of what an end does: they stay in front.
 pub fn earlier_jobs_change_nothing()
@@ -38,9 +35,7 @@ pub fn own_messages_fit()
     ensures { (me : Side) (a b : Party)
         → All (λ message.
         length message ≤ (party me a b).size) (own_messages (conversation_view me a b)) }
-{
-    messages_fit();
-}
+{}
 
 /// Each packet that an end emits can be written, and so is read again as what it is, where the end has made a right
 /// announcement.
@@ -57,11 +52,7 @@ pub fn what_an_end_emits_can_be_written()
         (e : EndState Talk)
         → IsEndInRange id.side e → MayFind event
         → All CanBeWritten (end_step (end_keeper side h) id event e).emitted }
-{
-    what_a_link_answers();
-    what_a_link_emits_can_be_written();
-    messages_fit();
-}
+{}
 
 /// The session of an end whose link has ended is over. This holds of whatever keeps the conversation.
 pub fn a_session_ends_with_its_link<C>()
@@ -74,9 +65,7 @@ pub fn a_session_ends_with_its_link<C>()
     ensures starting { (e : EndState C) → EndsWithItsLink e
         → phase_at e.stage e.link.phase ≡ Starting
         → IsStarting e.link.phase }
-{
-    what_a_link_answers();
-}
+{}
 
 /// The number of an end's conversations rises where a text of the greeting lets the caller in, and stays at all else: through
 /// the link, timeouts and a lost line. This holds of whatever keeps the conversation.

@@ -10,7 +10,6 @@ ghost use Rattle.uug_session.specs.EndStep.{bad_came, begins_link, ended, final_
 ghost use Rattle.uug_conversation.specs.Jobs.{pending};
 ghost use Rattle.uug_conversation.specs.Party.{HasNames};
 ghost use Rattle.uug_session.specs.Sending.{SaysWhatItCan};
-ghost use Rattle.uug_conversation.specs.Side.{side_of};
 ghost use Rattle.uug_conversation.specs.Talk.{end_keeper};
 ghost use Rattle.uug_session.specs.Phases.{phase_at, timeouts_in};
 ghost use Rattle.uug_conversation.specs.Talking.{talk_of, talking_has_parted};
@@ -24,7 +23,6 @@ use crate::stage::Stage;
 use std::alloc::{AllocError, Allocator};
 use std::marker::Model;
 use uug_conversation::{Dialogue, FileFault, Queue, SAYINGS_MAX, Side, Spool};
-use uug_link::laws::what_a_link_answers;
 use uug_link::{Announce, Link, LinkFault, Outbox, Outcome, TIMEOUTS_MAX, WINDOW_MAX};
 use uug_packet::Packet;
 use uug_talk::{Message, Name};
@@ -49,13 +47,12 @@ pub(crate) struct Engine<A: Allocator> {
 impl<A: Allocator> Model for Engine<A> {
     ghost use Rattle.uug_link.specs.Announced.{announced};
     ghost use Rattle.uug_session.specs.Engine.{EngineState, IsReady, stage_of};
-    ghost use Rattle.uug_conversation.specs.Side.{side_of};
 
     ghost Value = { EngineState };
 
     ghost view = { λ engine. record {
       identity = record {
-        side = side_of engine.side;
+        side = engine.side;
         me = engine.place.me;
         peer = engine.place.peer;
       };
@@ -68,7 +65,7 @@ impl<A: Allocator> Model for Engine<A> {
     } };
 
     ghost invariant = { λ engine. IsReady (stage_of engine.stage)
-        (record { side = side_of engine.side; me = engine.place.me; peer = engine.place.peer })
+        (record { side = engine.side; me = engine.place.me; peer = engine.place.peer })
         (announced engine.place.announce) engine.link engine.dialogue };
 }
 
@@ -182,7 +179,6 @@ impl<A: Allocator + Copy> Engine<A> {
             (end_of (S.holdings spool.now) (S.kept spool.now) self.new) self.old self.new }
         ensures says { SaysWhatItCan self.new }
     {
-        what_a_link_answers();
         match self.link.on_packet(packet, &mut self.outbox) {
             Ok(Outcome::Nothing) => self.speak(spool),
             Err(LinkFault::Halted) => self.speak(spool),
@@ -248,7 +244,6 @@ impl<A: Allocator + Copy> Engine<A> {
         ensures still { StandsStill self.old self.new }
         ensures spare { EMITTED_MAX ≤ self.new.outbox.spare + WINDOW_MAX }
     {
-        what_a_link_answers();
         let Ok(_taken) = self.link.on_packet(packet, &mut self.outbox) else {
             unreachable!();
         };
@@ -318,7 +313,6 @@ impl<A: Allocator + Copy> Engine<A> {
             self.old.link (talk_of (S.holdings spool.now) (S.kept spool.now) self.old.talking)).took
             ≡ false }
     {
-        what_a_link_answers();
         self.outbox.reserve(EMITTED_MAX)?;
         match self.link.on_bad(&mut self.outbox) {
             Ok(Outcome::Nothing) => self.speak(spool),
@@ -373,7 +367,6 @@ impl<A: Allocator + Copy> Engine<A> {
         ensures err { OnErr result (Does (unmoved (bare self.old))
             (bare self.new) self.old self.new) }
     {
-        what_a_link_answers();
         self.outbox.reserve(EMITTED_MAX)?;
         match self.link.on_timeout(&mut self.outbox) {
             Ok(Outcome::Nothing) => {}
@@ -395,7 +388,6 @@ impl<A: Allocator + Copy> Engine<A> {
         ensures { Does (late self.old.number self.old.identity (talking_has_parted self.old.talking)
             self.old.link self.old.talking) (bare self.new) self.old self.new }
     {
-        what_a_link_answers();
         match self.link.on_timeout(&mut self.outbox) {
             Ok(Outcome::Nothing) => {}
             Err(LinkFault::Halted) => {}
@@ -574,7 +566,7 @@ impl<A: Allocator + Copy> Engine<A> {
         mut outbox: Outbox<A>,
     ) -> Self
         requires spare { 1 ≤ outbox.spare }
-        ensures { BeginsSession (record { side = side_of side; me = place.me; peer = place.peer })
+        ensures { BeginsSession (record { side = side; me = place.me; peer = place.peer })
             (announced place.announce)
             place.number
             (all_ahead queue) outbox.entries result }
@@ -616,9 +608,9 @@ impl<A: Allocator + Copy> Engine<A> {
 /// The greeting of an end on this side. The called end says its name.
 fn first_greeting<A: Allocator>(side: Side, me: &Name, out: &mut Outbox<A>) -> Greeting
     requires spare { 1 ≤ out.old.spare }
-    ensures stage { hailing result ≡ first_stage (side_of side) }
+    ensures stage { hailing result ≡ first_stage side }
     ensures said { out.new.entries ≡ out.old.entries ++ map entry_of
-        (first_words (side_of side) me.now) }
+        (first_words side me.now) }
 {
     match side {
         Side::Caller => Greeting::caller(),
@@ -633,7 +625,7 @@ fn first_greeting<A: Allocator>(side: Side, me: &Name, out: &mut Outbox<A>) -> G
 
 /// The link of an end on this side, before it has begun.
 fn first_link(side: Side, announce: Announce) -> Link
-    ensures { result ≡ first_link (side_of side) (announced announce) }
+    ensures { result ≡ first_link side (announced announce) }
 {
     match side {
         Side::Caller => Link::caller(announce),
@@ -643,7 +635,7 @@ fn first_link(side: Side, announce: Announce) -> Link
 
 /// The text with which an end that is done takes its leave.
 fn final_text(side: Side) -> &'static [u8]
-    ensures text { result.now ≡ final_text (side_of side) }
+    ensures text { result.now ≡ final_text side }
 {
     match side {
         Side::Caller => b"OOOOOO",

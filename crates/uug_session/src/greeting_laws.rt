@@ -21,12 +21,9 @@ ghost use Rattle.uug_session.specs.NodeCalls.{Beside, Make, NodeCall};
 ghost use Rattle.uug_session.specs.NodeGreeting.{GreetsStill, HasBegunLink, HasEnded, HasHeard, come_to, greeted_by, holding_nothing};
 ghost use Rattle.uug_session.specs.Sessions.{HoldsNothing};
 ghost use Rattle.uug_conversation.specs.Talk.{Talk};
-ghost use Rattle.uug_conversation.specs.Turns.{Side, caller as caller_side, called as called_side};
+ghost use Rattle.uug_conversation.specs.declared.side.Side.{Side};
+ghost use Rattle.uug_conversation.specs.declared.side.Side.TheVariants.{Caller, Called};
 ghost use Rattle.uug_session.specs.WholeGreeting.{GreetingRun, GreetsBy, Greets, GreetEachOther, BecomeOf, IsNumber, IsOver, IsRefusal, greeting_run, has_let_in, whole_greeting, run_behind};
-
-use crate::arriving_laws::what_is_found_stays;
-use crate::text_laws::hearing_laws;
-use uug_talk::{hearing_finds_the_texts, one_first_text, one_reading_of_texts, texts_in_pieces};
 
 /// Whatever bytes are delivered make one thing of the whole greeting of an end, and of a greeting from any stage on.
 pub fn one_greeting()
@@ -58,10 +55,7 @@ pub fn one_greeting()
         → GreetsBy me peer number g delivered run behind
         → GreetsBy me peer number g delivered run other → behind
         ≡ other }
-{
-    one_reading_of_texts();
-    one_first_text();
-}
+{}
 
 /// A greeting does not depend on the pieces in which the bytes come. Where it goes on, more bytes make of it what they
 /// make of what it is then, behind the bytes that are left. Where it is over, more bytes are only left with them. Both hold of
@@ -88,11 +82,7 @@ pub fn greeting_in_pieces()
         (run : GreetingRun)
         → GreetsBy me peer number g delivered run rest → IsOver run.greeted
         → GreetsBy me peer number g (delivered ++ more) run (rest ++ more) }
-{
-    one_reading_of_texts();
-    one_first_text();
-    texts_in_pieces();
-}
+{}
 
 /// Two ends that greet each other over a clean line both begin the link where each expects the other, and the called end
 /// keeps no number or the same one as the caller; both then have the next number, where they keep one. Where the caller
@@ -125,21 +115,18 @@ pub fn ends_that_expect_each_other_begin()
         → IsNumber m → IsNumber n
         → (at_caller : GreetingRun) × (at_called : GreetingRun)
         × GreetEachOther caller meant called expected m n at_caller at_called }
-{
-    one_reading_of_texts();
-    hearing_finds_the_texts();
-}
+{}
 
 /// In any greeting, whatever bytes come: the number of a called end rises exactly where it says that the caller is let in, and
 /// once; a caller's at most once; either has risen where the link begins; and a refused call leaves it as it was.
 pub fn a_number_rises_where_a_call_is_let_in()
     ensures called { (me peer : List ℕ) (number : Option ℕ) (delivered behind : List ℕ)
         (run : GreetingRun)
-        → Greets called_side me peer number delivered run behind
+        → Greets Called me peer number delivered run behind
         → run.number ≡ number_by (has_let_in run.says) number }
     ensures caller { (me peer : List ℕ) (number : Option ℕ) (delivered behind : List ℕ)
         (run : GreetingRun)
-        → Greets caller_side me peer number delivered run behind
+        → Greets Caller me peer number delivered run behind
         → (run.number ≡ number) ⊎ (run.number ≡ risen number) }
     ensures begun { (side : Side) (me peer : List ℕ) (number : Option ℕ)
         (delivered behind : List ℕ) (run : GreetingRun)
@@ -205,8 +192,4 @@ pub fn a_node_greets()
         (come_to (begins_session id own number talk) failures))
         ≡ takes_piece (node_taker h id) behind (holding_nothing
         (come_to (greeted_by id own run talk) failures)) }
-{
-    hearing_laws();
-    what_is_found_stays();
-    one_first_text();
-}
+{}

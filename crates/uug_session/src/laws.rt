@@ -1,17 +1,13 @@
 //! The law of two ends that hear each other. The function does nothing.
 ghost use Rattle.uug_conversation.specs.Party.{Party, IsSound};
-ghost use Rattle.uug_conversation.specs.Turns.{caller, called};
+ghost use Rattle.uug_conversation.specs.declared.side.Side.TheVariants.{Caller, Called};
 ghost use Rattle.uug_session.specs.TwoEnds.{Two, Reached, IsTold};
-
-use uug_conversation::laws::an_end_follows_the_conversation;
 
 /// Two ends that hear each other, whatever they do and when: each has sent first messages of its own in their
 /// conversation, no more than it may, and has taken first messages of what the other has sent; so it stands where the
 /// conversation says, and two numbers tell it.
 pub fn two_ends_are_told_by_four_numbers()
     ensures { (a b : Party) → IsSound a → IsSound b → (two : Two) → Reached a b two
-        → IsTold caller a b two.caller_end two.called_end
-        × IsTold called a b two.called_end two.caller_end }
-{
-    an_end_follows_the_conversation();
-}
+        → IsTold Caller a b two.caller_end two.called_end
+        × IsTold Called a b two.called_end two.caller_end }
+{}

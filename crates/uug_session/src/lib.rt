@@ -31,6 +31,6 @@ pub use phase::Phase;
 pub use place::Place;
 pub use sessions::NotMade;
 pub use uug_conversation::{
-    Awaits, FileView, JOBS_MAX, Job, KeepFault, MemorySpool, Queue, QueueFault, Spool, Stored,
-    Verdict,
+    Awaits, FileView, JOBS_MAX, Job, KeepFault, MemorySpool, Queue, QueueFault, Side, Spool,
+    Stored, Verdict,
 };

@@ -17,13 +17,11 @@ ghost use Rattle.uug_conversation.specs.Talking.{talking_has_parted};
 ghost use Rattle.std.specs.Borrow.{sem};
 ghost use Rattle.uug_session.specs.EndStep.{hailing, linked, unmoved};
 
-use crate::arriving_laws::item_laws;
 use crate::engine::Engine;
 use crate::greeting::Greeting;
 use crate::item::Item;
 use crate::phase::Phase;
 use crate::stage::Stage;
-use crate::text_laws::text_search_finds_the_first;
 use crate::texts::Texts;
 use std::alloc::{AllocError, Allocator};
 use uug_conversation::{Queue, Spool};
@@ -114,8 +112,6 @@ impl<S: Spool, A: Allocator + Copy> Node<S, A> {
         ensures room { IsNone result → HasRoom (searched (node_of self.old)) }
         ensures* after { sem 𝓛 (EndsFound S.row A.row A.Allocator self.entry result) }
     {
-        item_laws();
-        text_search_finds_the_first();
         self.search();
         self.showing()
     }

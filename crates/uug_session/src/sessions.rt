@@ -5,9 +5,8 @@ ghost use Rattle.uug_session.specs.Engine.{BeginsSession, Does, IsEnded, all_ahe
 ghost use Rattle.uug_session.specs.EndStep.{unmoved};
 ghost use Rattle.uug_session.specs.Node.{node_of, spool_of};
 ghost use Rattle.uug_session.specs.Sessions.{HoldsNothing};
-ghost use Rattle.uug_conversation.specs.Side.{side_of};
 ghost use Rattle.uug_session.specs.TextsHeld.{nothing_held};
-ghost use Rattle.uug_conversation.specs.Turns.{caller, called};
+ghost use Rattle.uug_conversation.specs.declared.side.Side.TheVariants.{Caller, Called};
 
 use crate::engine::Engine;
 use crate::node::Node;
@@ -46,7 +45,7 @@ impl<S: Spool, A: Allocator + Copy> Node<S, A> {
     /// offered.
     pub fn caller(alloc: A, place: Place, queue: Queue<A>, spool: S) -> Result<Self, NotMade<S, A>>
         ensures session { IfOk result (λ node. BeginsSession
-            (record { side = caller; me = place.me; peer = place.peer })
+            (record { side = Caller; me = place.me; peer = place.peer })
             (announced place.announce) place.number (all_ahead queue) [] (node_of node).engine) }
         ensures nothing_held { IfOk result (λ node. HoldsNothing (node_of node)) }
         ensures spool { IfOk result (λ node. spool_of node ≡ spool) }
@@ -60,7 +59,7 @@ impl<S: Spool, A: Allocator + Copy> Node<S, A> {
     /// The end that is called, whose first session begins. It says its name, and all pending jobs are to be offered.
     pub fn called(alloc: A, place: Place, queue: Queue<A>, spool: S) -> Result<Self, NotMade<S, A>>
         ensures session { IfOk result (λ node. BeginsSession
-            (record { side = called; me = place.me; peer = place.peer })
+            (record { side = Called; me = place.me; peer = place.peer })
             (announced place.announce) place.number (all_ahead queue) [] (node_of node).engine) }
         ensures nothing_held { IfOk result (λ node. HoldsNothing (node_of node)) }
         ensures spool { IfOk result (λ node. spool_of node ≡ spool) }
@@ -104,7 +103,7 @@ impl<S: Spool, A: Allocator + Copy> Node<S, A> {
         spool: S,
     ) -> Result<Self, NotMade<S, A>>
         ensures session { IfOk result (λ node. BeginsSession
-            (record { side = side_of side; me = place.me; peer = place.peer })
+            (record { side = side; me = place.me; peer = place.peer })
             (announced place.announce) place.number (all_ahead queue) [] (node_of node).engine) }
         ensures nothing_held { IfOk result (λ node. HoldsNothing (node_of node)) }
         ensures spool { IfOk result (λ node. spool_of node ≡ spool) }

@@ -1,25 +1,10 @@
 //! Laws of the search for texts in the bytes of the greeting. The functions do nothing.
 ghost use Rattle.std.specs.Prelude.{◌≡◌, ◌↔◌, ℕ, List, [], ◌∷◌, ◌++◌, drop};
-ghost use Rattle.uug_session.specs.Code.HearingLaws.{HearingLaws};
 ghost use Rattle.uug_session.specs.TextCalls.{TextCall, Makes, Make, dropped, all_accepted, all_dropped};
 ghost use Rattle.uug_session.specs.TextsFound.{ReadsAs, FindsText, FindsNone, Taken, with_texts};
 ghost use Rattle.uug_session.specs.TextsHeld.{TextsHeld, nothing_held, text_waits, text_stands, text_too_long, search_text, ShowsText, shown_text, size_of_text};
 ghost use Rattle.uug_talk.specs.StreamTexts.{Rest, TooLong, StandBefore, no_text, texts_of};
 ghost use Rattle.uug_talk.specs.Texts.{IsFirstText};
-
-use uug_talk::{
-    hearing_finds_the_texts, hearing_in_pieces, hearing_says_what_came, one_reading_of_texts,
-};
-
-/// The laws of handshake texts, for the proofs here.
-pub(crate) fn hearing_laws()
-    ensures { HearingLaws }
-{
-    one_reading_of_texts();
-    hearing_says_what_came();
-    hearing_in_pieces();
-    hearing_finds_the_texts();
-}
 
 /// A search of some bytes finds their first text, or that none is whole, or that the first is too long: just as the bytes
 /// say. What it leaves goes on as the bytes do.
@@ -38,9 +23,7 @@ pub fn text_search_finds_the_first()
         → (rest : List ℕ) × (search_text stream ≡ text_waits rest) }
     ensures long { (stream : List ℕ) → texts_of stream ≡ no_text TooLong
         → search_text stream ≡ text_too_long }
-{
-    hearing_laws();
-}
+{}
 
 /// Whatever was called since `new` or `clear`, with no text that is too long: the texts that were dropped are the first of
 /// all bytes that were accepted, and the others are those of what is held. Right behind a drop exactly the bytes behind the
@@ -59,9 +42,7 @@ pub fn taken_texts_are_first()
     ensures too_long { (calls : List TextCall) (now : TextsHeld) → Make calls nothing_held now
         → search_text now.bytes ≡ text_too_long
         → texts_of (all_accepted calls) ≡ record { texts = all_dropped calls; end = TooLong } }
-{
-    hearing_laws();
-}
+{}
 
 /// Texts are taken one after the other, each found by a search of what is held: behind those that were taken of all bytes
 /// that were accepted the next one stands, or there is none, or it is too long.
@@ -86,9 +67,7 @@ pub fn texts_are_taken_in_order()
     // The texts that were taken are the first of all bytes, and those of what is held are the others.
     ensures first { (texts : List (List ℕ)) (accepted held : List ℕ) → Taken texts accepted held
         → ReadsAs (texts_of accepted) (with_texts texts (texts_of held)) }
-{
-    hearing_laws();
-}
+{}
 
 /// A text that is shown is the one that stands first. It stays shown, whatever is pushed, searched and shown, until it is
 /// dropped; a further search, with more bytes behind, passes over nothing and finds it again.
@@ -98,6 +77,4 @@ pub fn a_shown_text_stays()
         → search_text (held.bytes ++ more) ≡ text_stands text (held.bytes ++ more) }
     ensures stays { (text : List ℕ) (calls : List TextCall) (old new : TextsHeld)
         → ShowsText text old → Make calls old new → all_dropped calls ≡ [] → ShowsText text new }
-{
-    hearing_laws();
-}
+{}

@@ -8,11 +8,9 @@ ghost use Rattle.uug_conversation.specs.Jobs.{at_start};
 ghost use Rattle.uug_conversation.specs.Party.{Party};
 ghost use Rattle.uug_conversation.specs.Talk.{end_keeper, opened_with, taking, unopened, with_first_sent};
 ghost use Rattle.uug_session.specs.Told.{count_of_talker, talk_behind};
-ghost use Rattle.uug_conversation.specs.Turns.{Side};
+ghost use Rattle.uug_conversation.specs.declared.side.Side.{Side};
 ghost use Rattle.uug_session.specs.TwoEnds.{IsTold, Talker, after_act, first_talker, sends, takes};
 ghost use Rattle.uug_conversation.specs.View.{conversation_view, party};
-
-use crate::end_laws::earlier_jobs_change_nothing;
 
 /// What an end keeps of a conversation moves as the end does, whatever it has brought from earlier sessions.
 pub fn an_end_keeps_what_it_brought()
@@ -27,9 +25,7 @@ pub fn an_end_keeps_what_it_brought()
     ensures sends { (p : Party) (t : Talker) (struck failed : List Job) (kept : List Kept)
         → with_first_sent (talk_behind struck failed kept p.size t)
         ≡ talk_behind struck failed kept p.size (after_act sends p t) }
-{
-    earlier_jobs_change_nothing();
-}
+{}
 
 /// An end of a conversation is told by two numbers: how many messages it has sent and taken say what it says next, whether
 /// all is over, and whether HY was sent or taken; and what it has taken fitted its turn.

@@ -22,9 +22,6 @@ pub no_words : (text : List ℕ) → words text ≡ [] → number_in_call text �
 unfolding first_told
 no_words text e = rw e refl
 
-pub behind_name : (text name rest : List ℕ) → words text ≡ name ∷ words rest → number_in_call text ≡ first_told (words rest)
-behind_name text name rest e = ap (λ ws. first_told (drop 1 ws)) e
-
 pub no_words_left : (rest : List ℕ) → words rest ≡ [] → first_told (words rest) ≡ None
 unfolding first_told
 no_words_left rest e = rw e refl

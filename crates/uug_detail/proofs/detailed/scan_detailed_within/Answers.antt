@@ -9,7 +9,7 @@ pub loop-init : goal.loop-init
 loop-init g c =
     let from = begins c.new-held.result.items c.noise_from-noise.result c.new-held.ensures.items c.noise_from-noise.ensures in
     record {
-      progress = Progress-start c.packet_laws.ensures _ _ c.new-held.result.items c.noise_from-noise.result c.new-held.ensures.items c.noise_from-noise.ensures;
+      progress = Progress-start _ _ c.new-held.result.items c.noise_from-noise.result c.new-held.ensures.items c.noise_from-noise.ensures;
       waits = from.waits;
       empty = search rules;
       holds = from.holds;
@@ -33,7 +33,7 @@ loop-preserved g c =
     let appended = subst (λ t. Appends t (g.O.Output.written c.loop.output) (g.O.Output.written c.write_all-in-loop.new.output)) c.as_bytes-in-loop.ensures.value c.in_ok-write_all.ensures.appends in
     record {
       progress =
-          Progress-piece c.packet_laws.ensures c.loop.counter c.in_ok-count.count _ _ _ c.loop.held.items c.list_piece.new.held.items c.read.new.buffer lines c.loop.noise c.list_piece.new.noise _ _ _
+          Progress-piece c.loop.counter c.in_ok-count.count _ _ _ c.loop.held.items c.list_piece.new.held.items c.read.new.buffer lines c.loop.noise c.list_piece.new.noise _ _ _
           c.loop.invariant.progress c.in_ok-count.ensures.moves c.if-count-eq0.false (omega (arith, c.in_ok-count.ensures.within, c.read.auto.buffer)) (search rules) added appended;
       waits = c.in_ok-list_piece.ensures.waits;
       empty = search rules;

@@ -7,7 +7,7 @@ returns-clause-least c found emitted places h = places_stand found emitted place
 
 pub returns-clause-any : goal.returns-clause-any
 returns-clause-any c found emitted sent =
-    any_places c.arrivals.ensures.place found emitted sent.0 0 0 (omega arith) sent.1
+    any_places found emitted sent.0 0 0 (omega arith) sent.1
 
 pub returns-clause-next : goal.returns-clause-next
 returns-clause-next c found emitted places p i h place = next_place found emitted places p i 0 h place
@@ -16,4 +16,4 @@ pub returns-clause-later : goal.returns-clause-later
 returns-clause-later c found emitted more places h = later_places found emitted more places 0 h
 
 pub returns-clause-none : goal.returns-clause-none
-returns-clause-none c found emitted places p h = none_left c.arrivals.ensures.place found emitted places p h
+returns-clause-none c found emitted places p h = none_left found emitted places p h

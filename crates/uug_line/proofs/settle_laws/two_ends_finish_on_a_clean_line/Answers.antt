@@ -3,4 +3,4 @@ use Rattle.uug_line.proofs.settle_laws.two_ends_finish_on_a_clean_line.Goals as 
 
 pub returns : goal.returns
 returns c setup events types may =
-    settles c.laws_below.ensures c.clean_laws.ensures c.session_laws.ensures setup events types may
+    settles setup events types may

@@ -24,15 +24,11 @@ into_report-requires g c =
     let some = c.into_run-run.ensures.of_a_run in
     let setup = some.setup in
     let events = some.events in
-    let sound = some.is.types.sound in
     let parts = run_value c.finish.new.self in
     let may = may_finish setup events c.args.report (run_value c.into_run-run.result) some.is c.requires
     (c.into_run-run.ensures.same some.is.left.parts some.is.left.shown) in
-    let finished = c.in_ok-finish.ensures setup events may in
-    let into = settles_into setup events parts (record {
-      run = λ es. c.a_run_is_the_world.ensures.run setup es sound;
-      report = λ es. c.a_run_is_the_world.ensures.report setup es sound;
-    }) some.is.types finished in
+    let finished = c.in-Ok.ensures setup events may in
+    let into = settles_into setup events parts some.is.types finished in
     record {
       some_run = record { setup = setup; events = events ++ events_of into.settles.rounds; is = into.is };
       said = record {
@@ -52,10 +48,7 @@ returns g c =
     let may = may_finish setup events c.args.report (run_value c.into_run-run.result) is c.requires
     (c.into_run-run.ensures.same is.left.parts is.left.shown) in
     subst (λ (report : WholeReport). SettlesInto setup events report) (sym settled)
-    (settles_into setup events parts (record {
-      run = λ es. c.a_run_is_the_world.ensures.run setup es is.types.sound;
-      report = λ es. c.a_run_is_the_world.ensures.report setup es is.types.sound;
-    }) is.types (c.in_ok-finish.ensures setup events may)) in
+    (settles_into setup events parts is.types (c.in-Ok.ensures setup events may)) in
     record {
       ends = settled_are_done some.setup some.events c.in_ok-settled.settled (world some.setup some.events some.is);
       clean = ap (λ (report : WholeReport). report.told.verdict) settled;

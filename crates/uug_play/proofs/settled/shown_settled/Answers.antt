@@ -10,7 +10,7 @@ returns-in-Some g c =
 
 pub returns : goal.returns
 returns g c =
-    has_settled c.args.report (string_bytes c.in_ok-text.field-0.text) (string_bytes c.in_ok-last.last.text)
+    has_settled c.args.report (string_bytes c.in-Ok.field-0.text) (string_bytes c.in_ok-last.last.text)
     (string_bytes c.push_str.new.self) c.in_ok-last.last.status
-    (λ setup events is. c.why_unsettled.ensures.world setup events is (search rules)) c.in_ok-text.ensures.text
+    (λ setup events is. c.why_unsettled.ensures.world setup events is (search rules)) c.in-Ok.ensures.text
     (search rules) c.in_ok-last.ensures

@@ -2,4 +2,4 @@ use Rattle.uug_reader.proofs.FindingLemmas.{StandsFirst-append, stands_again, st
 use Rattle.uug_reader.proofs.laws.found_again.Goals as goal
 
 pub returns : goal.returns
-returns c = record { first = StandsFirst-append c.packet_laws.ensures; same = stands_again c.packet_laws.ensures; some = stands_always c.packet_laws.ensures }
+returns c = record { first = StandsFirst-append; same = stands_again; some = stands_always }

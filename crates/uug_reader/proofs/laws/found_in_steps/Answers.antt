@@ -2,4 +2,4 @@ use Rattle.uug_reader.proofs.ScanLemmas.{Finds-none, Finds-item, Finds-join, Fin
 use Rattle.uug_reader.proofs.laws.found_in_steps.Goals as goal
 
 pub returns : goal.returns
-returns c = record { none = Finds-none c.packet_laws.ensures; item = Finds-item c.packet_laws.ensures; more = Finds-join c.packet_laws.ensures; behind = Finds-append c.packet_laws.ensures; fewer = Finds-fewer c.packet_laws.ensures }
+returns c = record { none = Finds-none; item = Finds-item; more = Finds-join; behind = Finds-append; fewer = Finds-fewer }

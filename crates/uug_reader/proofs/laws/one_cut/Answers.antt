@@ -2,4 +2,4 @@ use Rattle.uug_reader.proofs.OneCut.{IsCut-some, IsCut-unique}
 use Rattle.uug_reader.proofs.laws.one_cut.Goals as goal
 
 pub returns : goal.returns
-returns c = record { some = IsCut-some c.packet_laws.ensures; only = IsCut-unique c.packet_laws.ensures }
+returns c = record { some = IsCut-some; only = IsCut-unique }

@@ -2,4 +2,4 @@ use Rattle.uug_reader.proofs.ScanLemmas.{IsScan-item, IsScan-rest}
 use Rattle.uug_reader.proofs.laws.scan_from_the_first.Goals as goal
 
 pub returns : goal.returns
-returns c = record { item = IsScan-item c.packet_laws.ensures; rest = IsScan-rest c.packet_laws.ensures }
+returns c = record { item = IsScan-item; rest = IsScan-rest }

@@ -9,7 +9,7 @@ use Rattle.uug_reader.proofs.ring.search_pieces.Goals as goal
 
 pub returns-in-Some-clause-passes : goal.returns-in-Some-clause-passes
 returns-in-Some-clause-passes c =
-    passes_piece c.packet_laws.ensures c.args.front.now c.args.back.now c.search_in-search.result.passed
+    passes_piece c.args.front.now c.args.back.now c.search_in-search.result.passed
     c.search_in-search.ensures.within c.search_in-search.ensures.passes
 
 pub returns-in-Some-clause-stands : goal.returns-in-Some-clause-stands
@@ -23,13 +23,13 @@ returns-in-Some-clause-stands c =
     let is : item_beside standing.place beside ≡ item_at standing.place (drop passed front) =
     c.lay.ensures ∙ ap (item_at standing.place) (take_rest front passed) in
     subst (λ (f : Option Standing). StandsBeside f beside (drop passed (front ++ c.args.back.now))) (sym c.in-Some.is)
-    (stands_in_piece c.packet_laws.ensures front c.args.back.now beside passed standing c.search_in-search.ensures.within
+    (stands_in_piece front c.args.back.now beside passed standing c.search_in-search.ensures.within
     (laid standing beside (drop passed front) first is))
 
 pub returns-clause-passes : goal.returns-clause-passes
 returns-clause-passes c =
     let later = c.search_joined-later.result.passed in
-    passes_joined c.packet_laws.ensures c.args.front.now c.args.back.now c.search_in-search.result.passed later
+    passes_joined c.args.front.now c.args.back.now c.search_in-search.result.passed later
     c.search_in-search.ensures.within c.search_in-search.ensures.passes
     (subst (λ (r : List ℕ). PassesNoise (r ++ c.args.back.now) (drop later (r ++ c.args.back.now)))
     (take_rest c.args.front.now c.search_in-search.result.passed) c.search_joined-later.ensures.passes)
@@ -38,7 +38,7 @@ pub returns-clause-stands : goal.returns-clause-stands
 returns-clause-stands c =
     let later = c.search_joined-later.result in
     let beside = c.search_joined-later.new.beside.items in
-    stands_joined c.packet_laws.ensures c.args.front.now c.args.back.now beside c.search_in-search.result.passed later.passed
+    stands_joined c.args.front.now c.args.back.now beside c.search_in-search.result.passed later.passed
     later.first c.search_in-search.ensures.within
     (subst (λ (r : List ℕ). StandsBeside later.first beside (drop later.passed (r ++ c.args.back.now)))
     (take_rest c.args.front.now c.search_in-search.result.passed) c.search_joined-later.ensures.stands)
@@ -53,7 +53,7 @@ returns-then-is_empty-clause-within c =
 
 pub returns-then-is_empty-clause-passes : goal.returns-then-is_empty-clause-passes
 returns-then-is_empty-clause-passes c =
-    passes_piece c.packet_laws.ensures c.args.front.now c.args.back.now c.search_in-search.result.passed
+    passes_piece c.args.front.now c.args.back.now c.search_in-search.result.passed
     c.search_in-search.ensures.within c.search_in-search.ensures.passes
 
 pub returns-then-is_empty-clause-stands : goal.returns-then-is_empty-clause-stands

@@ -5,14 +5,14 @@ use Rattle.uug_session.proofs.ShownItemLemmas.{item_found, nothing_found, one_it
 use Rattle.uug_session.proofs.arriving_laws.a_search_shows_what_is_found.Goals as goal
 
 pub returns-clause-shown : goal.returns-clause-shown
-returns-clause-shown c = item_found c.item_laws.ensures
+returns-clause-shown c = item_found
 
 pub returns-clause-one : goal.returns-clause-one
-returns-clause-one c = one_item c.item_laws.ensures
+returns-clause-one c = one_item
 
 pub returns-clause-none : goal.returns-clause-none
 returns-clause-none c = nothing_found
 
 pub returns-clause-rests : goal.returns-clause-rests
 returns-clause-rests c =
-    searched_rests c.item_laws.ensures (record { file = λ name. None; verdict = λ name. verdicts.Yes; immovable = λ name. false })
+    searched_rests (record { file = λ name. None; verdict = λ name. verdicts.Yes; immovable = λ name. false })

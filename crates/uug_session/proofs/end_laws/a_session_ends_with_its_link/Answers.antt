@@ -5,8 +5,7 @@ pub returns-clause-first : goal.returns-clause-first
 returns-clause-first g c = begins_alive _
 
 pub returns-clause-stays : goal.returns-clause-stays
-returns-clause-stays g c =
-    step_ends (record { answers = c.what_a_link_answers.ensures.answers; phases = c.what_a_link_answers.ensures.phases }) _
+returns-clause-stays g c = step_ends _
 
 pub returns-clause-starting : goal.returns-clause-starting
 returns-clause-starting g c = starts _

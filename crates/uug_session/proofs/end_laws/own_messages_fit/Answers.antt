@@ -2,7 +2,4 @@ use Rattle.uug_conversation.proofs.FitLemmas.{own_fit}
 use Rattle.uug_session.proofs.end_laws.own_messages_fit.Goals as goal
 
 pub returns : goal.returns
-returns c = own_fit (record {
-  command = c.messages_fit.ensures.command;
-  file = c.messages_fit.ensures.file;
-})
+returns c = own_fit

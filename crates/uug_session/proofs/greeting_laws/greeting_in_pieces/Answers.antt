@@ -2,25 +2,13 @@ use Rattle.uug_session.proofs.PiecesLemmas.{goes_on_with_more, stays_over, whole
 use Rattle.uug_session.proofs.greeting_laws.greeting_in_pieces.Goals as goal
 
 pub returns-clause-goes_on : goal.returns-clause-goes_on
-returns-clause-goes_on c =
-    goes_on_with_more (record { some = c.one_reading_of_texts.ensures.some; only = c.one_reading_of_texts.ensures.only })
-    (record { rest = c.texts_in_pieces.ensures.rest; too_long = c.texts_in_pieces.ensures.too_long })
-    c.one_first_text.ensures.texts
+returns-clause-goes_on c = goes_on_with_more
 
 pub returns-clause-over : goal.returns-clause-over
-returns-clause-over c =
-    stays_over (record { some = c.one_reading_of_texts.ensures.some; only = c.one_reading_of_texts.ensures.only })
-    (record { rest = c.texts_in_pieces.ensures.rest; too_long = c.texts_in_pieces.ensures.too_long })
-    c.one_first_text.ensures.texts
+returns-clause-over c = stays_over
 
 pub returns-clause-whole_goes_on : goal.returns-clause-whole_goes_on
-returns-clause-whole_goes_on c =
-    whole_goes_on_with_more (record { some = c.one_reading_of_texts.ensures.some; only = c.one_reading_of_texts.ensures.only })
-    (record { rest = c.texts_in_pieces.ensures.rest; too_long = c.texts_in_pieces.ensures.too_long })
-    c.one_first_text.ensures.texts
+returns-clause-whole_goes_on c = whole_goes_on_with_more
 
 pub returns-clause-whole_over : goal.returns-clause-whole_over
-returns-clause-whole_over c =
-    whole_stays_over (record { some = c.one_reading_of_texts.ensures.some; only = c.one_reading_of_texts.ensures.only })
-    (record { rest = c.texts_in_pieces.ensures.rest; too_long = c.texts_in_pieces.ensures.too_long })
-    c.one_first_text.ensures.texts
+returns-clause-whole_over c = whole_stays_over

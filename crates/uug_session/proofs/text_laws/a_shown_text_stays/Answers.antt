@@ -5,7 +5,7 @@ pub returns-clause-is : goal.returns-clause-is
 returns-clause-is c = shows_shown
 
 pub returns-clause-again : goal.returns-clause-again
-returns-clause-again c = found_again c.hearing_laws.ensures
+returns-clause-again c = found_again
 
 pub returns-clause-stays : goal.returns-clause-stays
-returns-clause-stays c = shown_stays c.hearing_laws.ensures
+returns-clause-stays c = shown_stays

@@ -7,20 +7,20 @@ pub returns-clause-begins : goal.returns-clause-begins
 returns-clause-begins c = taken_right_behind [] [] [] refl
 
 pub returns-clause-more : goal.returns-clause-more
-returns-clause-more c = taken_more c.hearing_laws.ensures
+returns-clause-more c = taken_more
 
 pub returns-clause-stands : goal.returns-clause-stands
-returns-clause-stands c = first_taken c.hearing_laws.ensures
+returns-clause-stands c = first_taken
 
 pub returns-clause-behind : goal.returns-clause-behind
 returns-clause-behind c = taken_right_behind
 
 pub returns-clause-waits : goal.returns-clause-waits
 returns-clause-waits c = λ texts accepted held rest t e.
-    taken_searched c.hearing_laws.ensures texts accepted held (text_waits rest) (λ no. cc) e t
+    taken_searched texts accepted held (text_waits rest) (λ no. cc) e t
 
 pub returns-clause-too_long : goal.returns-clause-too_long
-returns-clause-too_long c = taken_too_long c.hearing_laws.ensures
+returns-clause-too_long c = taken_too_long
 
 pub returns-clause-first : goal.returns-clause-first
-returns-clause-first c = taken_are_first c.hearing_laws.ensures
+returns-clause-first c = taken_are_first

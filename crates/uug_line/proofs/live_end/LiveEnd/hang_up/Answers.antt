@@ -8,7 +8,6 @@ use Rattle.uug_line.proofs.live_end.LiveEnd.hang_up.Goals as goal
 
 pub returns : goal.returns
 returns g c =
-    let laws = c.line_laws.ensures in
     let old = c.args.self.now in
     let node = c.hang_up.new.self in
     let called : LiveEndValue = record {
@@ -17,6 +16,5 @@ returns g c =
       journal = journal_value old.journal;
       line = old.line;
     } in
-    hung_up_so laws.reads laws.in_range laws.steps
-    (live_end_value old) called (live_end_value c.note_call.new.self) c.requires.ordered c.requires.room
+    hung_up_so (live_end_value old) called (live_end_value c.note_call.new.self) c.requires.ordered c.requires.room
     c.hang_up.ensures.stage (ap held_by c.hang_up.ensures.spool) refl refl c.in_ok-note_call.ensures

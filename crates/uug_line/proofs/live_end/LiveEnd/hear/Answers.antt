@@ -22,7 +22,7 @@ returns-then-not-branch g c =
     let last = c.offer.new.self in
     let filled : LiveEndValue = record { node = node_of last; spool = held_by last.spool; journal = new.journal; line = new.line } in
     let part = part_is (live_end_value now) mid (take count rest) c.offer-count.ensures.bytes (ap held_by c.offer-count.ensures.spool) refl refl in
-    hears_some c.line_laws.ensures others c.args.piece.now rest (take count rest) behind c.offer.result
+    hears_some others c.args.piece.now rest (take count rest) behind c.offer.result
     (live_end_value c.args.self.now) (live_end_value now) mid new filled
     (parted count rest behind (take_rest rest count)) part c.loop-self.invariant
     (part_within (live_end_value now) mid count rest c.loop-self.invariant.room c.offer-count.ensures.count part)
@@ -39,7 +39,7 @@ returns-then-is_empty g c =
     let rest = c.loop-self.rest.now in
     let mid : LiveEndValue = record { node = node_of node; spool = held_by node.spool; journal = journal_value now.journal; line = now.line } in
     let new = live_end_value c.take_all.new.self in
-    hears_all c.line_laws.ensures others c.args.piece.now rest (take count rest) (live_end_value c.args.self.now) (live_end_value now) mid new
+    hears_all others c.args.piece.now rest (take count rest) (live_end_value c.args.self.now) (live_end_value now) mid new
     (all_parted count rest (take (length rest - count) (drop count rest)) (take_rest rest count) (grind (arith, nat_tests, c.if-is_empty.ensures)))
     (part_is (live_end_value now) mid (take count rest) c.offer-count.ensures.bytes (ap held_by c.offer-count.ensures.spool) refl refl)
     c.loop-self.invariant
@@ -54,7 +54,7 @@ loop-self-preserved g c =
     let rest = c.loop-self.rest.now in
     let mid : LiveEndValue = record { node = node_of node; spool = held_by node.spool; journal = journal_value now.journal; line = now.line } in
     let new = live_end_value c.take_all.new.self in
-    still_hears c.line_laws.ensures others c.args.piece.now rest (take count rest) (take (length rest - count) (drop count rest))
+    still_hears others c.args.piece.now rest (take count rest) (take (length rest - count) (drop count rest))
     (live_end_value c.args.self.now) (live_end_value now) mid new (parted count rest (take (length rest - count) (drop count rest)) (take_rest rest count))
     (part_is (live_end_value now) mid (take count rest) c.offer-count.ensures.bytes (ap held_by c.offer-count.ensures.spool) refl refl)
     c.loop-self.invariant

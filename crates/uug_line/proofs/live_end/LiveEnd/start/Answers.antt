@@ -7,8 +7,7 @@ use Rattle.uug_line.proofs.live_end.LiveEnd.start.Goals as goal
 
 pub returns : goal.returns
 returns g c = λ id own number l announces session nothing_held.
-    let laws = c.line_laws.ensures in
     let node = c.args.node in
     let called : LiveEndValue = record { node = node_of node; spool = held_by node.spool; journal = journal_value c.new.result; line = c.new-2.result } in
-    begun_so laws.reads laws.in_range laws.steps id own number l called (live_end_value c.note_call.new.self) announces session nothing_held
+    begun_so id own number l called (live_end_value c.note_call.new.self) announces session nothing_held
     c.new.ensures c.new-2.ensures c.in_ok-note_call.ensures

@@ -12,7 +12,7 @@ returns-in-Nothing g c =
     let e = c.args.self.now in
     let node = c.sight.new.node in
     let mid : LiveEndValue = record { node = node_of node; spool = held_by node.spool; journal = journal_value e.journal; line = e.line } in
-    sees_nothing c.line_laws.ensures (lists_in c.args.others.now) (live_end_value e) mid c.requires.ordered
+    sees_nothing (lists_in c.args.others.now) (live_end_value e) mid c.requires.ordered
     (sought_is (live_end_value e) mid c.sight.ensures.found (ap held_by c.sight.ensures.spool) refl refl)
     c.in-Nothing.ensures.next c.sight.ensures.room
 
@@ -21,7 +21,7 @@ returns-in-Unsent g c =
     let e = c.args.self.now in
     let node = c.sight.new.node in
     let mid : LiveEndValue = record { node = node_of node; spool = held_by node.spool; journal = journal_value e.journal; line = e.line } in
-    sees_unsent c.line_laws.ensures (lists_in c.args.others.now) (live_end_value e) mid c.requires.ordered c.requires.written
+    sees_unsent (lists_in c.args.others.now) (live_end_value e) mid c.requires.ordered c.requires.written
     (sought_is (live_end_value e) mid c.sight.ensures.found (ap held_by c.sight.ensures.spool) refl refl)
     c.in-Unsent.ensures.next
 
@@ -30,7 +30,7 @@ returns-in_ok-take_other-in-Other g c =
     let e = c.args.self.now in
     let node = c.sight.new.node in
     let mid : LiveEndValue = record { node = node_of node; spool = held_by node.spool; journal = journal_value e.journal; line = e.line } in
-    sees_other c.line_laws.ensures (lists_in c.args.others.now) (live_end_value e) mid (live_end_value c.take_other.new.self) c.requires.ordered
+    sees_other (lists_in c.args.others.now) (live_end_value e) mid (live_end_value c.take_other.new.self) c.requires.ordered
     (sought_is (live_end_value e) mid c.sight.ensures.found (ap held_by c.sight.ensures.spool) refl refl)
     c.in-Other.ensures.next c.in_ok-take_other-in-Other.ensures
 
@@ -39,7 +39,7 @@ returns-in_ok-take_packet-in-At g c =
     let e = c.args.self.now in
     let node = c.sight.new.node in
     let mid : LiveEndValue = record { node = node_of node; spool = held_by node.spool; journal = journal_value e.journal; line = e.line } in
-    sees_packet c.line_laws.ensures c.args.others.now c.in-At.place c.index-others-place.result c.as_slice.result.now
+    sees_packet c.args.others.now c.in-At.place c.index-others-place.result c.as_slice.result.now
     (live_end_value e) mid (live_end_value c.take_packet.new.self) c.requires.ordered c.requires.written
     (sought_is (live_end_value e) mid c.sight.ensures.found (ap held_by c.sight.ensures.spool) refl refl)
     c.in-At.ensures.next c.index-others-place.is c.as_slice.ensures.value c.in_ok-take_packet-in-At.ensures

@@ -8,7 +8,6 @@ use Rattle.uug_line.proofs.live_end.LiveEnd.time_out.Goals as goal
 
 pub returns : goal.returns
 returns g c =
-    let laws = c.line_laws.ensures in
     let old = c.args.self.now in
     let node = c.on_timeout.new.self in
     let called : LiveEndValue = record {
@@ -17,6 +16,5 @@ returns g c =
       journal = journal_value old.journal;
       line = old.line;
     } in
-    timed_out_so laws.reads laws.in_range laws.steps
-    (live_end_value old) called (live_end_value c.note_call.new.self) c.requires.ordered c.requires.room
+    timed_out_so (live_end_value old) called (live_end_value c.note_call.new.self) c.requires.ordered c.requires.room
     c.in_ok-on_timeout.ensures.ok c.on_timeout.ensures.bytes.0 c.on_timeout.ensures.bytes.1 (ap held_by c.on_timeout.ensures.spool) refl refl c.in_ok-note_call.ensures

@@ -1,6 +1,6 @@
 use Rattle.std.proofs.Common.{ℕ, Bool, true, subst}
 use Rattle.uug_line.specs.declared.event.Event.TheVariants.{Pass}
-use Rattle.uug_line.specs.declared.side.Side.TheVariants.{Caller, Called}
+use Rattle.uug_conversation.specs.declared.side.Side.TheVariants.{Caller, Called}
 use Rattle.uug_line.specs.RunValue.{Passes, run_value}
 use Rattle.uug_line.specs.Code.Settling.{goes}
 use Rattle.uug_line.proofs.RunLemmas.{happens_steady}

@@ -11,11 +11,11 @@ use Rattle.uug_packet.specs.Packet.{shown}
 use Rattle.uug_session.specs.declared.end.End.TheVariants as ends
 use Rattle.uug_session.specs.EndStep.{ends_so, goes_on, leave, message_of}
 use Rattle.uug_session.specs.Engine.{Does, EngineState, end_of, entry_of, packet_effect, stage_of}
-use Rattle.uug_conversation.specs.Side.{side_of}
 use Rattle.uug_conversation.specs.Talk.{Talk, end_keeper, opened_with}
 use Rattle.uug_conversation.specs.Talking.{talk_of}
 use Rattle.uug_session.proofs.EngineLemmas.{by_outcome, ends_does, goes_on_does}
 use Rattle.uug_session.proofs.SpeakLemmas.{has_parted_told}
+use Rattle.uug_link.proofs.OutcomeLemmas.{moves_of}
 use Rattle.uug_session.proofs.engine.Engine.hear.Goals as goal
 
 pub returns-in-Ok-Nothing-clause-does : goal.returns-in-Ok-Nothing-clause-does
@@ -25,7 +25,7 @@ returns-in-Ok-Nothing-clause-does g c =
     let p = shown c.args.packet.now in
     let i = c.self.inside in
     let b : EngineState = record {
-      identity = record { side = side_of i.side; me = i.place.me; peer = i.place.peer };
+      identity = record { side = i.side; me = i.place.me; peer = i.place.peer };
       own = announced i.place.announce;
       stage = stage_of i.stage;
       link = i.link;
@@ -58,7 +58,7 @@ returns-in-Err-Halted-clause-does g c =
     let p = shown c.args.packet.now in
     let i = c.self.inside in
     let b : EngineState = record {
-      identity = record { side = side_of i.side; me = i.place.me; peer = i.place.peer };
+      identity = record { side = i.side; me = i.place.me; peer = i.place.peer };
       own = announced i.place.announce;
       stage = stage_of i.stage;
       link = i.link;
@@ -93,7 +93,7 @@ size-size-requires g c =
     let told = subst (λ (o : Outcome). Follows e i.link c.on_packet.new.self i.outbox c.on_packet.new.out (answered (Ok o)))
     c.in-Ok-Up.field-0-is c.in-Ok-Up.ensures in
     let moves = subst (λ (o : OutcomeValue). MovesPhase o i.link.phase e.state.phase) (sym told.outcome)
-    (c.what_a_link_answers.ensures.phases i.link (packet_found p) tt) in
+    (moves_of i.link (packet_found p) tt) in
     ap (λ (s : State). s.phase) told.state ∙ moves.1
 
 pub returns-in-Ok-Up-clause-does : goal.returns-in-Ok-Up-clause-does
@@ -103,7 +103,7 @@ returns-in-Ok-Up-clause-does g c =
     let p = shown c.args.packet.now in
     let i = c.self.inside in
     let b : EngineState = record {
-      identity = record { side = side_of i.side; me = i.place.me; peer = i.place.peer };
+      identity = record { side = i.side; me = i.place.me; peer = i.place.peer };
       own = announced i.place.announce;
       stage = stage_of i.stage;
       link = i.link;
@@ -141,7 +141,7 @@ returns-in-Ok-Closed-clause-does g c =
     let p = shown c.args.packet.now in
     let i = c.self.inside in
     let b : EngineState = record {
-      identity = record { side = side_of i.side; me = i.place.me; peer = i.place.peer };
+      identity = record { side = i.side; me = i.place.me; peer = i.place.peer };
       own = announced i.place.announce;
       stage = stage_of i.stage;
       link = i.link;

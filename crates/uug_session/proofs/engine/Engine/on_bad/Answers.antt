@@ -5,7 +5,6 @@ use Rattle.uug_link.specs.Follows.{Follows, answered, written}
 use Rattle.uug_link.specs.Step.{Effect, step, bad_found, nothing}
 use Rattle.uug_session.specs.EndStep.{bad_came}
 use Rattle.uug_session.specs.Engine.{Does, EngineState, end_of, stage_of}
-use Rattle.uug_conversation.specs.Side.{side_of}
 use Rattle.uug_conversation.specs.Talk.{end_keeper}
 use Rattle.uug_conversation.specs.Talking.{talk_of}
 use Rattle.uug_session.proofs.EngineLemmas.{by_outcome, goes_on_does}
@@ -17,7 +16,7 @@ returns-in-Ok-Nothing-clause-ok g c =
     let kept = g.S.Spool.kept c.args.spool.now in
     let i = c.self.inside in
     let b : EngineState = record {
-      identity = record { side = side_of i.side; me = i.place.me; peer = i.place.peer };
+      identity = record { side = i.side; me = i.place.me; peer = i.place.peer };
       own = announced i.place.announce;
       stage = stage_of i.stage;
       link = i.link;

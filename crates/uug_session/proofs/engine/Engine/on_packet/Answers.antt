@@ -2,7 +2,6 @@ use Rattle.std.proofs.Common.{◌∙◌, false, subst, sym, refl, true≢false}
 use Rattle.uug_link.specs.Announced.{announced}
 use Rattle.uug_packet.specs.Packet.{shown}
 use Rattle.uug_session.specs.Engine.{CountsFaults, EngineState, TakesUp, stage_of, faults_max}
-use Rattle.uug_conversation.specs.Side.{side_of}
 use Rattle.uug_session.proofs.EngineLemmas.{hears_reserved, talk_reserved}
 use Rattle.uug_session.proofs.engine.Engine.on_packet.Goals as goal
 
@@ -14,7 +13,7 @@ returns-else-takes-clause-ok g c =
     let p = shown c.args.packet.now in
     let i = c.self.inside in
     let b : EngineState = record {
-      identity = record { side = side_of i.side; me = i.place.me; peer = i.place.peer };
+      identity = record { side = i.side; me = i.place.me; peer = i.place.peer };
       own = announced i.place.announce;
       stage = stage_of i.stage;
       link = i.link;

@@ -6,7 +6,6 @@ use Rattle.uug_session.specs.EndStep.{behind_greeting, greeted_so, says_text}
 use Rattle.uug_session.specs.Engine.{Does, EngineState, bare, stage_of}
 use Rattle.uug_session.specs.Greeting.{GreetingStep, number_by, text_came}
 use Rattle.uug_session.specs.Says.{entry_of_text}
-use Rattle.uug_conversation.specs.Side.{side_of}
 use Rattle.uug_session.proofs.EngineLemmas.{greeted_does}
 use Rattle.uug_session.proofs.engine.Engine.on_text.Goals as goal
 
@@ -14,7 +13,7 @@ pub returns-clause-ok : goal.returns-clause-ok
 returns-clause-ok g c =
     let i = c.self.inside in
     let b : EngineState = record {
-      identity = record { side = side_of i.side; me = i.place.me; peer = i.place.peer };
+      identity = record { side = i.side; me = i.place.me; peer = i.place.peer };
       own = announced i.place.announce;
       stage = stage_of i.stage;
       link = i.link;

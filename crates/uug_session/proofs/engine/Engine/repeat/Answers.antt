@@ -5,7 +5,6 @@ use Rattle.uug_link.specs.Follows.{Follows, answered, written}
 use Rattle.uug_link.specs.Step.{Effect, step, timed_out, nothing}
 use Rattle.uug_session.specs.EndStep.{late}
 use Rattle.uug_session.specs.Engine.{Does, EngineState, bare, stage_of}
-use Rattle.uug_conversation.specs.Side.{side_of}
 use Rattle.uug_conversation.specs.Talking.{talking_has_parted}
 use Rattle.uug_session.proofs.EngineLemmas.{late_by, quiet_does}
 use Rattle.uug_session.proofs.engine.Engine.repeat.Goals as goal
@@ -14,7 +13,7 @@ pub returns-in-Ok-Nothing-clause-ok : goal.returns-in-Ok-Nothing-clause-ok
 returns-in-Ok-Nothing-clause-ok g c =
     let i = c.self.inside in
     let b : EngineState = record {
-      identity = record { side = side_of i.side; me = i.place.me; peer = i.place.peer };
+      identity = record { side = i.side; me = i.place.me; peer = i.place.peer };
       own = announced i.place.announce;
       stage = stage_of i.stage;
       link = i.link;

@@ -2,7 +2,6 @@ use Rattle.std.proofs.Common.{sym, ◌∙◌, ap}
 use Rattle.uug_link.specs.Announced.{announced}
 use Rattle.uug_session.specs.EndStep.{has_room}
 use Rattle.uug_session.specs.Engine.{EngineState, after_sends, stage_of}
-use Rattle.uug_conversation.specs.Side.{side_of}
 use Rattle.uug_conversation.specs.Talk.{end_keeper}
 use Rattle.uug_conversation.specs.Talking.{talk_of}
 use Rattle.uug_session.proofs.SpeakLemmas.{room_told, no_room, stays_so, says_nothing_more}
@@ -24,7 +23,7 @@ returns-then-not-take_message-clause-done g c n =
     let kept = g.S.Spool.kept c.args.spool.now in
     let i = c.self.inside in
     let e : EngineState = record {
-      identity = record { side = side_of i.side; me = i.place.me; peer = i.place.peer };
+      identity = record { side = i.side; me = i.place.me; peer = i.place.peer };
       own = announced i.place.announce;
       stage = stage_of i.stage;
       link = i.link;

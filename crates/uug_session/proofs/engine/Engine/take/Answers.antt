@@ -10,7 +10,6 @@ use Rattle.uug_session.specs.EndStep.{Identity, ends_so, goes_on, leave, message
 use Rattle.uug_session.specs.Engine.{CountsFaults, Does, EngineState, TakesUp, after_speaking, end_of, entry_of, spoken_of, stage_of, faults_max}
 use Rattle.uug_conversation.specs.Holdings.{Holdings, Kept}
 use Rattle.uug_conversation.specs.Runs.{is_bad}
-use Rattle.uug_conversation.specs.Side.{side_of}
 use Rattle.uug_conversation.specs.Talk.{Talk, asks_spool, end_keeper, taking}
 use Rattle.uug_conversation.specs.Talking.{Talking, talk_of}
 use Rattle.uug_session.proofs.EngineLemmas.{closed_behind, ends_does, goes_on_does, taken_bad, taken_failed, taken_well, takes_up}
@@ -26,7 +25,7 @@ returns-then-is_bad-clause-ok g c =
     let p = shown c.args.packet.now in
     let i = c.self.inside in
     let b : EngineState = record {
-      identity = record { side = side_of i.side; me = i.place.me; peer = i.place.peer };
+      identity = record { side = i.side; me = i.place.me; peer = i.place.peer };
       own = announced i.place.announce;
       stage = stage_of i.stage;
       link = i.link;
@@ -74,7 +73,7 @@ returns-else-is_bad-clause-ok g c =
     let p = shown c.args.packet.now in
     let i = c.self.inside in
     let b : EngineState = record {
-      identity = record { side = side_of i.side; me = i.place.me; peer = i.place.peer };
+      identity = record { side = i.side; me = i.place.me; peer = i.place.peer };
       own = announced i.place.announce;
       stage = stage_of i.stage;
       link = i.link;
@@ -115,7 +114,7 @@ returns-in-Err-Device-clause-ok g c =
     let p = shown c.args.packet.now in
     let i = c.self.inside in
     let b : EngineState = record {
-      identity = record { side = side_of i.side; me = i.place.me; peer = i.place.peer };
+      identity = record { side = i.side; me = i.place.me; peer = i.place.peer };
       own = announced i.place.announce;
       stage = stage_of i.stage;
       link = i.link;

@@ -69,7 +69,7 @@ returns-then-used-piece-clause-taken g c =
     let new = c.take_all_found.new.self in
     let piece = c.args.piece.now in
     let whole : take c.loop-self.used piece ≡ piece = take_all c.loop-self.used piece (omega (arith, c.if-used-piece.true)) in
-    takes_all_of c.item_laws.ensures (g.S.Spool.holdings old.spool) (g.S.Spool.kept old.spool) (g.S.Spool.kept new.spool) _ piece (node_of old) (node_of new)
+    takes_all_of (g.S.Spool.holdings old.spool) (g.S.Spool.kept old.spool) (g.S.Spool.kept new.spool) _ piece (node_of old) (node_of new)
     (subst (λ bytes. GoesOn (g.S.Spool.holdings old.spool) (g.S.Spool.kept old.spool) (g.S.Spool.kept new.spool)
     (HasFailed faults_max (g.S.Spool.faults old.spool) (g.S.Spool.faults new.spool)) bytes (node_of old) (node_of new)) whole
     (takes_further (g.S.Spool.holdings old.spool) (g.S.Spool.holdings at.spool) (g.S.Spool.kept old.spool) (g.S.Spool.kept at.spool) (g.S.Spool.kept new.spool)
@@ -106,7 +106,7 @@ loop-self-preserved g c =
     let taken = takes_further (g.S.Spool.holdings old.spool) (g.S.Spool.holdings at.spool) (g.S.Spool.kept old.spool) (g.S.Spool.kept at.spool) (g.S.Spool.kept found.spool)
     faults_max (g.S.Spool.faults old.spool) (g.S.Spool.faults at.spool) (g.S.Spool.faults found.spool) (take c.loop-self.used piece) (node_of old) (node_of at) (node_of found)
     c.loop-self.invariant.holdings c.loop-self.invariant.count c.take_all_found.ensures.count c.loop-self.invariant.goes_on c.take_all_found.ensures.goes_on in
-    let offered = offers_more c.item_laws.ensures (g.S.Spool.holdings old.spool) (g.S.Spool.kept old.spool) (g.S.Spool.kept found.spool)
+    let offered = offers_more (g.S.Spool.holdings old.spool) (g.S.Spool.kept old.spool) (g.S.Spool.kept found.spool)
     (HasFailed faults_max (g.S.Spool.faults old.spool) (g.S.Spool.faults found.spool)) piece c.loop-self.used c.offer-used.result (node_of old) (node_of found) (node_of new)
     taken c.offer-used.ensures.bytes in
     record {

@@ -7,12 +7,11 @@ pub returns : goal.returns
 returns g c =
     let old = node_of c.args.self.now in
     let new = node_of c.search.new.self in
-    let searched = c.search.ensures in
-    let laws = c.item_laws.ensures in (
+    let searched = c.search.ensures in (
       (refl, λ _. tt, record { found = searched.found; spool = searched.spool; shows = c.showing.ensures; room = searched.room }),
       record {
-        none = next_none laws c.text_search_finds_the_first.ensures.some c.showing.result old new searched.found searched.passes c.showing.ensures;
-        first = next_first laws c.showing.result old new searched.found searched.passes c.showing.ensures;
+        none = next_none c.showing.result old new searched.found searched.passes c.showing.ensures;
+        first = next_first c.showing.result old new searched.found searched.passes c.showing.ensures;
         room = next_room c.showing.result old new searched.found searched.room c.showing.ensures;
         after = tt;
       },

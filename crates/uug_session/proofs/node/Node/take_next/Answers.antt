@@ -12,13 +12,13 @@ use Rattle.uug_session.proofs.node.Node.take_next.Goals as goal
 pub returns-then-is_none-clause-goes_on : goal.returns-then-is_none-clause-goes_on
 returns-then-is_none-clause-goes_on g c =
     let old = c.args.self.now in
-    searches_to c.item_laws.ensures (g.S.Spool.holdings old.spool) (g.S.Spool.kept old.spool) (g.S.Spool.kept c.search.new.self.spool) _
+    searches_to (g.S.Spool.holdings old.spool) (g.S.Spool.kept old.spool) (g.S.Spool.kept c.search.new.self.spool) _
     (node_of old) (node_of c.search.new.self) c.search.ensures.found (ap (g.S.Spool.kept) c.search.ensures.spool)
 
 pub returns-then-is_none-clause-rest : goal.returns-then-is_none-clause-rest
 returns-then-is_none-clause-rest g c =
     let old = c.args.self.now in
-    λ is. rests_behind c.item_laws.ensures (g.S.Spool.holdings old.spool) (node_of old) (node_of c.search.new.self) c.search.ensures.found
+    λ is. rests_behind (g.S.Spool.holdings old.spool) (node_of old) (node_of c.search.new.self) c.search.ensures.found
     (none_shown c.showing.result _ _ c.if-is_none.ensures c.showing.ensures)
 
 pub returns-in_err-take_found-clause-goes_on : goal.returns-in_err-take_found-clause-goes_on
@@ -26,7 +26,7 @@ returns-in_err-take_found-clause-goes_on g c =
     let old = c.args.self.now in
     let found = c.search.new.self in
     let new = c.take_found.new.self in
-    refuses_next c.item_laws.ensures (g.S.Spool.holdings old.spool) (g.S.Spool.kept old.spool) (g.S.Spool.kept new.spool) _
+    refuses_next (g.S.Spool.holdings old.spool) (g.S.Spool.kept old.spool) (g.S.Spool.kept new.spool) _
     (node_of old) (node_of found) (node_of new) c.search.ensures.found
     (subst (λ s. IsAsBefore (g.S.Spool.holdings s) (g.S.Spool.kept s) (g.S.Spool.kept new.spool) (node_of found) (node_of new))
     c.search.ensures.spool c.in_err-take_found.ensures.err)
@@ -49,7 +49,7 @@ takes g c =
     let old = c.args.self.now in
     let found = c.search.new.self in
     let new = c.take_found.new.self in
-    takes_next c.item_laws.ensures (g.S.Spool.holdings old.spool) (g.S.Spool.kept old.spool) (g.S.Spool.kept new.spool)
+    takes_next (g.S.Spool.holdings old.spool) (g.S.Spool.kept old.spool) (g.S.Spool.kept new.spool)
     (CountsFaults faults_max (g.S.Spool.faults old.spool) (g.S.Spool.faults new.spool))
     (HasFailed faults_max (g.S.Spool.faults old.spool) (g.S.Spool.faults new.spool)) (λ failed. failed)
     (node_of old) (node_of found) (node_of new) c.in_ok-take_found.field-0 c.search.ensures.found

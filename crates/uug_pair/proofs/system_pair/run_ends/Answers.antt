@@ -1,5 +1,5 @@
 use Rattle.uug_pair.proofs.PairLemmas.{reading_fault, run_fault, status_within}
-use Rattle.uug_pair.proofs.system_pair.pair_run.Goals as goal
+use Rattle.uug_pair.proofs.system_pair.run_ends.Goals as goal
 
 pub returns-clause-status : goal.returns-clause-status
 returns-clause-status g c = status_within c.pair_over.result _ _ c.pair_over.ensures.status
@@ -9,4 +9,4 @@ returns-clause-no_other g c = run_fault c.pair_over.result c.pair_over.ensures.n
 
 pub returns-in_err-line-clause-no_other : goal.returns-in_err-line-clause-no_other
 returns-in_err-line-clause-no_other g c =
-    reading_fault c.from_residual-in_err-line.result _ c.from_residual-in_err-line.ensures.1 c.in_err-line.ensures.no_other
+    reading_fault c.from_residual.result _ c.from_residual.ensures.1 c.in_err-line.ensures.no_other
