@@ -11,7 +11,7 @@ use crate::heard::Heard;
 use crate::patience::Patience;
 use crate::watcher::{Standing, Watcher};
 use std::alloc::{AllocError, Allocator};
-use uug_pair::{LineFailed, Noise, Seat, TurnFault, UNREAD_MAX, calls_keep};
+use uug_pair::{LineFailed, Noise, Seat, TurnFault, UNREAD_MAX};
 use uug_session::Spool;
 
 /// Lets an end write and read at its line until its session is over. It writes all that it has to write, and reads once:
@@ -34,7 +34,6 @@ pub fn talk<S: Spool + Drop, L: EndLine, W: Watcher, A: Allocator + Copy>(
         → HasFailed u64.MAX (L.fault_count line.old) (L.fault_count line.new) }
     ensures grows { L.fault_count line.old ≤ L.fault_count line.new }
 {
-    calls_keep();
     let result = take_turns(seat, line, noise, most, watcher);
     seat.hang_up();
     watcher.is_over(standing(seat));
@@ -59,7 +58,6 @@ fn take_turns<S: Spool + Drop, L: EndLine, W: Watcher, A: Allocator + Copy>(
         → HasFailed u64.MAX (L.fault_count line.old) (L.fault_count line.new) }
     ensures grows { L.fault_count line.old ≤ L.fault_count line.new }
 {
-    calls_keep();
     let mut buffer = [0; UNREAD_MAX];
     let mut patience = Patience::new(most);
     while patience.lasts() {
@@ -117,7 +115,6 @@ fn take_heard<S: Spool + Drop, A: Allocator + Copy>(
         heard buffer.now noise.old noise.new (to_write seat.old) (to_write seat.new)
         (seated seat.old) (seated seat.new)) }
 {
-    calls_keep();
     match heard {
         Heard::Bytes(count) => seat.arrive(&buffer[..count], noise),
         Heard::Silence => seat.time_out(noise),

@@ -5,12 +5,12 @@ use Rattle.uug_conversation.specs.Holdings.{Kept, Holdings}
 use Rattle.uug_conversation.specs.Machine.{State, Reply, between, step}
 use Rattle.uug_conversation.specs.Outgoing.{IsWithin, outgoing_messages, sayings_of}
 use Rattle.uug_conversation.specs.Reactions.{reply_of}
-use Rattle.uug_conversation.specs.Talk.{Talk, taking}
-use Rattle.uug_conversation.specs.Talking.{Talking, talk_of, told_as}
+use Rattle.uug_conversation.specs.DialogueState.{DialogueState, taking}
+use Rattle.uug_conversation.specs.DialogueValue.{DialogueValue, dialogue_of, told_as}
 use Rattle.uug_conversation.specs.Turns.{all_messages}
 use Rattle.uug_conversation.proofs.OutgoingLemmas.{said_behind}
 
-abbrev talk : Bool → State → (size : ℕ) → (waiting : List (List ℕ)) → List Kept → Talk
+abbrev talk : Bool → State → (size : ℕ) → (waiting : List (List ℕ)) → List Kept → DialogueState
 talk o m size waiting kept = record { opened = o; machine = m; size = size; waiting = waiting; kept = kept }
 
 talk_is : (o o_is : Bool) (m m_is : State) (size : ℕ) (waiting waiting_is : List (List ℕ)) (kept kept_is : List Kept) →
@@ -19,14 +19,14 @@ talk_is : (o o_is : Bool) (m m_is : State) (size : ℕ) (waiting waiting_is : Li
 talk_is o o_is m m_is size waiting waiting_is kept kept_is e f w k = cc
 
 -- what a reaction leaves is what the machine replies
-pub taken_is : (h : Holdings) (kept kept_after : List Kept) (t t_after : Talking) (message : List ℕ) (told : Option Reaction)
+pub taken_is : (h : Holdings) (kept kept_after : List Kept) (t t_after : DialogueValue) (message : List ℕ) (told : Option Reaction)
     (r : Reaction) (s_after : State) → t.opened ≡ true → told ≡ Some r →
     step h t.machine message ≡ told_as h s_after told (step h t.machine message).keeps →
     kept_after ≡ kept ++ (step h t.machine message).keeps →
     t_after.opened ≡ t.opened → t_after.size ≡ t.size → t_after.machine ≡ between s_after.lists r.awaits →
     IsWithin t.outgoing.sayings t.outgoing.offset →
     t_after.outgoing.sayings ≡ t.outgoing.sayings ++ sayings_of r.says → t_after.outgoing.offset ≡ t.outgoing.offset →
-    talk_of h kept_after t_after ≡ taking h message (talk_of h kept t)
+    dialogue_of h kept_after t_after ≡ taking h message (dialogue_of h kept t)
 taken_is h kept kept_after t t_after message told r s_after o n e k o_same s_same m w a f =
     let reply : step h t.machine message ≡ reply_of h s_after.lists r (step h t.machine message).keeps =
     e ∙ ap (λ z. told_as h s_after z (step h t.machine message).keeps) n in

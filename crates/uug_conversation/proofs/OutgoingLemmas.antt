@@ -12,7 +12,7 @@ use Rattle.uug_conversation.specs.declared.reaction.Says.TheVariants.{Nothing, O
 use Rattle.uug_conversation.specs.Holdings.{Holdings}
 use Rattle.uug_conversation.specs.Outgoing.{Outgoing, IsSayable, IsWithin, is_silent, messages_from, messages_of, outgoing_messages, sayings_of}
 use Rattle.uug_conversation.specs.Reactions.{all_said, said_by}
-use Rattle.uug_conversation.specs.Talk.{is_empty}
+use Rattle.uug_conversation.specs.DialogueState.{is_empty}
 use Rattle.uug_conversation.specs.Turns.{Said, the_order, the_answer, the_file, said_messages, all_messages}
 
 -- ---- from any offset on there is a message

@@ -24,7 +24,7 @@ pub mod Reactions
 pub mod ReadBack
 pub mod Runs
 pub mod Sharing
-pub mod Talk
-pub mod Talking
+pub mod DialogueState
+pub mod DialogueValue
 pub mod Turns
 pub mod View

@@ -7,8 +7,8 @@ ghost use Rattle.uug_conversation.specs.Outgoing.{IsSayable, sayings_of};
 ghost use Rattle.uug_conversation.specs.Party.{HasNames};
 ghost use Rattle.uug_conversation.specs.Reactions.{HasModeInRange, reply_of};
 ghost use Rattle.uug_conversation.specs.Runs.{is_bad};
-ghost use Rattle.uug_conversation.specs.Talk.{asks_spool, first_of, opened_with, taking, with_first_sent};
-ghost use Rattle.uug_conversation.specs.Talking.{IsPart, state_of, talk_of, told_as, talking_has_parted, talking_is_through};
+ghost use Rattle.uug_conversation.specs.DialogueState.{asks_spool, first_of, opened_with, taking, with_first_sent};
+ghost use Rattle.uug_conversation.specs.DialogueValue.{IsPart, state_of, dialogue_of, told_as, dialogue_has_parted, dialogue_is_through};
 
 use crate::awaits::Awaits;
 use crate::machine::{go_on, on_text};
@@ -42,9 +42,9 @@ impl<A: Allocator> Model for Dialogue<A> {
     ghost use Rattle.std.specs.Prelude.{◌≡◌, ◌≤◌, ◌<◌, true};
     ghost use Rattle.uug_talk.specs.declared.chunks.TheConstants.{MESSAGE_MAX};
     ghost use Rattle.uug_conversation.specs.Reactions.{HasModeInRange};
-    ghost use Rattle.uug_conversation.specs.Talking.{Talking, IsPart, state_of};
+    ghost use Rattle.uug_conversation.specs.DialogueValue.{DialogueValue, IsPart, state_of};
 
-    ghost Value = { Talking };
+    ghost Value = { DialogueValue };
 
     ghost view = { λ d. record {
       opened = d.opened;
@@ -114,9 +114,9 @@ impl<A: Allocator + Copy> Dialogue<A> {
         requires room { SAYINGS_MAX ≤ self.old.outgoing.room }
         requires some { 0 < size }
         requires fits { size ≤ MESSAGE_MAX }
-        ensures opened { talk_of (S.holdings spool.now) (S.kept spool.now) self.new
+        ensures opened { dialogue_of (S.holdings spool.now) (S.kept spool.now) self.new
             ≡ opened_with side (S.holdings spool.now) size
-            (talk_of (S.holdings spool.now) (S.kept spool.now) self.old) }
+            (dialogue_of (S.holdings spool.now) (S.kept spool.now) self.old) }
     {
         let reaction = opening(&mut self.queue, spool, side);
         self.opened = true;
@@ -133,9 +133,9 @@ impl<A: Allocator + Copy> Dialogue<A> {
         requires room { SAYINGS_MAX ≤ self.old.outgoing.room }
         requires opened { self.old.opened ≡ true }
         ensures holdings { S.holdings spool.new ≡ S.holdings spool.old }
-        ensures taken { OnOk result (talk_of (S.holdings spool.old) (S.kept spool.new) self.new
+        ensures taken { OnOk result (dialogue_of (S.holdings spool.old) (S.kept spool.new) self.new
             ≡ taking (S.holdings spool.old) message.now
-            (talk_of (S.holdings spool.old) (S.kept spool.old) self.old)) }
+            (dialogue_of (S.holdings spool.old) (S.kept spool.old) self.old)) }
         ensures same { OnErr result (self.new ≡ self.old) }
         ensures none_kept { OnErr result (S.kept spool.new ≡ S.kept spool.old) }
         ensures stands { result ≢ Err FileFault.Device → S.faults spool.new ≡ S.faults spool.old }
@@ -163,12 +163,12 @@ impl<A: Allocator + Copy> Dialogue<A> {
     /// Puts the next message to go out into `message`, and says whether there was one. It is taken as sent.
     pub fn take_message<S: Spool>(&mut self, spool: &S, message: &mut Message) -> bool
         requires { self.old.opened ≡ true }
-        ensures first { OnTrue result (first_of (talk_of (S.holdings spool.now)
+        ensures first { OnTrue result (first_of (dialogue_of (S.holdings spool.now)
             (S.kept spool.now) self.old).waiting ≡ Some message.new.items) }
-        ensures none { OnFalse result (first_of (talk_of (S.holdings spool.now)
+        ensures none { OnFalse result (first_of (dialogue_of (S.holdings spool.now)
             (S.kept spool.now) self.old).waiting ≡ None) }
-        ensures sent { talk_of (S.holdings spool.now) (S.kept spool.now) self.new
-            ≡ with_first_sent (talk_of (S.holdings spool.now) (S.kept spool.now) self.old) }
+        ensures sent { dialogue_of (S.holdings spool.now) (S.kept spool.now) self.new
+            ≡ with_first_sent (dialogue_of (S.holdings spool.now) (S.kept spool.now) self.old) }
         ensures size { OnTrue result (length message.new.items ≤ self.old.size) }
     {
         self.outgoing.take_message(spool, self.size, message)
@@ -183,14 +183,14 @@ impl<A: Allocator + Copy> Dialogue<A> {
 
     /// Whether all is said and nothing more is to come.
     pub fn is_through(&self) -> bool
-        ensures { result ≡ talking_is_through self.now }
+        ensures { result ≡ dialogue_is_through self.now }
     {
         matches!(self.awaits, Awaits::NothingMore) && self.outgoing.is_silent()
     }
 
     /// Whether HY was said or taken.
     pub fn has_parted(&self) -> bool
-        ensures { result ≡ talking_has_parted self.now }
+        ensures { result ≡ dialogue_has_parted self.now }
     {
         match self.awaits {
             Awaits::NothingMore => true,

@@ -1,7 +1,7 @@
 ghost use Rattle.std.specs.Prelude.{◌≡◌, ◌≢◌, ◌≤◌, ◌<◌, ◌++◌, [], length, drop, All, OnOk, Some, None};
 ghost use Rattle.std.specs.Bool.{OnTrue, OnFalse};
 ghost use Rattle.uug_conversation.specs.Outgoing.{IsSayable, IsWithin, is_silent, outgoing_messages, sayings_of};
-ghost use Rattle.uug_conversation.specs.Talk.{first_of, behind_first};
+ghost use Rattle.uug_conversation.specs.DialogueState.{first_of, behind_first};
 
 use crate::part::part_of;
 use crate::reaction::{Saying, Says};

@@ -15,7 +15,6 @@ use crate::way::Way;
 use std::alloc::{AllocError, Allocator};
 use std::marker::Model;
 use uug_reader::Reader;
-use uug_reader::laws::found_in_steps;
 use uug_talk::{Gather, Progress};
 
 /// Takes down what an observer tells.
@@ -116,7 +115,6 @@ fn see_piece<A: Allocator, J: Journal>(
         stream.old.passed stream.new.passed }
     ensures waits { Waits stream.new.reader.bytes }
 {
-    found_in_steps();
     let mut rest = piece;
     take_found(stream, exchange, way, journal);
     while !rest.is_empty() {
@@ -138,7 +136,6 @@ fn take_found<A: Allocator, J: Journal>(
     ensures waits { Waits stream.new.reader.bytes }
     ensures room { length stream.new.reader.bytes < READER_SIZE }
 {
-    found_in_steps();
     while stream.reader.search() {
         if let Some(news) = take_shown(stream, exchange, way) {
             journal.note(&news);

@@ -1,9 +1,8 @@
 -- What is written of a script that is played and drawn.
 use Rattle.std.proofs.Common.{◌≡◌, ℕ, List, [], ◌++◌, Result, Ok, Err, IfErr, IsErrAnd, ap, sym, subst, ◌∙◌}
 use Rattle.uug_play.specs.Played.{IsPlayed, result_said}
-use Rattle.uug_script.specs.IsScript.{IsScript}
+use Rattle.uug_script.proofs.ScriptTableLemmas.{script_is_read}
 use Rattle.uug_script.specs.ReportText.{report_text}
-use Rattle.uug_script.specs.Script.{ScriptSays}
 use Rattle.uug_script.specs.ScriptOf.{script_of}
 use Rattle.uug_tool.specs.declared.fault.ToolFault.{ToolFault}
 use Rattle.uug_tool.specs.declared.fault.ToolFault.TheVariants as faults
@@ -15,32 +14,29 @@ use Rattle.uug_ladder.specs.Played.{IsShowingFault, IsShown}
 use Rattle.uug_ladder.specs.Rungs.{LadderValue}
 use Rattle.uug_ladder.proofs.FrontLemmas.{one_saying}
 
-abbrev pub ReadsScripts : Type 0
-ReadsScripts = (text : List ℕ) (script : ScriptSays) → IsScript text script → script_of text ≡ Ok script
-
 -- the ladder is of what was played
-same_ladder : ReadsScripts → (script text : List ℕ) (status : ℕ) (ladder : LadderValue) → (played : IsPlayed script text status) →
+same_ladder : (script text : List ℕ) (status : ℕ) (ladder : LadderValue) → (played : IsPlayed script text status) →
     IsLadderOf script ladder → ladder ≡ ladder_said played.says
-same_ladder reads script text status ladder played is =
-    is.ladder_is ∙ ap ladder_said (one_saying (script_of script) is.says played.says (reads script is.says is.script_is)
-    (reads script played.says played.script_is))
+same_ladder script text status ladder played is =
+    is.ladder_is ∙ ap ladder_said (one_saying (script_of script) is.says played.says (script_is_read script is.says is.script_is)
+    (script_is_read script played.says played.script_is))
 
-pub text_shown : ReadsScripts → (script text all : List ℕ) (status : ℕ) (ladder : LadderValue) → IsPlayed script text status →
+pub text_shown : (script text all : List ℕ) (status : ℕ) (ladder : LadderValue) → IsPlayed script text status →
     IsLadderOf script ladder → all ≡ text ++ ladder_text ladder → IsShown AsText script all status
-text_shown reads script text all status ladder played is a = record {
+text_shown script text all status ladder played is a = record {
   says = played.says;
   script_is = played.script_is;
   text_is = a ∙ ap (λ t. t ++ ladder_text ladder) played.text_is
-      ∙ ap (λ l. report_text (result_said played.says) ++ ladder_text l) (same_ladder reads script text status ladder played is);
+      ∙ ap (λ l. report_text (result_said played.says) ++ ladder_text l) (same_ladder script text status ladder played is);
   status_is = played.status_is;
 }
 
-pub picture_shown : ReadsScripts → (script text before all : List ℕ) (status : ℕ) (ladder : LadderValue) → IsPlayed script text status →
+pub picture_shown : (script text before all : List ℕ) (status : ℕ) (ladder : LadderValue) → IsPlayed script text status →
     IsLadderOf script ladder → before ≡ [] → all ≡ before ++ picture ladder → IsShown AsPicture script all status
-picture_shown reads script text before all status ladder played is none a = record {
+picture_shown script text before all status ladder played is none a = record {
   says = played.says;
   script_is = played.script_is;
-  text_is = a ∙ ap (λ t. t ++ picture ladder) none ∙ ap picture (same_ladder reads script text status ladder played is);
+  text_is = a ∙ ap (λ t. t ++ picture ladder) none ∙ ap picture (same_ladder script text status ladder played is);
   status_is = played.status_is;
 }
 

@@ -17,7 +17,6 @@ use crate::svg::{ROWS_MAX, add_svg};
 use crate::text::add_ladder;
 use std::alloc::Allocator;
 use uug_play::{Played, play_script, read_whole};
-use uug_script::laws::one_reading_of_scripts;
 use uug_tool::{Input, Output, READ_LIMIT, ToolFault, write_all};
 
 /// How a ladder is written.
@@ -48,7 +47,6 @@ fn as_text<A: Allocator + Copy>(alloc: A, script: &[u8]) -> Result<Played<A>, To
         IsShown Drawn.AsText script.now (string_bytes played.text) played.status) }
     ensures fault { IfErr result (IsShowingFault script.now) }
 {
-    one_reading_of_scripts();
     let Played { mut text, status } = play_script(alloc, script)?;
     let ladder = draw_script(alloc, script)?;
     add_ladder(alloc, &mut text, &ladder)?;
@@ -61,7 +59,6 @@ fn as_picture<A: Allocator + Copy>(alloc: A, script: &[u8]) -> Result<Played<A>,
         IsShown Drawn.AsPicture script.now (string_bytes played.text) played.status) }
     ensures fault { IfErr result (IsShowingFault script.now) }
 {
-    one_reading_of_scripts();
     let Played { status, .. } = play_script(alloc, script)?;
     let ladder = draw_script(alloc, script)?;
     if ladder.rungs.len() > ROWS_MAX {

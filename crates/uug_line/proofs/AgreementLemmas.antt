@@ -2,7 +2,7 @@
 use Rattle.std.proofs.Common.{◌≡◌, inl, inr, ℕ, false, List, length, refl, sym, subst}
 use Rattle.uug_conversation.specs.Count.{count_keeper}
 use Rattle.uug_conversation.specs.Holdings.{Holdings}
-use Rattle.uug_conversation.specs.Talk.{Talk, end_keeper, unopened}
+use Rattle.uug_conversation.specs.DialogueState.{DialogueState, end_keeper, unopened}
 use Rattle.uug_session.specs.TwoEnds.{Talker}
 use Rattle.uug_conversation.specs.View.{Seen}
 use Rattle.uug_conversation.specs.declared.side.Side.{Side}
@@ -14,7 +14,7 @@ use Rattle.uug_line.proofs.MoveLemmas.{StandsThere, joined_begins, joined_closes
 use Rattle.uug_line.proofs.TalkLemmas.{Agrees, agrees_at, seen_at, talk_at, talker_at, told_at}
 
 -- what an end keeps, and its two numbers, say the same
-pub record SaysSame (me : Side) (h : Holdings) (v : List Seen) (talk : Talk) (sent taken : ℕ) : Type 0 where
+pub record SaysSame (me : Side) (h : Holdings) (v : List Seen) (talk : DialogueState) (sent taken : ℕ) : Type 0 where
   pub next : (end_keeper me h).next talk ≡ (count_keeper v).next (record { opened = talk.opened; sent = sent; taken = taken })
   pub over : (end_keeper me h).is_over talk ≡ (count_keeper v).is_over (record { opened = talk.opened; sent = sent; taken = taken })
   pub parted : (end_keeper me h).has_parted talk
@@ -22,23 +22,23 @@ pub record SaysSame (me : Side) (h : Holdings) (v : List Seen) (talk : Talk) (se
   pub good : (end_keeper me h).is_bad talk ≡ false
 
 module _ (setup : SetupValue) (brought : AtBoth Belongings) (sound : IsSoundSession setup brought) (side : Side) where
-  abbrev SaysSameAt : Talk → (sent taken : ℕ) → Type 0
+  abbrev SaysSameAt : DialogueState → (sent taken : ℕ) → Type 0
   SaysSameAt talk sent taken =
       SaysSame side (at side setup).holdings (seen_at setup brought side) talk sent taken
 
   -- before the link is up
-  unopened_same : (talk : Talk) (sent taken : ℕ) → talk ≡ unopened (at side brought).lists (at side brought).kept →
+  unopened_same : (talk : DialogueState) (sent taken : ℕ) → talk ≡ unopened (at side brought).lists (at side brought).kept →
       SaysSameAt talk sent taken
   unopened_same talk sent taken is =
-      subst (λ (x : Talk). SaysSameAt x sent taken) (sym is)
+      subst (λ (x : DialogueState). SaysSameAt x sent taken) (sym is)
       (record { next = refl; over = refl; parted = refl; good = refl })
 
   -- behind what it brought
-  behind_same : (talk : Talk) (t : Talker) (sent taken : List (List ℕ)) → talk ≡ talk_at setup brought side t →
+  behind_same : (talk : DialogueState) (t : Talker) (sent taken : List (List ℕ)) → talk ≡ talk_at setup brought side t →
       Agrees side (at side setup).holdings (seen_at setup brought side) (talk_at setup brought side t) t →
       t.sent ≡ sent → t.taken ≡ taken → SaysSameAt talk (length sent) (length taken)
   behind_same talk t sent taken is agree sent_is taken_is =
-      subst (λ (x : Talk). SaysSameAt x (length sent) (length taken)) (sym is)
+      subst (λ (x : DialogueState). SaysSameAt x (length sent) (length taken)) (sym is)
       (subst (λ (l : List (List ℕ)). SaysSameAt (talk_at setup brought side t) (length l) (length taken)) sent_is
       (subst (λ (l : List (List ℕ)). SaysSameAt (talk_at setup brought side t) (length t.sent) (length l)) taken_is
       (record { next = agree.next; over = agree.over; parted = agree.parted; good = agree.good })))

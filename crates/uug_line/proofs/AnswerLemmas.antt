@@ -11,7 +11,7 @@ use Rattle.uug_session.specs.declared.end.End.TheVariants as ends
 use Rattle.uug_conversation.specs.Count.{Count, count_keeper}
 use Rattle.uug_session.specs.EndStep.{EndEffect, Identity, bad_came, behind_link, late, late_link, message_of, packet_came, talks_by}
 use Rattle.uug_conversation.specs.Holdings.{Holdings}
-use Rattle.uug_conversation.specs.Talk.{Talk, end_keeper}
+use Rattle.uug_conversation.specs.DialogueState.{DialogueState, end_keeper}
 use Rattle.uug_conversation.specs.declared.side.Side.{Side}
 use Rattle.uug_conversation.specs.View.{Seen}
 use Rattle.uug_line.proofs.Invariant.{DoesAlike, IsInvariant, answer_to, found, heard_by, moved}
@@ -43,7 +43,7 @@ taken_if false message messages = messages
 taken_if true message messages = messages ++ message ∷ []
 
 -- what an end does that has found a packet, told by numbers
-abbrev pub Heard : (J : Moment → Type 0) (first : State) (m : Moment) (p : PacketValue) (place : ℕ) (x : EndEffect Talk)
+abbrev pub Heard : (J : Moment → Type 0) (first : State) (m : Moment) (p : PacketValue) (place : ℕ) (x : EndEffect DialogueState)
     (y : EndEffect Count) → Type 0
 Heard J first m p place x y = DoesAlike J first (found m place (taken_if x.took (message_of p) m.taken)) x y
 

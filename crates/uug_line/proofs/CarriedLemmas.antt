@@ -18,7 +18,6 @@ use Rattle.uug_line.proofs.ByteLemmas.{CarriesBytes, IsByte, are_bytes}
 use Rattle.uug_line.proofs.EmittedByteLemmas.{IsRight}
 use Rattle.uug_link.proofs.TwoLinksRuns.{IsRun-first, IsRun-one, machine_runs}
 use Rattle.uug_link.proofs.InRangeLemmas.{range_at_first, range_stays, emits_well_formed}
-use Rattle.uug_line.proofs.LowerLemmas.{links_below}
 
 -- ---- lists
 
@@ -147,16 +146,16 @@ module _ (near far : Announced) (near_window : IsWindow near.window) (far_window
   occurs_right : (ends : Ends) (o : Occurrence) → IsRun near far ends → MayOccur ends o → BothRight ends
       → BothRight (after_occurrence ends o)
   occurs_right ends (at_near h) run may right =
-      let before = machine_runs links_below near far ends near_window far_window run in
-      let then = machine_runs links_below near far (after_occurrence ends (at_near h)) near_window far_window
+      let before = machine_runs near far ends near_window far_window run in
+      let then = machine_runs near far (after_occurrence ends (at_near h)) near_window far_window
       (IsRun-one near far ends (at_near h) run may) in (
         happens_right ends.near ends.far h ends.far.passed then.0.out.flight may before.2.passed then.2.flight
             right.1.whole right.0,
         right.1,
       )
   occurs_right ends (at_far h) run may right =
-      let before = machine_runs links_below near far ends near_window far_window run in
-      let then = machine_runs links_below near far (after_occurrence ends (at_far h)) near_window far_window
+      let before = machine_runs near far ends near_window far_window run in
+      let then = machine_runs near far (after_occurrence ends (at_far h)) near_window far_window
       (IsRun-one near far ends (at_far h) run may) in (
         right.0,
         happens_right ends.far ends.near h ends.near.passed then.0.back.flight may before.3.passed then.3.flight

@@ -24,7 +24,6 @@ use Rattle.uug_line.proofs.CleanBase.{Base, as_end, seen}
 use Rattle.uug_line.proofs.CleanItems.{Talks}
 use Rattle.uug_link.proofs.TwoLinksRuns.{within as links_unacked, windows}
 use Rattle.uug_link.proofs.CountsRuns.{counted as links_counted}
-use Rattle.uug_line.proofs.LowerLemmas.{links_below}
 
 -- ---- a conversation
 
@@ -149,18 +148,18 @@ module _ (setup : SetupValue) (brought : AtBoth Belongings) (B : Side → LineEn
 
   pub counted_to : (side : Side) (x y : LineEnd Count) → B side x y → CountedTo side x y
   counted_to side x y is =
-      (links_counted links_below (at side setup).own (at (other side) setup).own (record { near = as_end x; far = as_end y })
+      (links_counted (at side setup).own (at (other side) setup).own (record { near = as_end x; far = as_end y })
       (base.window side) (base.window (other side)) (base.run side x y is)).0
 
   pub counted_back : (side : Side) (x y : LineEnd Count) → B side x y →
       AreCounted (as_end y) (as_end x) (at side setup).own.window
   counted_back side x y is =
-      (links_counted links_below (at side setup).own (at (other side) setup).own (record { near = as_end x; far = as_end y })
+      (links_counted (at side setup).own (at (other side) setup).own (record { near = as_end x; far = as_end y })
       (base.window side) (base.window (other side)) (base.run side x y is)).1
 
   pub few : (side : Side) (x y : LineEnd Count) → B side x y → length x.state.link.unacked ≤ 7
   few side x y is =
-      let within = (links_unacked links_below (at side setup).own (at (other side) setup).own (record { near = as_end x; far = as_end y })
+      let within = (links_unacked (at side setup).own (at (other side) setup).own (record { near = as_end x; far = as_end y })
       (base.window side) (base.window (other side)) (base.run side x y is)).0 in
       omega (arith, within, (base.window (other side)).1)
 
@@ -188,7 +187,7 @@ module _ (setup : SetupValue) (brought : AtBoth Belongings) (B : Side → LineEn
       k = count_keeper (seen setup brought side)
 
       window : x.state.link.window ≡ (at (other side) setup).own.window
-      window = (windows links_below (at side setup).own (at (other side) setup).own (record { near = as_end x; far = as_end y })
+      window = (windows (at side setup).own (at (other side) setup).own (record { near = as_end x; far = as_end y })
           (base.window side) (base.window (other side)) (base.run side x y is)).0
           (subst KnowsWindow (sym talks.is_up) tt)
 

@@ -26,7 +26,6 @@ use Rattle.uug_line.proofs.CleanEnds.{ClosesThen, TalksOn, TalksOrCloses, closin
 use Rattle.uug_line.proofs.Steps.{count_player}
 use Rattle.uug_link.proofs.OutcomeLemmas.{moves_of}
 use Rattle.uug_link.proofs.CountsRuns.{counted as links_counted}
-use Rattle.uug_line.proofs.LowerLemmas.{links_below}
 
 -- ---- an end that talks, while packets come to it from the other end x and others behind them
 
@@ -111,7 +110,7 @@ module _ (setup : SetupValue) (brought : AtBoth Belongings) (B : Side → LineEn
 
   expected_low : (x y : LineEnd Count) → B side y x → y.state.link.expected < 8
   expected_low x y is =
-      let counted = (links_counted links_below (at side setup).own (at (other side) setup).own (record { near = as_end y; far = as_end x })
+      let counted = (links_counted (at side setup).own (at (other side) setup).own (record { near = as_end y; far = as_end x })
       (base.window side) (base.window (other side)) (base.run side y x is)).1 in
       omega (arith, counted.expected)
 
@@ -210,7 +209,7 @@ module _ (setup : SetupValue) (brought : AtBoth Belongings) (B : Side → LineEn
       let talk = All-head IsTalk p ps o.there.talk in
       let coming = still_coming (as_end x) (as_end y) (as_end then) p (ps ++ behind) at_place.place at_place.is
       (took_passed eff.took (message_of p) at_place.place y.log) o.there.coming in
-      let hears = (link_hears links_below (at side setup).own (at (other side) setup).own (record { near = as_end y; far = as_end x }) p
+      let hears = (link_hears (at side setup).own (at (other side) setup).own (record { near = as_end y; far = as_end x }) p
       (ps ++ behind) at_place.place (base.window side) (base.window (other side)) (base.run side y x is) o.talks.is_up talk
       o.there.coming at_place.is).1 in
       record {

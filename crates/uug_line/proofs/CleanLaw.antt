@@ -7,7 +7,7 @@ use Rattle.uug_session.specs.declared.end.End.TheVariants as ends
 use Rattle.uug_conversation.specs.Count.{Count, count_keeper}
 use Rattle.uug_session.specs.EndStep.{ended}
 use Rattle.uug_conversation.specs.Party.{Party}
-use Rattle.uug_conversation.specs.Talk.{Talk}
+use Rattle.uug_conversation.specs.DialogueState.{DialogueState}
 use Rattle.uug_conversation.specs.View.{others_messages}
 use Rattle.uug_line.specs.declared.event.Event.{Event}
 use Rattle.uug_conversation.specs.declared.side.Side.{Side}
@@ -142,7 +142,7 @@ module _ (setup : SetupValue) where
   -- ---- from a run that may settle
 
   -- a clean run whose ends hold nothing
-  run_is : (run : Run Talk) → run.verdict ≡ Clean → run.ends.at_caller.held ≡ [] → run.ends.at_called.held ≡ [] →
+  run_is : (run : Run DialogueState) → run.verdict ≡ Clean → run.ends.at_caller.held ≡ [] → run.ends.at_called.held ≡ [] →
       run_with run.past run.brought (counted_end run.ends.at_caller.end) (counted_end run.ends.at_called.end) ≡ counted run
   run_is run clean_is caller_holds called_holds =
       let so : (verdict : LineVerdict) (a b : List ℕ) → Run Count = λ verdict a b. record {
@@ -157,7 +157,7 @@ module _ (setup : SetupValue) where
       ap (λ (verdict : LineVerdict). so verdict [] []) (sym clean_is)
       ∙ ap₂ (λ (a b : List ℕ). so run.verdict a b) (sym caller_holds) (sym called_holds)
 
-  settles_run : (number : ℕ) (run : Run Talk) → Stands setup run → ((side : Side) → IsAnnouncement (at side setup).own) →
+  settles_run : (number : ℕ) (run : Run DialogueState) → Stands setup run → ((side : Side) → IsAnnouncement (at side setup).own) →
       MaySettle (counted run) → SettlesFrom setup number (counted run)
   settles_run number run stands announces may =
       let same = run_is run may.clean (may.ends Caller).holds_none (may.ends Called).holds_none in

@@ -4,7 +4,7 @@ use Rattle.std.proofs.lemmas.List.{append-nil, length-append}
 use Rattle.uug_session.specs.Arriving.{Buffered}
 use Rattle.uug_conversation.specs.Count.{Count}
 use Rattle.uug_session.specs.EndStep.{time_ran_out}
-use Rattle.uug_conversation.specs.Talk.{Talk}
+use Rattle.uug_conversation.specs.DialogueState.{DialogueState}
 use Rattle.uug_line.specs.declared.event.Event.{Event}
 use Rattle.uug_line.specs.declared.event.Event.TheVariants.{Pass, Timeout}
 use Rattle.uug_conversation.specs.declared.side.Side.TheVariants.{Caller, Called}
@@ -83,32 +83,32 @@ module _ (setup : SetupValue) (sound : IsSoundSetup setup) where
   caller_line : (events : List Event) (r : RunValue) → IsAt events r → line_from Caller (world setup events) ≡ r.caller.line
   caller_line events r stands =
       ap (λ (run : Run Count). line_from Caller run) (sym (is_world events))
-      ∙ ap (λ (h : Buffered (LineEnd Talk)). h.end.line) stands.caller
+      ∙ ap (λ (h : Buffered (LineEnd DialogueState)). h.end.line) stands.caller
 
   called_line : (events : List Event) (r : RunValue) → IsAt events r → line_from Called (world setup events) ≡ r.called.line
   called_line events r stands =
       ap (λ (run : Run Count). line_from Called run) (sym (is_world events))
-      ∙ ap (λ (h : Buffered (LineEnd Talk)). h.end.line) stands.called
+      ∙ ap (λ (h : Buffered (LineEnd DialogueState)). h.end.line) stands.called
 
   world_over : (events : List Event) (r : RunValue) → IsAt events r → AreOver r → IsOver (world setup events)
   world_over events r stands over = (
     ap (λ (run : Run Count). (end_at Caller run).end.state.stage) (sym (is_world events))
-        ∙ ap (λ (h : Buffered (LineEnd Talk)). h.end.state.stage) stands.caller ∙ over.0,
+        ∙ ap (λ (h : Buffered (LineEnd DialogueState)). h.end.state.stage) stands.caller ∙ over.0,
     ap (λ (run : Run Count). (end_at Called run).end.state.stage) (sym (is_world events))
-        ∙ ap (λ (h : Buffered (LineEnd Talk)). h.end.state.stage) stands.called ∙ over.1,
+        ∙ ap (λ (h : Buffered (LineEnd DialogueState)). h.end.state.stage) stands.called ∙ over.1,
   )
 
   parts_over : (events : List Event) (r : RunValue) → IsAt events r → IsOver (world setup events) → AreOver r
   parts_over events r stands over = (
     sym (ap (λ (run : Run Count). (end_at Caller run).end.state.stage) (sym (is_world events))
-        ∙ ap (λ (h : Buffered (LineEnd Talk)). h.end.state.stage) stands.caller) ∙ over.0,
+        ∙ ap (λ (h : Buffered (LineEnd DialogueState)). h.end.state.stage) stands.caller) ∙ over.0,
     sym (ap (λ (run : Run Count). (end_at Called run).end.state.stage) (sym (is_world events))
-        ∙ ap (λ (h : Buffered (LineEnd Talk)). h.end.state.stage) stands.called) ∙ over.1,
+        ∙ ap (λ (h : Buffered (LineEnd DialogueState)). h.end.state.stage) stands.called) ∙ over.1,
   )
 
   weight_is : (events : List Event) (r : RunValue) → IsAt events r → run_weight (world setup events) ≡ parts_weight r
   weight_is events r stands =
-      let weight : (a b : Buffered (LineEnd Talk)) → ℕ = λ a b.
+      let weight : (a b : Buffered (LineEnd DialogueState)) → ℕ = λ a b.
       (length a.end.log.taken + length b.end.log.taken) + (length a.end.log.sent + length b.end.log.sent)
       + (one_if_over a.end.state.stage + one_if_over b.end.state.stage) in
       ap (λ (run : Run Count). run_weight run) (sym (is_world events)) ∙ ap₂ weight stands.caller stands.called
@@ -118,7 +118,7 @@ module _ (setup : SetupValue) (sound : IsSoundSetup setup) where
   pushed : (events : List Event) (event : Event) (old new : RunValue) → IsAt events old → Happens event true old new →
       IsAt (events ++ event ∷ []) new
   pushed events event old new stands happens =
-      subst (λ (run : Run Talk). StandsAs setup run new) (sym (next_event by_themselves setup events event stands.clean))
+      subst (λ (run : Run DialogueState). StandsAs setup run new) (sym (next_event by_themselves setup events event stands.clean))
       (happens_clean event (length events) setup (run_of_ends setup events) old new stands happens)
 
   -- where the world is clean no packet is found that was not sent
@@ -128,7 +128,7 @@ module _ (setup : SetupValue) (sound : IsSoundSetup setup) where
       let ends = happens_fooled event (length events) setup (run_of_ends setup events) old new stands happens in
       let more = events ++ event ∷ [] in
       let one : (run_of_ends setup more).verdict ≡ Fooled (length events) (hearing_side event) =
-      ap (λ (run : Run Talk). run.verdict) (next_event by_themselves setup events event stands.clean) ∙ ends.verdict_is in
+      ap (λ (run : Run DialogueState). run.verdict) (next_event by_themselves setup events event stands.clean) ∙ ends.verdict_is in
       let two : (world setup more).verdict ≡ Clean =
       ap (λ (run : Run Count). run.verdict) (next_event by_numbers setup events event (world_clean events old stands)) ∙ clean in
       let three : (run_of_ends setup more).verdict ≡ (world setup more).verdict =

@@ -11,7 +11,7 @@ use Rattle.uug_packet.specs.WellFormed.{IsWellFormed}
 use Rattle.uug_conversation.specs.Count.{Count, count_keeper}
 use Rattle.uug_session.specs.EndStep.{Stage, hailing, linked, ended, time_ran_out}
 use Rattle.uug_session.specs.Sending.{GoesOnAt, SaidAt}
-use Rattle.uug_conversation.specs.Talk.{Talk, end_keeper}
+use Rattle.uug_conversation.specs.DialogueState.{DialogueState, end_keeper}
 use Rattle.uug_session.specs.TwoEnds.{Two}
 use Rattle.uug_conversation.specs.View.{floor, others_messages}
 use Rattle.uug_conversation.specs.declared.side.Side.{Side}
@@ -31,16 +31,15 @@ use Rattle.uug_line.proofs.Steps.{Steps, count_player, talk_player}
 use Rattle.uug_line.proofs.TalkLemmas.{IsToldAt, talker_at, told_at}
 use Rattle.uug_link.proofs.TwoLinksRuns.{owns}
 use Rattle.uug_link.proofs.WrittenRuns.{always_written}
-use Rattle.uug_line.proofs.LowerLemmas.{links_below}
 
 -- the ends themselves are joined
 pub data IsPair (setup : SetupValue) (brought : AtBoth Belongings) : Side → LineEnd Count → LineEnd Count → Type 0 where
-  pair : (side : Side) (e f : LineEnd Talk) → EndsJoined setup brought side e f →
+  pair : (side : Side) (e f : LineEnd DialogueState) → EndsJoined setup brought side e f →
       IsPair setup brought side (counted_end e) (counted_end f)
 
 -- ---- what is said of the ends themselves is said by numbers
 
-said_by_numbers : (side : Side) (setup : SetupValue) (brought : AtBoth Belongings) (stage : Stage) (s : State) (talk : Talk)
+said_by_numbers : (side : Side) (setup : SetupValue) (brought : AtBoth Belongings) (stage : Stage) (s : State) (talk : DialogueState)
     (count : Count) →
     (end_keeper side (at side setup).holdings).next talk ≡ (count_keeper (seen setup brought side)).next count →
     SaidAt (end_keeper side (at side setup).holdings) stage s talk →
@@ -50,7 +49,7 @@ said_by_numbers side setup brought linked s talk count same (inl full) = inl ful
 said_by_numbers side setup brought linked s talk count same (inr none) = inr (sym same ∙ none)
 said_by_numbers side setup brought (ended how) s talk count same said = said
 
-goes_on_by_numbers : (side : Side) (setup : SetupValue) (brought : AtBoth Belongings) (stage : Stage) (s : State) (talk : Talk)
+goes_on_by_numbers : (side : Side) (setup : SetupValue) (brought : AtBoth Belongings) (stage : Stage) (s : State) (talk : DialogueState)
     (count : Count) →
     (end_keeper side (at side setup).holdings).is_over talk ≡ (count_keeper (seen setup brought side)).is_over count →
     GoesOnAt (end_keeper side (at side setup).holdings) stage s talk →
@@ -60,7 +59,7 @@ goes_on_by_numbers side setup brought linked s talk count same goes = λ live. s
 goes_on_by_numbers side setup brought (ended how) s talk count same goes = goes
 
 -- the bytes on a line join and part nothing
-relined_joined : (setup : SetupValue) (brought : AtBoth Belongings) (side : Side) (line : List ℕ) (e f : LineEnd Talk) →
+relined_joined : (setup : SetupValue) (brought : AtBoth Belongings) (side : Side) (line : List ℕ) (e f : LineEnd DialogueState) →
     EndsJoined setup brought side e f →
     EndsJoined setup brought side (record { state = e.state; log = e.log; line = line }) f
 relined_joined setup brought side line e f j = record {
@@ -142,7 +141,7 @@ module _ (setup : SetupValue) (brought : AtBoth Belongings) (sound : IsSoundSess
   -- an end is set to what it was set up with
   pub pair_own : (side : Side) (x y : LineEnd Count) → Pair side x y → x.state.link.own ≡ (at side setup).own
   pair_own side x y is =
-      (owns links_below (at side setup).own (at (other side) setup).own (record { near = as_end x; far = as_end y })
+      (owns (at side setup).own (at (other side) setup).own (record { near = as_end x; far = as_end y })
       (sound.window side) (sound.window (other side)) (pair_run side x y is)).1
 
   pub base_of_pairs : ((side : Side) → (at side setup).own.quiet ≡ false) → Base setup brought (IsPair setup brought)

@@ -24,9 +24,9 @@ use Rattle.uug_conversation.specs.Keeper.{Keeper}
 use Rattle.uug_session.specs.Node.{NodeState, bytes_at, effect_of, held_bytes}
 use Rattle.uug_session.specs.Sessions.{HoldsNothing}
 use Rattle.uug_reader.specs.Reading.{Reading}
-use Rattle.uug_conversation.specs.Talk.{Talk, unopened}
+use Rattle.uug_conversation.specs.DialogueState.{DialogueState, unopened}
 use Rattle.uug_session.specs.TextsHeld.{TextsHeld}
-use Rattle.uug_conversation.specs.Talking.{talking_has_parted}
+use Rattle.uug_conversation.specs.DialogueValue.{dialogue_has_parted}
 use Rattle.uug_line.specs.JournalValue.{JournalValue, log_of}
 use Rattle.uug_line.specs.LineEnd.{LineEnd, after_call, called_with, holding, nothing_done}
 use Rattle.uug_line.specs.Live.{AreWritten, BeginsAgain, HasBegun, HasRoom, HoldsOn, IsCalled, IsNoted, IsOrdered, LiveEndValue, hearer_of, line_end_of, player_of, state_of}
@@ -41,14 +41,14 @@ same_bytes (hailing g) a b texts packets = ap (λ (t : TextsHeld). t.bytes) text
 same_bytes linked a b texts packets = ap (λ (r : Reading). r.bytes) packets
 same_bytes (ended how) a b texts packets = refl
 
-greeting_late : (number : Option ℕ) (in_time : Bool) (id : Identity) (g : Greeting) (s : State) (c : Talk) (n : NodeState)
+greeting_late : (number : Option ℕ) (in_time : Bool) (id : Identity) (g : Greeting) (s : State) (c : DialogueState) (n : NodeState)
     → HoldsOn (behind_greeting number id (if in_time
     then record { says = []; greeted = GoesOn (record { awaited = g.awaited; timeouts = g.timeouts + 1 }); rises = false }
     else fails [] ends.GaveUp) s c) (hailing g) n
 greeting_late number true id g s c n = refl
 greeting_late number false id g s c n = refl
 
-link_late : (number : Option ℕ) (id : Identity) (parted : Bool) (o : OutcomeValue) (e : Effect) (c : Talk) (n : NodeState)
+link_late : (number : Option ℕ) (id : Identity) (parted : Bool) (o : OutcomeValue) (e : Effect) (c : DialogueState) (n : NodeState)
     → HoldsOn (late_link number id parted o e c) linked n
 link_late number id parted nothing e c n = refl
 link_late number id parted up e c n = refl
@@ -57,7 +57,7 @@ link_late number id parted closed e c n = refl
 link_late number id parted gave_up e c n = refl
 link_late number id parted halted e c n = refl
 
-held_late : (number : Option ℕ) (k : Keeper Talk) (id : Identity) (stage : Stage) (s : State) (c : Talk) (n : NodeState)
+held_late : (number : Option ℕ) (k : Keeper DialogueState) (id : Identity) (stage : Stage) (s : State) (c : DialogueState) (n : NodeState)
     → HoldsOn (stage_step k id stage time_ran_out (record { stage = stage; link = s; keeper = c; number = number })) stage n
 held_late number k id (hailing g) s c n = greeting_late number (nat_lt (g.timeouts + 1) TIMEOUTS_MAX) id g s c n
 held_late number k id linked s c n = link_late number id (k.has_parted c) (step s timed_out).outcome (step s timed_out) c n
@@ -66,18 +66,18 @@ held_late number k id (ended how) s c n = refl
 -- ---- a call that uses no bytes
 
 -- it forgets them where it has ended
-pub called_is : (event : EndEvent) (e : EndEffect Talk) (old called new : LiveEndValue)
+pub called_is : (event : EndEvent) (e : EndEffect DialogueState) (old called new : LiveEndValue)
     → e ≡ end_step (player_of old).keeper (player_of old).identity event (state_of old)
     → Calls e old called new → called.journal ≡ old.journal → called.line ≡ old.line
     → held_bytes new.node ≡ held_in e.state.stage (held_bytes old.node)
     → hearer_of new ≡ called_with (player_of old) event (hearer_of old)
 called_is event e old called new is calls journal line held =
-    let by_held : List ℕ → Buffered (LineEnd Talk) = λ x. record { held = x; end = line_end_of new } in
-    let by_end : LineEnd Talk → Buffered (LineEnd Talk) = λ x. record { held = held_in e.state.stage (held_bytes old.node); end = x } in
-    let by_journal : JournalValue → Buffered (LineEnd Talk) =
+    let by_held : List ℕ → Buffered (LineEnd DialogueState) = λ x. record { held = x; end = line_end_of new } in
+    let by_end : LineEnd DialogueState → Buffered (LineEnd DialogueState) = λ x. record { held = held_in e.state.stage (held_bytes old.node); end = x } in
+    let by_journal : JournalValue → Buffered (LineEnd DialogueState) =
     λ x. holding (held_bytes old.node) (after_call (log_of x) called.line e) in
-    let by_line : List ℕ → Buffered (LineEnd Talk) = λ x. holding (held_bytes old.node) (after_call (log_of old.journal) x e) in
-    let by_effect : EndEffect Talk → Buffered (LineEnd Talk) =
+    let by_line : List ℕ → Buffered (LineEnd DialogueState) = λ x. holding (held_bytes old.node) (after_call (log_of old.journal) x e) in
+    let by_effect : EndEffect DialogueState → Buffered (LineEnd DialogueState) =
     λ x. holding (held_bytes old.node) (after_call (log_of old.journal) old.line x) in
     ap by_held held ∙ ap by_end calls.end ∙ ap by_journal journal ∙ ap by_line line ∙ ap by_effect is
 
@@ -86,7 +86,7 @@ room_kept (hailing g) bytes room = room
 room_kept linked bytes room = room
 room_kept (ended how) bytes room = omega arith
 
-calls_so : (event : EndEvent) (old called new : LiveEndValue) (e : EndEffect Talk)
+calls_so : (event : EndEvent) (old called new : LiveEndValue) (e : EndEffect DialogueState)
     → e ≡ end_step (player_of old).keeper (player_of old).identity event (state_of old)
     → HasRoom old → Calls e old called new → called.journal ≡ old.journal → called.line ≡ old.line
     → held_bytes new.node ≡ held_in e.state.stage (held_bytes old.node)
@@ -98,12 +98,12 @@ calls_so event old called new e is room calls journal line held = record {
   standing = calls.standing;
 }
 
-stage_after : (e : EndEffect Talk) (old called new : LiveEndValue) → Calls e old called new → new.node.engine.stage ≡ e.state.stage
-stage_after e old called new calls = ap (λ (x : LineEnd Talk). x.state.stage) calls.end
+stage_after : (e : EndEffect DialogueState) (old called new : LiveEndValue) → Calls e old called new → new.node.engine.stage ≡ e.state.stage
+stage_after e old called new calls = ap (λ (x : LineEnd DialogueState). x.state.stage) calls.end
 
 -- nothing has come for some time
 pub timed_out_so : (old called new : LiveEndValue) → IsOrdered old → HasRoom old
-    → Does (stage_late old.node.engine.number old.node.engine.identity (talking_has_parted old.node.engine.talking) old.node.engine.stage old.node.engine.link old.node.engine.talking)
+    → Does (stage_late old.node.engine.number old.node.engine.identity (dialogue_has_parted old.node.engine.dialogue) old.node.engine.stage old.node.engine.link old.node.engine.dialogue)
     (bare called.node.engine) old.node.engine called.node.engine
     → called.node.texts ≡ old.node.texts → called.node.packets ≡ old.node.packets → called.spool ≡ old.spool
     → called.journal ≡ old.journal → called.line ≡ old.line → IsNoted called new
@@ -122,13 +122,13 @@ timed_out_so old called new ordered room does texts packets spool journal line n
 
 -- ---- the line is gone
 
-lost_does : (lost : EndEffect Talk) (h : Holdings) (kept : List Kept) (stage : Stage) (old called : EngineState)
+lost_does : (lost : EndEffect DialogueState) (h : Holdings) (kept : List Kept) (stage : Stage) (old called : EngineState)
     → lost ≡ unmoved (end_of h kept (with_stage stage old)) → called ≡ with_stage stage old
     → Does lost (end_of h kept called) old called
 lost_does lost h kept stage old called is engine = record {
-  end = ap (λ (x : EngineState). end_of h kept x) engine ∙ sym (ap (λ (x : EndEffect Talk). x.state) is);
+  end = ap (λ (x : EngineState). end_of h kept x) engine ∙ sym (ap (λ (x : EndEffect DialogueState). x.state) is);
   emitted = ap (λ (x : EngineState). x.outbox.entries) engine ∙ sym (append-nil old.outbox.entries)
-      ∙ ap (λ (x : EndEffect Talk). old.outbox.entries ++ map entry_of x.emitted) (sym is);
+      ∙ ap (λ (x : EndEffect DialogueState). old.outbox.entries ++ map entry_of x.emitted) (sym is);
   identity = ap (λ (x : EngineState). x.identity) engine;
   own = ap (λ (x : EngineState). x.own) engine;
 }
@@ -140,11 +140,11 @@ held_lost parted linked n bytes = refl
 held_lost parted (ended how) n bytes = refl
 
 pub hung_up_so : (old called new : LiveEndValue) → IsOrdered old → HasRoom old
-    → called.node.engine ≡ with_stage (hung_up (talking_has_parted old.node.engine.talking) old.node.engine.stage) old.node.engine
+    → called.node.engine ≡ with_stage (hung_up (dialogue_has_parted old.node.engine.dialogue) old.node.engine.stage) old.node.engine
     → called.spool ≡ old.spool → called.journal ≡ old.journal → called.line ≡ old.line → IsNoted called new
     → IsCalled line_lost old new
 hung_up_so old called new ordered room engine spool journal line noted_so =
-    let parted = talking_has_parted old.node.engine.talking in
+    let parted = dialogue_has_parted old.node.engine.dialogue in
     let stage = hung_up parted old.node.engine.stage in
     let e = effect_of (holdings_of old.spool) old.spool.stored line_lost old.node.engine in
     let is : e ≡ unmoved (end_of (holdings_of old.spool) old.spool.stored (with_stage stage old.node.engine)) =
@@ -154,7 +154,7 @@ hung_up_so old called new ordered room engine spool journal line noted_so =
     steps_so line_lost old called new ordered tt
     (subst of_spool (sym spool) (lost_does e (holdings_of old.spool) old.spool.stored stage old.node.engine called.node.engine is engine))
     noted_so (subst (λ (j : JournalValue). AreWritten j.packets) (sym journal) ordered.written) (ap holdings_of spool) in
-    let at : stage ≡ e.state.stage = ap (λ (x : EndEffect Talk). x.state.stage) (sym is) in
+    let at : stage ≡ e.state.stage = ap (λ (x : EndEffect DialogueState). x.state.stage) (sym is) in
     calls_so line_lost old called new e refl room calls journal line
     (ap (λ (x : Stage). bytes_at x new.node) (stage_after e old called new calls ∙ sym at)
     ∙ held_lost parted old.node.engine.stage new.node (held_bytes old.node)
@@ -205,10 +205,10 @@ begun_so id own number l called new announces session nothing_held journal line 
     let bytes : held_bytes new.node ≡ [] =
     same_bytes new.node.engine.stage new.node called.node noted_so.texts noted_so.packets
     ∙ nothing_at new.node.engine.stage called.node nothing_held in
-    let by_held : List ℕ → Buffered (LineEnd Talk) = λ x. record { held = x; end = line_end_of new } in
-    let by_end : LineEnd Talk → Buffered (LineEnd Talk) = λ x. record { held = held_in e.state.stage []; end = x } in
-    let by_journal : JournalValue → LineEnd Talk = λ x. after_call (log_of x) called.line e in
-    let by_line : List ℕ → LineEnd Talk = λ x. after_call (log_of nothing_done) x e in
+    let by_held : List ℕ → Buffered (LineEnd DialogueState) = λ x. record { held = x; end = line_end_of new } in
+    let by_end : LineEnd DialogueState → Buffered (LineEnd DialogueState) = λ x. record { held = held_in e.state.stage []; end = x } in
+    let by_journal : JournalValue → LineEnd DialogueState = λ x. after_call (log_of x) called.line e in
+    let by_line : List ℕ → LineEnd DialogueState = λ x. after_call (log_of nothing_done) x e in
     record {
       hearer = ap by_held (bytes ∙ none_held e.state.stage)
           ∙ ap by_end (calls.end ∙ ap by_journal journal ∙ ap by_line line);
@@ -219,12 +219,12 @@ begun_so id own number l called new announces session nothing_held journal line 
 
 -- the next one begins
 pub begun_again : (old called new : LiveEndValue) → IsOrdered old
-    → BeginsSession old.node.engine.identity old.node.engine.own old.node.engine.number (all_ahead old.node.engine.talking.machine.lists) old.node.engine.outbox.entries
+    → BeginsSession old.node.engine.identity old.node.engine.own old.node.engine.number (all_ahead old.node.engine.dialogue.machine.lists) old.node.engine.outbox.entries
     called.node.engine → HoldsNothing called.node → called.spool ≡ old.spool
     → called.journal ≡ nothing_done → called.line ≡ [] → IsNoted called new → BeginsAgain old new
 begun_again old called new ordered session nothing_held spool journal line noted_so =
     let e = old.node.engine in
-    let l = all_ahead e.talking.machine.lists in
+    let l = all_ahead e.dialogue.machine.lists in
     subst (λ (m : MemoryHoldings). HasBegun e.identity e.own e.number l m new) spool
     (begun_so e.identity e.own e.number l called new ordered.own
     (subst (λ (es : List EntryValue). BeginsSession e.identity e.own e.number l es called.node.engine) ordered.cleared session)

@@ -10,14 +10,14 @@ use Rattle.uug_conversation.specs.Count.{Count, count_keeper}
 use Rattle.uug_session.specs.EndStep.{EndEffect, Sending, Stage, has_room, hailing, message_of, packets}
 use Rattle.uug_conversation.specs.Holdings.{Holdings}
 use Rattle.uug_conversation.specs.Keeper.{Keeper}
-use Rattle.uug_conversation.specs.Talk.{Talk, end_keeper}
+use Rattle.uug_conversation.specs.DialogueState.{DialogueState, end_keeper}
 use Rattle.uug_conversation.specs.declared.side.Side.{Side}
 use Rattle.uug_conversation.specs.View.{Seen}
 use Rattle.uug_line.proofs.Joining.{Moment}
 use Rattle.uug_line.proofs.MomentLemmas.{count, emits}
 
 -- what is kept then, by the link's answer
-abbrev pub heard_talk : Keeper Talk → OutcomeValue → (size : ℕ) → (message : List ℕ) → Talk → Talk
+abbrev pub heard_talk : Keeper DialogueState → OutcomeValue → (size : ℕ) → (message : List ℕ) → DialogueState → DialogueState
 heard_talk k nothing size message talk = talk
 heard_talk k up size message talk = k.opened size talk
 heard_talk k taken size message talk = k.taking message talk
@@ -38,17 +38,17 @@ found m place messages = record {
 }
 
 -- an event has moved its link
-abbrev pub moved : Moment → Event → Talk → Moment
+abbrev pub moved : Moment → Event → DialogueState → Moment
 moved m event talk = emits m (packets (step m.link event).emitted) (step m.link event).state talk
 
 -- a packet was found at its place, and answered so by the link
 abbrev pub answer_to : Moment → PacketValue → OutcomeValue
 answer_to m p = (step m.link (packet_found p)).outcome
 
-abbrev pub heard_with : Moment → PacketValue → (place : ℕ) → OutcomeValue → Talk → Moment
+abbrev pub heard_with : Moment → PacketValue → (place : ℕ) → OutcomeValue → DialogueState → Moment
 heard_with m p place o talk = moved (found m place (taken_by o (packet_found p) m.taken)) (packet_found p) talk
 
-abbrev pub heard_by : Keeper Talk → Moment → PacketValue → (place : ℕ) → OutcomeValue → Moment
+abbrev pub heard_by : Keeper DialogueState → Moment → PacketValue → (place : ℕ) → OutcomeValue → Moment
 heard_by k m p place o =
     let size = size_of_code (step m.link (packet_found p)).state.size_code in
     heard_with m p place o (heard_talk k o size (message_of p) m.talk)
@@ -76,10 +76,10 @@ pub record IsInvariant (me : Side) (h : Holdings) (v : List Seen) (J : Moment �
 -- ---- told by numbers
 
 -- what was done, with the keeper's two numbers
-abbrev pub counted_sending : Moment → Sending Talk → Sending Count
+abbrev pub counted_sending : Moment → Sending DialogueState → Sending Count
 counted_sending m x = record { link = x.link; keeper = count m; emissions = x.emissions }
 
-abbrev pub counted_effect : Moment → EndEffect Talk → EndEffect Count
+abbrev pub counted_effect : Moment → EndEffect DialogueState → EndEffect Count
 counted_effect m x = record {
   state = record { stage = x.state.stage; link = x.state.link; keeper = count m; number = x.state.number };
   emitted = x.emitted;
@@ -87,14 +87,14 @@ counted_effect m x = record {
 }
 
 -- what the end has come to by it
-abbrev pub sent_all : Moment → Sending Talk → Moment
+abbrev pub sent_all : Moment → Sending DialogueState → Moment
 sent_all m x = emits m (packets x.emissions) x.link x.keeper
 
-abbrev pub done_all : Moment → EndEffect Talk → Moment
+abbrev pub done_all : Moment → EndEffect DialogueState → Moment
 done_all m x = emits m x.emitted x.state.link x.state.keeper
 
 -- the fact holds after it, and the same was done by numbers
-pub record SendsAlike (J : Moment → Type 0) (m : Moment) (x : Sending Talk) (y : Sending Count) : Type 0 where
+pub record SendsAlike (J : Moment → Type 0) (m : Moment) (x : Sending DialogueState) (y : Sending Count) : Type 0 where
   pub holds : J (sent_all m x)
   pub same : y ≡ counted_sending (sent_all m x) x
 
@@ -102,7 +102,7 @@ pub record SendsAlike (J : Moment → Type 0) (m : Moment) (x : Sending Talk) (y
 abbrev pub HailsFresh : (first : State) → Stage → (link : State) → Type 0
 HailsFresh first stage link = (g : Greeting) → stage ≡ hailing g → link ≡ first
 
-pub record DoesAlike (J : Moment → Type 0) (first : State) (m : Moment) (x : EndEffect Talk) (y : EndEffect Count) :
+pub record DoesAlike (J : Moment → Type 0) (first : State) (m : Moment) (x : EndEffect DialogueState) (y : EndEffect Count) :
     Type 0 where
   pub holds : J (done_all m x)
   pub same : y ≡ counted_effect (done_all m x) x

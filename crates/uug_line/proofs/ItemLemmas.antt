@@ -23,7 +23,7 @@ use Rattle.uug_conversation.specs.Keeper.{Keeper}
 use Rattle.uug_conversation.specs.MemoryHoldings.{MemoryHoldings, holdings_of}
 use Rattle.uug_session.specs.Node.{ItemValue, IsLeft, NodeState, ShowsItem, TakesItem, bad_item, bytes_at, effect_of, event_of, held_bytes, item_size, packet_item, searched, shown_size_at, text_item}
 use Rattle.uug_session.specs.ShownItems.{ItemFound, NothingFound, finding_of, is_too_long, waits}
-use Rattle.uug_conversation.specs.Talk.{Talk}
+use Rattle.uug_conversation.specs.DialogueState.{DialogueState}
 use Rattle.uug_session.specs.TextsHeld.{TextsHeld}
 use Rattle.uug_line.specs.declared.sighting.Sighting.TheVariants.{Other, At, Unsent}
 use Rattle.uug_line.specs.JournalValue.{JournalValue, log_of, packet_in, packet_noted}
@@ -47,16 +47,16 @@ NotHailing (hailing g) = ⊥
 NotHailing linked = ⊤
 NotHailing (ended how) = ⊤
 
-talks_on : (number : Option ℕ) (bad : Bool) (k : Keeper Talk) (id : Identity) (e : Effect) (before after : Talk) → NotHailing (talks_by number bad k id e before after).state.stage
+talks_on : (number : Option ℕ) (bad : Bool) (k : Keeper DialogueState) (id : Identity) (e : Effect) (before after : DialogueState) → NotHailing (talks_by number bad k id e before after).state.stage
 talks_on number true k id e before after = tt
 talks_on number false k id e before after = tt
 
-takes_on : (number : Option ℕ) (device_failed : Bool) (k : Keeper Talk) (id : Identity) (e : Effect) (message : List ℕ) (c : Talk)
+takes_on : (number : Option ℕ) (device_failed : Bool) (k : Keeper DialogueState) (id : Identity) (e : Effect) (message : List ℕ) (c : DialogueState)
     → NotHailing (takes_by number device_failed k id e message c).state.stage
 takes_on number true k id e message c = tt
 takes_on number false k id e message c = talks_on number (k.is_bad (k.taking message c)) k id e c (k.taking message c)
 
-link_on : (number : Option ℕ) (k : Keeper Talk) (id : Identity) (device_failed : Bool) (o : OutcomeValue) (e : Effect) (message : List ℕ) (c : Talk)
+link_on : (number : Option ℕ) (k : Keeper DialogueState) (id : Identity) (device_failed : Bool) (o : OutcomeValue) (e : Effect) (message : List ℕ) (c : DialogueState)
     → NotHailing (behind_link number k id device_failed o e message c).state.stage
 link_on number k id device_failed nothing e message c = tt
 link_on number k id device_failed up e message c = tt
@@ -70,8 +70,8 @@ MayBeAt (text_item text) stage = ⊤
 MayBeAt (packet_item p) stage = NotHailing stage
 MayBeAt bad_item stage = NotHailing stage
 
-item_on : (number : Option ℕ) (k : Keeper Talk) (id : Identity) (device_failed : Bool) (stage : Stage) (texts : TextsHeld) (packets : Reading) (item : ItemValue)
-    (s : State) (c : Talk) → ShowsItem stage texts packets item
+item_on : (number : Option ℕ) (k : Keeper DialogueState) (id : Identity) (device_failed : Bool) (stage : Stage) (texts : TextsHeld) (packets : Reading) (item : ItemValue)
+    (s : State) (c : DialogueState) → ShowsItem stage texts packets item
     → MayBeAt item (stage_step k id stage (event_of device_failed item) (record { stage = stage; link = s; keeper = c; number = number })).state.stage
 item_on number k id device_failed stage texts packets (text_item text) s c shows = tt
 item_on number k id device_failed linked texts packets (packet_item p) s c shows =
@@ -144,7 +144,7 @@ ordered_with e n same ordered = record {
   most = subst (λ (x : EngineState). length x.link.unacked ≤ e.journal.most) (sym same) ordered.most;
 }
 
-abbrev effect_at : EndEvent → LiveEndValue → EndEffect Talk
+abbrev effect_at : EndEvent → LiveEndValue → EndEffect DialogueState
 effect_at event e = end_step (player_of e).keeper (player_of e).identity event (state_of e)
 
 -- the item was taken up, and this had been written down of it
@@ -174,26 +174,26 @@ item_taken old new item found ordered shows keeps taken_up =
     of_item h kept taken_up.called.spool.stored counts item taken_up.shown.0 n taken_up.called.node taken_up.took
     (one_item old.node taken_up.shown.0 item taken_up.shown.1 shows) taken_up.shown.2 in
     let well : takes.device_failed ≡ false = not_failed takes.device_failed takes.device in
-    let of_failed : Bool → EndEffect Talk = λ b. effect_of h kept (event_of b item) n.engine in
+    let of_failed : Bool → EndEffect DialogueState = λ b. effect_of h kept (event_of b item) n.engine in
     let effect = of_failed false in
-    let of_holdings : Holdings → EndState Talk = λ x. end_of x taken_up.called.spool.stored taken_up.called.node.engine in
+    let of_holdings : Holdings → EndState DialogueState = λ x. end_of x taken_up.called.spool.stored taken_up.called.node.engine in
     let does_so : Does effect (state_of taken_up.called) n.engine taken_up.called.node.engine =
-    subst (λ (x : EndState Talk). Does effect x n.engine taken_up.called.node.engine) (ap of_holdings (sym taken_up.holdings))
+    subst (λ (x : EndState DialogueState). Does effect x n.engine taken_up.called.node.engine) (ap of_holdings (sym taken_up.holdings))
     (subst (λ (b : Bool). Does (of_failed b) (end_of h taken_up.called.spool.stored taken_up.called.node.engine) n.engine taken_up.called.node.engine) well takes.does) in
     let written : AreWritten taken_up.called.journal.packets =
     subst AreWritten (sym (keeps taken_up.took) ∙ ap (λ (j : JournalValue). j.packets) (sym taken_up.journal)) ordered.written in
     let calls : Calls effect (sought old) taken_up.called new =
     steps_so (event_of false item) (sought old) taken_up.called new (ordered_with old n f.engine ordered)
     (may_find n.engine.stage n.texts n.packets item shows) does_so taken_up.noted written taken_up.holdings in
-    let of_engine : EngineState → EndEffect Talk = λ x. effect_of h kept (event_of false item) x in
+    let of_engine : EngineState → EndEffect DialogueState = λ x. effect_of h kept (event_of false item) x in
     let same : effect ≡ effect_at (event_of false item) old = ap of_engine f.engine in
     let took_is : taken_up.took ≡ (effect_at (event_of false item) old).took =
-    takes.answer ∙ ap (λ (b : Bool). (of_failed b).took) well ∙ ap (λ (x : EndEffect Talk). x.took) same in
-    let stage : new.node.engine.stage ≡ effect.state.stage = ap (λ (x : LineEnd Talk). x.state.stage) calls.end in
-    let by_journal : JournalValue → LineEnd Talk = λ j. after_call (log_of j) taken_up.called.line effect in
-    let by_line : List ℕ → LineEnd Talk = λ x. after_call (log_of (found taken_up.took)) x effect in
-    let by_took : Bool → LineEnd Talk = λ b. after_call (log_of (found b)) old.line effect in
-    let by_effect : EndEffect Talk → LineEnd Talk = λ x. after_call (log_of (found (effect_at (event_of false item) old).took)) old.line x in
+    takes.answer ∙ ap (λ (b : Bool). (of_failed b).took) well ∙ ap (λ (x : EndEffect DialogueState). x.took) same in
+    let stage : new.node.engine.stage ≡ effect.state.stage = ap (λ (x : LineEnd DialogueState). x.state.stage) calls.end in
+    let by_journal : JournalValue → LineEnd DialogueState = λ j. after_call (log_of j) taken_up.called.line effect in
+    let by_line : List ℕ → LineEnd DialogueState = λ x. after_call (log_of (found taken_up.took)) x effect in
+    let by_took : Bool → LineEnd DialogueState = λ b. after_call (log_of (found b)) old.line effect in
+    let by_effect : EndEffect DialogueState → LineEnd DialogueState = λ x. after_call (log_of (found (effect_at (event_of false item) old).took)) old.line x in
     let behind = drop (item_size n) (held_bytes n) in
     record {
       end = calls.end ∙ ap by_journal taken_up.journal ∙ ap by_line taken_up.line ∙ ap by_took took_is ∙ ap by_effect same;
@@ -201,7 +201,7 @@ item_taken old new item found ordered shows keeps taken_up =
           ∙ left_at n.engine.stage effect.state.stage n.texts n.packets item n taken_up.called.node new.node refl refl shows
           (item_on (state_of (sought old)).number (player_of (sought old)).keeper n.engine.identity false n.engine.stage n.texts n.packets item n.engine.link (state_of (sought old)).keeper shows)
           takes.left taken_up.noted.texts taken_up.noted.packets
-          ∙ ap (λ (x : EndEffect Talk). held_in x.state.stage behind) same;
+          ∙ ap (λ (x : EndEffect DialogueState). held_in x.state.stage behind) same;
       ordered = calls.ordered;
       standing = calls.standing ∙ ap (λ (x : EngineState). standing_of (record old { node = record n { engine = x } })) f.engine;
     }
@@ -237,16 +237,16 @@ one_so others item log old new shows taken_so takes =
     let behind = drop (item_size n) (held_bytes n) in
     let f : ItemFound item old.node n = item_found old.node item shows in
     let e = effect_at (event_of false item) old in
-    let by_held : List ℕ → Buffered (LineEnd Talk) = λ x. record { held = x; end = line_end_of old } in
-    let by_held_after : List ℕ → Buffered (LineEnd Talk) = λ x. record { held = x; end = line_end_of new } in
-    let by_end : LineEnd Talk → Buffered (LineEnd Talk) = λ x. record { held = held_in e.state.stage behind; end = x } in
+    let by_held : List ℕ → Buffered (LineEnd DialogueState) = λ x. record { held = x; end = line_end_of old } in
+    let by_held_after : List ℕ → Buffered (LineEnd DialogueState) = λ x. record { held = x; end = line_end_of new } in
+    let by_end : LineEnd DialogueState → Buffered (LineEnd DialogueState) = λ x. record { held = held_in e.state.stage behind; end = x } in
     let after : hearer_of new ≡ holds t behind (after_call log old.line e) = ap by_held_after taken_so.held ∙ ap by_end taken_so.end in
     let less : length behind < length (held_bytes old.node) =
     behind_item item from behind (held_bytes old.node)
     (subst (λ (x : Finding). LeavesFewer x (held_bytes old.node)) f.finding (found_fewer old.node.engine.stage (held_bytes old.node))) in
     record {
-      same = ap (λ (x : Buffered (LineEnd Talk)). takes_all t x) (ap by_held (holds_itself old.node.engine.stage old.node))
-          ∙ takes_next (LineEnd Talk) t (held_bytes old.node) (line_end_of old)
+      same = ap (λ (x : Buffered (LineEnd DialogueState)). takes_all t x) (ap by_held (holds_itself old.node.engine.stage old.node))
+          ∙ takes_next (LineEnd DialogueState) t (held_bytes old.node) (line_end_of old)
           ∙ ap (λ (x : Finding). takes_up (takes_all t) t x (line_end_of old)) f.finding
           ∙ takes ∙ ap (takes_all t) (sym after);
       ordered = taken_so.ordered;
@@ -291,9 +291,9 @@ takes_packet : (others : List (List ℕ)) (p : PacketValue) (from behind bytes :
 takes_packet others p from behind bytes place old well written stands is =
     let t = taker_of others old in
     let e = effect_at (packet_found_whole false p) old in
-    let by_place : Option ℕ → Arrival (LineEnd Talk) =
+    let by_place : Option ℕ → Arrival (LineEnd DialogueState) =
     λ o. takes_if (takes_all t) t (takes_sent (player_of old) p o (line_end_of old)) from behind (line_end_of old) in
-    let by_log : Log → Arrival (LineEnd Talk) = λ log. takes_all t (holds t behind (after_call log old.line e)) in
+    let by_log : Log → Arrival (LineEnd DialogueState) = λ log. takes_all t (holds t behind (after_call log old.line e)) in
     ap by_place (place_found p others old.journal.passed place well written stands)
     ∙ ap by_log (sym (packet_logged p bytes place old.journal e.took well is))
 
@@ -338,7 +338,7 @@ unsent_packet (text_item text) others passed sights = absurd sights
 unsent_packet bad_item others passed sights = absurd sights
 
 -- the end, with the bytes that it holds
-abbrev with_bytes : List ℕ → LiveEndValue → Buffered (LineEnd Talk)
+abbrev with_bytes : List ℕ → LiveEndValue → Buffered (LineEnd DialogueState)
 with_bytes bytes e = record { held = bytes; end = line_end_of e }
 
 first_of_all : (others : List (List ℕ)) (old : LiveEndValue)
@@ -347,7 +347,7 @@ first_of_all : (others : List (List ℕ)) (old : LiveEndValue)
 first_of_all others old =
     let t = taker_of others old in
     ap (λ (x : List ℕ). takes_all t (with_bytes x old)) (holds_itself old.node.engine.stage old.node)
-    ∙ takes_next (LineEnd Talk) t (held_bytes old.node) (line_end_of old)
+    ∙ takes_next (LineEnd DialogueState) t (held_bytes old.node) (line_end_of old)
 
 sought_held : (old : LiveEndValue) → (searched old.node).engine ≡ old.node.engine
     → hearer_of (sought old) ≡ record { held = held_in old.node.engine.stage (held_bytes (searched old.node)); end = line_end_of old }
@@ -369,13 +369,13 @@ stopped_so others old ordered written sights =
     let f : ItemFound (packet_item p) old.node n = item_found old.node (packet_item p) (shown_packet n sights.0 p none.1 sights.1) in
     let from = held_bytes n in
     let behind = drop (item_size n) (held_bytes n) in
-    let by_place : Option ℕ → Arrival (LineEnd Talk) =
+    let by_place : Option ℕ → Arrival (LineEnd DialogueState) =
     λ o. takes_if (takes_all t) t (takes_sent (player_of old) p o (line_end_of old)) from behind (line_end_of old) in
     record {
       stopped = first_of_all others old
           ∙ ap (λ (x : Finding). takes_up (takes_all t) t x (line_end_of old)) f.finding
           ∙ ap by_place (no_place_found p others old.journal.passed written none.2)
-          ∙ ap (λ (x : Buffered (LineEnd Talk)). stopped x) (sym (sought_held old f.engine));
+          ∙ ap (λ (x : Buffered (LineEnd DialogueState)). stopped x) (sym (sought_held old f.engine));
       ordered = ordered_with old n f.engine ordered;
       standing = ap (λ (x : EngineState). standing_of (record old { node = record n { engine = x } })) f.engine;
       no_more = (subst (λ (x : Finding). LeavesFewer x (held_bytes old.node)) f.finding
@@ -393,9 +393,9 @@ too_long_after : (old : LiveEndValue) (g : Greeting) → old.node.engine.stage �
     ≡ record (line_end_of old) { state = record (state_of old) { stage = ended ends.BadTalk } }
 too_long_after old g at ordered =
     let j = old.journal in
-    let by_stage : Stage → LineEnd Talk = λ x. after_call (log_of j) old.line
+    let by_stage : Stage → LineEnd DialogueState = λ x. after_call (log_of j) old.line
     (stage_step (player_of old).keeper (player_of old).identity x long_text_found (state_of old)) in
-    let by_sent : List (List ℕ) → LineEnd Talk = λ x. record {
+    let by_sent : List (List ℕ) → LineEnd DialogueState = λ x. record {
       state = record (state_of old) { stage = ended ends.BadTalk };
       log = record {
         sent = x;
@@ -407,7 +407,7 @@ too_long_after old g at ordered =
       };
       line = old.line ++ [];
     } in
-    let by_packets : List PacketValue → LineEnd Talk = λ x. record {
+    let by_packets : List PacketValue → LineEnd DialogueState = λ x. record {
       state = record (state_of old) { stage = ended ends.BadTalk };
       log = record {
         sent = j.sent;
@@ -419,7 +419,7 @@ too_long_after old g at ordered =
       };
       line = old.line ++ [];
     } in
-    let by_most : ℕ → LineEnd Talk = λ x. record {
+    let by_most : ℕ → LineEnd DialogueState = λ x. record {
       state = record (state_of old) { stage = ended ends.BadTalk };
       log = record {
         sent = j.sent;
@@ -431,7 +431,7 @@ too_long_after old g at ordered =
       };
       line = old.line ++ [];
     } in
-    let by_line : List ℕ → LineEnd Talk = λ x. record {
+    let by_line : List ℕ → LineEnd DialogueState = λ x. record {
       state = record (state_of old) { stage = ended ends.BadTalk };
       log = log_of j;
       line = x;
@@ -447,7 +447,7 @@ nothing_so_by others old ordered room (waits engine found_so) =
     record {
       all = first_of_all others old
           ∙ ap (λ (x : Finding). takes_up (takes_all t) t x (line_end_of old)) found_so
-          ∙ ap (λ (x : Buffered (LineEnd Talk)). all_taken x) (sym (sought_held old engine));
+          ∙ ap (λ (x : Buffered (LineEnd DialogueState)). all_taken x) (sym (sought_held old engine));
       ordered = ordered_with old n engine ordered;
       standing = ap (λ (x : EngineState). standing_of (record old { node = record n { engine = x } })) engine;
       room = room;
@@ -458,7 +458,7 @@ nothing_so_by others old ordered room (is_too_long g behind at found_so engine) 
     let after = too_long_after old g at ordered in
     let id = old.node.engine.identity in
     let state : state_of (sought old) ≡ (effect_at long_text_found old).state =
-    ap (λ (x : EngineState). end_of (holdings_of old.spool) old.spool.stored x) engine ∙ ap (λ (x : LineEnd Talk). x.state) (sym after) in
+    ap (λ (x : EngineState). end_of (holdings_of old.spool) old.spool.stored x) engine ∙ ap (λ (x : LineEnd DialogueState). x.state) (sym after) in
     let hearer : hearer_of (sought old)
     ≡ record { held = []; end = record (line_end_of old) { state = record (state_of old) { stage = ended ends.BadTalk } } } =
     ap (λ (x : EngineState). record {
@@ -468,8 +468,8 @@ nothing_so_by others old ordered room (is_too_long g behind at found_so engine) 
     record {
       all = first_of_all others old
           ∙ ap (λ (x : Finding). takes_up (takes_all t) t x (line_end_of old)) found_so
-          ∙ ap (λ (x : LineEnd Talk). takes_all t (holds t behind x)) after
-          ∙ ap (λ (x : Buffered (LineEnd Talk)). all_taken x) (sym hearer);
+          ∙ ap (λ (x : LineEnd DialogueState). takes_all t (holds t behind x)) after
+          ∙ ap (λ (x : Buffered (LineEnd DialogueState)). all_taken x) (sym hearer);
       ordered = record {
         cleared = ap (λ (x : EngineState). x.outbox.entries) engine ∙ ordered.cleared;
         in_range = subst (λ (x : EngineState). IsEndInRange x.identity.side (state_of (sought old))) (sym engine)

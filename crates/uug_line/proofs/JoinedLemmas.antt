@@ -7,7 +7,7 @@ use Rattle.uug_link.specs.declared.limits.TheConstants.{WINDOW_MAX}
 use Rattle.uug_packet.specs.Packet.{PacketValue}
 use Rattle.uug_conversation.specs.Count.{Count, count_keeper}
 use Rattle.uug_session.specs.EndStep.{EndEffect, EndEvent, packet_found_whole, end_step, first_link, linked, message_of}
-use Rattle.uug_conversation.specs.Talk.{Talk, end_keeper}
+use Rattle.uug_conversation.specs.DialogueState.{DialogueState, end_keeper}
 use Rattle.uug_conversation.specs.declared.side.Side.{Side}
 use Rattle.uug_line.specs.Belongings.{Belongings, SetupValue, identity}
 use Rattle.uug_line.specs.LineEnd.{LineEnd, Log, after_call, does, found_at, took}
@@ -28,12 +28,11 @@ use Rattle.uug_line.proofs.Steps.{IsNoPacket, count_player, talk_player}
 use Rattle.uug_line.proofs.TalkLemmas.{seen_at}
 use Rattle.uug_link.proofs.TwoLinksRuns.{within as links_unacked, windows}
 use Rattle.uug_link.proofs.ArrivalLemmas.{place_is}
-use Rattle.uug_line.proofs.LowerLemmas.{links_below}
 
 -- ---- a call
 
 -- an end whose link and talk are so and that has written this down
-abbrev moment_with : Log → State → Talk → Moment
+abbrev moment_with : Log → State → DialogueState → Moment
 moment_with log link talk = record {
   link = link;
   talk = talk;
@@ -44,7 +43,7 @@ moment_with log link talk = record {
   passed = log.passed;
 }
 
-counted_call : (log : Log) (line : List ℕ) (link : State) (talk : Talk) (x : EndEffect Talk) (y : EndEffect Count) →
+counted_call : (log : Log) (line : List ℕ) (link : State) (talk : DialogueState) (x : EndEffect DialogueState) (y : EndEffect Count) →
     y ≡ counted_effect (done_all (moment_with log link talk) x) x →
     counted_end (after_call log line x) ≡ after_call log line y
 counted_call log line link talk x y same = ap (λ (z : EndEffect Count). after_call log line z) (sym same)
@@ -53,7 +52,7 @@ most_within : (before unacked window : ℕ) → before ≤ window → unacked �
 most_within before unacked window h k = omega (arith, h, k)
 
 -- a packet is found at a place, and its message taken or not
-moment_found : (b : Bool) (message : List ℕ) (place : ℕ) (log : Log) (link : State) (talk : Talk) →
+moment_found : (b : Bool) (message : List ℕ) (place : ℕ) (log : Log) (link : State) (talk : DialogueState) →
     found (moment_with log link talk) place (taken_if b message log.taken)
     ≡ moment_with (took b message (found_at place log)) link talk
 moment_found true message place log link talk = refl
@@ -74,7 +73,7 @@ place_found p packets passed place there =
     (λ i. IsPlace p packets passed i)) there (place_is p packets passed)
 
 -- the ends after it, and the same told by numbers
-pub record DoneSo (setup : SetupValue) (brought : AtBoth Belongings) (side : Side) (f e : LineEnd Talk) (c : LineEnd Count) :
+pub record DoneSo (setup : SetupValue) (brought : AtBoth Belongings) (side : Side) (f e : LineEnd DialogueState) (c : LineEnd Count) :
     Type 0 where
   pub joined : EndsJoined setup brought side e f
   pub same : counted_end e ≡ c
@@ -83,18 +82,18 @@ module _ (setup : SetupValue) (brought : AtBoth Belongings) (sound : IsSoundSess
   -- it left no more unacknowledged than it may
   unacked_within : (m n : Moment) → Joined setup brought side m n → length m.link.unacked ≤ (at (other side) setup).own.window
   unacked_within m n j =
-      (links_unacked links_below (at side setup).own (at (other side) setup).own (record { near = link_end m; far = link_end n })
+      (links_unacked (at side setup).own (at (other side) setup).own (record { near = link_end m; far = link_end n })
       (sound.window side) (sound.window (other side)) (links_run setup side m n j.links)).0
 
   -- on a link that is up the window is the one that the other end announced
   window_within : (m n : Moment) → Joined setup brought side m n → IsUp m.link → m.link.window ≤ WINDOW_MAX
   window_within m n j is =
-      let same = (windows links_below (at side setup).own (at (other side) setup).own (record { near = link_end m; far = link_end n })
+      let same = (windows (at side setup).own (at (other side) setup).own (record { near = link_end m; far = link_end n })
       (sound.window side) (sound.window (other side)) (links_run setup side m n j.links)).0
       (subst KnowsWindow (sym is) tt) in
       omega (arith, same, (sound.window (other side)).1)
 
-  call_done : (e f : LineEnd Talk) (log : Log) (x : EndEffect Talk) (y : EndEffect Count) → EndsJoined setup brought side e f →
+  call_done : (e f : LineEnd DialogueState) (log : Log) (x : EndEffect DialogueState) (y : EndEffect Count) → EndsJoined setup brought side e f →
       log.most ≡ e.log.most → HasPassed log →
       ((IsUp x.state.link → x.state.link.window ≤ WINDOW_MAX) → HasSpoken (end_keeper side (at side setup).holdings) x.state) →
       DoesAlike (λ m. Joined setup brought side m (moment_of f)) (first_link side (at side setup).own)
@@ -119,7 +118,7 @@ module _ (setup : SetupValue) (brought : AtBoth Belongings) (sound : IsSoundSess
 
   -- ---- every event but a packet
 
-  pub does_joined : (e f : LineEnd Talk) (event : EndEvent) → IsNoPacket event → EndsJoined setup brought side e f →
+  pub does_joined : (e f : LineEnd DialogueState) (event : EndEvent) → IsNoPacket event → EndsJoined setup brought side e f →
       DoneSo setup brought side f (does (talk_player setup side) event e)
       (does (count_player setup brought side) event (counted_end e))
   does_joined e f event none joined =
@@ -133,7 +132,7 @@ module _ (setup : SetupValue) (brought : AtBoth Belongings) (sound : IsSoundSess
 
   -- ---- a packet of the other end
 
-  packet_done : (e f : LineEnd Talk) (p : PacketValue) (place : ℕ) (x : EndEffect Talk) (y : EndEffect Count) →
+  packet_done : (e f : LineEnd DialogueState) (p : PacketValue) (place : ℕ) (x : EndEffect DialogueState) (y : EndEffect Count) →
       EndsJoined setup brought side e f → x.took ≡ y.took →
       ((IsUp x.state.link → x.state.link.window ≤ WINDOW_MAX) → HasSpoken (end_keeper side (at side setup).holdings) x.state) →
       DoesAlike (λ m. Joined setup brought side m (moment_of f)) (first_link side (at side setup).own)
@@ -150,7 +149,7 @@ module _ (setup : SetupValue) (brought : AtBoth Belongings) (sound : IsSoundSess
       (first_link side (at side setup).own) m x y)
       (moment_found x.took (message_of p) place e.log e.state.link e.state.keeper) alike))
 
-  pub packet_joined : (e f : LineEnd Talk) (p : PacketValue) (place : ℕ) → e.state.stage ≡ linked →
+  pub packet_joined : (e f : LineEnd DialogueState) (p : PacketValue) (place : ℕ) → e.state.stage ≡ linked →
       place_of p f.log.packets e.log.passed ≡ Some place →
       EndsJoined setup brought side e f →
       DoneSo setup brought side f (packet_taken_up (talk_player setup side) p place e)

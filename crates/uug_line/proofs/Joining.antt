@@ -8,7 +8,7 @@ use Rattle.uug_session.specs.declared.greeting.Greeting.{Greeting}
 use Rattle.uug_session.specs.EndStep.{hailing, first_link}
 use Rattle.uug_conversation.specs.Jobs.{at_start, pending}
 use Rattle.uug_conversation.specs.Party.{Party, IsSound}
-use Rattle.uug_conversation.specs.Talk.{Talk, end_keeper, unopened}
+use Rattle.uug_conversation.specs.DialogueState.{DialogueState, end_keeper, unopened}
 use Rattle.uug_session.specs.Told.{talk_behind}
 use Rattle.uug_conversation.specs.Turns.{other}
 use Rattle.uug_session.specs.TwoEnds.{Talker, Two, Reached, first_talker, talker}
@@ -25,14 +25,14 @@ use Rattle.uug_line.proofs.LinkRunLemmas.{first_of}
 -- what an end has come to, but for its stage and what is on its line
 pub record Moment : Type 0 where
   pub link : State
-  pub talk : Talk
+  pub talk : DialogueState
   pub sent : List (List ℕ)
   pub taken : List (List ℕ)
   pub packets : List PacketValue
   pub arrivals : List ℕ
   pub passed : ℕ
 
-abbrev pub moment_of : LineEnd Talk → Moment
+abbrev pub moment_of : LineEnd DialogueState → Moment
 moment_of e = record {
   link = e.state.link;
   talk = e.state.keeper;
@@ -47,7 +47,7 @@ abbrev pub link_end : Moment → End
 link_end m = record { link = m.link; sent = m.sent; taken = m.taken; emitted = m.packets; passed = m.passed }
 
 -- what an end keeps is that of a talker, behind what it brought; before its link is up, of one to which nothing happened
-abbrev pub IsTalk : Side → Party → Belongings → Talk → Talker → Type 0
+abbrev pub IsTalk : Side → Party → Belongings → DialogueState → Talker → Type 0
 IsTalk me p brought talk t =
     ((talk ≡ unopened brought.lists brought.kept) × (t ≡ first_talker me p))
     ⊎ (talk ≡ talk_behind brought.lists.struck brought.lists.failed brought.kept p.size t)
@@ -80,7 +80,7 @@ pub record Joined (setup : SetupValue) (brought : AtBoth Belongings) (side : Sid
   pub far_opened : IsOpened far
 
 -- nothing has come to its link yet
-abbrev pub Hails : SetupValue → Side → LineEnd Talk → Type 0
+abbrev pub Hails : SetupValue → Side → LineEnd DialogueState → Type 0
 Hails setup side e = (g : Greeting) → e.state.stage ≡ hailing g → e.state.link ≡ first_link side (at side setup).own
 
 -- it has gone past no packet behind the last that it found
@@ -88,10 +88,10 @@ abbrev pub HasPassed : Log → Type 0
 HasPassed log = log.passed ≡ passed_at log.arrivals 0
 
 -- it has said what it can
-abbrev pub Spoken : SetupValue → Side → LineEnd Talk → Type 0
+abbrev pub Spoken : SetupValue → Side → LineEnd DialogueState → Type 0
 Spoken setup side e = HasSpoken (end_keeper side (at side setup).holdings) e.state
 
-pub record EndsJoined (setup : SetupValue) (brought : AtBoth Belongings) (side : Side) (e f : LineEnd Talk) : Type 0 where
+pub record EndsJoined (setup : SetupValue) (brought : AtBoth Belongings) (side : Side) (e f : LineEnd DialogueState) : Type 0 where
   pub joined : Joined setup brought side (moment_of e) (moment_of f)
   pub near_hails : Hails setup side e
   pub far_hails : Hails setup (other side) f

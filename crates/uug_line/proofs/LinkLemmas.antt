@@ -12,7 +12,7 @@ use Rattle.uug_link.specs.Step.{Emission, Event, OutcomeValue, nothing, up, take
 use Rattle.uug_link.specs.TwoLinks.{End, IsRun, MayCall, first_ends, moved_by, moves, packets_of, sent_with, taken_by}
 use Rattle.uug_packet.specs.Packet.{PacketValue}
 use Rattle.uug_session.specs.EndStep.{is_up, packets}
-use Rattle.uug_conversation.specs.Talk.{Talk}
+use Rattle.uug_conversation.specs.DialogueState.{DialogueState}
 use Rattle.uug_conversation.specs.declared.side.Side.{Side}
 use Rattle.uug_line.specs.Belongings.{SetupValue}
 use Rattle.uug_line.specs.LineEnd.{messages_sent, packets_in}
@@ -77,7 +77,7 @@ same_end link passed sent then_sent got then_got before es sends takes =
     ∙ ap (λ (l : List (List ℕ)). end_with link passed then_sent l (before ++ packets_of es)) takes
     ∙ ap (λ (l : List PacketValue). end_with link passed then_sent then_got (before ++ l)) (sym (packets_in_packets es))
 
-moved_end : (m : Moment) (event : Event) (talk : Talk) → MayCall m.link event → FindsNone event →
+moved_end : (m : Moment) (event : Event) (talk : DialogueState) → MayCall m.link event → FindsNone event →
     moved_by (link_end m) event ≡ link_end (moved m event talk)
 moved_end m event talk may finds =
     let e = step m.link event in
@@ -85,7 +85,7 @@ moved_end m event talk may finds =
     (taken_by e.outcome event m.taken) m.taken m.packets e.emitted (sends_so m.link event may m.sent)
     (takes_none e.outcome event m.taken finds)
 
-arrived_end : (m : Moment) (p : PacketValue) (place : ℕ) (talk : Talk) →
+arrived_end : (m : Moment) (p : PacketValue) (place : ℕ) (talk : DialogueState) →
     arrived p place (link_end m)
     ≡ link_end (heard_with m p place (answer_to m p) talk)
 arrived_end m p place talk =
@@ -109,7 +109,7 @@ module _ (near_first far_first : State) (far : Moment) where
   RanTo e places =
       LinksRan (first_ends near_first far_first) (record { near = e; far = link_end far }) places far.arrivals
 
-  pub run_moves : (m : Moment) (event : Event) (talk : Talk) → RanTo (link_end m) m.arrivals → MayCall m.link event →
+  pub run_moves : (m : Moment) (event : Event) (talk : DialogueState) → RanTo (link_end m) m.arrivals → MayCall m.link event →
       FindsNone event → RanTo (link_end (moved m event talk)) (moved m event talk).arrivals
   run_moves m event talk ran may finds =
       subst (λ (places : List ℕ). RanTo (link_end (moved m event talk)) places) (append-nil m.arrivals)
@@ -117,7 +117,7 @@ module _ (near_first far_first : State) (far : Moment) where
       (ran_on near_first far_first (record { near = link_end m; far = link_end far }) m.arrivals far.arrivals
       (moves event ∷ []) ran (may, tt)))
 
-  pub run_hears : (m : Moment) (p : PacketValue) (place : ℕ) (talk : Talk) → RanTo (link_end m) m.arrivals →
+  pub run_hears : (m : Moment) (p : PacketValue) (place : ℕ) (talk : DialogueState) → RanTo (link_end m) m.arrivals →
       IsPlace p far.packets m.passed place →
       RanTo (link_end (heard_with m p place (answer_to m p) talk)) (m.arrivals ++ place ∷ [])
   run_hears m p place talk ran there =

@@ -2,10 +2,8 @@
 use Rattle.std.proofs.Common.{◌≡◌, ◌↔◌, ℕ, zero, suc, ◌≤◌, Bool, true, false, ◌&&◌, nat_le, List, [], ◌∷◌, ◌++◌, length, take, drop, refl, ap, ◌∙◌, append_assoc, arith}
 use Rattle.std.proofs.lemmas.Bool.Decides.{nat_tests}
 use Rattle.std.proofs.Math.Seq.{take-length}
-use Rattle.uug_link.proofs.SimulatedSteps.{LawsBelow}
-use Rattle.uug_link.proofs.StrayLemmas.{next, numbers, strays, strikes, window}
 use Rattle.uug_link.proofs.TwoLinksRuns.{machine_runs}
-use Rattle.uug_link.proofs.WindowMachineRuns.{always_ack_digits, always_acks, always_counts, always_number_digits, always_numbers}
+use Rattle.uug_link.proofs.WindowMachineRuns.{always_acks, always_counts, always_numbers}
 use Rattle.uug_link.specs.TwoLinks.{AlwaysOfTwo}
 use Rattle.uug_link.specs.WindowBounds.{IsWithinBounds}
 use Rattle.uug_link.specs.WindowMachine.{Always}
@@ -17,7 +15,7 @@ use Rattle.uug_conversation.specs.Jobs.{at_start}
 use Rattle.uug_conversation.specs.Machine.{step}
 use Rattle.uug_conversation.specs.Party.{IsSound, Party}
 use Rattle.uug_conversation.specs.Runs.{has_said_all, is_over}
-use Rattle.uug_conversation.specs.Talk.{behind_first, is_empty, opened_with, replied, taking, unopened, with_first_sent}
+use Rattle.uug_conversation.specs.DialogueState.{behind_first, is_empty, opened_with, replied, taking, unopened, with_first_sent}
 use Rattle.uug_conversation.specs.View.{conversation_view, others_messages, own_messages}
 use Rattle.uug_conversation.specs.declared.awaits.Awaits.{Awaits}
 use Rattle.uug_conversation.specs.declared.awaits.Awaits.TheVariants as awaits
@@ -27,16 +25,6 @@ use Rattle.uug_conversation.specs.declared.side.Side.TheVariants.{Caller, Called
 use Rattle.uug_session.proofs.TwoEndsLemmas.{two_ends}
 use Rattle.uug_session.specs.Told.{talk_behind}
 use Rattle.uug_session.specs.TwoEnds.{IsTold, Reached, Talker, Two, after_act, first_talker, sends, takes}
-
--- ---- what lemmas below take
-
-pub links_below : LawsBelow
-links_below = record {
-  peer = record { strikes = strikes; strays = strays; numbers = numbers; next = next; window = window };
-  counts = always_counts;
-  number_digits = always_number_digits;
-  ack_digits = always_ack_digits;
-}
 
 -- ---- the window machine keeps within its bounds
 
@@ -51,7 +39,7 @@ always_within window other m is_window other_is reached =
 
 pub always_passed : AlwaysOfTwo (λ e other announced. e.passed ≤ length other.emitted)
 always_passed near far ends is_window other_is run =
-    let reads = machine_runs links_below near far ends is_window other_is run in
+    let reads = machine_runs near far ends is_window other_is run in
     (reads.3.passed, reads.2.passed)
 
 -- ---- what an end keeps of a conversation moves as the end does

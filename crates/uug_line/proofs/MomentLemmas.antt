@@ -8,7 +8,7 @@ use Rattle.uug_link.specs.TwoLinks.{packets_of}
 use Rattle.uug_packet.specs.Packet.{PacketValue}
 use Rattle.uug_conversation.specs.Count.{Count}
 use Rattle.uug_session.specs.EndStep.{Emitted, says_text, sends_packet, leave, packets}
-use Rattle.uug_conversation.specs.Talk.{Talk}
+use Rattle.uug_conversation.specs.DialogueState.{DialogueState}
 use Rattle.uug_conversation.specs.declared.side.Side.{Side}
 use Rattle.uug_line.specs.LineEnd.{messages_sent, packets_in, sent_by}
 use Rattle.uug_line.proofs.Joining.{Moment}
@@ -58,7 +58,7 @@ leave_is_no_packet false side = refl
 
 -- ---- an end that has emitted this, and whose link and talk are then so
 
-abbrev pub emits : Moment → List Emitted → State → Talk → Moment
+abbrev pub emits : Moment → List Emitted → State → DialogueState → Moment
 emits m es link talk = record {
   link = link;
   talk = talk;
@@ -74,7 +74,7 @@ abbrev pub count : Moment → Count
 count m = record { opened = m.talk.opened; sent = length m.sent; taken = length m.taken }
 
 -- the same with these messages and packets in all
-abbrev with_all : Moment → State → Talk → List (List ℕ) → List PacketValue → Moment
+abbrev with_all : Moment → State → DialogueState → List (List ℕ) → List PacketValue → Moment
 with_all m link talk sent packets = record {
   link = link;
   talk = talk;
@@ -85,7 +85,7 @@ with_all m link talk sent packets = record {
   passed = m.passed;
 }
 
-emits_as : (m : Moment) (es other : List Emitted) (link : State) (talk : Talk) → messages_sent es ≡ messages_sent other →
+emits_as : (m : Moment) (es other : List Emitted) (link : State) (talk : DialogueState) → messages_sent es ≡ messages_sent other →
     packets_in es ≡ packets_in other → emits m es link talk ≡ emits m other link talk
 emits_as m es other link talk sent packets =
     ap (λ (l : List (List ℕ)). with_all m link talk (m.sent ++ l) (m.packets ++ packets_in es)) sent
@@ -97,7 +97,7 @@ emits_nothing m =
     ∙ ap (λ (l : List PacketValue). with_all m m.link m.talk m.sent l) (append-nil m.packets)
 
 -- first this and then that
-emits_more : (m : Moment) (es more : List Emitted) (link then_link : State) (talk then_talk : Talk) →
+emits_more : (m : Moment) (es more : List Emitted) (link then_link : State) (talk then_talk : DialogueState) →
     emits (emits m es link talk) more then_link then_talk ≡ emits m (es ++ more) then_link then_talk
 emits_more m es more link then_link talk then_talk =
     ap (λ (l : List (List ℕ)). with_all m then_link then_talk l ((m.packets ++ packets_in es) ++ packets_in more))
@@ -107,19 +107,19 @@ emits_more m es more link then_link talk then_talk =
     (append_assoc m.packets (packets_in es) (packets_in more)
     ∙ ap (λ (l : List PacketValue). m.packets ++ l) (sym (packets_in_append es more)))
 
-pub emits_more_packets : (m : Moment) (es more : List Emission) (link then_link : State) (talk then_talk : Talk) →
+pub emits_more_packets : (m : Moment) (es more : List Emission) (link then_link : State) (talk then_talk : DialogueState) →
     emits (emits m (packets es) link talk) (packets more) then_link then_talk
     ≡ emits m (packets (es ++ more)) then_link then_talk
 emits_more_packets m es more link then_link talk then_talk =
     emits_more m (packets es) (packets more) link then_link talk then_talk
     ∙ ap (λ (l : List Emitted). emits m l then_link then_talk) (sym (map-append sends_packet es more))
 
-pub emits_texts : (m : Moment) (texts : List (List ℕ)) (link : State) (talk : Talk) →
+pub emits_texts : (m : Moment) (texts : List (List ℕ)) (link : State) (talk : DialogueState) →
     emits m (map says_text texts) link talk ≡ emits m [] link talk
 emits_texts m texts link talk =
     emits_as m (map says_text texts) [] link talk (texts_send_nothing texts) (texts_are_no_packets texts)
 
-pub emits_texts_first : (m : Moment) (texts : List (List ℕ)) (es : List Emitted) (link : State) (talk : Talk) →
+pub emits_texts_first : (m : Moment) (texts : List (List ℕ)) (es : List Emitted) (link : State) (talk : DialogueState) →
     emits m (map says_text texts ++ es) link talk ≡ emits m es link talk
 emits_texts_first m texts es link talk =
     emits_as m (map says_text texts ++ es) es link talk
@@ -128,7 +128,7 @@ emits_texts_first m texts es link talk =
     (packets_in_append (map says_text texts) es
     ∙ ap (λ (l : List PacketValue). l ++ packets_in es) (texts_are_no_packets texts))
 
-pub emits_and_leaves : (m : Moment) (es : List Emitted) (parted : Bool) (side : Side) (link : State) (talk : Talk) →
+pub emits_and_leaves : (m : Moment) (es : List Emitted) (parted : Bool) (side : Side) (link : State) (talk : DialogueState) →
     emits m (es ++ leave parted side) link talk ≡ emits m es link talk
 emits_and_leaves m es parted side link talk =
     emits_as m (es ++ leave parted side) es link talk

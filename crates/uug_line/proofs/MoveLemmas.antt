@@ -14,7 +14,7 @@ use Rattle.uug_conversation.specs.EarlierJobs.{behind}
 use Rattle.uug_session.specs.EndStep.{first_link, has_room, is_up, message_of, packets}
 use Rattle.uug_conversation.specs.Holdings.{Holdings}
 use Rattle.uug_conversation.specs.Jobs.{Lists, at_start, pending}
-use Rattle.uug_conversation.specs.Talk.{Talk, end_keeper, first_of, opened_with, unopened}
+use Rattle.uug_conversation.specs.DialogueState.{DialogueState, end_keeper, first_of, opened_with, unopened}
 use Rattle.uug_session.specs.TwoEnds.{Talker, Two, first_talker, sends, takes}
 use Rattle.uug_conversation.specs.Turns.{other}
 use Rattle.uug_conversation.specs.View.{own_messages}
@@ -32,23 +32,23 @@ use Rattle.uug_line.proofs.TalkLemmas.{Acted, Reaches, acts, fit_at, seen_at, ta
 use Rattle.uug_link.proofs.OutcomeLemmas.{answers_of, moves_of, begin_phase, send_phase, close_phase, firsts_of}
 use Rattle.uug_link.proofs.TwoLinksRuns.{fronts, sizes as link_sizes}
 use Rattle.uug_conversation.proofs.EarlierJobLemmas.{start_behind}
-use Rattle.uug_line.proofs.LowerLemmas.{links_below, talk_opens, talk_takes, talk_sends}
+use Rattle.uug_line.proofs.LowerLemmas.{talk_opens, talk_takes, talk_sends}
 
 -- ---- what an end keeps before and after its link has come up
 
 -- it has come up
-talks_behind : (me : Side) (setup : SetupValue) (brought : AtBoth Belongings) (side : Side) (talk : Talk) (t : Talker) →
+talks_behind : (me : Side) (setup : SetupValue) (brought : AtBoth Belongings) (side : Side) (talk : DialogueState) (t : Talker) →
     talk.opened ≡ true → IsTalk me (party setup brought side) (at side brought) talk t → talk ≡ talk_at setup brought side t
-talks_behind me setup brought side talk t opened (inl h) = absurd (true≢false (sym opened ∙ ap (λ (x : Talk). x.opened) h.0))
+talks_behind me setup brought side talk t opened (inl h) = absurd (true≢false (sym opened ∙ ap (λ (x : DialogueState). x.opened) h.0))
 talks_behind me setup brought side talk t opened (inr h) = h
 
 -- it has not come up
-not_opened : (me : Side) (setup : SetupValue) (brought : AtBoth Belongings) (side : Side) (talk : Talk) (t : Talker) →
+not_opened : (me : Side) (setup : SetupValue) (brought : AtBoth Belongings) (side : Side) (talk : DialogueState) (t : Talker) →
     talk.opened ≡ false → IsTalk me (party setup brought side) (at side brought) talk t →
     (talk ≡ unopened (at side brought).lists (at side brought).kept) × (t ≡ first_talker me (party setup brought side))
 not_opened me setup brought side talk t not_yet (inl h) = h
 not_opened me setup brought side talk t not_yet (inr h) =
-    absurd (true≢false (sym (ap (λ (x : Talk). x.opened) h) ∙ not_yet))
+    absurd (true≢false (sym (ap (λ (x : DialogueState). x.opened) h) ∙ not_yet))
 
 -- what waits has a first message
 abbrev or_empty : Option (List ℕ) → List ℕ
@@ -113,14 +113,14 @@ module _ (setup : SetupValue) (brought : AtBoth Belongings) (side : Side) (far :
     links = runs;
     two = j.two;
     reached = j.reached;
-    near_talk = subst (λ (x : Talk). IsTalk side (party setup brought side) own x
+    near_talk = subst (λ (x : DialogueState). IsTalk side (party setup brought side) own x
         (talker_at setup brought side j.two)) (sym talk) j.near_talk;
     near_sent = j.near_sent ∙ sent;
     near_taken = j.near_taken ∙ messages;
     far_talk = j.far_talk;
     far_sent = j.far_sent;
     far_taken = j.far_taken;
-    near_opened = opened_stays m then_m (ap (λ (x : Talk). x.opened) talk) j.near_opened phase;
+    near_opened = opened_stays m then_m (ap (λ (x : DialogueState). x.opened) talk) j.near_opened phase;
     far_opened = j.far_opened;
   }
 
@@ -169,7 +169,7 @@ module _ (setup : SetupValue) (brought : AtBoth Belongings) (side : Side) (far :
   size_known : (m : Moment) → Runs m → IsUp m.link → size_of_code m.link.size_code ≡ (party setup brought side).size
   size_known m runs at_up =
       let ends : Ends = record { near = link_end m; far = link_end far } in
-      let sizes = link_sizes links_below (at side setup).own (at (other side) setup).own ends (sound.window side) (sound.window (other side)) in
+      let sizes = link_sizes (at side setup).own (at (other side) setup).own ends (sound.window side) (sound.window (other side)) in
       ap size_of_code ((sizes (links_run setup side m far runs)).0 (subst KnowsSize (sym at_up) tt))
 
   waiting_fits : (two : Two) → Reaches setup brought two → (message : List ℕ) (more : List (List ℕ)) →
@@ -199,7 +199,7 @@ module _ (setup : SetupValue) (brought : AtBoth Belongings) (side : Side) (far :
         ) tt;
         two = acted.then_two;
         reached = acted.reached;
-        near_talk = inr (ap (λ (x : Talk). (end_keeper side (at side setup).holdings).sent x) talk
+        near_talk = inr (ap (λ (x : DialogueState). (end_keeper side (at side setup).holdings).sent x) talk
             ∙ talk_sends (party setup brought side) t own.lists.struck own.lists.failed own.kept
             ∙ ap (λ (x : Talker). talk_at setup brought side x) (sym acted.near));
         near_sent = ap (λ (x : Talker). x.sent) acted.near ∙ ap (λ (l : List (List ℕ)). t.sent ++ take 1 l) waits.1
@@ -223,7 +223,7 @@ module _ (setup : SetupValue) (brought : AtBoth Belongings) (side : Side) (far :
       let t = talker_at setup brought side j.two in
       sends_by_talker m message j at_up
       (room_in (is_up m.link.phase) (length m.link.unacked) m.link.window room) talk
-      (first_waits t.waiting message (sym (ap (λ (x : Talk). first_of x.waiting) talk) ∙ next))
+      (first_waits t.waiting message (sym (ap (λ (x : DialogueState). first_of x.waiting) talk) ∙ next))
 
   -- ---- a packet is heard
 
@@ -240,13 +240,13 @@ module _ (setup : SetupValue) (brought : AtBoth Belongings) (side : Side) (far :
   brought_lists : own.lists ≡ behind own.lists.struck own.lists.failed (at_start (pending own.lists) [] [])
   brought_lists = sound.renewed side ∙ sym (start_behind (pending own.lists) own.lists.struck own.lists.failed)
 
-  opens_behind : (talk : Talk) (t : Talker) (size : ℕ) → talk ≡ unopened own.lists own.kept →
+  opens_behind : (talk : DialogueState) (t : Talker) (size : ℕ) → talk ≡ unopened own.lists own.kept →
       t ≡ first_talker side (party setup brought side) → size ≡ (party setup brought side).size →
       (end_keeper side (at side setup).holdings).opened size talk ≡ talk_at setup brought side t
   opens_behind talk t size talk_is t_is size_is =
       let me = side in
       let h : Holdings = (at side setup).holdings in
-      ap (λ (x : Talk). opened_with me h size x) talk_is
+      ap (λ (x : DialogueState). opened_with me h size x) talk_is
       ∙ ap (λ (n : ℕ). opened_with me h n (unopened own.lists own.kept)) size_is
       ∙ ap (λ (l : Lists). opened_with me h (party setup brought side).size (unopened l own.kept)) brought_lists
       ∙ talk_opens me (party setup brought side) own.lists.struck own.lists.failed own.kept
@@ -286,7 +286,7 @@ module _ (setup : SetupValue) (brought : AtBoth Belongings) (side : Side) (far :
       let t = talker_at setup brought side j.two in
       let message = message_of p in
       let front : IsFrontOf then_m.taken far.sent =
-      (fronts links_below (at side setup).own (at (other side) setup).own (record { near = link_end then_m; far = link_end far })
+      (fronts (at side setup).own (at (other side) setup).own (record { near = link_end then_m; far = link_end far })
       (sound.window side) (sound.window (other side)) (links_run setup side then_m far runs)).0 in
       let grown : then_m.taken ≡ t.taken ++ message ∷ [] =
       taken_message p m.taken may ∙ ap (λ (l : List (List ℕ)). l ++ message ∷ []) (sym j.near_taken) in
@@ -297,7 +297,7 @@ module _ (setup : SetupValue) (brought : AtBoth Belongings) (side : Side) (far :
         links = runs;
         two = acted.then_two;
         reached = acted.reached;
-        near_talk = inr (ap (λ (x : Talk). (end_keeper side (at side setup).holdings).taking message x)
+        near_talk = inr (ap (λ (x : DialogueState). (end_keeper side (at side setup).holdings).taking message x)
             (is_behind m j before)
             ∙ talk_takes (party setup brought side) t message own.lists.struck own.lists.failed own.kept
             ∙ ap (λ (x : Talker). talk_at setup brought side x) (sym acted.near));

@@ -7,7 +7,7 @@ use Rattle.uug_link.proofs.OnTheLineLemmas.{slice_get-append, slice_get-last}
 use Rattle.uug_session.specs.Arriving.{Arrival, all_taken, stopped}
 use Rattle.uug_session.specs.EndStep.{EndState, Emitted, Identity, Stage, hailing, linked, ended, line_lost, stage_step}
 use Rattle.uug_conversation.specs.Keeper.{Keeper}
-use Rattle.uug_conversation.specs.Talk.{Talk}
+use Rattle.uug_conversation.specs.DialogueState.{DialogueState}
 use Rattle.uug_line.specs.declared.event.Event.{Event}
 use Rattle.uug_line.specs.declared.event.Event.TheVariants.{Pass, Drop, Flip, Insert, Timeout, HangUp, Call}
 use Rattle.uug_conversation.specs.declared.side.Side.{Side}
@@ -238,11 +238,11 @@ module _ (setup : SetupValue) where
       AllWere events (run_of_ends setup events).past →
       AllWere (events ++ event ∷ []) (run_of_ends setup (events ++ event ∷ [])).past
   next_were Clean events event is were =
-      subst (λ (r : Run Talk). AllWere (events ++ event ∷ []) r.past) (sym (next_event by_themselves setup events event is))
+      subst (λ (r : Run DialogueState). AllWere (events ++ event ∷ []) r.past) (sym (next_event by_themselves setup events event is))
       (event_were events event were)
   next_were (Fooled m side) events event is were =
       none_more events event (run_of_ends setup (events ++ event ∷ [])).past
-      (ap (λ (r : Run Talk). r.past) (goes_on by_themselves setup 0 events (event ∷ []) (first_run by_themselves setup)
+      (ap (λ (r : Run DialogueState). r.past) (goes_on by_themselves setup 0 events (event ∷ []) (first_run by_themselves setup)
       ∙ when_fooled by_themselves setup (0 + length events) m side (event ∷ []) (run_of_ends setup events) is)) were
 
   rest_were : (events rest : List Event) → AllWere events (run_of_ends setup events).past →

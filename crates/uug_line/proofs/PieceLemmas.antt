@@ -8,7 +8,7 @@ use Rattle.uug_session.specs.EndStep.{Stage, hailing, linked, ended}
 use Rattle.uug_session.specs.Engine.{EngineState}
 use Rattle.uug_conversation.specs.MemoryHoldings.{MemoryHoldings}
 use Rattle.uug_session.specs.Node.{NodeState, accepted, accepted_at, bytes_at, held_bytes, offered, offered_at}
-use Rattle.uug_conversation.specs.Talk.{Talk, end_keeper}
+use Rattle.uug_conversation.specs.DialogueState.{DialogueState, end_keeper}
 use Rattle.uug_line.specs.JournalValue.{JournalValue, packet_in}
 use Rattle.uug_line.specs.LineEnd.{LineEnd}
 use Rattle.uug_line.specs.Live.{HearsAll, HearsSome, IsOrdered, IsStopped, LiveEndValue, Standing, StillHears, StillTakes, TakesAll, TakesOne, hearer_of, line_end_of, standing_of, taker_of}
@@ -29,12 +29,12 @@ from_now : (others : List (List ℕ)) (old now new : LiveEndValue) → StillTake
     → takes_all (taker_of others now) (hearer_of now) ≡ takes_all (taker_of others now) (hearer_of new)
     → takes_all (taker_of others old) (hearer_of old) ≡ takes_all (taker_of others old) (hearer_of new)
 from_now others old now new still same =
-    still.same ∙ subst (λ (t : Receiver (LineEnd Talk)). takes_all t (hearer_of now) ≡ takes_all t (hearer_of new)) (same_taker others old now still.standing) same
+    still.same ∙ subst (λ (t : Receiver (LineEnd DialogueState)). takes_all t (hearer_of now) ≡ takes_all t (hearer_of new)) (same_taker others old now still.standing) same
 
-result_from_now : (others : List (List ℕ)) (old now : LiveEndValue) (came : Arrival (LineEnd Talk)) → StillTakes others old now
+result_from_now : (others : List (List ℕ)) (old now : LiveEndValue) (came : Arrival (LineEnd DialogueState)) → StillTakes others old now
     → takes_all (taker_of others now) (hearer_of now) ≡ came → takes_all (taker_of others old) (hearer_of old) ≡ came
 result_from_now others old now came still same =
-    still.same ∙ subst (λ (t : Receiver (LineEnd Talk)). takes_all t (hearer_of now) ≡ came) (same_taker others old now still.standing) same
+    still.same ∙ subst (λ (t : Receiver (LineEnd DialogueState)). takes_all t (hearer_of now) ≡ came) (same_taker others old now still.standing) same
 
 pub still_takes : (others : List (List ℕ)) (old now new : LiveEndValue) → StillTakes others old now → TakesOne others now new → StillTakes others old new
 still_takes others old now new still one = record {
@@ -94,34 +94,34 @@ part_standing part e =
     ap (λ (x : EngineState). standing_of (record e { node = record e.node { engine = x } })) (offered_engine e.node.engine.stage part e.node)
 
 -- behind a part that was taken up
-part_came : (others : List (List ℕ)) (part rest behind : List ℕ) (now : LiveEndValue) (came : Arrival (LineEnd Talk)) → rest ≡ part ++ behind
+part_came : (others : List (List ℕ)) (part rest behind : List ℕ) (now : LiveEndValue) (came : Arrival (LineEnd DialogueState)) → rest ≡ part ++ behind
     → takes_all (taker_of others (with_part part now)) (hearer_of (with_part part now)) ≡ came
     → takes_piece (taker_of others now) rest (hearer_of now) ≡ then_takes (taker_of others now) behind came
 part_came others part rest behind now came cut is =
     let t = taker_of others now in
     ap (λ (x : List ℕ). takes_piece t x (hearer_of now)) cut
-    ∙ in_pieces (LineEnd Talk) t part behind (hearer_of now)
-    ∙ ap (λ (h : Buffered (LineEnd Talk)). then_takes t behind (takes_all t h)) (sym (part_held others part now))
-    ∙ ap (λ (x : Receiver (LineEnd Talk)). then_takes t behind (takes_all x (hearer_of (with_part part now))))
+    ∙ in_pieces (LineEnd DialogueState) t part behind (hearer_of now)
+    ∙ ap (λ (h : Buffered (LineEnd DialogueState)). then_takes t behind (takes_all t h)) (sym (part_held others part now))
+    ∙ ap (λ (x : Receiver (LineEnd DialogueState)). then_takes t behind (takes_all x (hearer_of (with_part part now))))
     (sym (same_taker others now (with_part part now) (part_standing part now)))
-    ∙ ap (λ (c : Arrival (LineEnd Talk)). then_takes t behind c) is
+    ∙ ap (λ (c : Arrival (LineEnd DialogueState)). then_takes t behind c) is
 
 -- the last part
-last_came : (others : List (List ℕ)) (part rest : List ℕ) (now : LiveEndValue) (came : Arrival (LineEnd Talk)) → rest ≡ part
+last_came : (others : List (List ℕ)) (part rest : List ℕ) (now : LiveEndValue) (came : Arrival (LineEnd DialogueState)) → rest ≡ part
     → takes_all (taker_of others (with_part part now)) (hearer_of (with_part part now)) ≡ came
     → takes_piece (taker_of others now) rest (hearer_of now) ≡ came
 last_came others part rest now came cut is =
     let t = taker_of others now in
     ap (λ (x : List ℕ). takes_piece t x (hearer_of now)) cut
-    ∙ ap (λ (h : Buffered (LineEnd Talk)). takes_all t h) (sym (part_held others part now))
-    ∙ ap (λ (x : Receiver (LineEnd Talk)). takes_all x (hearer_of (with_part part now)))
+    ∙ ap (λ (h : Buffered (LineEnd DialogueState)). takes_all t h) (sym (part_held others part now))
+    ∙ ap (λ (x : Receiver (LineEnd DialogueState)). takes_all x (hearer_of (with_part part now)))
     (sym (same_taker others now (with_part part now) (part_standing part now)))
     ∙ is
 
-piece_from_now : (others : List (List ℕ)) (piece rest : List ℕ) (old now : LiveEndValue) (came : Arrival (LineEnd Talk)) → StillHears others piece rest old now
+piece_from_now : (others : List (List ℕ)) (piece rest : List ℕ) (old now : LiveEndValue) (came : Arrival (LineEnd DialogueState)) → StillHears others piece rest old now
     → takes_piece (taker_of others now) rest (hearer_of now) ≡ came → takes_piece (taker_of others old) piece (hearer_of old) ≡ came
 piece_from_now others piece rest old now came still same =
-    still.same ∙ subst (λ (t : Receiver (LineEnd Talk)). takes_piece t rest (hearer_of now) ≡ came) (same_taker others old now still.standing) same
+    still.same ∙ subst (λ (t : Receiver (LineEnd DialogueState)). takes_piece t rest (hearer_of now) ≡ came) (same_taker others old now still.standing) same
 
 pub still_hears : (others : List (List ℕ)) (piece rest part behind : List ℕ) (old now mid new : LiveEndValue) → rest ≡ part ++ behind
     → mid ≡ with_part part now → StillHears others piece rest old now → TakesAll others mid new → StillHears others piece behind old new
@@ -130,7 +130,7 @@ still_hears others piece rest part behind old now mid new cut is still taken =
     record {
       same = piece_from_now others piece rest old now (takes_piece (taker_of others old) behind (hearer_of new)) still
           (part_came others part rest behind now (all_taken (hearer_of new)) cut all.all
-          ∙ ap (λ (t : Receiver (LineEnd Talk)). takes_piece t behind (hearer_of new)) (same_taker others old now still.standing));
+          ∙ ap (λ (t : Receiver (LineEnd DialogueState)). takes_piece t behind (hearer_of new)) (same_taker others old now still.standing));
       ordered = all.ordered;
       standing = all.standing ∙ part_standing part now ∙ still.standing;
       room = all.room;
@@ -198,9 +198,9 @@ hears_some others piece rest part behind count old now mid new filled cut is sti
     let none = subst (λ (m : LiveEndValue). IsStopped others m new) is taken in
     let stage = new.node.engine.stage in
     let held = held_in stage (held_bytes new.node ++ behind) in
-    let by_end : LineEnd Talk → Arrival (LineEnd Talk) = λ x. stopped (record { held = held; end = x }) in
+    let by_end : LineEnd DialogueState → Arrival (LineEnd DialogueState) = λ x. stopped (record { held = held; end = x }) in
     let same_end : line_end_of filled ≡ line_end_of new =
-    ap line_end_of fills_so ∙ ap (λ (h : Buffered (LineEnd Talk)). h.end) (part_held others (take count behind) new) in
+    ap line_end_of fills_so ∙ ap (λ (h : Buffered (LineEnd DialogueState)). h.end) (part_held others (take count behind) new) in
     record {
       held = held;
       came = piece_from_now others piece rest old now (by_end (line_end_of new)) still

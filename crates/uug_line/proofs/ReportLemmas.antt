@@ -11,7 +11,7 @@ use Rattle.uug_session.specs.Arriving.{Buffered}
 use Rattle.uug_conversation.specs.Count.{Count}
 use Rattle.uug_conversation.specs.MemoryHoldings.{held_by}
 use Rattle.uug_session.specs.Node.{held_bytes}
-use Rattle.uug_conversation.specs.Talk.{Talk}
+use Rattle.uug_conversation.specs.DialogueState.{DialogueState}
 use Rattle.uug_line.specs.declared.event.Event.{Event}
 use Rattle.uug_line.specs.declared.event.Event.TheVariants.{Pass, Timeout}
 use Rattle.uug_line.specs.declared.report.LastEnd.{LastEnd}
@@ -47,9 +47,9 @@ lines_are : (setup : SetupValue) (events : List Event) (verdict : LineVerdict) (
     EndsAs setup (run_of_ends setup events) verdict r → counted (run_of_ends setup events) ≡ world setup events →
     (side : Side) → (at side (whole_report r verdict).left).line ≡ line_from side (world setup events)
 lines_are setup events verdict r ends is_world Caller =
-    sym (ap (λ (e : LineEnd Talk). e.line) ends.caller) ∙ ap (λ (run : Run Count). line_from Caller run) is_world
+    sym (ap (λ (e : LineEnd DialogueState). e.line) ends.caller) ∙ ap (λ (run : Run Count). line_from Caller run) is_world
 lines_are setup events verdict r ends is_world Called =
-    sym (ap (λ (e : LineEnd Talk). e.line) ends.called) ∙ ap (λ (run : Run Count). line_from Called run) is_world
+    sym (ap (λ (e : LineEnd DialogueState). e.line) ends.called) ∙ ap (λ (run : Run Count). line_from Called run) is_world
 
 pub is_run_of : (setup : SetupValue) (events : List Event) (verdict : LineVerdict) (r : RunValue) → AreOfTypes setup events →
     EndsAs setup (run_of_ends setup events) verdict r → IsRunOf setup events (whole_report r verdict)
@@ -169,7 +169,7 @@ stands_again : (setup : SetupValue) (events : List Event) (report : WholeReport)
 stands_again setup events report r shown can ends =
     let run = run_of_ends setup events in
     let clean : run.verdict ≡ Clean = ends.verdict_is ∙ can.clean in
-    let hearer : List ℕ → LineEnd Talk → Buffered (LineEnd Talk) = λ held end. record { held = held; end = end } in
+    let hearer : List ℕ → LineEnd DialogueState → Buffered (LineEnd DialogueState) = λ held end. record { held = held; end = end } in
     record {
       past = ends.past;
       caller = ap₂ hearer (sym (ends.held.all clean Caller)) ends.caller;

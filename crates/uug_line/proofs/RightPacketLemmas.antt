@@ -4,7 +4,7 @@ use Rattle.std.proofs.lemmas.List.Elements.{All-take}
 use Rattle.uug_link.specs.InRange.{IsAnnouncement}
 use Rattle.uug_packet.specs.Bytes.{AreBytes}
 use Rattle.uug_conversation.specs.Count.{Count}
-use Rattle.uug_conversation.specs.Talk.{Talk}
+use Rattle.uug_conversation.specs.DialogueState.{DialogueState}
 use Rattle.uug_conversation.specs.Turns.{other}
 use Rattle.uug_session.specs.TwoEnds.{IsTold}
 use Rattle.uug_conversation.specs.View.{conversation_view, own_messages}
@@ -87,11 +87,11 @@ module _ (setup : SetupValue) (of_bytes : IsSetupOfBytes setup) where
 
     all_right : AllRight (run_of_ends setup events)
     all_right Caller =
-        let run : Run Talk = run_of_ends setup events in
+        let run : Run DialogueState = run_of_ends setup events in
         near_right run.brought goes.stands.sound (moment_of run.ends.at_caller.end) (moment_of run.ends.at_called.end) sound
         goes.stands.joined.joined
     all_right Called =
-        let run : Run Talk = run_of_ends setup events in
+        let run : Run DialogueState = run_of_ends setup events in
         far_right run.brought goes.stands.sound (moment_of run.ends.at_caller.end) (moment_of run.ends.at_called.end) sound
         goes.stands.joined.joined
 

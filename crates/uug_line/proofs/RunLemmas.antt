@@ -12,7 +12,7 @@ use Rattle.uug_conversation.specs.Jobs.{Lists}
 use Rattle.uug_conversation.specs.MemoryHoldings.{MemoryHoldings, holdings_of}
 use Rattle.uug_session.specs.Node.{held_bytes}
 use Rattle.uug_conversation.specs.Keeper.{Keeper}
-use Rattle.uug_conversation.specs.Talk.{Talk, end_keeper, unopened}
+use Rattle.uug_conversation.specs.DialogueState.{DialogueState, end_keeper, unopened}
 use Rattle.uug_line.specs.declared.event.Event.{Event}
 use Rattle.uug_line.specs.declared.event.Event.TheVariants.{Pass, Drop, Flip, Insert, Timeout, HangUp, Call}
 use Rattle.uug_line.specs.declared.report.EndReport.{EndReport}
@@ -40,25 +40,25 @@ use Rattle.uug_line.specs.Told.{EndReportValue, SpelledEnd, SpelledReport}
 
 -- ---- who an end is
 
-player_by : Standing → Participant Talk
+player_by : Standing → Participant DialogueState
 player_by s = record { identity = s.identity; keeper = end_keeper s.identity.side s.holdings }
 
-caller_is : (setup : SetupValue) (run : Run Talk) (r : RunValue) → StandsAs setup run r → player_of r.caller ≡ participant by_themselves setup run Caller
+caller_is : (setup : SetupValue) (run : Run DialogueState) (r : RunValue) → StandsAs setup run r → player_of r.caller ≡ participant by_themselves setup run Caller
 unfolding player_by
 caller_is setup run r stands = ap player_by stands.caller_standing
 
-called_is : (setup : SetupValue) (run : Run Talk) (r : RunValue) → StandsAs setup run r → player_of r.called ≡ participant by_themselves setup run Called
+called_is : (setup : SetupValue) (run : Run DialogueState) (r : RunValue) → StandsAs setup run r → player_of r.called ≡ participant by_themselves setup run Called
 unfolding player_by
 called_is setup run r stands = ap player_by stands.called_standing
 
 -- ---- a call at an end
 
-caller_called : (event : EndEvent) (setup : SetupValue) (run : Run Talk) (old new : RunValue) → StandsAs setup run old
+caller_called : (event : EndEvent) (setup : SetupValue) (run : Run DialogueState) (old new : RunValue) → StandsAs setup run old
     → HappensAt Caller (IsCalled event) old new → StandsAs setup (calls by_themselves setup Caller event run) new
 caller_called event setup run old new stands happens =
     let is = happens.0 in record {
       past = stands.past ∙ sym happens.2;
-      caller = ap (λ (p : Participant Talk). called_with p event (end_at Caller run)) (sym (caller_is setup run old stands))
+      caller = ap (λ (p : Participant DialogueState). called_with p event (end_at Caller run)) (sym (caller_is setup run old stands))
           ∙ ap (called_with (player_of old.caller) event) stands.caller ∙ sym is.hearer;
       called = stands.called ∙ ap hearer_of (sym happens.1);
       caller_standing = is.standing ∙ stands.caller_standing;
@@ -72,12 +72,12 @@ caller_called event setup run old new stands happens =
       clean = stands.clean;
     }
 
-called_called : (event : EndEvent) (setup : SetupValue) (run : Run Talk) (old new : RunValue) → StandsAs setup run old
+called_called : (event : EndEvent) (setup : SetupValue) (run : Run DialogueState) (old new : RunValue) → StandsAs setup run old
     → HappensAt Called (IsCalled event) old new → StandsAs setup (calls by_themselves setup Called event run) new
 called_called event setup run old new stands happens =
     let is = happens.0 in record {
       past = stands.past ∙ sym happens.2;
-      called = ap (λ (p : Participant Talk). called_with p event (end_at Called run)) (sym (called_is setup run old stands))
+      called = ap (λ (p : Participant DialogueState). called_with p event (end_at Called run)) (sym (called_is setup run old stands))
           ∙ ap (called_with (player_of old.called) event) stands.called ∙ sym is.hearer;
       caller = stands.caller ∙ ap hearer_of (sym happens.1);
       called_standing = is.standing ∙ stands.called_standing;
@@ -91,7 +91,7 @@ called_called event setup run old new stands happens =
       clean = stands.clean;
     }
 
-at_called : (event : EndEvent) (side : Side) (setup : SetupValue) (run : Run Talk) (old new : RunValue) → StandsAs setup run old
+at_called : (event : EndEvent) (side : Side) (setup : SetupValue) (run : Run DialogueState) (old new : RunValue) → StandsAs setup run old
     → HappensAt side (IsCalled event) old new → StandsAs setup (calls by_themselves setup side event run) new
 at_called event Caller setup run old new stands happens = caller_called event setup run old new stands happens
 at_called event Called setup run old new stands happens = called_called event setup run old new stands happens
@@ -107,7 +107,7 @@ line_ordered change e ordered = record {
   most = ordered.most;
 }
 
-line_changed : (change : List ℕ → List ℕ) (side : Side) (setup : SetupValue) (run : Run Talk) (old new : RunValue) → StandsAs setup run old
+line_changed : (change : List ℕ → List ℕ) (side : Side) (setup : SetupValue) (run : Run DialogueState) (old new : RunValue) → StandsAs setup run old
     → HappensAt (other side) (ChangesLine change) old new → StandsAs setup (with_line_to side change run) new
 line_changed change Called setup run old new stands happens = record {
   past = stands.past ∙ sym happens.2;
@@ -141,17 +141,17 @@ line_changed change Caller setup run old new stands happens = record {
 -- ---- a piece comes
 
 -- what comes to an end is what comes to the end of the definitions' run
-came_to : (p : Participant Talk) (n : ℕ) (hearer speaker : LiveEndValue) (hearing speaking : Buffered (LineEnd Talk)) (came : Arrival (LineEnd Talk))
+came_to : (p : Participant DialogueState) (n : ℕ) (hearer speaker : LiveEndValue) (hearing speaking : Buffered (LineEnd DialogueState)) (came : Arrival (LineEnd DialogueState))
     → player_of hearer ≡ p → hearing ≡ hearer_of hearer → speaking ≡ hearer_of speaker
     → takes_piece (taker_of speaker.journal.packets hearer) (take n speaker.line) (hearer_of hearer) ≡ came
     → takes_piece (line_taker p speaking.end.log.packets) (take n speaking.end.line) hearing ≡ came
 came_to p n hearer speaker hearing speaking came who hears speaks is =
-    ap (λ (h : Buffered (LineEnd Talk)). takes_piece (line_taker p h.end.log.packets) (take n h.end.line) hearing) speaks
-    ∙ ap (λ (h : Buffered (LineEnd Talk)). takes_piece (line_taker p (line_end_of speaker).log.packets) (take n speaker.line) h) hears
-    ∙ ap (λ (x : Participant Talk). takes_piece (line_taker x (line_end_of speaker).log.packets) (take n speaker.line) (hearer_of hearer)) (sym who)
+    ap (λ (h : Buffered (LineEnd DialogueState)). takes_piece (line_taker p h.end.log.packets) (take n h.end.line) hearing) speaks
+    ∙ ap (λ (h : Buffered (LineEnd DialogueState)). takes_piece (line_taker p (line_end_of speaker).log.packets) (take n speaker.line) h) hears
+    ∙ ap (λ (x : Participant DialogueState). takes_piece (line_taker x (line_end_of speaker).log.packets) (take n speaker.line) (hearer_of hearer)) (sym who)
     ∙ is
 
-to_caller : (n number : ℕ) (setup : SetupValue) (run : Run Talk) (old new : RunValue) → StandsAs setup run old
+to_caller : (n number : ℕ) (setup : SetupValue) (run : Run DialogueState) (old new : RunValue) → StandsAs setup run old
     → Passes Caller n true old new → StandsAs setup (after_event by_themselves setup number (Pass Caller n) run) new
 to_caller n number setup run old new stands passes =
     let is = passes.0 in
@@ -171,9 +171,9 @@ to_caller n number setup run old new stands passes =
       };
       clean = stands.clean;
     } in
-    subst (λ (c : Arrival (LineEnd Talk)). StandsAs setup (after_hearing number Caller c (with_line_to Caller (drop n) run)) new) (sym came) ends
+    subst (λ (c : Arrival (LineEnd DialogueState)). StandsAs setup (after_hearing number Caller c (with_line_to Caller (drop n) run)) new) (sym came) ends
 
-to_called : (n number : ℕ) (setup : SetupValue) (run : Run Talk) (old new : RunValue) → StandsAs setup run old
+to_called : (n number : ℕ) (setup : SetupValue) (run : Run DialogueState) (old new : RunValue) → StandsAs setup run old
     → Passes Called n true old new → StandsAs setup (after_event by_themselves setup number (Pass Called n) run) new
 to_called n number setup run old new stands passes =
     let is = passes.0 in
@@ -193,7 +193,7 @@ to_called n number setup run old new stands passes =
       };
       clean = stands.clean;
     } in
-    subst (λ (c : Arrival (LineEnd Talk)). StandsAs setup (after_hearing number Called c (with_line_to Called (drop n) run)) new) (sym came) ends
+    subst (λ (c : Arrival (LineEnd DialogueState)). StandsAs setup (after_hearing number Called c (with_line_to Called (drop n) run)) new) (sym came) ends
 
 -- ---- what the ends still hold
 
@@ -202,7 +202,7 @@ all_fits bytes held is room =
     let size = ap (λ (x : List ℕ). length x) is in
     is ∙ sym (take_all READER_SIZE held (omega (arith, size, room)))
 
-caller_holds : (number n : ℕ) (stop : Buffered (LineEnd Talk)) (run : Run Talk) (new : RunValue)
+caller_holds : (number n : ℕ) (stop : Buffered (LineEnd DialogueState)) (run : Run DialogueState) (new : RunValue)
     → held_bytes new.caller.node ≡ take READER_SIZE stop.held → held_bytes new.called.node ≡ (end_at Called run).held → HasRoom new.called
     → HoldWhatIsLeft (after_hearing number Caller (stopped stop) (with_line_to Caller (drop n) run)) (held_parts new)
 caller_holds number n stop run new here there room =
@@ -213,7 +213,7 @@ caller_holds number n stop run new here there room =
     fits Caller = here
     fits Called = all_fits (held_bytes new.called.node) (end_at Called run).held there room
 
-called_holds : (number n : ℕ) (stop : Buffered (LineEnd Talk)) (run : Run Talk) (new : RunValue)
+called_holds : (number n : ℕ) (stop : Buffered (LineEnd DialogueState)) (run : Run DialogueState) (new : RunValue)
     → held_bytes new.called.node ≡ take READER_SIZE stop.held → held_bytes new.caller.node ≡ (end_at Caller run).held → HasRoom new.caller
     → HoldWhatIsLeft (after_hearing number Called (stopped stop) (with_line_to Called (drop n) run)) (held_parts new)
 called_holds number n stop run new here there room =
@@ -224,20 +224,20 @@ called_holds number n stop run new here there room =
     fits Caller = all_fits (held_bytes new.caller.node) (end_at Caller run).held there room
     fits Called = here
 
-clean_holds : (run : Run Talk) (r : RunValue) → end_at Caller run ≡ hearer_of r.caller → end_at Called run ≡ hearer_of r.called
+clean_holds : (run : Run DialogueState) (r : RunValue) → end_at Caller run ≡ hearer_of r.caller → end_at Called run ≡ hearer_of r.called
     → IsSteady r → HoldWhatIsLeft run (held_parts r)
 clean_holds run r caller called steady = record { fits = fits; all = λ clean. all }
   where
     all : (side : Side) → at side (held_parts r) ≡ (end_at side run).held
-    all Caller = sym (ap (λ (h : Buffered (LineEnd Talk)). h.held) caller)
-    all Called = sym (ap (λ (h : Buffered (LineEnd Talk)). h.held) called)
+    all Caller = sym (ap (λ (h : Buffered (LineEnd DialogueState)). h.held) caller)
+    all Called = sym (ap (λ (h : Buffered (LineEnd DialogueState)). h.held) called)
 
     fits : (side : Side) → at side (held_parts r) ≡ take READER_SIZE (end_at side run).held
     fits Caller = all_fits (held_bytes r.caller.node) (end_at Caller run).held (all Caller) steady.caller_room
     fits Called = all_fits (held_bytes r.called.node) (end_at Called run).held (all Called) steady.called_room
 
 -- so it is in the world
-pub held_counted : (run : Run Talk) (held : AtBoth (List ℕ)) → HoldWhatIsLeft run held → HoldWhatIsLeft (counted run) held
+pub held_counted : (run : Run DialogueState) (held : AtBoth (List ℕ)) → HoldWhatIsLeft run held → HoldWhatIsLeft (counted run) held
 held_counted run held holds = record { fits = fits; all = all }
   where
     fits : (side : Side) → at side held ≡ take READER_SIZE (end_at side (counted run)).held
@@ -249,82 +249,82 @@ held_counted run held holds = record { fits = fits; all = all }
     all clean Called = holds.all clean Called
 
 -- the run is fooled
-fooled_at : (side : Side) (n number : ℕ) (setup : SetupValue) (run : Run Talk) (old new : RunValue) → StandsAs setup run old
+fooled_at : (side : Side) (n number : ℕ) (setup : SetupValue) (run : Run DialogueState) (old new : RunValue) → StandsAs setup run old
     → Passes side n false old new → EndsAs setup (after_event by_themselves setup number (Pass side n) run) (Fooled number side) new
 fooled_at Caller n number setup run old new stands passes =
     let is = passes.0 in
-    let stop : Buffered (LineEnd Talk) = record { held = is.held; end = line_end_of new.caller } in
+    let stop : Buffered (LineEnd DialogueState) = record { held = is.held; end = line_end_of new.caller } in
     let came = came_to (participant by_themselves setup run Caller) n old.caller old.called (end_at Caller run) (end_at Called run) (stopped stop)
     (caller_is setup run old stands) stands.caller stands.called is.came in
     let ends : EndsAs setup (after_hearing number Caller (stopped stop) (with_line_to Caller (drop n) run)) (Fooled number Caller) new = record {
       past = stands.past ∙ sym passes.2;
       caller = refl;
-      called = ap (λ (h : Buffered (LineEnd Talk)). (changed_line (drop n) h).end) stands.called ∙ ap line_end_of (sym passes.1);
+      called = ap (λ (h : Buffered (LineEnd DialogueState)). (changed_line (drop n) h).end) stands.called ∙ ap line_end_of (sym passes.1);
       caller_standing = is.standing ∙ stands.caller_standing;
       called_standing = ap standing_of passes.1 ∙ stands.called_standing;
       caller_ordered = is.ordered;
       called_ordered = subst IsOrdered (sym passes.1) (line_ordered (drop n) old.called stands.steady.called_ordered);
       verdict_is = refl;
       held = caller_holds number n stop run new is.fits
-          (ap (λ (e : LiveEndValue). held_bytes e.node) passes.1 ∙ sym (ap (λ (h : Buffered (LineEnd Talk)). h.held) stands.called))
+          (ap (λ (e : LiveEndValue). held_bytes e.node) passes.1 ∙ sym (ap (λ (h : Buffered (LineEnd DialogueState)). h.held) stands.called))
           (subst HasRoom (sym passes.1) stands.steady.called_room);
     } in
-    subst (λ (c : Arrival (LineEnd Talk)). EndsAs setup (after_hearing number Caller c (with_line_to Caller (drop n) run)) (Fooled number Caller) new) (sym came) ends
+    subst (λ (c : Arrival (LineEnd DialogueState)). EndsAs setup (after_hearing number Caller c (with_line_to Caller (drop n) run)) (Fooled number Caller) new) (sym came) ends
 fooled_at Called n number setup run old new stands passes =
     let is = passes.0 in
-    let stop : Buffered (LineEnd Talk) = record { held = is.held; end = line_end_of new.called } in
+    let stop : Buffered (LineEnd DialogueState) = record { held = is.held; end = line_end_of new.called } in
     let came = came_to (participant by_themselves setup run Called) n old.called old.caller (end_at Called run) (end_at Caller run) (stopped stop)
     (called_is setup run old stands) stands.called stands.caller is.came in
     let ends : EndsAs setup (after_hearing number Called (stopped stop) (with_line_to Called (drop n) run)) (Fooled number Called) new = record {
       past = stands.past ∙ sym passes.2;
       called = refl;
-      caller = ap (λ (h : Buffered (LineEnd Talk)). (changed_line (drop n) h).end) stands.caller ∙ ap line_end_of (sym passes.1);
+      caller = ap (λ (h : Buffered (LineEnd DialogueState)). (changed_line (drop n) h).end) stands.caller ∙ ap line_end_of (sym passes.1);
       called_standing = is.standing ∙ stands.called_standing;
       caller_standing = ap standing_of passes.1 ∙ stands.caller_standing;
       called_ordered = is.ordered;
       caller_ordered = subst IsOrdered (sym passes.1) (line_ordered (drop n) old.caller stands.steady.caller_ordered);
       verdict_is = refl;
       held = called_holds number n stop run new is.fits
-          (ap (λ (e : LiveEndValue). held_bytes e.node) passes.1 ∙ sym (ap (λ (h : Buffered (LineEnd Talk)). h.held) stands.caller))
+          (ap (λ (e : LiveEndValue). held_bytes e.node) passes.1 ∙ sym (ap (λ (h : Buffered (LineEnd DialogueState)). h.held) stands.caller))
           (subst HasRoom (sym passes.1) stands.steady.caller_room);
     } in
-    subst (λ (c : Arrival (LineEnd Talk)). EndsAs setup (after_hearing number Called c (with_line_to Called (drop n) run)) (Fooled number Called) new) (sym came) ends
+    subst (λ (c : Arrival (LineEnd DialogueState)). EndsAs setup (after_hearing number Called c (with_line_to Called (drop n) run)) (Fooled number Called) new) (sym came) ends
 
 -- ---- a new call
 
-lost_keeper : (k : Keeper Talk) (id : Identity) (stage : Stage) (e : EndState Talk) → (stage_step k id stage line_lost e).state.keeper ≡ e.keeper
+lost_keeper : (k : Keeper DialogueState) (id : Identity) (stage : Stage) (e : EndState DialogueState) → (stage_step k id stage line_lost e).state.keeper ≡ e.keeper
 lost_keeper k id (hailing g) e = refl
 lost_keeper k id linked e = refl
 lost_keeper k id (ended how) e = refl
 
 kept_as_lost : (old lost : LiveEndValue) → IsCalled line_lost old lost → (line_end_of lost).state.keeper ≡ (line_end_of old).state.keeper
 kept_as_lost old lost is =
-    ap (λ (h : Buffered (LineEnd Talk)). h.end.state.keeper) is.hearer
+    ap (λ (h : Buffered (LineEnd DialogueState)). h.end.state.keeper) is.hearer
     ∙ lost_keeper (player_of old).keeper (player_of old).identity old.node.engine.stage (line_end_of old).state
 
-lost_number : (k : Keeper Talk) (id : Identity) (stage : Stage) (e : EndState Talk) → (stage_step k id stage line_lost e).state.number ≡ e.number
+lost_number : (k : Keeper DialogueState) (id : Identity) (stage : Stage) (e : EndState DialogueState) → (stage_step k id stage line_lost e).state.number ≡ e.number
 lost_number k id (hailing g) e = refl
 lost_number k id linked e = refl
 lost_number k id (ended how) e = refl
 
 number_as_lost : (old lost : LiveEndValue) → IsCalled line_lost old lost → (line_end_of lost).state.number ≡ (line_end_of old).state.number
 number_as_lost old lost is =
-    ap (λ (h : Buffered (LineEnd Talk)). h.end.state.number) is.hearer
+    ap (λ (h : Buffered (LineEnd DialogueState)). h.end.state.number) is.hearer
     ∙ lost_number (player_of old).keeper (player_of old).identity old.node.engine.stage (line_end_of old).state
 
-owned_by_talk : (number : Option ℕ) → Talk → Belongings
+owned_by_talk : (number : Option ℕ) → DialogueState → Belongings
 owned_by_talk number talk = record { lists = talk.machine.lists; kept = talk.kept; number = number }
 
 -- at an end that has begun again
-began_so : (setup : SetupValue) (side : Side) (old lost new : LiveEndValue) (now : Buffered (LineEnd Talk)) → standing_of old ≡ standing_at setup side
+began_so : (setup : SetupValue) (side : Side) (old lost new : LiveEndValue) (now : Buffered (LineEnd DialogueState)) → standing_of old ≡ standing_at setup side
     → now ≡ hearer_of old → IsCalled line_lost old lost → BeginsAgain lost new
     → begins (begins_session (standing_at setup side).identity (standing_at setup side).own now.end.state.number
     (by_themselves.first (renewed (owned_by_talk now.end.state.number now.end.state.keeper)))) ≡ hearer_of new
 unfolding owned_by_talk
 began_so setup side old lost new now standing is lost_is begun =
-    let first : Standing → Option ℕ → Talk → Buffered (LineEnd Talk) =
+    let first : Standing → Option ℕ → DialogueState → Buffered (LineEnd DialogueState) =
     λ s number talk. begins (begins_session s.identity s.own number (by_themselves.first (renewed (owned_by_talk number talk)))) in
-    ap (λ (h : Buffered (LineEnd Talk)). first (standing_at setup side) h.end.state.number h.end.state.keeper) is
+    ap (λ (h : Buffered (LineEnd DialogueState)). first (standing_at setup side) h.end.state.number h.end.state.keeper) is
     ∙ ap (λ (n : Option ℕ). first (standing_at setup side) n (line_end_of old).state.keeper) (sym (number_as_lost old lost lost_is))
     ∙ ap (first (standing_at setup side) (line_end_of lost).state.number) (sym (kept_as_lost old lost lost_is))
     ∙ ap (λ (s : Standing). first s (line_end_of lost).state.number (line_end_of lost).state.keeper) (sym (lost_is.standing ∙ standing))
@@ -345,15 +345,15 @@ told_so : (e : LiveEndValue) → AreWritten e.journal.packets → spelled_end (r
 told_so e written = ap (λ (ps : List (List ℕ)). record (told_of e) { packets = ps }) (spelled_back e.journal.packets written)
 
 -- both of them
-both_told : (run_caller run_called : LineEnd Talk) (caller called : LiveEndValue) → run_caller ≡ line_end_of caller → run_called ≡ line_end_of called
+both_told : (run_caller run_called : LineEnd DialogueState) (caller called : LiveEndValue) → run_caller ≡ line_end_of caller → run_called ≡ line_end_of called
     → AreWritten caller.journal.packets → AreWritten called.journal.packets
     → spelled_session (record { at_caller = report_of_end run_caller; at_called = report_of_end run_called })
     ≡ record { at_caller = told_of caller; at_called = told_of called }
 both_told run_caller run_called caller called a b caller_written called_written =
     let by_caller : SpelledEnd → AtBoth SpelledEnd = λ x. record { at_caller = x; at_called = spelled_end (report_of_end run_called) } in
     let by_called : SpelledEnd → AtBoth SpelledEnd = λ x. record { at_caller = told_of caller; at_called = x } in
-    ap by_caller (ap (λ (e : LineEnd Talk). spelled_end (report_of_end e)) a ∙ told_so caller caller_written)
-    ∙ ap by_called (ap (λ (e : LineEnd Talk). spelled_end (report_of_end e)) b ∙ told_so called called_written)
+    ap by_caller (ap (λ (e : LineEnd DialogueState). spelled_end (report_of_end e)) a ∙ told_so caller caller_written)
+    ∙ ap by_called (ap (λ (e : LineEnd DialogueState). spelled_end (report_of_end e)) b ∙ told_so called called_written)
 
 one_more_session : (past : List (AtBoth EndReportValue)) (last : AtBoth EndReportValue) (told : List (AtBoth SpelledEnd)) (last_told : AtBoth SpelledEnd)
     → map spelled_session past ≡ told → spelled_session last ≡ last_told
@@ -363,18 +363,18 @@ one_more_session past last told last_told is last_is =
     ∙ ap (λ (xs : List (AtBoth SpelledEnd)). xs ++ spelled_session last ∷ []) is
     ∙ ap (λ (x : AtBoth SpelledEnd). told ++ x ∷ []) last_is
 
-called_again : (setup : SetupValue) (run : Run Talk) (old new : RunValue) → StandsAs setup run old → CallsAgain old new
+called_again : (setup : SetupValue) (run : Run DialogueState) (old new : RunValue) → StandsAs setup run old → CallsAgain old new
     → StandsAs setup (after_event by_themselves setup 0 Call run) new
 unfolding owned_by_talk
 called_again setup run old new stands again =
     let lost_at : (hung_up by_themselves setup run Caller).end ≡ line_end_of again.lost_caller =
-    ap (λ (p : Participant Talk). (called_with p line_lost (end_at Caller run)).end) (sym (caller_is setup run old stands))
-    ∙ ap (λ (h : Buffered (LineEnd Talk)). (called_with (player_of old.caller) line_lost h).end) stands.caller
-    ∙ ap (λ (h : Buffered (LineEnd Talk)). h.end) (sym again.caller_lost.hearer) in
+    ap (λ (p : Participant DialogueState). (called_with p line_lost (end_at Caller run)).end) (sym (caller_is setup run old stands))
+    ∙ ap (λ (h : Buffered (LineEnd DialogueState)). (called_with (player_of old.caller) line_lost h).end) stands.caller
+    ∙ ap (λ (h : Buffered (LineEnd DialogueState)). h.end) (sym again.caller_lost.hearer) in
     let lost_too : (hung_up by_themselves setup run Called).end ≡ line_end_of again.lost_called =
-    ap (λ (p : Participant Talk). (called_with p line_lost (end_at Called run)).end) (sym (called_is setup run old stands))
-    ∙ ap (λ (h : Buffered (LineEnd Talk)). (called_with (player_of old.called) line_lost h).end) stands.called
-    ∙ ap (λ (h : Buffered (LineEnd Talk)). h.end) (sym again.called_lost.hearer) in
+    ap (λ (p : Participant DialogueState). (called_with p line_lost (end_at Called run)).end) (sym (called_is setup run old stands))
+    ∙ ap (λ (h : Buffered (LineEnd DialogueState)). (called_with (player_of old.called) line_lost h).end) stands.called
+    ∙ ap (λ (h : Buffered (LineEnd DialogueState)). h.end) (sym again.called_lost.hearer) in
     record {
       past = one_more_session run.past (record {
         at_caller = report_of_end (hung_up by_themselves setup run Caller).end;
@@ -398,7 +398,7 @@ called_again setup run old new stands again =
 
 -- ---- an event
 
-pub happens_clean : (event : Event) (number : ℕ) (setup : SetupValue) (run : Run Talk) (old new : RunValue) → StandsAs setup run old
+pub happens_clean : (event : Event) (number : ℕ) (setup : SetupValue) (run : Run DialogueState) (old new : RunValue) → StandsAs setup run old
     → Happens event true old new → StandsAs setup (after_event by_themselves setup number event run) new
 happens_clean (Pass Caller n) number setup run old new stands happens = to_caller n number setup run old new stands happens
 happens_clean (Pass Called n) number setup run old new stands happens = to_called n number setup run old new stands happens
@@ -411,7 +411,7 @@ happens_clean (HangUp side) number setup run old new stands happens = at_called 
 happens_clean Call number setup run old new stands happens = called_again setup run old new stands happens.1
 
 -- only bytes that come may fool an end
-pub happens_fooled : (event : Event) (number : ℕ) (setup : SetupValue) (run : Run Talk) (old new : RunValue) → StandsAs setup run old
+pub happens_fooled : (event : Event) (number : ℕ) (setup : SetupValue) (run : Run DialogueState) (old new : RunValue) → StandsAs setup run old
     → Happens event false old new → EndsAs setup (after_event by_themselves setup number event run) (Fooled number (hearing_side event)) new
 happens_fooled (Pass side n) number setup run old new stands happens = fooled_at side n number setup run old new stands happens
 happens_fooled (Drop side n) number setup run old new stands happens = let never = happens.0 in absurd cc
@@ -477,30 +477,30 @@ happens_steady Call old new steady happens = record {
 
 -- ---- the events
 
-goes_on_clean : (number : ℕ) (events : List Event) (setup : SetupValue) (run : Run Talk) (event : Event) → run.verdict ≡ Clean
+goes_on_clean : (number : ℕ) (events : List Event) (setup : SetupValue) (run : Run DialogueState) (event : Event) → run.verdict ≡ Clean
     → goes_through by_themselves setup number (event ∷ events) run
     ≡ goes_through by_themselves setup (suc number) events (after_event by_themselves setup number event run)
 goes_on_clean number events setup run event clean =
     ap (λ (v : LineVerdict). unless_fooled v (λ before. goes_through by_themselves setup (suc number) events (after_event by_themselves setup number event before)) run) clean
 
-stays_fooled : (number event_number : ℕ) (side : Side) (events : List Event) (setup : SetupValue) (run : Run Talk) → run.verdict ≡ Fooled event_number side
+stays_fooled : (number event_number : ℕ) (side : Side) (events : List Event) (setup : SetupValue) (run : Run DialogueState) → run.verdict ≡ Fooled event_number side
     → goes_through by_themselves setup number events run ≡ run
 stays_fooled number event_number side [] setup run fooled = refl
 stays_fooled number event_number side (event ∷ events) setup run fooled =
     ap (λ (v : LineVerdict). unless_fooled v (λ before. goes_through by_themselves setup (suc number) events (after_event by_themselves setup number event before)) run) fooled
 
 -- what is left to happen
-pub record StillRuns (events : List Event) (number : ℕ) (setup : SetupValue) (run : Run Talk) (now : RunValue) : Type 0 where
-  pub stands_as : Run Talk
+pub record StillRuns (events : List Event) (number : ℕ) (setup : SetupValue) (run : Run DialogueState) (now : RunValue) : Type 0 where
+  pub stands_as : Run DialogueState
   pub stands : StandsAs setup stands_as now
   pub same : goes_through by_themselves setup 0 events run
       ≡ goes_through by_themselves setup number (drop number events) stands_as
 
-pub ends_clean : (run : Run Talk) (setup : SetupValue) (r : RunValue) → StandsAs setup run r → EndsAs setup run Clean r
+pub ends_clean : (run : Run DialogueState) (setup : SetupValue) (r : RunValue) → StandsAs setup run r → EndsAs setup run Clean r
 ends_clean run setup r stands = record {
   past = stands.past;
-  caller = ap (λ (h : Buffered (LineEnd Talk)). h.end) stands.caller;
-  called = ap (λ (h : Buffered (LineEnd Talk)). h.end) stands.called;
+  caller = ap (λ (h : Buffered (LineEnd DialogueState)). h.end) stands.caller;
+  called = ap (λ (h : Buffered (LineEnd DialogueState)). h.end) stands.called;
   caller_standing = stands.caller_standing;
   called_standing = stands.called_standing;
   caller_ordered = stands.steady.caller_ordered;
@@ -509,7 +509,7 @@ ends_clean run setup r stands = record {
   held = clean_holds run r stands.caller stands.called stands.steady;
 }
 
-pub runs_on : (events : List Event) (number : ℕ) (event : Event) (setup : SetupValue) (run : Run Talk) (old new : RunValue)
+pub runs_on : (events : List Event) (number : ℕ) (event : Event) (setup : SetupValue) (run : Run DialogueState) (old new : RunValue)
     → drop number events ≡ event ∷ drop (number + 1) events → StillRuns events number setup run old → Happens event true old new
     → StillRuns events (number + 1) setup run new
 runs_on events number event setup run old new next still happens =
@@ -524,29 +524,29 @@ runs_on events number event setup run old new next still happens =
           ∙ ap (λ (n : ℕ). goes_through by_themselves setup n (drop (number + 1) events) (after_event by_themselves setup number event before)) one_more;
     }
 
-pub runs_to_fooled : (events : List Event) (number : ℕ) (event : Event) (setup : SetupValue) (run : Run Talk) (old new : RunValue)
+pub runs_to_fooled : (events : List Event) (number : ℕ) (event : Event) (setup : SetupValue) (run : Run DialogueState) (old new : RunValue)
     → drop number events ≡ event ∷ drop (number + 1) events → StillRuns events number setup run old → Happens event false old new
     → EndsAs setup (goes_through by_themselves setup 0 events run) (Fooled number (hearing_side event)) new
 runs_to_fooled events number event setup run old new next still happens =
     let before = still.stands_as in
     let after = after_event by_themselves setup number event before in
     let ends = happens_fooled event number setup before old new still.stands happens in
-    subst (λ (r : Run Talk). EndsAs setup r (Fooled number (hearing_side event)) new)
+    subst (λ (r : Run DialogueState). EndsAs setup r (Fooled number (hearing_side event)) new)
     (sym (still.same
     ∙ ap (λ (es : List Event). goes_through by_themselves setup number es before) next
     ∙ goes_on_clean number (drop (number + 1) events) setup before event still.stands.clean
     ∙ stays_fooled (suc number) number (hearing_side event) (drop (number + 1) events) setup after ends.verdict_is)) ends
 
-pub runs_to_end : (events : List Event) (number : ℕ) (setup : SetupValue) (run : Run Talk) (now : RunValue)
+pub runs_to_end : (events : List Event) (number : ℕ) (setup : SetupValue) (run : Run DialogueState) (now : RunValue)
     → drop number events ≡ [] → StillRuns events number setup run now → EndsAs setup (goes_through by_themselves setup 0 events run) Clean now
 runs_to_end events number setup run now none still =
-    subst (λ (r : Run Talk). EndsAs setup r Clean now)
+    subst (λ (r : Run DialogueState). EndsAs setup r Clean now)
     (sym (still.same ∙ ap (λ (es : List Event). goes_through by_themselves setup number es still.stands_as) none))
     (ends_clean still.stands_as setup now still.stands)
 
 -- ---- what is told
 
-pub told_as : (setup : SetupValue) (run : Run Talk) (verdict : LineVerdict) (r : RunValue) → EndsAs setup run verdict r
+pub told_as : (setup : SetupValue) (run : Run DialogueState) (verdict : LineVerdict) (r : RunValue) → EndsAs setup run verdict r
     → spelled (report_of by_themselves setup run) ≡ told_in_all r verdict
 unfolding owned_by_talk
 told_as setup run verdict r ends =
@@ -565,7 +565,7 @@ told_as setup run verdict r ends =
       verdict = run.verdict;
     } in
     let told = r.past ++ record { at_caller = told_of r.caller; at_called = told_of r.called } ∷ [] in
-    let by_caller : LineEnd Talk → SpelledReport = λ x. record {
+    let by_caller : LineEnd DialogueState → SpelledReport = λ x. record {
       sessions = told;
       ends = record { at_caller = end_now x; at_called = end_now (end_at Called run).end };
       belongings = record {
@@ -574,7 +574,7 @@ told_as setup run verdict r ends =
       };
       verdict = run.verdict;
     } in
-    let by_called : LineEnd Talk → SpelledReport = λ x. record {
+    let by_called : LineEnd DialogueState → SpelledReport = λ x. record {
       sessions = told;
       ends = record { at_caller = parts_now r.caller; at_called = end_now x };
       belongings = record { at_caller = owned_parts r.caller; at_called = owned_by_talk x.state.number x.state.keeper };
@@ -599,7 +599,7 @@ pub told_by_world : (setup : SetupValue) (events : List Event) (verdict : LineVe
 told_by_world setup events verdict r ends same = told_by_ends setup events verdict r ends ∙ ap spelled same
 
 -- the spools give and accept what they did at first
-pub give_as_set_up : (setup : SetupValue) (run : Run Talk) (verdict : LineVerdict) (r : RunValue) → EndsAs setup run verdict r
+pub give_as_set_up : (setup : SetupValue) (run : Run DialogueState) (verdict : LineVerdict) (r : RunValue) → EndsAs setup run verdict r
     → GiveAsSetUp setup (whole_report r verdict).spools
 give_as_set_up setup run verdict r ends Caller = ap (λ (s : Standing). s.holdings) ends.caller_standing
 give_as_set_up setup run verdict r ends Called = ap (λ (s : Standing). s.holdings) ends.called_standing
@@ -614,7 +614,7 @@ pub starts_as : (setup : SetupValue) (caller_spool called_spool : MemoryHoldings
     → HasBegun (standing_at setup Called).identity (standing_at setup Called).own setup.at_called.belongings.number (renewed setup.at_called.belongings).lists called_spool r.called
     → StandsAs setup (first_run by_themselves setup) r
 starts_as setup caller_spool called_spool r none caller_holdings called_holdings caller_kept called_kept caller called =
-    let first : Side → Lists → List Kept → Buffered (LineEnd Talk) =
+    let first : Side → Lists → List Kept → Buffered (LineEnd DialogueState) =
     λ side l kept. begins (begins_session (standing_at setup side).identity (standing_at setup side).own
     (at side setup).belongings.number (unopened l kept)) in
     let caller_lists = (renewed setup.at_caller.belongings).lists in
@@ -654,7 +654,7 @@ one_more_shown {A} past all caller called a b is first next =
     ∙ ap (λ (x : SpelledEnd). map shown past ++ record { at_caller = x; at_called = end_shown called } ∷ []) first
     ∙ ap (λ (x : SpelledEnd). map shown past ++ record { at_caller = a; at_called = x } ∷ []) next
 
-pub runs_from_start : (events : List Event) (setup : SetupValue) (run : Run Talk) (r : RunValue) → StandsAs setup run r
+pub runs_from_start : (events : List Event) (setup : SetupValue) (run : Run DialogueState) (r : RunValue) → StandsAs setup run r
     → StillRuns events 0 setup run r
 runs_from_start events setup run r stands = record { stands_as = run; stands = stands; same = refl }
 
@@ -662,7 +662,7 @@ runs_from_start events setup run r stands = record { stands_as = run; stands = s
 pub next_runs : (events : List Event) (number : ℕ) (d : Event) (all_sent : Bool) (old new : RunValue) → number < length events → all_sent ≡ true
     → Happens (get_or events number d) all_sent old new
     → IsSteady old → (steady : IsSteady new)
-    × ((setup : SetupValue) (run : Run Talk) → StillRuns events number setup run old → StillRuns events (number + 1) setup run new)
+    × ((setup : SetupValue) (run : Run DialogueState) → StillRuns events number setup run old → StillRuns events (number + 1) setup run new)
 next_runs events number d all_sent old new within all happens steady =
     let event = get_or events number d in
     let clean = subst (λ (b : Bool). Happens event b old new) all happens in
@@ -670,7 +670,7 @@ next_runs events number d all_sent old new within all happens steady =
 
 pub next_fools : (events : List Event) (number : ℕ) (d : Event) (all_sent : Bool) (side : Side) (old new : RunValue) → number < length events
     → all_sent ≡ false → side ≡ hearing_side (get_or events number d) → Happens (get_or events number d) all_sent old new
-    → (setup : SetupValue) (run : Run Talk) → StillRuns events number setup run old
+    → (setup : SetupValue) (run : Run DialogueState) → StillRuns events number setup run old
     → EndsAs setup (goes_through by_themselves setup 0 events run) (Fooled number side) new
 next_fools events number d all_sent side old new within unsent is happens setup run still =
     let event = get_or events number d in

@@ -9,7 +9,7 @@ use Rattle.uug_conversation.specs.Count.{Count, count_keeper}
 use Rattle.uug_session.specs.EndStep.{Sending, has_room, in_front, is_up, packets, sending_nothing, sends_by, sends_next, sends_up_to}
 use Rattle.uug_conversation.specs.Holdings.{Holdings}
 use Rattle.uug_conversation.specs.Keeper.{Keeper}
-use Rattle.uug_conversation.specs.Talk.{Talk, end_keeper}
+use Rattle.uug_conversation.specs.DialogueState.{DialogueState, end_keeper}
 use Rattle.uug_conversation.specs.declared.side.Side.{Side}
 use Rattle.uug_conversation.specs.View.{Seen}
 use Rattle.uug_line.specs.LineEnd.{messages_sent}
@@ -73,7 +73,7 @@ nothing_alike J m j = record {
 }
 
 -- behind what was emitted before
-behind_alike : (J : Moment → Type 0) (m : Moment) (es : List Emission) (link : State) (talk : Talk) (x : Sending Talk)
+behind_alike : (J : Moment → Type 0) (m : Moment) (es : List Emission) (link : State) (talk : DialogueState) (x : Sending DialogueState)
     (y : Sending Count) → SendsAlike J (emits m (packets es) link talk) x y → SendsAlike J m (in_front es x) (in_front es y)
 behind_alike J m es link talk x y alike =
     let all : sent_all (emits m (packets es) link talk) x ≡ sent_all m (in_front es x) =

@@ -6,7 +6,7 @@ use Rattle.uug_conversation.specs.EarlierJobs.{behind}
 use Rattle.uug_session.specs.EndStep.{first_link}
 use Rattle.uug_conversation.specs.Holdings.{Kept}
 use Rattle.uug_conversation.specs.Jobs.{Lists}
-use Rattle.uug_conversation.specs.Talk.{Talk, end_keeper}
+use Rattle.uug_conversation.specs.DialogueState.{DialogueState, end_keeper}
 use Rattle.uug_conversation.specs.Turns.{other}
 use Rattle.uug_session.specs.TwoEnds.{Talker, at_first, first_two}
 use Rattle.uug_conversation.specs.View.{floor, kept_after, lists_after}
@@ -24,7 +24,6 @@ use Rattle.uug_line.proofs.SpeakingLemmas.{spoken_at_first}
 use Rattle.uug_line.proofs.LinkRunLemmas.{ran_from_far, ran_nowhere}
 use Rattle.uug_line.proofs.TalkLemmas.{IsToldAt, seen_at, talk_at, talker_at, told_at}
 use Rattle.uug_link.proofs.TwoLinksRuns.{fronts}
-use Rattle.uug_line.proofs.LowerLemmas.{links_below}
 
 module _ (setup : SetupValue) (brought : AtBoth Belongings) where
   -- ---- seen from the other side
@@ -59,7 +58,7 @@ module _ (setup : SetupValue) (brought : AtBoth Belongings) where
     far_opened = j.near_opened;
   }
 
-  pub turned : (side : Side) (e f : LineEnd Talk) → EndsJoined setup brought side e f → EndsJoined setup brought (other side) f e
+  pub turned : (side : Side) (e f : LineEnd DialogueState) → EndsJoined setup brought side e f → EndsJoined setup brought (other side) f e
   turned Caller e f joined = record {
     joined = joined_turned Caller (moment_of e) (moment_of f) joined.joined;
     near_hails = joined.far_hails;
@@ -127,7 +126,7 @@ first_counted setup brought Called = refl
 module _ (setup : SetupValue) (brought : AtBoth Belongings) (sound : IsSoundSession setup brought) where
   -- ---- what an end has
 
-  abbrev HasSame : Side → (number : Option ℕ) → Talk → (sent taken : ℕ) → Type 0
+  abbrev HasSame : Side → (number : Option ℕ) → DialogueState → (sent taken : ℕ) → Type 0
   HasSame side number talk sent taken =
       by_numbers.has (parties setup brought) side (at side brought) number (record { opened = talk.opened; sent = sent; taken = taken })
       ≡ by_themselves.has (parties setup brought) side (at side brought) number talk
@@ -145,7 +144,7 @@ module _ (setup : SetupValue) (brought : AtBoth Belongings) (sound : IsSoundSess
       ∙ ap (λ (l : Lists). having l (kept_after (length t.taken) (seen_at setup brought side))) (sym lists)
       ∙ ap (λ (k : List Kept). having t.state.lists k) (sym kept)
 
-  pub has_joined : (side : Side) (e f : LineEnd Talk) → EndsJoined setup brought side e f →
+  pub has_joined : (side : Side) (e f : LineEnd DialogueState) → EndsJoined setup brought side e f →
       by_numbers.has (parties setup brought) side (at side brought) e.state.number (count_of e)
       ≡ by_themselves.has (parties setup brought) side (at side brought) e.state.number e.state.keeper
   has_joined side e f joined = by joined.joined.near_talk
@@ -154,26 +153,26 @@ module _ (setup : SetupValue) (brought : AtBoth Belongings) (sound : IsSoundSess
           (talker_at setup brought side joined.joined.two) →
           HasSame side e.state.number e.state.keeper (length e.log.sent) (length e.log.taken)
       by (inl fresh) =
-          subst (λ (x : Talk). HasSame side e.state.number x (length e.log.sent) (length e.log.taken)) (sym fresh.0) refl
+          subst (λ (x : DialogueState). HasSame side e.state.number x (length e.log.sent) (length e.log.taken)) (sym fresh.0) refl
       by (inr is_behind) =
           let two = joined.joined.two in
           let told : IsToldAt setup brought side two = told_at setup brought sound side two joined.joined.reached in
-          subst (λ (x : Talk). HasSame side e.state.number x (length e.log.sent) (length e.log.taken)) (sym is_behind)
+          subst (λ (x : DialogueState). HasSame side e.state.number x (length e.log.sent) (length e.log.taken)) (sym is_behind)
           (has_behind side e.state.number (talker_at setup brought side two) e.log.taken
           joined.joined.near_taken told.stands.lists told.stands.kept (length e.log.sent))
 
   -- ---- how far the ends have come
 
   -- what it has taken is a front of what the other has sent
-  pub front : (side : Side) (e f : LineEnd Talk) → EndsJoined setup brought side e f → IsFrontOf e.log.taken f.log.sent
+  pub front : (side : Side) (e f : LineEnd DialogueState) → EndsJoined setup brought side e f → IsFrontOf e.log.taken f.log.sent
   front side e f joined =
-      (fronts links_below (at side setup).own (at (other side) setup).own
+      (fronts (at side setup).own (at (other side) setup).own
       (record { near = link_end (moment_of e); far = link_end (moment_of f) })
       (sound.window side) (sound.window (other side))
       (links_run setup side (moment_of e) (moment_of f) joined.joined.links)).0
 
   -- and it has sent no more than it may
-  pub to_floor : (side : Side) (e f : LineEnd Talk) → EndsJoined setup brought side e f →
+  pub to_floor : (side : Side) (e f : LineEnd DialogueState) → EndsJoined setup brought side e f →
       length e.log.sent ≤ floor (length e.log.taken) (view_at (parties setup brought) side)
   to_floor side e f joined =
       let j = joined.joined in

@@ -8,7 +8,7 @@ use Rattle.uug_session.specs.declared.end.End.{End}
 use Rattle.uug_conversation.specs.Count.{Count, count_keeper}
 use Rattle.uug_session.specs.EndStep.{Identity, Sending, Stage, hailing, linked, ended, closes_by, ends_so, goes_on, goes_on_with, how_it_ends, is_up, packets, sending_nothing, sends, speaks_and_closes, speaks_by}
 use Rattle.uug_conversation.specs.Holdings.{Holdings}
-use Rattle.uug_conversation.specs.Talk.{Talk, end_keeper}
+use Rattle.uug_conversation.specs.DialogueState.{DialogueState, end_keeper}
 use Rattle.uug_conversation.specs.declared.side.Side.{Side}
 use Rattle.uug_conversation.specs.View.{Seen}
 use Rattle.uug_line.proofs.Invariant.{DoesAlike, HailsFresh, IsInvariant, SendsAlike, counted_effect, counted_sending, done_all, moved, sent_all}
@@ -33,7 +33,7 @@ ended_hails_not first link how g at = absurd (true≢false (ap hails_no_more at)
 
 module _ (me : Side) (h : Holdings) (v : List Seen) (J : Moment → Type 0)
     (IsThere : Moment → PacketValue → ℕ → Type 0) (is : IsInvariant me h v J IsThere) where
-  closes_alike : (m : Moment) (x : Sending Talk) (over : Bool) → IsUp x.link → J (sent_all m x) →
+  closes_alike : (m : Moment) (x : Sending DialogueState) (over : Bool) → IsUp x.link → J (sent_all m x) →
       SendsAlike J m (closes_by over x) (closes_by over (counted_sending (sent_all m x) x))
   closes_alike m x false up j = record { holds = j; same = refl }
   closes_alike m x true up j =
@@ -47,7 +47,7 @@ module _ (me : Side) (h : Holdings) (v : List Seen) (J : Moment → Type 0)
             (sym (count_silent (sent_all m x) es link (none_sent es (firsts_of x.link to_close))) ∙ ap count all);
       }
 
-  speaks_and_closes_alike : (m : Moment) (x : Sending Talk) (y : Sending Count) → IsUp x.link → SendsAlike J m x y →
+  speaks_and_closes_alike : (m : Moment) (x : Sending DialogueState) (y : Sending Count) → IsUp x.link → SendsAlike J m x y →
       SendsAlike J m (speaks_and_closes (end_keeper me h) x) (speaks_and_closes (count_keeper v) y)
   speaks_and_closes_alike m x y up alike =
       let z = counted_sending (sent_all m x) x in
@@ -68,7 +68,7 @@ module _ (me : Side) (h : Holdings) (v : List Seen) (J : Moment → Type 0)
 -- ---- the session goes on
 
 goes_on_with_alike : (number : Option ℕ) (J : Moment → Type 0) (first : State) (m : Moment) (took : Bool) (es : List Emission) (link : State)
-    (talk : Talk) (x : Sending Talk) (y : Sending Count) → SendsAlike J (emits m (packets es) link talk) x y →
+    (talk : DialogueState) (x : Sending DialogueState) (y : Sending Count) → SendsAlike J (emits m (packets es) link talk) x y →
     DoesAlike J first m (goes_on_with number took es x) (goes_on_with number took es y)
 goes_on_with_alike number J first m took es link talk x y alike =
     let all : sent_all (emits m (packets es) link talk) x ≡ done_all m (goes_on_with number took es x) =
@@ -83,7 +83,7 @@ goes_on_with_alike number J first m took es link talk x y alike =
 -- behind a link's effect, where the talk and the numbers are then so
 pub goes_on_alike : (number : Option ℕ) → (me : Side) (h : Holdings) (v : List Seen) (J : Moment → Type 0)
     (IsThere : Moment → PacketValue → ℕ → Type 0) → IsInvariant me h v J IsThere →
-    (first : State) (m : Moment) (took : Bool) (e : Effect) (talk : Talk) (c : Count) →
+    (first : State) (m : Moment) (took : Bool) (e : Effect) (talk : DialogueState) (c : Count) →
     J (emits m (packets e.emitted) e.state talk) → c ≡ count (emits m (packets e.emitted) e.state talk) →
     DoesAlike J first m (goes_on number (end_keeper me h) took e talk) (goes_on number (count_keeper v) took e c)
 goes_on_alike number me h v J IsThere is first m took e talk c j same =
@@ -95,7 +95,7 @@ goes_on_alike number me h v J IsThere is first m took e talk c j same =
     (speaks_alike me h v J IsThere is then_m j (is_up e.state.phase) refl))
 
 -- it says nothing
-pub stays_alike : (number : Option ℕ) (J : Moment → Type 0) (first : State) (m : Moment) (e : Effect) (talk : Talk) (c : Count) →
+pub stays_alike : (number : Option ℕ) (J : Moment → Type 0) (first : State) (m : Moment) (e : Effect) (talk : DialogueState) (c : Count) →
     J (emits m (packets e.emitted) e.state talk) → c ≡ count (emits m (packets e.emitted) e.state talk) →
     DoesAlike J first m (goes_on_with number false e.emitted (sending_nothing e.state talk))
     (goes_on_with number false e.emitted (sending_nothing e.state c))
@@ -109,7 +109,7 @@ stays_alike number J first m e talk c j same =
 -- ---- the session ends
 
 pub ends_alike : (number : Option ℕ) (J : Moment → Type 0) (first : State) (id : Identity) (m : Moment) (parted also_parted : Bool) (how : End)
-    (e : Effect) (talk : Talk) (c : Count) (took : Bool) → parted ≡ also_parted → J (emits m (packets e.emitted) e.state talk) →
+    (e : Effect) (talk : DialogueState) (c : Count) (took : Bool) → parted ≡ also_parted → J (emits m (packets e.emitted) e.state talk) →
     c ≡ count (emits m (packets e.emitted) e.state talk) →
     DoesAlike J first m (ends_so number id parted how e talk took) (ends_so number id also_parted how e c took)
 ends_alike number J first id m parted also_parted how e talk c took agree j same =

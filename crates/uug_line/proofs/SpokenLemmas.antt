@@ -17,7 +17,7 @@ use Rattle.uug_conversation.specs.Holdings.{Holdings}
 use Rattle.uug_session.specs.InRange.{CanBeWritten, IsEndInRange, MayFind}
 use Rattle.uug_conversation.specs.MemoryHoldings.{MemoryHoldings, holdings_of}
 use Rattle.uug_session.specs.Says.{written_text}
-use Rattle.uug_conversation.specs.Talk.{Talk}
+use Rattle.uug_conversation.specs.DialogueState.{DialogueState}
 use Rattle.uug_conversation.specs.declared.side.Side.{Side}
 use Rattle.uug_line.specs.JournalValue.{JournalValue, if_first, log_of, messages_said, packet_in, packet_read, packets_said, saying, with_most}
 use Rattle.uug_line.specs.LineEnd.{LineEnd, Log, after_call, bytes_in, emitting, messages_sent, packets_in, sent_by}
@@ -117,12 +117,12 @@ noted_well es entries unacked before after well are noted_so written =
     (all_written before.packets (map canonical (packets_in es)) written (written_packets es well))
 
 -- the call did this to the end, of which was noted already what was found
-pub record Calls (effect : EndEffect Talk) (old called new : LiveEndValue) : Type 0 where
+pub record Calls (effect : EndEffect DialogueState) (old called new : LiveEndValue) : Type 0 where
   pub end : line_end_of new ≡ after_call (log_of called.journal) called.line effect
   pub standing : standing_of new ≡ standing_of old
   pub ordered : IsOrdered new
 
-pub does_so : (e : EndEffect Talk) (old called new : LiveEndValue)
+pub does_so : (e : EndEffect DialogueState) (old called new : LiveEndValue)
     → old.node.engine.outbox.entries ≡ [] → AllByRecursion CanBeWritten e.emitted
     → Does e (state_of called) old.node.engine called.node.engine → IsNoted called new
     → IsEndInRange old.node.engine.identity.side e.state → IsAnnouncement old.node.engine.own
@@ -131,12 +131,12 @@ pub does_so : (e : EndEffect Talk) (old called new : LiveEndValue)
 does_so e old called new cleared writable does noted_so in_range own written holdings =
     let entries : called.node.engine.outbox.entries ≡ map entry_of e.emitted =
     does.emitted ∙ ap (λ (x : List EntryValue). x ++ map entry_of e.emitted) cleared in
-    let of_engine : EngineState → MemoryHoldings → EndState Talk = λ x m. end_of (holdings_of m) m.stored x in
+    let of_engine : EngineState → MemoryHoldings → EndState DialogueState = λ x m. end_of (holdings_of m) m.stored x in
     let state : state_of new ≡ e.state =
     ap (λ (x : EngineState). of_engine x new.spool) noted_so.engine ∙ ap (λ (m : MemoryHoldings). of_engine called.node.engine m) noted_so.spool ∙ does.end in
-    let link : new.node.engine.link ≡ e.state.link = ap (λ (s : EndState Talk). s.link) state in
+    let link : new.node.engine.link ≡ e.state.link = ap (λ (s : EndState DialogueState). s.link) state in
     let unacked : length called.node.engine.link.unacked ≡ length e.state.link.unacked =
-    ap (λ (s : EndState Talk). length s.link.unacked) does.end in
+    ap (λ (s : EndState DialogueState). length s.link.unacked) does.end in
     let identity : new.node.engine.identity ≡ old.node.engine.identity =
     ap (λ (x : EngineState). x.identity) noted_so.engine ∙ does.identity in
     let announced : new.node.engine.own ≡ old.node.engine.own = ap (λ (x : EngineState). x.own) noted_so.engine ∙ does.own in
@@ -145,9 +145,9 @@ does_so e old called new cleared writable does noted_so in_range own written hol
     ∙ ap (λ (n : ℕ). emitting e.emitted n (log_of called.journal)) unacked in
     let line : new.line ≡ called.line ++ bytes_in e.emitted =
     noted_so.line ∙ ap (λ (x : List EntryValue). called.line ++ joined x) entries ∙ ap (λ (x : List ℕ). called.line ++ x) (bytes_joined e.emitted) in
-    let by_state : EndState Talk → LineEnd Talk = λ x. record { state = x; log = log_of new.journal; line = new.line } in
-    let by_log : Log → LineEnd Talk = λ x. record { state = e.state; log = x; line = new.line } in
-    let by_line : List ℕ → LineEnd Talk =
+    let by_state : EndState DialogueState → LineEnd DialogueState = λ x. record { state = x; log = log_of new.journal; line = new.line } in
+    let by_log : Log → LineEnd DialogueState = λ x. record { state = e.state; log = x; line = new.line } in
+    let by_line : List ℕ → LineEnd DialogueState =
     λ x. record { state = e.state; log = emitting e.emitted (length e.state.link.unacked) (log_of called.journal); line = x } in
     let by_identity : Identity → Standing = λ x. record { identity = x; own = new.node.engine.own; holdings = holdings_of new.spool } in
     let by_own : Announced → Standing = λ x. record { identity = old.node.engine.identity; own = x; holdings = holdings_of new.spool } in

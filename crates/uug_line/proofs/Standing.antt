@@ -11,7 +11,7 @@ use Rattle.uug_conversation.specs.Count.{Count}
 use Rattle.uug_session.specs.EndStep.{EndEvent, time_ran_out, line_lost}
 use Rattle.uug_conversation.specs.Jobs.{at_start, pending}
 use Rattle.uug_conversation.specs.Party.{IsSound}
-use Rattle.uug_conversation.specs.Talk.{Talk}
+use Rattle.uug_conversation.specs.DialogueState.{DialogueState}
 use Rattle.uug_line.specs.declared.event.Event.{Event}
 use Rattle.uug_line.specs.declared.event.Event.TheVariants.{Pass, Drop, Flip, Insert, Timeout, HangUp, Call}
 use Rattle.uug_conversation.specs.declared.side.Side.{Side}
@@ -39,7 +39,7 @@ use Rattle.uug_line.proofs.Steps.{talk_player, count_player, IsNoPacket, Steps}
 use Rattle.uug_line.proofs.StoredSince.{OwnSince, names_now, own_of_both, own_at_first, OwnPlaces, own_places, set_up}
 use Rattle.uug_link.proofs.TwoLinksRuns.{first_reads}
 use Rattle.uug_link.proofs.MovesRuns.{run_moves as links_move}
-use Rattle.uug_line.proofs.LowerLemmas.{links_below, always_within}
+use Rattle.uug_line.proofs.LowerLemmas.{always_within}
 use Rattle.uug_line.proofs.JoinedSteps.{steps as all_steps}
 
 -- the session is as the headline says
@@ -48,21 +48,21 @@ pub record IsKept (setup : SetupValue) (session : AtBoth EndReportValue) : Type 
   pub window : KeptToWindows setup session
   pub machine : SomeLinksRan setup session
 
-pub record Stands (setup : SetupValue) (run : Run Talk) : Type 0 where
+pub record Stands (setup : SetupValue) (run : Run DialogueState) : Type 0 where
   pub sound : IsSoundSession setup run.brought
   pub joined : EndsJoined setup run.brought Caller run.ends.at_caller.end run.ends.at_called.end
   pub past : All (IsKept setup) run.past
   pub own : (giver : Side) → OwnSince setup run.brought giver
 
 -- it stands so, and is told by numbers
-pub record Goes (setup : SetupValue) (run : Run Talk) (numbers : Run Count) : Type 0 where
+pub record Goes (setup : SetupValue) (run : Run DialogueState) (numbers : Run Count) : Type 0 where
   pub stands : Stands setup run
   pub counted_is : counted run ≡ numbers
 
 -- ---- the bytes on a line join and part nothing
 
 near_line : (setup : SetupValue) (brought : AtBoth Belongings) (side : Side) (change : List ℕ → List ℕ)
-    (h : Buffered (LineEnd Talk)) (f : LineEnd Talk) → EndsJoined setup brought side h.end f →
+    (h : Buffered (LineEnd DialogueState)) (f : LineEnd DialogueState) → EndsJoined setup brought side h.end f →
     EndsJoined setup brought side (changed_line change h).end f
 near_line setup brought side change h f j = record {
   joined = j.joined;
@@ -77,7 +77,7 @@ near_line setup brought side change h f j = record {
 }
 
 far_line : (setup : SetupValue) (brought : AtBoth Belongings) (side : Side) (change : List ℕ → List ℕ)
-    (e : LineEnd Talk) (h : Buffered (LineEnd Talk)) → EndsJoined setup brought side e h.end →
+    (e : LineEnd DialogueState) (h : Buffered (LineEnd DialogueState)) → EndsJoined setup brought side e h.end →
     EndsJoined setup brought side e (changed_line change h).end
 far_line setup brought side change e h j = record {
   joined = j.joined;
@@ -97,11 +97,11 @@ both_are : {A : Type 0} (x y : AtBoth A) → x.at_caller ≡ y.at_caller → x.a
 both_are x y e f = ap₂ (λ a b. record { at_caller = a; at_called = b }) e f
 
 -- how the links of these ends stand
-abbrev links_at : LineEnd Talk → LineEnd Talk → AtBoth State
+abbrev links_at : LineEnd DialogueState → LineEnd DialogueState → AtBoth State
 links_at e f = record { at_caller = e.state.link; at_called = f.state.link }
 
 -- an end's link with what is told of the end
-as_told : (e : LineEnd Talk) → HasPassed e.log → link_end (moment_of e) ≡ told_end (report_of_end e) e.state.link
+as_told : (e : LineEnd DialogueState) → HasPassed e.log → link_end (moment_of e) ≡ told_end (report_of_end e) e.state.link
 as_told e passed = ap (λ (n : ℕ). record {
   link = e.state.link;
   sent = e.log.sent;
@@ -111,23 +111,23 @@ as_told e passed = ap (λ (n : ℕ). record {
 }) passed
 
 module _ (setup : SetupValue) where
-  steps_of : (run : Run Talk) → Stands setup run → Steps setup run.brought
+  steps_of : (run : Run DialogueState) → Stands setup run → Steps setup run.brought
   steps_of run s = all_steps setup run.brought s.sound
 
-  turned_of : (run : Run Talk) → Stands setup run →
+  turned_of : (run : Run DialogueState) → Stands setup run →
       EndsJoined setup run.brought Called run.ends.at_called.end run.ends.at_caller.end
   turned_of run s =
       (steps_of run s).turned Caller run.ends.at_caller.end run.ends.at_called.end s.joined
 
   -- the ends become others
-  with_ends : (run : Run Talk) (verdict : LineVerdict) (x y : Buffered (LineEnd Talk)) → Stands setup run →
+  with_ends : (run : Run DialogueState) (verdict : LineVerdict) (x y : Buffered (LineEnd DialogueState)) → Stands setup run →
       EndsJoined setup run.brought Caller x.end y.end →
       Stands setup (record { past = run.past; brought = run.brought; ends = record { at_caller = x; at_called = y }; verdict = verdict })
   with_ends run verdict x y s joined = record { sound = s.sound; joined = joined; past = s.past; own = s.own }
 
   -- ---- bytes on the line
 
-  line_changes : (side : Side) (change : List ℕ → List ℕ) (run : Run Talk) → Stands setup run →
+  line_changes : (side : Side) (change : List ℕ → List ℕ) (run : Run DialogueState) → Stands setup run →
       Goes setup (with_line_to side change run) (with_line_to side change (counted run))
   line_changes Caller change run s = record {
     stands = with_ends run run.verdict run.ends.at_caller (changed_line change run.ends.at_called) s
@@ -142,7 +142,7 @@ module _ (setup : SetupValue) where
 
   -- ---- an end's call
 
-  calls_keep : (side : Side) (event : EndEvent) (run : Run Talk) → IsNoPacket event → Stands setup run →
+  calls_keep : (side : Side) (event : EndEvent) (run : Run DialogueState) → IsNoPacket event → Stands setup run →
       Goes setup (calls by_themselves setup side event run) (calls by_numbers setup side event (counted run))
   calls_keep Caller event run no_packet s =
       let here = run.ends.at_caller in
@@ -170,7 +170,7 @@ module _ (setup : SetupValue) where
   -- ---- bytes that come
 
   -- the other end's line was changed so
-  heard_at_caller : (number : ℕ) (change : List ℕ → List ℕ) (run : Run Talk) → Stands setup run → (came : Arrival (LineEnd Talk)) →
+  heard_at_caller : (number : ℕ) (change : List ℕ → List ℕ) (run : Run DialogueState) → Stands setup run → (came : Arrival (LineEnd DialogueState)) →
       EndsJoined setup run.brought Caller (end_of came) run.ends.at_called.end →
       Goes setup (after_hearing number Caller came (with_line_to Caller change run))
       (after_hearing number Caller (counted_came came) (with_line_to Caller change (counted run)))
@@ -185,7 +185,7 @@ module _ (setup : SetupValue) where
     counted_is = refl;
   }
 
-  heard_at_called : (number : ℕ) (change : List ℕ → List ℕ) (run : Run Talk) → Stands setup run → (came : Arrival (LineEnd Talk)) →
+  heard_at_called : (number : ℕ) (change : List ℕ → List ℕ) (run : Run DialogueState) → Stands setup run → (came : Arrival (LineEnd DialogueState)) →
       EndsJoined setup run.brought Called (end_of came) run.ends.at_caller.end →
       Goes setup (after_hearing number Called came (with_line_to Called change run))
       (after_hearing number Called (counted_came came) (with_line_to Called change (counted run)))
@@ -202,10 +202,10 @@ module _ (setup : SetupValue) where
     counted_is = refl;
   }
 
-  goes_to : (run : Run Talk) (x y : Run Count) → Goes setup run x → x ≡ y → Goes setup run y
+  goes_to : (run : Run DialogueState) (x y : Run Count) → Goes setup run x → x ≡ y → Goes setup run y
   goes_to run x y g e = record { stands = g.stands; counted_is = g.counted_is ∙ e }
 
-  passes : (number : ℕ) (side : Side) (n : ℕ) (run : Run Talk) → Stands setup run →
+  passes : (number : ℕ) (side : Side) (n : ℕ) (run : Run DialogueState) → Stands setup run →
       Goes setup (after_event by_themselves setup number (Pass side n) run) (after_event by_numbers setup number (Pass side n) (counted run))
   passes number Caller n run s =
       let here = run.ends.at_caller in
@@ -253,7 +253,7 @@ module _ (setup : SetupValue) where
   -- ---- a call
 
   -- the run of the two links, as it is told
-  links_told : (e f : LineEnd Talk) → HasPassed e.log → HasPassed f.log → LinksOf setup Caller (moment_of e) (moment_of f) →
+  links_told : (e f : LineEnd DialogueState) → HasPassed e.log → HasPassed f.log → LinksOf setup Caller (moment_of e) (moment_of f) →
       LinksRan (first_links setup)
       (link_ends (record { at_caller = report_of_end e; at_called = report_of_end f }) (links_at e f)) e.log.arrivals f.log.arrivals
   links_told e f near far ran =
@@ -262,7 +262,7 @@ module _ (setup : SetupValue) where
       (subst (λ (b : End). LinksRan (first_links setup)
       (record { near = link_end (moment_of e); far = b }) e.log.arrivals f.log.arrivals) (as_told f far) ran)
 
-  ran_as_machine : (brought : AtBoth Belongings) → IsSoundSession setup brought → (e f : LineEnd Talk) →
+  ran_as_machine : (brought : AtBoth Belongings) → IsSoundSession setup brought → (e f : LineEnd DialogueState) →
       EndsJoined setup brought Caller e f →
       RanAsMachine setup (record { at_caller = report_of_end e; at_called = report_of_end f }) (links_at e f)
   ran_as_machine brought sound e f joined =
@@ -272,7 +272,7 @@ module _ (setup : SetupValue) where
       let other : ℕ = setup.at_caller.own.window in
       let near : State = caller_state setup.at_caller.own in
       let far : State = called_state setup.at_called.own in
-      let moved = links_move links_below setup.at_caller.own setup.at_called.own near far run.occurrences (sound.window Caller)
+      let moved = links_move setup.at_caller.own setup.at_called.own near far run.occurrences (sound.window Caller)
       (sound.window Called) (inl refl) (inr refl) run.allowed in
       let behind = stands_behind window other (first_links setup) run.occurrences (first_machine setup) moved.0
       (stands_first window other (first_links setup)
@@ -291,7 +291,7 @@ module _ (setup : SetupValue) where
       }
 
   -- a session whose ends are joined is as the headline says
-  session_kept : (brought : AtBoth Belongings) → IsSoundSession setup brought → (e f : LineEnd Talk) →
+  session_kept : (brought : AtBoth Belongings) → IsSoundSession setup brought → (e f : LineEnd DialogueState) →
       EndsJoined setup brought Caller e f →
       IsKept setup (record { at_caller = report_of_end e; at_called = report_of_end f })
   session_kept brought sound e f joined =
@@ -309,7 +309,7 @@ module _ (setup : SetupValue) where
       window Called = joined.far_most
 
   -- both ends have hung up
-  hung_up_joined : (run : Run Talk) → Stands setup run →
+  hung_up_joined : (run : Run DialogueState) → Stands setup run →
       EndsJoined setup run.brought Caller (does (talk_player setup Caller) line_lost run.ends.at_caller.end)
       (does (talk_player setup Called) line_lost run.ends.at_called.end)
   hung_up_joined run s =
@@ -321,10 +321,10 @@ module _ (setup : SetupValue) where
       steps.turned Called (does (talk_player setup Called) line_lost f) e'
       (steps.does_joined Called line_lost f e' tt (steps.turned Caller e' f first))
 
-  abbrev brings : Run Talk → AtBoth Belongings
+  abbrev brings : Run DialogueState → AtBoth Belongings
   brings run = at_each (λ side. renewed (has_now by_themselves setup run side))
 
-  brings_sound : (run : Run Talk) → Stands setup run → IsSoundSession setup (brings run)
+  brings_sound : (run : Run DialogueState) → Stands setup run → IsSoundSession setup (brings run)
   brings_sound run s = record { window = s.sound.window; party = party_sound; renewed = renewed_so }
     where
       party_sound : (side : Side) → IsSound (party setup (brings run) side)
@@ -346,7 +346,7 @@ module _ (setup : SetupValue) where
       renewed_so Caller = refl
       renewed_so Called = refl
 
-  own_of_now : (run : Run Talk) → Stands setup run → (giver : Side) → OwnSince setup (at_each (has_now by_themselves setup run)) giver
+  own_of_now : (run : Run DialogueState) → Stands setup run → (giver : Side) → OwnSince setup (at_each (has_now by_themselves setup run)) giver
   own_of_now run s giver =
       own_of_both setup run.brought s.sound giver (at_each (has_now by_themselves setup run))
       run.ends.at_caller.end run.ends.at_called.end s.joined refl refl (s.own giver)
@@ -373,7 +373,7 @@ module _ (setup : SetupValue) where
     own = own.own;
   }
 
-  has_counted : (run : Run Talk) → Stands setup run → at_each (has_now by_themselves setup run) ≡ at_each (has_now by_numbers setup (counted run))
+  has_counted : (run : Run DialogueState) → Stands setup run → at_each (has_now by_themselves setup run) ≡ at_each (has_now by_numbers setup (counted run))
   has_counted run s =
       let steps = steps_of run s in
       both_are (at_each (has_now by_themselves setup run)) (at_each (has_now by_numbers setup (counted run)))
@@ -381,13 +381,13 @@ module _ (setup : SetupValue) where
       (sym (steps.has_counted Called run.ends.at_called.end run.ends.at_caller.end (turned_of run s)))
 
   -- what is told of the session that is over
-  abbrev told_by_numbers : Run Talk → AtBoth EndReportValue
+  abbrev told_by_numbers : Run DialogueState → AtBoth EndReportValue
   told_by_numbers run = at_each (λ side. report_of_end (hung_up by_numbers setup (counted run) side).end)
 
-  abbrev told : Run Talk → AtBoth EndReportValue
+  abbrev told : Run DialogueState → AtBoth EndReportValue
   told run = at_each (λ side. report_of_end (hung_up by_themselves setup run side).end)
 
-  told_counted : (run : Run Talk) → Stands setup run → told run ≡ told_by_numbers run
+  told_counted : (run : Run DialogueState) → Stands setup run → told run ≡ told_by_numbers run
   told_counted run s =
       let steps = steps_of run s in
       let e = run.ends.at_caller.end in
@@ -396,7 +396,7 @@ module _ (setup : SetupValue) where
       (ap (λ (z : LineEnd Count). report_of_end z) (steps.does_counted Caller line_lost e f tt s.joined))
       (ap (λ (z : LineEnd Count). report_of_end z) (steps.does_counted Called line_lost f e tt (turned_of run s)))
 
-  again : (run : Run Talk) → Stands setup run →
+  again : (run : Run DialogueState) → Stands setup run →
       Goes setup (calls_again by_themselves setup run) (calls_again by_numbers setup (counted run))
   again run s =
       let past = run.past ++ told run ∷ [] in
@@ -411,7 +411,7 @@ module _ (setup : SetupValue) where
 
   -- ---- the events
 
-  keeps : (number : ℕ) (event : Event) (run : Run Talk) → Stands setup run →
+  keeps : (number : ℕ) (event : Event) (run : Run DialogueState) → Stands setup run →
       Goes setup (after_event by_themselves setup number event run) (after_event by_numbers setup number event (counted run))
   keeps number (Pass side n) run s = passes number side n run s
   keeps number (Drop side n) run s = line_changes side (drop n) run s
@@ -421,13 +421,13 @@ module _ (setup : SetupValue) where
   keeps number (HangUp side) run s = calls_keep side line_lost run tt s
   keeps number Call run s = again run s
 
-  goes_unless : (verdict : LineVerdict) (more : Run Talk → Run Talk) (numbers : Run Count → Run Count) (run : Run Talk) →
+  goes_unless : (verdict : LineVerdict) (more : Run DialogueState → Run DialogueState) (numbers : Run Count → Run Count) (run : Run DialogueState) →
       Stands setup run → Goes setup (more run) (numbers (counted run)) →
       Goes setup (unless_fooled verdict more run) (unless_fooled verdict numbers (counted run))
   goes_unless Clean more numbers run s g = g
   goes_unless (Fooled number side) more numbers run s g = record { stands = s; counted_is = refl }
 
-  goes_on : (number : ℕ) (events : List Event) (run : Run Talk) → Stands setup run →
+  goes_on : (number : ℕ) (events : List Event) (run : Run DialogueState) → Stands setup run →
       Goes setup (goes_through by_themselves setup number events run) (goes_through by_numbers setup number events (counted run))
   goes_on number [] run s = record { stands = s; counted_is = refl }
   goes_on number (event ∷ events) run s =
@@ -472,7 +472,7 @@ module _ (setup : SetupValue) where
       (goes_on 0 events (first_run by_themselves setup) first.stands)
       (ap (goes_through by_numbers setup 0 events) first.counted_is)
 
-  reported : (run : Run Talk) → Stands setup run → report_of by_themselves setup run ≡ report_of by_numbers setup (counted run)
+  reported : (run : Run DialogueState) → Stands setup run → report_of by_themselves setup run ≡ report_of by_numbers setup (counted run)
   reported run s = ap (λ z. record {
     sessions = run.past ++ at_each (λ side. report_of_end (end_at side run).end) ∷ [];
     ends = at_each (λ side. end_now (end_at side run).end);
@@ -498,7 +498,7 @@ module _ (setup : SetupValue) where
     passed = passed;
   }
     where
-      run : Run Talk
+      run : Run DialogueState
       run = run_of_ends setup events
 
       s : Stands setup run

@@ -12,7 +12,7 @@ use Rattle.uug_conversation.specs.Count.{Count, count_keeper}
 use Rattle.uug_session.specs.EndStep.{EndEffect, EndEvent, text_found, long_text_found, packet_found_whole, broken_found, time_ran_out, line_lost, says_text, EndState, Identity, Stage, hailing, linked, ended, behind_greeting, begins_link, first_link, greeted_so, hailing_step, how_it_ends, linked_step, packets, stage_step, unmoved}
 use Rattle.uug_session.specs.Greeting.{GreetingStep, long_text_came, number_by, text_came, timed_out}
 use Rattle.uug_conversation.specs.Holdings.{Holdings}
-use Rattle.uug_conversation.specs.Talk.{end_keeper}
+use Rattle.uug_conversation.specs.DialogueState.{end_keeper}
 use Rattle.uug_conversation.specs.declared.side.Side.{Side}
 use Rattle.uug_conversation.specs.declared.side.Side.TheVariants.{Caller, Called}
 use Rattle.uug_conversation.specs.View.{Seen}

@@ -9,7 +9,7 @@ use Rattle.uug_conversation.specs.Holdings.{Kept, Holdings}
 use Rattle.uug_conversation.specs.Jobs.{pending}
 use Rattle.uug_conversation.specs.OwnEntries.{OwnEntries, none, HasOwnEntries}
 use Rattle.uug_conversation.specs.Party.{Party, HasNames}
-use Rattle.uug_conversation.specs.Talk.{Talk}
+use Rattle.uug_conversation.specs.DialogueState.{DialogueState}
 use Rattle.uug_session.specs.TwoEnds.{talker}
 use Rattle.uug_conversation.specs.View.{floor, kept_after, lists_after}
 use Rattle.uug_conversation.specs.declared.side.Side.{Side}
@@ -44,7 +44,7 @@ session_own parties Caller own others p q = called_store parties.at_caller parti
 session_own parties Called own others p q = caller_store parties.at_caller parties.at_called others own q p
 
 -- before its link is up an end has taken nothing
-took_nothing : (setup : SetupValue) (brought : AtBoth Belongings) (side : Side) (e f : LineEnd Talk) →
+took_nothing : (setup : SetupValue) (brought : AtBoth Belongings) (side : Side) (e f : LineEnd DialogueState) →
     EndsJoined setup brought side e f → e.state.keeper.opened ≡ false → length e.log.taken ≡ 0
 took_nothing setup brought side e f joined shut = by joined.joined.near_talk
   where
@@ -52,7 +52,7 @@ took_nothing setup brought side e f joined shut = by joined.joined.near_talk
         (talker side joined.joined.two) → length e.log.taken ≡ 0
     by (inl first) =
         ap length (sym joined.joined.near_taken ∙ ap (λ t. t.taken) first.1)
-    by (inr opened) = absurd (let k : true ≡ false = sym (ap (λ (t : Talk). t.opened) opened) ∙ shut in cc)
+    by (inr opened) = absurd (let k : true ≡ false = sym (ap (λ (t : DialogueState). t.opened) opened) ∙ shut in cc)
 
 has_struck : (number : Option ℕ) → (parties : AtBoth Party) (side : Side) (b : Belongings) (opened : Bool) (taken : ℕ) →
     (opened ≡ false → taken ≡ 0) → (has_by opened parties side b number taken).lists.struck ≡ b.lists.struck ++ struck_in parties side taken
@@ -158,24 +158,24 @@ module _ (setup : SetupValue) (brought : AtBoth Belongings) (sound : IsSoundSess
   all_steps : Steps setup brought
   all_steps = steps setup brought sound
 
-  abbrev has : Side → LineEnd Talk → Belongings
+  abbrev has : Side → LineEnd DialogueState → Belongings
   has side e = by_themselves.has (parties setup brought) side (at side brought) e.state.number e.state.keeper
 
-  struck_now : (side : Side) (e f : LineEnd Talk) → EndsJoined setup brought side e f →
+  struck_now : (side : Side) (e f : LineEnd DialogueState) → EndsJoined setup brought side e f →
       (has side e).lists.struck ≡ (at side brought).lists.struck ++ struck_in (parties setup brought) side (length e.log.taken)
   struck_now side e f joined =
       ap (λ (b : Belongings). b.lists.struck) (sym (all_steps.has_counted side e f joined))
       ∙ has_struck e.state.number (parties setup brought) side (at side brought) e.state.keeper.opened (length e.log.taken)
       (took_nothing setup brought side e f joined)
 
-  stored_now : (side : Side) (e f : LineEnd Talk) → EndsJoined setup brought side e f →
+  stored_now : (side : Side) (e f : LineEnd DialogueState) → EndsJoined setup brought side e f →
       (has side e).kept ≡ (at side brought).kept ++ stored_in (parties setup brought) side (length e.log.taken)
   stored_now side e f joined =
       ap (λ (b : Belongings). b.kept) (sym (all_steps.has_counted side e f joined))
       ∙ has_stored e.state.number (parties setup brought) side (at side brought) e.state.keeper.opened (length e.log.taken)
       (took_nothing setup brought side e f joined)
 
-  pub names_now : (side : Side) (e f : LineEnd Talk) → EndsJoined setup brought side e f →
+  pub names_now : (side : Side) (e f : LineEnd DialogueState) → EndsJoined setup brought side e f →
       pending (at side brought).lists ≡ (at side (parties setup brought)).jobs →
       All HasNames (at side (parties setup brought)).jobs → All HasNames (pending (has side e).lists)
   names_now side e f joined same names =
@@ -183,14 +183,14 @@ module _ (setup : SetupValue) (brought : AtBoth Belongings) (sound : IsSoundSess
       (has_names e.state.number (parties setup brought) side (at side brought) e.state.keeper.opened (length e.log.taken) same names)
 
   -- no end has taken more than the other may have said
-  to_floor : (side : Side) (e f : LineEnd Talk) → EndsJoined setup brought side e f →
+  to_floor : (side : Side) (e f : LineEnd DialogueState) → EndsJoined setup brought side e f →
       EndsJoined setup brought (other side) f e →
       length e.log.taken ≤ floor (length f.log.taken) (view_at (parties setup brought) (other side))
   to_floor side e f near far =
       let front = all_steps.front side e f near in
       omega (arith, all_steps.to_floor (other side) f e far, ap length front.1, length-append e.log.taken front.0)
 
-  own_now : (giver : Side) (now : AtBoth Belongings) (e f : LineEnd Talk) → (at giver (parties setup brought)).holdings ≡ (at giver setup).holdings →
+  own_now : (giver : Side) (now : AtBoth Belongings) (e f : LineEnd DialogueState) → (at giver (parties setup brought)).holdings ≡ (at giver setup).holdings →
       (at giver now ≡ has giver e) → (at (other giver) now ≡ has (other giver) f) →
       EndsJoined setup brought giver e f → EndsJoined setup brought (other giver) f e →
       length f.log.taken ≤ floor (length e.log.taken) (view_at (parties setup brought) giver) →
@@ -206,7 +206,7 @@ module _ (setup : SetupValue) (brought : AtBoth Belongings) (sound : IsSoundSess
       (session_own (parties setup brought) giver (length e.log.taken) (length f.log.taken) (to_floor giver e f near far) behind))
 
   -- of both ends
-  pub own_of_both : (giver : Side) (now : AtBoth Belongings) (e f : LineEnd Talk) → EndsJoined setup brought Caller e f →
+  pub own_of_both : (giver : Side) (now : AtBoth Belongings) (e f : LineEnd DialogueState) → EndsJoined setup brought Caller e f →
       now.at_caller ≡ has Caller e → now.at_called ≡ has Called f →
       OwnSince setup brought giver → OwnSince setup now giver
   own_of_both Caller now e f near near_has far_has before =

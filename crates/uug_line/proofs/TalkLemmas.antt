@@ -4,7 +4,7 @@ use Rattle.uug_conversation.specs.declared.job.Job.{Job}
 use Rattle.uug_conversation.specs.Count.{count_keeper}
 use Rattle.uug_conversation.specs.Holdings.{Holdings, Kept}
 use Rattle.uug_conversation.specs.Party.{Party}
-use Rattle.uug_conversation.specs.Talk.{Talk, end_keeper}
+use Rattle.uug_conversation.specs.DialogueState.{DialogueState, end_keeper}
 use Rattle.uug_session.specs.Told.{count_of_talker, talk_behind}
 use Rattle.uug_session.specs.TwoEnds.{Act, IsTold, Permits, Reached, Talker, Two, after, after_act, talker, with_talker}
 use Rattle.uug_conversation.specs.Turns.{other}
@@ -21,7 +21,7 @@ use Rattle.uug_line.proofs.LowerLemmas.{both_told, over_is}
 use Rattle.uug_session.proofs.ToldLemmas.{next_is, parted_is}
 
 -- what an end keeps, and its numbers, say the same
-pub record Agrees (me : Side) (h : Holdings) (v : List Seen) (talk : Talk) (t : Talker) : Type 0 where
+pub record Agrees (me : Side) (h : Holdings) (v : List Seen) (talk : DialogueState) (t : Talker) : Type 0 where
   pub next : (end_keeper me h).next talk ≡ (count_keeper v).next (count_of_talker t)
   pub over : (end_keeper me h).is_over talk ≡ (count_keeper v).is_over (count_of_talker t)
   pub parted : (end_keeper me h).has_parted talk ≡ (count_keeper v).has_parted (count_of_talker t)
@@ -87,7 +87,7 @@ module _ (setup : SetupValue) (brought : AtBoth Belongings) where
         (both_told (party setup brought Caller) (party setup brought Called) (sound.party Caller) (sound.party Called) two reached).1
 
   -- what it keeps behind what it brought
-  abbrev pub talk_at : Side → Talker → Talk
+  abbrev pub talk_at : Side → Talker → DialogueState
   talk_at side t = talk_behind (at side brought).lists.struck (at side brought).lists.failed (at side brought).kept
       (party setup brought side).size t
 

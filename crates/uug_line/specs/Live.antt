@@ -15,7 +15,7 @@ use Rattle.uug_session.specs.InRange.{IsEndInRange}
 use Rattle.uug_conversation.specs.Jobs.{Lists}
 use Rattle.uug_conversation.specs.MemoryHoldings.{MemoryHoldings, held_by, holdings_of}
 use Rattle.uug_session.specs.Node.{NodeState, TakesShown, bytes_at, held_bytes, node_of}
-use Rattle.uug_conversation.specs.Talk.{Talk, end_keeper, unopened}
+use Rattle.uug_conversation.specs.DialogueState.{DialogueState, end_keeper, unopened}
 use Rattle.uug_line.specs.declared.live_end.LiveEnd.{LiveEnd}
 use Rattle.uug_line.specs.declared.live_end.Taking.{Taking}
 use Rattle.uug_line.specs.declared.live_end.Taking.TheVariants.{Goes, Waits, Stops}
@@ -55,19 +55,19 @@ standing_of e = record {
 }
 
 -- who it is, and what keeps its conversation
-abbrev pub player_of : LiveEndValue → Participant Talk
+abbrev pub player_of : LiveEndValue → Participant DialogueState
 player_of e = record {
   identity = e.node.engine.identity;
   keeper = end_keeper e.node.engine.identity.side (holdings_of e.spool);
 }
 
-abbrev pub state_of : LiveEndValue → EndState Talk
+abbrev pub state_of : LiveEndValue → EndState DialogueState
 state_of e = end_of (holdings_of e.spool) e.spool.stored e.node.engine
 
-abbrev pub line_end_of : LiveEndValue → LineEnd Talk
+abbrev pub line_end_of : LiveEndValue → LineEnd DialogueState
 line_end_of e = record { state = state_of e; log = log_of e.journal; line = e.line }
 
-abbrev pub hearer_of : LiveEndValue → Buffered (LineEnd Talk)
+abbrev pub hearer_of : LiveEndValue → Buffered (LineEnd DialogueState)
 hearer_of e = record { held = held_bytes e.node; end = line_end_of e }
 
 -- each is the canonical spelling of a packet
@@ -120,7 +120,7 @@ pub record HasBegun (id : Identity) (own : Announced) (number : Option ℕ) (l :
 -- ---- what comes is taken up
 
 -- the receiver of what comes to the end, where the other end's packets are spelled so
-abbrev pub taker_of : (others : List (List ℕ)) → LiveEndValue → Receiver (LineEnd Talk)
+abbrev pub taker_of : (others : List (List ℕ)) → LiveEndValue → Receiver (LineEnd DialogueState)
 taker_of others e = line_taker (player_of e) (map packet_in others)
 
 -- an item was taken up, and there is less left
@@ -206,5 +206,5 @@ told_of e = told_by e.journal (phase_at e.node.engine.stage e.node.engine.link.p
 -- the next session of an end whose session is over has begun
 abbrev pub BeginsAgain : (old new : LiveEndValue) → Type 0
 BeginsAgain old new =
-    HasBegun old.node.engine.identity old.node.engine.own old.node.engine.number (all_ahead old.node.engine.talking.machine.lists)
+    HasBegun old.node.engine.identity old.node.engine.own old.node.engine.number (all_ahead old.node.engine.dialogue.machine.lists)
     old.spool new

@@ -6,7 +6,7 @@ use Rattle.uug_conversation.specs.Count.{Count, nothing_yet, count_keeper}
 use Rattle.uug_conversation.specs.EarlierJobs.{behind}
 use Rattle.uug_conversation.specs.Keeper.{Keeper}
 use Rattle.uug_conversation.specs.Party.{Party}
-use Rattle.uug_conversation.specs.Talk.{Talk, unopened, end_keeper}
+use Rattle.uug_conversation.specs.DialogueState.{DialogueState, unopened, end_keeper}
 use Rattle.uug_conversation.specs.View.{Seen, conversation_view, kept_after, lists_after}
 use Rattle.uug_conversation.specs.declared.side.Side.{Side}
 use Rattle.uug_line.specs.Belongings.{Belongings}
@@ -22,7 +22,7 @@ pub record RunKeeper (C : Type 0) : Type 0 where
 
 -- ---- the ends themselves, neither of which knows the other's jobs
 
-abbrev pub by_themselves : RunKeeper Talk
+abbrev pub by_themselves : RunKeeper DialogueState
 by_themselves = record {
   keeper = λ parties side. end_keeper side (at side parties).holdings;
   first = λ brought. unopened brought.lists brought.kept;

@@ -18,7 +18,7 @@ use Rattle.uug_line.specs.Shown.{session_shown}
 use Rattle.uug_line.specs.Sides.{AtBoth, at}
 use Rattle.uug_line.specs.Spelled.{spelled_session}
 use Rattle.uug_line.specs.StillHeld.{HoldWhatIsLeft}
-use Rattle.uug_conversation.specs.Talk.{Talk}
+use Rattle.uug_conversation.specs.DialogueState.{DialogueState}
 
 pub record RunValue : Type 0 where
   -- what is told of the sessions that are over
@@ -97,7 +97,7 @@ standing_at setup side = record {
   holdings = (at side setup).holdings;
 }
 
-pub record StandsAs (setup : SetupValue) (run : Run Talk) (r : RunValue) : Type 0 where
+pub record StandsAs (setup : SetupValue) (run : Run DialogueState) (r : RunValue) : Type 0 where
   pub past : map spelled_session run.past ≡ r.past
   pub caller : end_at Caller run ≡ hearer_of r.caller
   pub called : end_at Called run ≡ hearer_of r.called
@@ -110,7 +110,7 @@ abbrev pub held_parts : RunValue → AtBoth (List ℕ)
 held_parts r = record { at_caller = held_bytes r.caller.node; at_called = held_bytes r.called.node }
 
 -- as it stops; of the bytes that were not taken up it holds those that fit
-pub record EndsAs (setup : SetupValue) (run : Run Talk) (verdict : LineVerdict) (r : RunValue) : Type 0 where
+pub record EndsAs (setup : SetupValue) (run : Run DialogueState) (verdict : LineVerdict) (r : RunValue) : Type 0 where
   pub past : map spelled_session run.past ≡ r.past
   pub caller : (end_at Caller run).end ≡ line_end_of r.caller
   pub called : (end_at Called run).end ≡ line_end_of r.called
@@ -125,7 +125,7 @@ pub record EndsAs (setup : SetupValue) (run : Run Talk) (verdict : LineVerdict) 
 
 abbrev pub owned_parts : LiveEndValue → Belongings
 owned_parts e =
-    record { lists = e.node.engine.talking.machine.lists; kept = e.spool.stored; number = e.node.engine.number }
+    record { lists = e.node.engine.dialogue.machine.lists; kept = e.spool.stored; number = e.node.engine.number }
 
 abbrev pub parts_now : LiveEndValue → EndNow
 parts_now e = record { stage = e.node.engine.stage; link = e.node.engine.link }

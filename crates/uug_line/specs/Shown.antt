@@ -29,7 +29,7 @@ session_shown s = record { at_caller = end_shown s.caller; at_called = end_shown
 -- what an end over a spool in memory has
 abbrev pub owned_by : {A : Type 0} → Node (MemorySpool A) A → Belongings
 owned_by node = record {
-  lists = (node_of node).engine.talking.machine.lists;
+  lists = (node_of node).engine.dialogue.machine.lists;
   kept = (held_by node.spool).stored;
   number = (node_of node).engine.number;
 }

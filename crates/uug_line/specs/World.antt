@@ -3,7 +3,7 @@
 use Rattle.std.specs.Prelude.{List, [], ◌∷◌, ◌++◌, length}
 use Rattle.uug_session.specs.Arriving.{Buffered}
 use Rattle.uug_conversation.specs.Count.{Count}
-use Rattle.uug_conversation.specs.Talk.{Talk}
+use Rattle.uug_conversation.specs.DialogueState.{DialogueState}
 use Rattle.uug_line.specs.declared.event.Event.{Event}
 use Rattle.uug_line.specs.Belongings.{SetupValue}
 use Rattle.uug_line.specs.LineEnd.{LineEnd}
@@ -23,7 +23,7 @@ report_of k setup run = record {
 
 -- ---- the two ends themselves, and in the world
 
-abbrev pub run_of_ends : SetupValue → List Event → Run Talk
+abbrev pub run_of_ends : SetupValue → List Event → Run DialogueState
 run_of_ends setup events = run_of by_themselves setup events
 
 abbrev pub world : SetupValue → List Event → Run Count
@@ -38,20 +38,20 @@ report_of_world setup events = report_of by_numbers setup (world setup events)
 -- ---- the one as the other
 
 -- all but its conversation, of which is told how many messages were sent and taken
-abbrev pub count_of : LineEnd Talk → Count
+abbrev pub count_of : LineEnd DialogueState → Count
 count_of e = record { opened = e.state.keeper.opened; sent = length e.log.sent; taken = length e.log.taken }
 
-abbrev pub counted_end : LineEnd Talk → LineEnd Count
+abbrev pub counted_end : LineEnd DialogueState → LineEnd Count
 counted_end e = record {
   state = record { stage = e.state.stage; link = e.state.link; keeper = count_of e; number = e.state.number };
   log = e.log;
   line = e.line;
 }
 
-abbrev pub counted_hearer : Buffered (LineEnd Talk) → Buffered (LineEnd Count)
+abbrev pub counted_hearer : Buffered (LineEnd DialogueState) → Buffered (LineEnd Count)
 counted_hearer h = record { held = h.held; end = counted_end h.end }
 
-abbrev pub counted : Run Talk → Run Count
+abbrev pub counted : Run DialogueState → Run Count
 counted run = record {
   past = run.past;
   brought = run.brought;

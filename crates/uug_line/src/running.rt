@@ -5,7 +5,7 @@ ghost use Rattle.uug_session.specs.EndStep.{line_lost, time_ran_out};
 ghost use Rattle.uug_conversation.specs.MemoryHoldings.{held_by};
 ghost use Rattle.uug_conversation.specs.Turns.{other};
 ghost use Rattle.uug_conversation.specs.declared.side.Side.TheVariants.{Caller, Called};
-ghost use Rattle.uug_conversation.specs.Talk.{Talk};
+ghost use Rattle.uug_conversation.specs.DialogueState.{DialogueState};
 ghost use Rattle.uug_line.specs.Belongings.{SetupValue};
 ghost use Rattle.uug_line.specs.Live.{AreWritten, HasBegun, HasRoom, HearsPiece, IsCalled, IsOrdered, live_end_value};
 ghost use Rattle.uug_line.specs.OfBytes.{AreOfTypes};
@@ -135,7 +135,7 @@ impl<A: Allocator + Copy> RunSoFar<A> {
     /// The events, one after the other, up to one at which a packet is found that was not sent.
     fn go_through(&mut self, alloc: A, events: &[Event]) -> Result<LineVerdict, AllocError>
         requires { IsSteady (run_value self.old) }
-        ensures { IfOk result (λ verdict. (setup : SetupValue) (run : Run Talk)
+        ensures { IfOk result (λ verdict. (setup : SetupValue) (run : Run DialogueState)
             → StandsAs setup run (run_value self.old)
             → EndsAs setup (goes_through by_themselves setup 0 events.now run) verdict
             (run_value self.new)) }

@@ -12,17 +12,18 @@ use Rattle.uug_link.specs.Terms.{IsWindow}
 use Rattle.uug_link.specs.TwoLinks.{AllMayHappen, AlwaysOfTwo, End, Ends, IsRun, after_happenings, gone_past}
 use Rattle.uug_link.specs.WindowMachine.{Flying, data_at, acknowledgement, ack_of}
 use Rattle.uug_link.proofs.SimulationLemmas.{Wire, machine}
-use Rattle.uug_link.proofs.SimulatedSteps.{LawsBelow, Running, front, acked_front, in_front}
+use Rattle.uug_link.proofs.SimulatedSteps.{Running, front, acked_front, in_front}
 use Rattle.uug_link.proofs.StrayLemmas.{holds_up}
+use Rattle.uug_link.proofs.WindowMachineRuns.{always_counts}
 use Rattle.uug_link.proofs.TwoLinksRuns.{IsRun-several, of_two, simulated}
 use Rattle.uug_packet.specs.Packet.{PacketValue, control, carry, close, rj, srj, rr, init_c, init_b, init_a}
 
 -- ---- numbers
 
-pub counted : (law : LawsBelow) → AlwaysOfTwo (λ e other announced. AreCounted e other announced.window)
-counted law = of_two law (λ e other announced. AreCounted e other announced.window)
+pub counted : AlwaysOfTwo (λ e other announced. AreCounted e other announced.window)
+counted = of_two (λ e other announced. AreCounted e other announced.window)
     (λ a b e f out back h.
-    let counts = law.counts b.window a.window (machine a b e f out back) h.other h.window h.reached in
+    let counts = always_counts b.window a.window (machine a b e f out back) h.other h.window h.reached in
     let all : length f.taken ≡ out.taken =
     omega (arith, counts.0.1, ap length h.sim.out_half.taken, length-take out.taken e.sent) in
     let left : length e.link.unacked ≡ length e.sent - out.acked =
@@ -64,24 +65,24 @@ of_window_if (control (init_b z)) y says = absurd cc
 of_window_if (control (init_c z)) y says = absurd cc
 of_window_if (carry seq ack k message) y says = refl
 
-counts_in_front : (law : LawsBelow) (a b : Announced) (e f : End) (out : Wire) (acked' taken : ℕ) (xs : List Flying)
-    (p : PacketValue) (y : ℕ) → IsUp e.link → Running law a b e f out (record { acked = acked'; taken = taken; flight = xs }) →
+counts_in_front : (a b : Announced) (e f : End) (out : Wire) (acked' taken : ℕ) (xs : List Flying)
+    (p : PacketValue) (y : ℕ) → IsUp e.link → Running a b e f out (record { acked = acked'; taken = taken; flight = xs }) →
     AreWritten f.sent xs (p ∷ of_window (drop (suc e.passed) f.emitted)) → acknowledged_by p ≡ Some y →
     (acknowledged y e.link).oldest ≡ (y + 1) % 8
-counts_in_front law a b e f out acked' taken [] p y is h written says = absurd written
-counts_in_front law a b e f out acked' taken (x ∷ xs) p y is h written says =
-    let first = front law a b e f out acked' taken x xs h in
+counts_in_front a b e f out acked' taken [] p y is h written says = absurd written
+counts_in_front a b e f out acked' taken (x ∷ xs) p y is h written says =
+    let first = front a b e f out acked' taken x xs h in
     let here = digit f.sent x p y written.0 says in
-    let then = acked_front law a b e f out acked' taken x xs p y h first is says here in
+    let then = acked_front a b e f out acked' taken x xs p y h first is says here in
     omega (arith, then.oldest, here)
 
-counts_next : (law : LawsBelow) (a b : Announced) (e f : End) (out back : Wire) (p : PacketValue) (y : ℕ) →
-    Running law a b e f out back → slice_get f.emitted e.passed ≡ Some p → IsUp e.link → acknowledged_by p ≡ Some y →
+counts_next : (a b : Announced) (e f : End) (out back : Wire) (p : PacketValue) (y : ℕ) →
+    Running a b e f out back → slice_get f.emitted e.passed ≡ Some p → IsUp e.link → acknowledged_by p ≡ Some y →
     (step e.link (packet_found p)).state.oldest ≡ (y + 1) % 8
-counts_next law a b e f out back p y h at is says =
+counts_next a b e f out back p y h at is says =
     holds_up (λ unacked oldest. oldest ≡ (y + 1) % 8) e.link p y is says
-    (counts_in_front law a b e f out back.acked back.taken back.flight p y is h
-    (in_front law a b e f out back p h at (of_window_if p y says)) says)
+    (counts_in_front a b e f out back.acked back.taken back.flight p y is h
+    (in_front a b e f out back p h at (of_window_if p y says)) says)
 
 -- ---- behind packets that are lost
 
@@ -94,16 +95,16 @@ misses_to (suc k) e other i is low =
     let later = misses_to k (gone_past e) other i (omega (arith, is)) low in
     ((omega (arith, is, low), later.0), later.1)
 
-pub acks_count : (law : LawsBelow) (near far : Announced) (ends : Ends) (p : PacketValue) (i y : ℕ) →
+pub acks_count : (near far : Announced) (ends : Ends) (p : PacketValue) (i y : ℕ) →
     IsWindow near.window → IsWindow far.window → IsRun near far ends → IsUp ends.near.link →
     ends.near.passed ≤ i → slice_get ends.far.emitted i ≡ Some p → acknowledged_by p ≡ Some y →
     (step ends.near.link (packet_found p)).state.oldest ≡ (y + 1) % 8
-acks_count law near far ends p i y w v run is behind at says =
+acks_count near far ends p i y w v run is behind at says =
     let k : ℕ = i - ends.near.passed in
     let within = slice_get_within ends.far.emitted i p at in
     let misses = misses_to k ends.near ends.far i (omega (arith, behind)) (omega (arith, within)) in
     let there : End = record ends.near { passed = i } in
     let later = subst (λ (e : End). IsRun near far (record ends { near = e })) misses.1
     (IsRun-several near far ends (repeated_misses k) run misses.0) in
-    let h = simulated law near far (record ends { near = there }) w v later in
-    counts_next law near far there ends.far h.out h.back p y h.running at is says
+    let h = simulated near far (record ends { near = there }) w v later in
+    counts_next near far there ends.far h.out h.back p y h.running at is says

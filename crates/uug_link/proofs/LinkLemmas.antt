@@ -12,7 +12,7 @@ use Rattle.uug_link.specs.Slots.{AreSlots, IsLinked, IsSlot, Keeps, message_in, 
 use Rattle.uug_link.specs.State.{State, Fits, HasRoom, IsSound, IsUp, is_halted}
 use Rattle.uug_link.specs.Step.{Effect, answers_halted, data_packet, next_number, nothing, on_send, step, to_send}
 use Rattle.uug_link.proofs.KeepLemmas.{IsSteady}
-use Rattle.uug_link.proofs.RepeatLemmas.{AreRead, IsSlot-written, message_in-written}
+use Rattle.uug_link.proofs.RepeatLemmas.{IsSlot-written, message_in-written}
 use Rattle.uug_link.proofs.SmallestLemmas.{smallest_holds, smallest_is_code, within_most}
 use Rattle.uug_link.proofs.SoundLemmas.{sound-sent}
 use Rattle.uug_packet.specs.Number.{number_of}
@@ -134,22 +134,22 @@ well_sent s number message ws after h =
     let few : length message ≤ MESSAGE_MAX = within_most (number_of s.size_code) (length message) s.size_code.below h.fits in
     (omega (arith, h.number_is), omega arith, (smallest_is_code (length message), smallest_holds (length message) few))
 
-pub sent-messages : AreRead → (s : Status) (number : ℕ) (message : List ℕ) (ws after : List (List ℕ))
+pub sent-messages : (s : Status) (number : ℕ) (message : List ℕ) (ws after : List (List ℕ))
     → IsSent s number message ws after → messages_in after ≡ messages_in ws ++ message ∷ []
-sent-messages read s number message ws after h =
+sent-messages s number message ws after h =
     let w = canonical (data_packet (state_of s []) number message) in
-    let same : message_in w ≡ message = message_in-written read number _ _ message (well_sent s number message ws after h) in
+    let same : message_in w ≡ message = message_in-written number _ _ message (well_sent s number message ws after h) in
     ap messages_in h.after_is ∙ map-append message_in ws (w ∷ []) ∙ ap (λ (m : List ℕ). messages_in ws ++ m ∷ []) same
 
-pub sent-linked : AreRead → (s : Status) (number : ℕ) (message : List ℕ) (ws after : List (List ℕ))
+pub sent-linked : (s : Status) (number : ℕ) (message : List ℕ) (ws after : List (List ℕ))
     → IsSent s number message ws after → IsLinked s after
-sent-linked read s number message ws after h =
+sent-linked s number message ws after h =
     let w = canonical (data_packet (state_of s []) number message) in
-    let slot : IsSlot number w = IsSlot-written read number _ message (well_sent s number message ws after h) in
+    let slot : IsSlot number w = IsSlot-written number _ message (well_sent s number message ws after h) in
     let sound = sound-sent message (state_of s (messages_in ws)) h.room h.fits h.linked.sound in
     record {
       sound =
-          subst (λ (ms : List (List ℕ)). IsSound (state_of s ms)) (sym (sent-messages read s number message ws after h)) sound;
+          subst (λ (ms : List (List ℕ)). IsSound (state_of s ms)) (sym (sent-messages s number message ws after h)) sound;
       slots =
           subst (AreSlots (number_of s.oldest)) (sym h.after_is)
           (AreSlots-append (number_of s.oldest) ws w s.oldest.below h.linked.slots

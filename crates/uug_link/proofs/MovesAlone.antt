@@ -9,8 +9,7 @@ use Rattle.uug_link.specs.TwoLinks.{End, Happening, Ends, Occurrence, at_near, a
 use Rattle.uug_link.specs.WindowMachine.{Machine, data_at, acknowledgement, turned, Act, sends, repeats, acknowledges, loses, arrives, Permits, after_act, Move, on_out, on_back, after_move, mirrored, AllAllowed, after, IsReached}
 use Rattle.uug_link.proofs.MovesRuns.{mirrored_twice, reached_windows}
 use Rattle.uug_link.proofs.OnTheLineLemmas.{slice_get-last}
-use Rattle.uug_link.proofs.SimulatedSteps.{LawsBelow}
-use Rattle.uug_link.proofs.WindowMachineRuns.{AllAllowed-mirrored, IsReached-after, IsReached-turned}
+use Rattle.uug_link.proofs.WindowMachineRuns.{AllAllowed-mirrored, IsReached-after, IsReached-turned, always_counts}
 use Rattle.uug_packet.specs.Packet.{PacketValue, control, carry}
 
 -- ---- what a packet tells of the one in flight
@@ -108,36 +107,36 @@ allowed_rest : (m : Machine) (made more : List Move) → AllAllowed m (made ++ m
 allowed_rest m [] more h = h
 allowed_rest m (move ∷ made) more h = allowed_rest (after_move m move) made more h.1
 
-narrow_reached : (law : LawsBelow) (w v : ℕ) (m : Machine) → IsWindow w → IsWindow v → IsReached w v m → IsNarrow m
-narrow_reached law w v m is_w is_v reached =
-    let counts = law.counts w v m is_w is_v reached in
+narrow_reached : (w v : ℕ) (m : Machine) → IsWindow w → IsWindow v → IsReached w v m → IsNarrow m
+narrow_reached w v m is_w is_v reached =
+    let counts = always_counts w v m is_w is_v reached in
     let same = reached_windows w v m reached in
     record {
       few = omega (arith, counts.0.2, same.out, is_w.1);
       window = omega (arith, same.out, is_w.1);
     }
 
-moves_alone : (law : LawsBelow) (w v : ℕ) (e f : End) (h : Happening) (m : Machine) (made others : List Move) →
+moves_alone : (w v : ℕ) (e f : End) (h : Happening) (m : Machine) (made others : List Move) →
     IsWindow w → IsWindow v → IsReached w v m → AllAllowed m made → AllAllowed m others → AreMoves e f h m made →
     AreMoves e f h m others → made ≡ others
-moves_alone law w v e f h m made others is_w is_v reached may may' are are' =
+moves_alone w v e f h m made others is_w is_v reached may may' are are' =
     let came : List Move = map on_back (comes e f h) in
     let i = subst (λ (l : List Move). AllAllowed m l) are.are may in
     let j = subst (λ (l : List Move). AllAllowed m l) are'.are may' in
     let later = IsReached-after w v m came reached (allowed_front m came (map on_out are.gone) i) in
     let same : are.gone ≡ are'.gone =
-    acts_alone (after m came) are.gone are'.gone _ (narrow_reached law w v (after m came) is_w is_v later)
+    acts_alone (after m came) are.gone are'.gone _ (narrow_reached w v (after m came) is_w is_v later)
     (allowed_rest m came (map on_out are.gone) i) (allowed_rest m came (map on_out are'.gone) j) are.emits are'.emits in
     are.are ∙ ap (λ (l : List Act). came ++ map on_out l) same ∙ sym are'.are
 
-pub occurrence_alone : (law : LawsBelow) (near far : Announced) (ends : Ends) (o : Occurrence) (m : Machine)
+pub occurrence_alone : (near far : Announced) (ends : Ends) (o : Occurrence) (m : Machine)
     (made others : List Move) → IsWindow near.window → IsWindow far.window → IsReached far.window near.window m →
     MovesWith ends o m made → MovesWith ends o m others → made ≡ others
-occurrence_alone law a b p (at_near h) m made others wa wb reached x y =
-    moves_alone law b.window a.window p.near p.far h m made others wb wa reached x.allowed y.allowed x.are y.are
-occurrence_alone law a b p (at_far h) m made others wa wb reached x y =
+occurrence_alone a b p (at_near h) m made others wa wb reached x y =
+    moves_alone b.window a.window p.near p.far h m made others wb wa reached x.allowed y.allowed x.are y.are
+occurrence_alone a b p (at_far h) m made others wa wb reached x y =
     let same : map mirrored made ≡ map mirrored others =
-    moves_alone law a.window b.window p.far p.near h (turned m) (map mirrored made) (map mirrored others) wa wb
+    moves_alone a.window b.window p.far p.near h (turned m) (map mirrored made) (map mirrored others) wa wb
     (IsReached-turned b.window a.window m reached) (AllAllowed-mirrored m made x.allowed)
     (AllAllowed-mirrored m others y.allowed) x.are y.are in
     sym (mirrored_twice made) ∙ ap (λ (l : List Move). map mirrored l) same ∙ mirrored_twice others

@@ -8,7 +8,7 @@ use Rattle.uug_link.specs.Terms.{IsWindow}
 use Rattle.uug_link.specs.TwoLinks.{End, IsFirst, Happening, MayHappen, after_happening, Ends, seen_from_far, first_ends, Occurrence, at_near, at_far, MayOccur, after_occurrence, AllMayOccur, IsRun}
 use Rattle.uug_link.specs.WindowMachine.{Direction, Machine, Flying, start, turned, Act, sends, repeats, acknowledges, loses, arrives, after_arrival, after_act, Move, on_out, on_back, after_move, mirrored, after, IsReached}
 use Rattle.uug_link.proofs.SimulationLemmas.{Wire, direction, machine, Sim, Next}
-use Rattle.uug_link.proofs.SimulatedSteps.{LawsBelow, Running}
+use Rattle.uug_link.proofs.SimulatedSteps.{Running}
 use Rattle.uug_link.proofs.TwoLinksRuns.{IsRun-first, IsRun-one, IsRun-far, happens, reads, first_reads, simulated}
 use Rattle.uug_link.proofs.WindowMachineRuns.{AllAllowed-mirrored, IsReached-after, IsReached-start, IsReached-turned, after-mirrored}
 use Rattle.uug_packet.specs.Packet.{PacketValue}
@@ -64,10 +64,10 @@ is_machine a b e f m reached out back =
     ∙ ap (λ (s : List (List ℕ)). made_of m b.window a.window s m.back.sent) out.sent
     ∙ ap (λ (t : List (List ℕ)). made_of m b.window a.window e.sent t) back.sent
 
-running : (law : LawsBelow) (a b : Announced) (e f : End) (out back : Wire) (m : Machine) → IsWindow a.window → IsWindow b.window →
+running : (a b : Announced) (e f : End) (out back : Wire) (m : Machine) → IsWindow a.window → IsWindow b.window →
     Sim a b e f out back → IsReached b.window a.window m → Reads e f m.out → Reads f e m.back →
-    Running law a b e f (wire_of m.out) (wire_of m.back)
-running law a b e f out back m wa wb sim reached there home = record {
+    Running a b e f (wire_of m.out) (wire_of m.back)
+running a b e f out back m wa wb sim reached there home = record {
   window = wa;
   other = wb;
   reached = subst (λ (x : Machine). IsReached b.window a.window x) (is_machine a b e f m reached there home) reached;
@@ -118,15 +118,15 @@ are_moves a b e f h out back next = record {
   new = sym (grown_by e.sent (after_happening e h).sent (new_of next.gone) next.sent);
 }
 
-moves_near : (law : LawsBelow) (a b : Announced) (p : Ends) (h : Happening) (m : Machine) → IsWindow a.window →
+moves_near : (a b : Announced) (p : Ends) (h : Happening) (m : Machine) → IsWindow a.window →
     IsWindow b.window → IsRun a b p → MayHappen p.near p.far h → IsReached b.window a.window m → ReadsBoth p m →
     (made : List Move) × MovesWith p (at_near h) m made
-moves_near law a b p h m wa wb run may reached both =
-    let now = simulated law a b p wa wb run in
-    let at = running law a b p.near p.far now.out now.back m wa wb now.running.sim reached both.0 both.1 in
+moves_near a b p h m wa wb run may reached both =
+    let now = simulated a b p wa wb run in
+    let at = running a b p.near p.far now.out now.back m wa wb now.running.sim reached both.0 both.1 in
     let out : Wire = wire_of m.out in
     let back : Wire = wire_of m.back in
-    let next = happens law a b p.near p.far out back h at may in
+    let next = happens a b p.near p.far out back h at may in
     let made : List Move = map on_back (comes p.near p.far h) ++ map on_out next.gone in
     subst (λ (x : Machine). (all : List Move) × MovesWith p (at_near h) x all)
     (sym (is_machine a b p.near p.far m reached both.0 both.1)) (
@@ -155,30 +155,30 @@ moves_far p h m made seen = record {
       (sym (after-mirrored (turned m) made)) (seen.reads.1, seen.reads.0);
 }
 
-pub occurrence_moves : (law : LawsBelow) (near far : Announced) (ends : Ends) (o : Occurrence) (m : Machine) →
+pub occurrence_moves : (near far : Announced) (ends : Ends) (o : Occurrence) (m : Machine) →
     IsWindow near.window → IsWindow far.window → IsRun near far ends → MayOccur ends o →
     IsReached far.window near.window m → ReadsBoth ends m → (made : List Move) × MovesWith ends o m made
-occurrence_moves law a b p (at_near h) m wa wb run may reached both = moves_near law a b p h m wa wb run may reached both
-occurrence_moves law a b p (at_far h) m wa wb run may reached both =
-    let turned_moves = moves_near law b a (seen_from_far p) h (turned m) wb wa (IsRun-far a b p run) may
+occurrence_moves a b p (at_near h) m wa wb run may reached both = moves_near a b p h m wa wb run may reached both
+occurrence_moves a b p (at_far h) m wa wb run may reached both =
+    let turned_moves = moves_near b a (seen_from_far p) h (turned m) wb wa (IsRun-far a b p run) may
     (IsReached-turned b.window a.window m reached) (both.1, both.0) in
     (map mirrored turned_moves.0, moves_far p h m turned_moves.0 turned_moves.1)
 
 -- ---- a whole run
 
-all_move : (law : LawsBelow) (near far : Announced) (p : Ends) (os : List Occurrence) (m : Machine) → IsWindow near.window →
+all_move : (near far : Announced) (p : Ends) (os : List Occurrence) (m : Machine) → IsWindow near.window →
     IsWindow far.window → IsRun near far p → AllMayOccur p os → IsReached far.window near.window m → ReadsBoth p m →
     (made : List (List Move)) × AllMoveWith p os m made
-all_move law near far p [] m wa wb run may reached both = ([], tt)
-all_move law near far p (o ∷ os) m wa wb run may reached both =
-    let one = occurrence_moves law near far p o m wa wb run may.0 reached both in
-    let more = all_move law near far (after_occurrence p o) os (after m one.0) wa wb (IsRun-one near far p o run may.0) may.1
+all_move near far p [] m wa wb run may reached both = ([], tt)
+all_move near far p (o ∷ os) m wa wb run may reached both =
+    let one = occurrence_moves near far p o m wa wb run may.0 reached both in
+    let more = all_move near far (after_occurrence p o) os (after m one.0) wa wb (IsRun-one near far p o run may.0) may.1
     (IsReached-after far.window near.window m one.0 reached one.1.allowed) one.1.reads in
     (one.0 ∷ more.0, (one.1, more.1))
 
-pub run_moves : (law : LawsBelow) (near far : Announced) (a b : State) (os : List Occurrence) → IsWindow near.window →
+pub run_moves : (near far : Announced) (a b : State) (os : List Occurrence) → IsWindow near.window →
     IsWindow far.window → IsFirst near a → IsFirst far b → AllMayOccur (first_ends a b) os →
     (made : List (List Move)) × AllMoveWith (first_ends a b) os (start far.window near.window) made
-run_moves law near far a b os wa wb is_a is_b may =
-    all_move law near far (first_ends a b) os (start far.window near.window) wa wb (IsRun-first near far a b is_a is_b) may
+run_moves near far a b os wa wb is_a is_b may =
+    all_move near far (first_ends a b) os (start far.window near.window) wa wb (IsRun-first near far a b is_a is_b) may
     (IsReached-start far.window near.window) (first_reads near far a b is_a is_b)

@@ -20,8 +20,7 @@ use Rattle.uug_link.proofs.ArrivalLemmas.{arrival_runs}
 use Rattle.uug_link.proofs.CountsRuns.{acks_count, counted}
 use Rattle.uug_link.proofs.OtherLemmas.{other_holds}
 use Rattle.uug_link.proofs.PeerLemmas.{beside}
-use Rattle.uug_link.proofs.SimulatedSteps.{LawsBelow}
-use Rattle.uug_link.proofs.StrayLemmas.{up_step}
+use Rattle.uug_link.proofs.StrayLemmas.{up_step, next as next_stays}
 use Rattle.uug_link.proofs.TwoLinksRuns.{within}
 use Rattle.uug_packet.specs.Packet.{PacketValue, control, carry, rr, rj, srj, close, init_a, init_b, init_c}
 
@@ -315,21 +314,21 @@ still_coming from to p ps place coming is = record {
   );
 }
 
-acked_oldest : (law : LawsBelow) (near far : Announced) (ends : Ends) (p : PacketValue) (place : ℕ) →
+acked_oldest : (near far : Announced) (ends : Ends) (p : PacketValue) (place : ℕ) →
     IsWindow near.window → IsWindow far.window → IsRun near far ends → IsUp ends.near.link → IsTalk p →
     IsPlace p ends.far.emitted ends.near.passed place →
     (step ends.near.link (packet_found p)).state.oldest ≡ oldest_with p ends.near.link.oldest
-acked_oldest law near far ends (control (rr y)) place w v run is talk at =
-    acks_count law near far ends (control (rr y)) place y w v run is at.behind at.there refl
-acked_oldest law near far ends (control (rj y)) place w v run is talk at =
-    acks_count law near far ends (control (rj y)) place y w v run is at.behind at.there refl
-acked_oldest law near far ends (control (srj y)) place w v run is talk at = absurd talk
-acked_oldest law near far ends (control close) place w v run is talk at = absurd talk
-acked_oldest law near far ends (control (init_a y)) place w v run is talk at = absurd talk
-acked_oldest law near far ends (control (init_b y)) place w v run is talk at = absurd talk
-acked_oldest law near far ends (control (init_c y)) place w v run is talk at = absurd talk
-acked_oldest law near far ends (carry seq ack k message) place w v run is talk at =
-    acks_count law near far ends (carry seq ack k message) place ack w v run is at.behind at.there refl
+acked_oldest near far ends (control (rr y)) place w v run is talk at =
+    acks_count near far ends (control (rr y)) place y w v run is at.behind at.there refl
+acked_oldest near far ends (control (rj y)) place w v run is talk at =
+    acks_count near far ends (control (rj y)) place y w v run is at.behind at.there refl
+acked_oldest near far ends (control (srj y)) place w v run is talk at = absurd talk
+acked_oldest near far ends (control close) place w v run is talk at = absurd talk
+acked_oldest near far ends (control (init_a y)) place w v run is talk at = absurd talk
+acked_oldest near far ends (control (init_b y)) place w v run is talk at = absurd talk
+acked_oldest near far ends (control (init_c y)) place w v run is talk at = absurd talk
+acked_oldest near far ends (carry seq ack k message) place w v run is talk at =
+    acks_count near far ends (carry seq ack k message) place ack w v run is at.behind at.there refl
 
 -- it is a number
 oldest_low : (p : PacketValue) (oldest number : ℕ) → IsTalk p → number ≡ oldest_with p oldest → number < 8
@@ -342,24 +341,24 @@ oldest_low (control (init_b y)) oldest number talk is = absurd talk
 oldest_low (control (init_c y)) oldest number talk is = absurd talk
 oldest_low (carry seq ack k message) oldest number talk is = omega (arith, is)
 
-pub hears_so : (law : LawsBelow) (near far : Announced) (ends : Ends) (p : PacketValue) (ps : List PacketValue) (place : ℕ) →
+pub hears_so : (near far : Announced) (ends : Ends) (p : PacketValue) (ps : List PacketValue) (place : ℕ) →
     IsWindow near.window → IsWindow far.window → IsRun near far ends → IsUp ends.near.link → IsTalk p →
     AreComing ends.far ends.near (p ∷ ps) → IsPlace p ends.far.emitted ends.near.passed place →
     AreComing ends.far (arrived p place ends.near) ps
     × Hears p ends.near.link (arrived p place ends.near).link (emitted_by ends.near.link (packet_found p))
-hears_so law near far ends p ps place w v run is talk coming at =
+hears_so near far ends p ps place w v run is talk coming at =
     let s : State = ends.near.link in
     let e : Effect = step s (packet_found p) in
-    let low : s.expected < 8 = omega (arith, (counted law near far ends w v run).1.expected) in
+    let low : s.expected < 8 = omega (arith, (counted near far ends w v run).1.expected) in
     let h = heard_so p s is low talk in
-    let oldest = acked_oldest law near far ends p place w v run is talk at in
+    let oldest = acked_oldest near far ends p place w v run is talk at in
     let later = arrival_runs near far ends p place run at in
     let few : length e.state.unacked ≤ 7 = omega (
       arith,
       v.1,
-      (within law near far (record ends { near = arrived p place ends.near }) w v later).0,
+      (within near far (record ends { near = arrived p place ends.near }) w v later).0,
     ) in
-    let next = law.peer.next s p in (
+    let next = next_stays s p in (
       still_coming ends.far ends.near p ps place coming at,
       record {
         is_up = h.is_up;

@@ -10,18 +10,8 @@ use Rattle.uug_link.specs.declared.phase.Phase.{Phase}
 use Rattle.uug_link.specs.declared.phase.Role.{Role}
 use Rattle.uug_link.proofs.OnTheLineLemmas.{drop_drop}
 use Rattle.uug_link.proofs.SimulationLemmas.{IsSaid, Knows}
-use Rattle.uug_link.proofs.StrayLemmas.{Reach, to_none, beyond, within, reach, holds_up}
+use Rattle.uug_link.proofs.StrayLemmas.{Reach, to_none, beyond, within, reach, holds_up, strikes, strays, numbers, next as next_stays, window as window_comes}
 use Rattle.uug_packet.specs.Packet.{PacketValue, control, init_c}
-
-pub record PeerLaw : Type 0 where
-  pub strikes : (s : State) (p : PacketValue) (y behind : ℕ) → IsUp s → HasNumbers s → acknowledgement p ≡ Some y →
-      StandsBehind s y behind → (step s (packet_found p)).state.unacked ≡ drop (suc behind) s.unacked
-  pub strays : (s : State) (p : PacketValue) (y : ℕ) → IsUp s → HasNumbers s → y < 8 → acknowledgement p ≡ Some y →
-      ((behind : ℕ) → StandsBehind s y behind → ⊥) → (step s (packet_found p)).state.unacked ≡ s.unacked
-  pub numbers : (s : State) (p : PacketValue) → HasNumbers s → HasNumbers (step s (packet_found p)).state
-  pub next : (s : State) (p : PacketValue) → next_number (step s (packet_found p)).state ≡ next_number s
-  pub window : (s : State) (p : PacketValue) → (step s (packet_found p)).outcome ≡ up →
-      (y : ℕ) × (p ≡ control (init_c y)) × IsSmallerOf y s.window (step s (packet_found p)).state.window
 
 -- ---- an acknowledgement
 
@@ -44,14 +34,14 @@ in_bounds : {s : State} {p : PacketValue} {sent : List (List ℕ)} {k a y : ℕ}
 in_bounds h = record { oldest = omega (arith, h.oldest); few = omega (arith, h.few, outstanding_count h) }
 
 -- those behind the first `a` are left
-left : (law : PeerLaw) (s : State) (p : PacketValue) (sent : List (List ℕ)) (k a y : ℕ) → Acks s p sent k a y →
+left : (s : State) (p : PacketValue) (sent : List (List ℕ)) (k a y : ℕ) → Acks s p sent k a y →
     (step s (packet_found p)).state.unacked ≡ drop a sent
-left law s p sent k a y h = by (a == k) refl
+left s p sent k a y h = by (a == k) refl
   where
     by : (t : Bool) → (a == k) ≡ t → (step s (packet_found p)).state.unacked ≡ drop a sent
     by true e =
         let same : k ≡ a = grind (arith, nat_tests, e) in
-        law.strays s p y h.is_up (in_bounds h) (omega (arith, h.digit)) h.says
+        strays s p y h.is_up (in_bounds h) (omega (arith, h.digit)) h.says
         (λ behind stands. omega (
           arith,
           stands.outstanding,
@@ -66,7 +56,7 @@ left law s p sent k a y h = by (a == k) refl
     by false e =
         let behind : ℕ = a - suc k in
         let more : k + suc behind ≡ a = grind (arith, nat_tests, e, h.low) in
-        law.strikes s p y behind h.is_up (in_bounds h) h.says
+        strikes s p y behind h.is_up (in_bounds h) h.says
         (record {
           outstanding = omega (arith, more, h.high, outstanding_count h);
           number = omega (arith, more, h.digit, h.oldest);
@@ -75,12 +65,12 @@ left law s p sent k a y h = by (a == k) refl
         ∙ ap (λ (n : ℕ). drop n sent) more
 
 -- and the oldest is the one after them, since the next message gets the same number as before
-oldest_left : (law : PeerLaw) (s : State) (p : PacketValue) (sent : List (List ℕ)) (k a y : ℕ) → Acks s p sent k a y →
+oldest_left : (s : State) (p : PacketValue) (sent : List (List ℕ)) (k a y : ℕ) → Acks s p sent k a y →
     (step s (packet_found p)).state.oldest ≡ (a + 1) % 8
-oldest_left law s p sent k a y h =
+oldest_left s p sent k a y h =
     let kept : length (step s (packet_found p)).state.unacked + a ≡ length sent =
-    omega (arith, h.high, ap length (left law s p sent k a y h), length-drop a sent) in
-    omega (arith, (law.numbers s p (in_bounds h)).oldest, law.next s p, kept, h.oldest, outstanding_count h)
+    omega (arith, h.high, ap length (left s p sent k a y h), length-drop a sent) in
+    omega (arith, (numbers s p (in_bounds h)).oldest, next_stays s p, kept, h.oldest, outstanding_count h)
 
 -- what else a link keeps stays
 pub record Beside (s t : State) : Type 0 where
@@ -114,14 +104,14 @@ pub record Acked (s t : State) (sent : List (List ℕ)) (a : ℕ) : Type 0 where
 abbrev Same : State → List (List ℕ) → ℕ → Type 0
 Same s unacked oldest = (s.unacked ≡ unacked) × (s.oldest ≡ oldest)
 
-pub acked : (law : PeerLaw) (s : State) (p : PacketValue) (sent : List (List ℕ)) (k a y : ℕ) → Acks s p sent k a y →
+pub acked : (s : State) (p : PacketValue) (sent : List (List ℕ)) (k a y : ℕ) → Acks s p sent k a y →
     Acked s (acknowledged y s) sent a
-acked law s p sent k a y h =
+acked s p sent k a y h =
     let same = holds_up (Same (acknowledged y s)) s p y h.is_up h.says (refl, refl) in
     let others = beside y s in
     record {
-      unacked = same.0 ∙ left law s p sent k a y h;
-      oldest = same.1 ∙ oldest_left law s p sent k a y h;
+      unacked = same.0 ∙ left s p sent k a y h;
+      oldest = same.1 ∙ oldest_left s p sent k a y h;
       expected = others.expected;
       phase = others.phase;
       window = others.window;
@@ -138,10 +128,10 @@ knows_acked b h knows = record {
 -- ---- a link comes up
 
 -- with the window that the other end announced, both times
-with_announced : (law : PeerLaw) (b : Announced) (s : State) (p : PacketValue) → IsSaid b p → s.window ≡ b.window →
+with_announced : (b : Announced) (s : State) (p : PacketValue) → IsSaid b p → s.window ≡ b.window →
     (step s (packet_found p)).outcome ≡ up → (step s (packet_found p)).state.window ≡ b.window
-with_announced law b s p said knows comes =
-    let told = law.window s p comes in
+with_announced b s p said knows comes =
+    let told = window_comes s p comes in
     either (subst (IsSaid b) told.1 said) told.2.2
   where
     either : {y : ℕ} → y ≡ b.window → (((step s (packet_found p)).state.window ≡ y) ⊎ ((step s (packet_found p)).state.window ≡ s.window)) →
@@ -154,12 +144,12 @@ if_no true e f is = absurd cc
 if_no false e f is = refl
 
 -- the step that brings it up is that of INITC
-pub comes_up : (law : PeerLaw) (b : Announced) (s : State) (y : ℕ) (role : Role) (phase : Phase) → s.role ≡ role →
+pub comes_up : (b : Announced) (s : State) (y : ℕ) (role : Role) (phase : Phase) → s.role ≡ role →
     s.phase ≡ phase → is_halted phase ≡ false → (y == 0) ≡ false → y ≡ b.window → s.window ≡ b.window →
     (on_init_c role phase y s).outcome ≡ up → (on_init_c role phase y s).state.window ≡ b.window
-comes_up law b s y role phase role_is phase_is runs some said knows comes =
+comes_up b s y role phase role_is phase_is runs some said knows comes =
     let steps : step s (packet_found (control (init_c y))) ≡ on_init_c role phase y s =
     if_no (is_halted s.phase) _ _ (ap is_halted phase_is ∙ runs) ∙ if_no (y == 0) _ _ some
     ∙ ap (λ (r : Role). on_init_c r s.phase y s) role_is ∙ ap (λ (x : Phase). on_init_c role x y s) phase_is in
     ap (λ (e : Effect). e.state.window) (sym steps)
-    ∙ with_announced law b s (control (init_c y)) said knows (ap (λ (e : Effect). e.outcome) steps ∙ comes)
+    ∙ with_announced b s (control (init_c y)) said knows (ap (λ (e : Effect). e.outcome) steps ∙ comes)

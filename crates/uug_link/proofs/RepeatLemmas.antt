@@ -1,5 +1,5 @@
 -- Packets that are written again with another acknowledgement.
-use Rattle.std.proofs.Common.{◌≡◌, ℕ, zero, suc, ◌+◌, ◌%◌, ◌<◌, ◌≤◌, List, [], ◌∷◌, length, get_or, set, slice_get, false, Ok, Some, None, refl, ap, sym, subst, ◌∙◌, arith}
+use Rattle.std.proofs.Common.{◌≡◌, ℕ, zero, suc, ◌+◌, ◌%◌, ◌<◌, ◌≤◌, List, [], ◌∷◌, length, get_or, set, slice_get, false, Some, None, refl, ap, sym, subst, ◌∙◌, arith}
 use Rattle.std.proofs.Math.Seq.{map-set_same}
 use Rattle.std.proofs.lemmas.List.{get_or-map, get_or-set_same, length-map, length-set}
 use Rattle.std.proofs.lemmas.Option.{slice_get-get_or, slice_get_past}
@@ -13,24 +13,20 @@ use Rattle.uug_link.specs.State.{State}
 use Rattle.uug_link.specs.Step.{carrying, data_packet, distance, selected, sent_again}
 use Rattle.uug_link.specs.Terms.{smallest_code}
 use Rattle.uug_packet.specs.declared.number.Seq.{Seq}
-use Rattle.uug_packet.specs.Decoded.{decoded}
+use Rattle.uug_packet.proofs.WellFormedLemmas.{decoded-well_formed}
 use Rattle.uug_packet.specs.Number.{number_of}
 use Rattle.uug_packet.specs.Packet.{PacketValue, carry}
 use Rattle.uug_packet.specs.Spelling.{canonical}
 use Rattle.uug_packet.specs.WellFormed.{IsWellFormed}
 
--- each well-formed packet that is written is read again
-abbrev pub AreRead : Type 0
-AreRead = (p : PacketValue) → IsWellFormed p → decoded (canonical p) ≡ Ok (p, length (canonical p))
-
-pub message_in-written : AreRead → (number ack k : ℕ) (message : List ℕ) → IsWellFormed (carry number ack k message)
+pub message_in-written : (number ack k : ℕ) (message : List ℕ) → IsWellFormed (carry number ack k message)
     → message_in (canonical (carry number ack k message)) ≡ message
-message_in-written read number ack k message well = ap carried_in (read (carry number ack k message) well)
+message_in-written number ack k message well = ap carried_in (decoded-well_formed (carry number ack k message) well)
 
-pub IsSlot-written : AreRead → (number ack : ℕ) (message : List ℕ) → IsWellFormed (carrying number ack message)
+pub IsSlot-written : (number ack : ℕ) (message : List ℕ) → IsWellFormed (carrying number ack message)
     → IsSlot number (canonical (carrying number ack message))
-IsSlot-written read number ack message well =
-    let same = message_in-written read number ack (smallest_code (length message)) message well in
+IsSlot-written number ack message well =
+    let same = message_in-written number ack (smallest_code (length message)) message well in
     record {
       ack = ack;
       well_formed = subst (λ (m : List ℕ). IsWellFormed (carrying number ack m)) (sym same) well;
@@ -85,18 +81,18 @@ pub again-length : (first received i : ℕ) (ws after : List (List ℕ)) → IsA
     → length after ≡ length ws
 again-length first received i ws after h = ap length h.after_is ∙ length-set ws i (again_as first received i ws)
 
-pub again-slots : AreRead → (first received i : ℕ) (ws after : List (List ℕ)) → first < 8
+pub again-slots : (first received i : ℕ) (ws after : List (List ℕ)) → first < 8
     → AreSlots first ws → IsAgain first received i ws after → AreSlots first after
-again-slots read first received i ws after below are h =
-    let slot = IsSlot-written read ((first + i) % 8) received (message_in (get_or ws i [])) h.well_formed in
+again-slots first received i ws after below are h =
+    let slot = IsSlot-written ((first + i) % 8) received (message_in (get_or ws i [])) h.well_formed in
     subst (AreSlots first) (sym h.after_is) (AreSlots-set first ws i (again_as first received i ws) below are slot)
 
-pub again-messages : AreRead → (first received i : ℕ) (ws after : List (List ℕ))
+pub again-messages : (first received i : ℕ) (ws after : List (List ℕ))
     → IsAgain first received i ws after → messages_in after ≡ messages_in ws
-again-messages read first received i ws after h =
+again-messages first received i ws after h =
     ap messages_in h.after_is
     ∙ map-set_same message_in ws i (again_as first received i ws) []
-    (message_in-written read ((first + i) % 8) received (smallest_code (length (message_in (get_or ws i [])))) (message_in (get_or ws i [])) h.well_formed)
+    (message_in-written ((first + i) % 8) received (smallest_code (length (message_in (get_or ws i [])))) (message_in (get_or ws i [])) h.well_formed)
 
 pub again-bytes : (first received i : ℕ) (ws after : List (List ℕ)) (bytes : List ℕ) → i < length ws
     → IsAgain first received i ws after → slice_get after i ≡ Some bytes → bytes ≡ again_as first received i ws

@@ -19,21 +19,15 @@ use Rattle.uug_link.specs.declared.phase.Role.{Role}
 use Rattle.uug_link.specs.declared.phase.Role.TheVariants.{Caller, Called}
 use Rattle.uug_link.proofs.OnTheLineLemmas.{slice_get-last, take_at, of_window-front, of_window-emitted, AreWritten-append, AreWritten-more}
 use Rattle.uug_link.proofs.OtherLemmas.{keeping, other_holds}
-use Rattle.uug_link.proofs.PeerLemmas.{PeerLaw, Acked, acked, knows_acked, comes_up}
+use Rattle.uug_link.proofs.PeerLemmas.{Acked, acked, knows_acked, comes_up}
 use Rattle.uug_link.proofs.SimulationLemmas.{AllSaid-at, AllSaid-append, Knows, Wire, machine, Sim, Next, Keeps, MayEmit, emits_nothing, emits_rr, emits_rj, emits_close, emits_init_a, emits_init_b, emits_init_c, emits_outstanding, last_received_is, emit, hear_beside, arrive}
-use Rattle.uug_link.proofs.WindowMachineRuns.{IsReached-after_move}
+use Rattle.uug_link.proofs.WindowMachineRuns.{IsReached-after_move, always_ack_digits, always_counts, always_number_digits}
 use Rattle.uug_packet.specs.Packet.{PacketValue, control, carry, close, rj, srj, rr, init_c, init_b, init_a}
 
--- ---- the laws of the machine and of any peer, and what the machine's says of the packet that arrives
-
-pub record LawsBelow : Type 0 where
-  pub peer : PeerLaw
-  pub counts : Always (λ d o. CountsInOrder d)
-  pub number_digits : Always (λ d o. EachNumber (λ n. n % 8 ≡ d.taken % 8 → n ≡ d.taken) d.flight)
-  pub ack_digits : Always (λ d o. EachAck (λ a. a ≡ o.acked + (a % 8 + 8 - o.acked % 8) % 8) d.flight)
+-- ---- what the law of the machine says of the packet that arrives
 
 -- two ends and the machine, after some run of it
-pub record Running (law : LawsBelow) (a b : Announced) (e f : End) (out back : Wire) : Type 0 where
+pub record Running (a b : Announced) (e f : End) (out back : Wire) : Type 0 where
   pub window : IsWindow a.window
   pub other : IsWindow b.window
   pub reached : IsReached b.window a.window (machine a b e f out back)
@@ -45,24 +39,24 @@ pub record Front (e : End) (out : Wire) (taken : ℕ) (x : Flying) (xs : List Fl
   pub few : length e.sent ≤ out.acked + 7
   pub number : EachNumber (λ n. n % 8 ≡ taken % 8 → n ≡ taken) (x ∷ xs)
 
-pub front : (law : LawsBelow) (a b : Announced) (e f : End) (out : Wire) (acked taken : ℕ) (x : Flying) (xs : List Flying) →
-    Running law a b e f out (record { acked = acked; taken = taken; flight = x ∷ xs }) → Front e out taken x xs
-front law a b e f out acked taken x xs h =
+pub front : (a b : Announced) (e f : End) (out : Wire) (acked taken : ℕ) (x : Flying) (xs : List Flying) →
+    Running a b e f out (record { acked = acked; taken = taken; flight = x ∷ xs }) → Front e out taken x xs
+front a b e f out acked taken x xs h =
     let m : Machine = machine a b e f out (record { acked = acked; taken = taken; flight = x ∷ xs }) in
     let later = IsReached-after_move b.window a.window m (on_back arrives) h.reached (omega arith) in
-    let counts = law.counts b.window a.window (after_move m (on_back arrives)) h.other h.window later in
-    let now = law.counts b.window a.window m h.other h.window h.reached in
+    let counts = always_counts b.window a.window (after_move m (on_back arrives)) h.other h.window later in
+    let now = always_counts b.window a.window m h.other h.window h.reached in
     record {
-      ack = (law.ack_digits b.window a.window m h.other h.window h.reached).1.0;
+      ack = (always_ack_digits b.window a.window m h.other h.window h.reached).1.0;
       ack_sent = omega (arith, counts.0.0, counts.0.1);
       few = omega (arith, now.0.2, h.other.1);
-      number = (law.number_digits b.window a.window m h.other h.window h.reached).1;
+      number = (always_number_digits b.window a.window m h.other h.window h.reached).1;
     }
 
-acked_sent : (law : LawsBelow) (a b : Announced) (e f : End) (out back : Wire) → Running law a b e f out back →
+acked_sent : (a b : Announced) (e f : End) (out back : Wire) → Running a b e f out back →
     out.acked ≤ length e.sent
-acked_sent law a b e f out back h =
-    let counts = law.counts b.window a.window (machine a b e f out back) h.other h.window h.reached in
+acked_sent a b e f out back h =
+    let counts = always_counts b.window a.window (machine a b e f out back) h.other h.window h.reached in
     omega (arith, counts.0.0, counts.0.1)
 
 -- ---- packets that leave the numbers
@@ -134,34 +128,34 @@ heard_init_b a b e f out back y Called AwaitsInitC is h at =
     (emits_init_b a e.sent out.acked back.taken e.link.own.size_code (ap (λ (x : Announced). x.size_code) h.own))
 heard_init_b a b e f out back y _ _ is h at = heard_ignored a b e f out back (control (init_b y)) h at
 
-heard_init_c : (law : PeerLaw) (a b : Announced) (e f : End) (out back : Wire) (y : ℕ) (role : Role) (phase : Phase) →
+heard_init_c : (a b : Announced) (e f : End) (out back : Wire) (y : ℕ) (role : Role) (phase : Phase) →
     e.link.role ≡ role → e.link.phase ≡ phase → (y == 0) ≡ false → Sim a b e f out back → IsNext e f (control (init_c y)) →
     Heard a b e f out back [] (control (init_c y)) (on_init_c role phase y e.link)
-heard_init_c law a b e f out back y Caller AwaitsInitC role_is is some h at =
+heard_init_c a b e f out back y Caller AwaitsInitC role_is is some h at =
     hear_beside a b e f out back (control (init_c y)) _ [] h at
     (record { unacked = refl; oldest = refl; expected = refl })
     (record {
       window = λ k.
-          comes_up law b e.link y Caller AwaitsInitC role_is is refl some
+          comes_up b e.link y Caller AwaitsInitC role_is is refl some
           (AllSaid-at b f.emitted e.passed (control (init_c y)) h.other_said at)
           (window_stays b e.link AwaitsInitC is tt h.knows) refl;
       size = λ k. h.knows.size (subst KnowsSize (sym is) tt);
     }) h.own (emits_nothing a e.sent out.acked back.taken)
-heard_init_c law a b e f out back y Called AwaitsInitC role_is is some h at =
+heard_init_c a b e f out back y Called AwaitsInitC role_is is some h at =
     hear_beside a b e f out back (control (init_c y)) _ _ h at
     (record { unacked = refl; oldest = refl; expected = refl })
     (record {
       window = λ k.
-          comes_up law b e.link y Called AwaitsInitC role_is is refl some
+          comes_up b e.link y Called AwaitsInitC role_is is refl some
           (AllSaid-at b f.emitted e.passed (control (init_c y)) h.other_said at)
           (window_stays b e.link AwaitsInitC is tt h.knows) refl;
       size = λ k. h.knows.size (subst KnowsSize (sym is) tt);
     }) h.own
     (emits_init_c a e.sent out.acked back.taken e.link.own.window (ap (λ (x : Announced). x.window) h.own))
-heard_init_c law a b e f out back y Called Up role_is is some h at =
+heard_init_c a b e f out back y Called Up role_is is some h at =
     hear_beside a b e f out back (control (init_c y)) e.link _ h at (same e.link) h.knows h.own
     (emits_init_c a e.sent out.acked back.taken e.link.own.window (ap (λ (x : Announced). x.window) h.own))
-heard_init_c law a b e f out back y _ _ role_is is some h at = heard_ignored a b e f out back (control (init_c y)) h at
+heard_init_c a b e f out back y _ _ role_is is some h at = heard_ignored a b e f out back (control (init_c y)) h at
 
 heard_close : (a b : Announced) (e f : End) (out back : Wire) (phase : Phase) → Sim a b e f out back →
     IsNext e f (control close) → Heard a b e f out back [] (control close) (on_close phase e.link)
@@ -175,12 +169,12 @@ heard_close a b e f out back _ h at =
 -- ---- packets of the window, at a link that is up
 
 -- the packet at the front acknowledges, at a link that is up
-pub acked_front : (law : LawsBelow) (a b : Announced) (e f : End) (out : Wire) (acked' taken : ℕ) (x : Flying) (xs : List Flying)
-    (p : PacketValue) (y : ℕ) → Running law a b e f out (record { acked = acked'; taken = taken; flight = x ∷ xs }) →
+pub acked_front : (a b : Announced) (e f : End) (out : Wire) (acked' taken : ℕ) (x : Flying) (xs : List Flying)
+    (p : PacketValue) (y : ℕ) → Running a b e f out (record { acked = acked'; taken = taken; flight = x ∷ xs }) →
     Front e out taken x xs → IsUp e.link → acknowledged_by p ≡ Some y → y ≡ ack_of x % 8 →
     Acked e.link (acknowledged y e.link) e.sent (ack_of x)
-acked_front law a b e f out acked' taken x xs p y h first is says digit =
-    acked law.peer e.link p e.sent out.acked (ack_of x) y
+acked_front a b e f out acked' taken x xs p y h first is says digit =
+    acked e.link p e.sent out.acked (ack_of x) y
     (record {
       is_up = is;
       says = says;
@@ -192,28 +186,28 @@ acked_front law a b e f out acked' taken x xs p y h first is says digit =
       few = first.few;
     })
 
-heard_rr_up : (law : LawsBelow) (a b : Announced) (e f : End) (out : Wire) (acked' taken : ℕ) (xs : List Flying) (y : ℕ) →
-    IsUp e.link → Running law a b e f out (record { acked = acked'; taken = taken; flight = xs }) → IsNext e f (control (rr y)) →
+heard_rr_up : (a b : Announced) (e f : End) (out : Wire) (acked' taken : ℕ) (xs : List Flying) (y : ℕ) →
+    IsUp e.link → Running a b e f out (record { acked = acked'; taken = taken; flight = xs }) → IsNext e f (control (rr y)) →
     AreWritten f.sent xs (control (rr y) ∷ of_window (drop (suc e.passed) f.emitted)) →
     Heard a b e f out (record { acked = acked'; taken = taken; flight = xs }) (arrives ∷ []) (control (rr y)) (quiet (acknowledged y e.link))
-heard_rr_up law a b e f out acked' taken [] y is h at written = absurd written
-heard_rr_up law a b e f out acked' taken (data_at n c ∷ xs) y is h at written = absurd written.0
-heard_rr_up law a b e f out acked' taken (acknowledgement c ∷ xs) y is h at written =
-    let first = front law a b e f out acked' taken (acknowledgement c) xs h in
-    let t = acked_front law a b e f out acked' taken (acknowledgement c) xs (control (rr y)) y h first is refl written.0 in
+heard_rr_up a b e f out acked' taken [] y is h at written = absurd written
+heard_rr_up a b e f out acked' taken (data_at n c ∷ xs) y is h at written = absurd written.0
+heard_rr_up a b e f out acked' taken (acknowledgement c ∷ xs) y is h at written =
+    let first = front a b e f out acked' taken (acknowledgement c) xs h in
+    let t = acked_front a b e f out acked' taken (acknowledgement c) xs (control (rr y)) y h first is refl written.0 in
     arrive a b e f out acked' taken (acknowledgement c) xs (control (rr y)) (acknowledged y e.link) e.taken [] h.sim at written
     t.unacked t.oldest (t.expected ∙ h.sim.back_half.expected) h.sim.back_half.taken (knows_acked b t h.sim.knows)
     (t.own ∙ h.sim.own) (emits_nothing a e.sent c taken)
 
-heard_rj_up : (law : LawsBelow) (a b : Announced) (e f : End) (out : Wire) (acked' taken : ℕ) (xs : List Flying) (y : ℕ) →
-    IsUp e.link → Running law a b e f out (record { acked = acked'; taken = taken; flight = xs }) → IsNext e f (control (rj y)) →
+heard_rj_up : (a b : Announced) (e f : End) (out : Wire) (acked' taken : ℕ) (xs : List Flying) (y : ℕ) →
+    IsUp e.link → Running a b e f out (record { acked = acked'; taken = taken; flight = xs }) → IsNext e f (control (rj y)) →
     AreWritten f.sent xs (control (rj y) ∷ of_window (drop (suc e.passed) f.emitted)) →
     Heard a b e f out (record { acked = acked'; taken = taken; flight = xs }) (arrives ∷ []) (control (rj y)) (on_rj Up y e.link)
-heard_rj_up law a b e f out acked' taken [] y is h at written = absurd written
-heard_rj_up law a b e f out acked' taken (data_at n c ∷ xs) y is h at written = absurd written.0
-heard_rj_up law a b e f out acked' taken (acknowledgement c ∷ xs) y is h at written =
-    let first = front law a b e f out acked' taken (acknowledgement c) xs h in
-    let t = acked_front law a b e f out acked' taken (acknowledgement c) xs (control (rj y)) y h first is refl written.0 in
+heard_rj_up a b e f out acked' taken [] y is h at written = absurd written
+heard_rj_up a b e f out acked' taken (data_at n c ∷ xs) y is h at written = absurd written.0
+heard_rj_up a b e f out acked' taken (acknowledgement c ∷ xs) y is h at written =
+    let first = front a b e f out acked' taken (acknowledgement c) xs h in
+    let t = acked_front a b e f out acked' taken (acknowledgement c) xs (control (rj y)) y h first is refl written.0 in
     let expected = t.expected ∙ h.sim.back_half.expected in
     arrive a b e f out acked' taken (acknowledgement c) xs (control (rj y)) (acknowledged y e.link) e.taken
     (packets_of (outstanding (acknowledged y e.link))) h.sim at written
@@ -258,15 +252,15 @@ heard_if a b e f out back came p true x y h k = h refl
 heard_if a b e f out back came p false x y h k = k refl
 
 -- the expected packet is taken, by a link that has taken up its acknowledgement
-number_taken : (law : LawsBelow) (a b : Announced) (e f : End) (out : Wire) (acked' taken n c : ℕ) (xs : List Flying)
+number_taken : (a b : Announced) (e f : End) (out : Wire) (acked' taken n c : ℕ) (xs : List Flying)
     (seq ack k : ℕ) (message : List ℕ) (s : State) →
-    Running law a b e f out (record { acked = acked'; taken = taken; flight = data_at n c ∷ xs }) →
+    Running a b e f out (record { acked = acked'; taken = taken; flight = data_at n c ∷ xs }) →
     IsNext e f (carry seq ack k message) →
     AreWritten f.sent (data_at n c ∷ xs) (carry seq ack k message ∷ of_window (drop (suc e.passed) f.emitted)) →
     Acked e.link s e.sent c → Front e out taken (data_at n c) xs → seq ≡ s.expected →
     Heard a b e f out (record { acked = acked'; taken = taken; flight = data_at n c ∷ xs }) (arrives ∷ []) (carry seq ack k message)
     (answers (record s { expected = (s.expected + 1) % 8; reject_left = reject_left_after s; passed = None; timeouts = 0 }) (rr seq) taken_up)
-number_taken law a b e f out acked' taken n c xs seq ack k message s h at written t first equal =
+number_taken a b e f out acked' taken n c xs seq ack k message s h at written t first equal =
     let expected : s.expected ≡ (taken + 1) % 8 = t.expected ∙ h.sim.back_half.expected in
     let here : n ≡ taken = first.number.0 (omega (arith, equal, expected, written.0.0)) in
     let next : taken_with (data_at n c) taken ≡ taken + 1 = taken_next n c taken here in
@@ -282,16 +276,16 @@ number_taken law a b e f out acked' taken n c xs seq ack k message s h at writte
     (t.own ∙ h.sim.own) (emits_rr a e.sent c (taken_with (data_at n c) taken) seq (omega (arith, next, here, written.0.0)))
 
 -- each other is answered with what was taken, by a link that then has these fields
-number_other : (law : LawsBelow) (a b : Announced) (e f : End) (out : Wire) (acked' taken n c : ℕ) (xs : List Flying)
+number_other : (a b : Announced) (e f : End) (out : Wire) (acked' taken n c : ℕ) (xs : List Flying)
     (seq ack k : ℕ) (message : List ℕ) (s t : State) (ps : List PacketValue) →
-    Running law a b e f out (record { acked = acked'; taken = taken; flight = data_at n c ∷ xs }) →
+    Running a b e f out (record { acked = acked'; taken = taken; flight = data_at n c ∷ xs }) →
     IsNext e f (carry seq ack k message) →
     AreWritten f.sent (data_at n c ∷ xs) (carry seq ack k message ∷ of_window (drop (suc e.passed) f.emitted)) →
     Acked e.link s e.sent c → Keeps s t → Knows b t → t.own ≡ s.own → (seq ≡ s.expected → ⊥) →
     MayEmit a e.sent c taken ps →
     Next a b e f out (record { acked = acked'; taken = taken; flight = data_at n c ∷ xs }) (arrives ∷ [])
     (record e { link = t; emitted = e.emitted ++ ps; passed = suc e.passed })
-number_other law a b e f out acked' taken n c xs seq ack k message s t ps h at written acks keeps knows own unequal emits =
+number_other a b e f out acked' taken n c xs seq ack k message s t ps h at written acks keeps knows own unequal emits =
     let expected : s.expected ≡ (taken + 1) % 8 = acks.expected ∙ h.sim.back_half.expected in
     let stays : taken_with (data_at n c) taken ≡ taken =
     taken_no n c taken (λ here. unequal (omega (arith, here, expected, written.0.0))) in
@@ -301,93 +295,93 @@ number_other law a b e f out acked' taken n c xs seq ack k message s t ps h at w
     (h.sim.back_half.taken ∙ ap (λ (i : ℕ). take i f.sent) (sym stays)) knows (own ∙ acks.own ∙ h.sim.own)
     (subst (λ (i : ℕ). MayEmit a e.sent c i ps) (sym stays) emits)
 
-heard_data_up : (law : LawsBelow) (a b : Announced) (e f : End) (out : Wire) (acked' taken : ℕ) (xs : List Flying)
-    (seq ack k : ℕ) (message : List ℕ) → IsUp e.link → Running law a b e f out (record { acked = acked'; taken = taken; flight = xs }) →
+heard_data_up : (a b : Announced) (e f : End) (out : Wire) (acked' taken : ℕ) (xs : List Flying)
+    (seq ack k : ℕ) (message : List ℕ) → IsUp e.link → Running a b e f out (record { acked = acked'; taken = taken; flight = xs }) →
     IsNext e f (carry seq ack k message) →
     AreWritten f.sent xs (carry seq ack k message ∷ of_window (drop (suc e.passed) f.emitted)) →
     Heard a b e f out (record { acked = acked'; taken = taken; flight = xs }) (arrives ∷ []) (carry seq ack k message)
     (on_number seq (acknowledged ack e.link))
-heard_data_up law a b e f out acked' taken [] seq ack k message is_up h at written = absurd written
-heard_data_up law a b e f out acked' taken (acknowledgement c ∷ xs) seq ack k message is_up h at written = absurd written.0
-heard_data_up law a b e f out acked' taken (data_at n c ∷ xs) seq ack k message is_up h at written =
+heard_data_up a b e f out acked' taken [] seq ack k message is_up h at written = absurd written
+heard_data_up a b e f out acked' taken (acknowledgement c ∷ xs) seq ack k message is_up h at written = absurd written.0
+heard_data_up a b e f out acked' taken (data_at n c ∷ xs) seq ack k message is_up h at written =
     let back : Wire = record { acked = acked'; taken = taken; flight = data_at n c ∷ xs } in
     let p : PacketValue = carry seq ack k message in
-    let first = front law a b e f out acked' taken (data_at n c) xs h in
+    let first = front a b e f out acked' taken (data_at n c) xs h in
     let s : State = acknowledged ack e.link in
-    let t = acked_front law a b e f out acked' taken (data_at n c) xs p ack h first is_up refl written.0.1 in
+    let t = acked_front a b e f out acked' taken (data_at n c) xs p ack h first is_up refl written.0.1 in
     let knows = knows_acked b t h.sim.knows in
     let last : last_received s ≡ taken % 8 = last_received_is s taken (t.expected ∙ h.sim.back_half.expected) in
     heard_if a b e f out back (arrives ∷ []) p (is_expected seq s) _ _
-    (λ is. number_taken law a b e f out acked' taken n c xs seq ack k message s h at written t first
+    (λ is. number_taken a b e f out acked' taken n c xs seq ack k message s h at written t first
     (grind (arith, nat_tests, is)))
     (λ is. other_holds (λ y. Heard a b e f out back (arrives ∷ []) p y) seq s
-    (λ left passed. number_other law a b e f out acked' taken n c xs seq ack k message s (keeping s left passed) _ h at written t
+    (λ left passed. number_other a b e f out acked' taken n c xs seq ack k message s (keeping s left passed) _ h at written t
     (record { unacked = refl; oldest = refl; expected = refl }) (record { window = knows.window; size = knows.size }) refl
     (grind (arith, nat_tests, is)) (emits_rr a e.sent c taken (last_received s) last))
-    (λ left passed. number_other law a b e f out acked' taken n c xs seq ack k message s (keeping s left passed) _ h at written t
+    (λ left passed. number_other a b e f out acked' taken n c xs seq ack k message s (keeping s left passed) _ h at written t
     (record { unacked = refl; oldest = refl; expected = refl }) (record { window = knows.window; size = knows.size }) refl
     (grind (arith, nat_tests, is)) (emits_rj a e.sent c taken (last_received s) last))
-    (λ left passed silent. number_other law a b e f out acked' taken n c xs seq ack k message s (keeping s left passed) [] h at written t
+    (λ left passed silent. number_other a b e f out acked' taken n c xs seq ack k message s (keeping s left passed) [] h at written t
     (record { unacked = refl; oldest = refl; expected = refl }) (record { window = knows.window; size = knows.size }) refl
     (grind (arith, nat_tests, is)) (emits_nothing a e.sent c taken)))
 
 -- ---- a packet is found
 
 -- how the packets of the window in flight begin
-pub in_front : (law : LawsBelow) (a b : Announced) (e f : End) (out back : Wire) (p : PacketValue) →
-    Running law a b e f out back → IsNext e f p → is_of_window p ≡ true →
+pub in_front : (a b : Announced) (e f : End) (out back : Wire) (p : PacketValue) →
+    Running a b e f out back → IsNext e f p → is_of_window p ≡ true →
     AreWritten f.sent back.flight (p ∷ of_window (drop (suc e.passed) f.emitted))
-in_front law a b e f out back p h at is =
+in_front a b e f out back p h at is =
     subst (AreWritten f.sent back.flight) (of_window-front e.passed f.emitted p at is) h.sim.back_half.flight
 
-heard_rr : (law : LawsBelow) (a b : Announced) (e f : End) (out back : Wire) (y : ℕ) (phase : Phase) →
-    e.link.phase ≡ phase → Running law a b e f out back → IsNext e f (control (rr y)) →
+heard_rr : (a b : Announced) (e f : End) (out back : Wire) (y : ℕ) (phase : Phase) →
+    e.link.phase ≡ phase → Running a b e f out back → IsNext e f (control (rr y)) →
     Heard a b e f out back (found_at phase ∷ []) (control (rr y)) (on_rr phase y e.link)
-heard_rr law a b e f out back y Up is h at =
-    heard_rr_up law a b e f out back.acked back.taken back.flight y is h at (in_front law a b e f out back (control (rr y)) h at refl)
-heard_rr law a b e f out back y _ is h at = heard_ignored a b e f out back (control (rr y)) h.sim at
+heard_rr a b e f out back y Up is h at =
+    heard_rr_up a b e f out back.acked back.taken back.flight y is h at (in_front a b e f out back (control (rr y)) h at refl)
+heard_rr a b e f out back y _ is h at = heard_ignored a b e f out back (control (rr y)) h.sim at
 
-heard_rj : (law : LawsBelow) (a b : Announced) (e f : End) (out back : Wire) (y : ℕ) (phase : Phase) →
-    e.link.phase ≡ phase → Running law a b e f out back → IsNext e f (control (rj y)) →
+heard_rj : (a b : Announced) (e f : End) (out back : Wire) (y : ℕ) (phase : Phase) →
+    e.link.phase ≡ phase → Running a b e f out back → IsNext e f (control (rj y)) →
     Heard a b e f out back (found_at phase ∷ []) (control (rj y)) (on_rj phase y e.link)
-heard_rj law a b e f out back y Up is h at =
-    heard_rj_up law a b e f out back.acked back.taken back.flight y is h at (in_front law a b e f out back (control (rj y)) h at refl)
-heard_rj law a b e f out back y _ is h at = heard_ignored a b e f out back (control (rj y)) h.sim at
+heard_rj a b e f out back y Up is h at =
+    heard_rj_up a b e f out back.acked back.taken back.flight y is h at (in_front a b e f out back (control (rj y)) h at refl)
+heard_rj a b e f out back y _ is h at = heard_ignored a b e f out back (control (rj y)) h.sim at
 
-heard_srj : (law : LawsBelow) (a b : Announced) (e f : End) (out back : Wire) (y : ℕ) (phase : Phase) →
-    Running law a b e f out back → IsNext e f (control (srj y)) →
+heard_srj : (a b : Announced) (e f : End) (out back : Wire) (y : ℕ) (phase : Phase) →
+    Running a b e f out back → IsNext e f (control (srj y)) →
     Heard a b e f out back (found_at phase ∷ []) (control (srj y)) (on_srj phase y e.link)
-heard_srj law a b e f out back y Up h at =
-    heard_srj_up a b e f out back back.flight y (in_front law a b e f out back (control (srj y)) h at refl)
-heard_srj law a b e f out back y _ h at = heard_ignored a b e f out back (control (srj y)) h.sim at
+heard_srj a b e f out back y Up h at =
+    heard_srj_up a b e f out back back.flight y (in_front a b e f out back (control (srj y)) h at refl)
+heard_srj a b e f out back y _ h at = heard_ignored a b e f out back (control (srj y)) h.sim at
 
-heard_data : (law : LawsBelow) (a b : Announced) (e f : End) (out back : Wire) (seq ack k : ℕ) (message : List ℕ)
-    (phase : Phase) → e.link.phase ≡ phase → Running law a b e f out back → IsNext e f (carry seq ack k message) →
+heard_data : (a b : Announced) (e f : End) (out back : Wire) (seq ack k : ℕ) (message : List ℕ)
+    (phase : Phase) → e.link.phase ≡ phase → Running a b e f out back → IsNext e f (carry seq ack k message) →
     Heard a b e f out back (found_at phase ∷ []) (carry seq ack k message) (on_data phase seq ack e.link)
-heard_data law a b e f out back seq ack k message Up is h at =
-    heard_data_up law a b e f out back.acked back.taken back.flight seq ack k message is h at
-    (in_front law a b e f out back (carry seq ack k message) h at refl)
-heard_data law a b e f out back seq ack k message _ is h at =
+heard_data a b e f out back seq ack k message Up is h at =
+    heard_data_up a b e f out back.acked back.taken back.flight seq ack k message is h at
+    (in_front a b e f out back (carry seq ack k message) h at refl)
+heard_data a b e f out back seq ack k message _ is h at =
     heard_ignored a b e f out back (carry seq ack k message) h.sim at
 
-heard_packet : (law : LawsBelow) (a b : Announced) (e f : End) (out back : Wire) (p : PacketValue) →
-    Running law a b e f out back → IsNext e f p →
+heard_packet : (a b : Announced) (e f : End) (out back : Wire) (p : PacketValue) →
+    Running a b e f out back → IsNext e f p →
     Heard a b e f out back (comes e f (hears p)) p (on_packet p e.link)
-heard_packet law a b e f out back (control close) h at = heard_close a b e f out back e.link.phase h.sim at
-heard_packet law a b e f out back (control (init_a y)) h at =
+heard_packet a b e f out back (control close) h at = heard_close a b e f out back e.link.phase h.sim at
+heard_packet a b e f out back (control (init_a y)) h at =
     heard_either a b e f out back [] (control (init_a y)) (y == 0) _ _ (heard_ignored a b e f out back (control (init_a y)) h.sim at)
     (heard_init_a a b e f out back y e.link.role e.link.phase h.sim at)
-heard_packet law a b e f out back (control (init_b y)) h at =
+heard_packet a b e f out back (control (init_b y)) h at =
     heard_init_b a b e f out back y e.link.role e.link.phase refl h.sim at
-heard_packet law a b e f out back (control (init_c y)) h at =
+heard_packet a b e f out back (control (init_c y)) h at =
     heard_if a b e f out back [] (control (init_c y)) (y == 0) _ _
     (λ none. heard_ignored a b e f out back (control (init_c y)) h.sim at)
-    (λ some. heard_init_c law.peer a b e f out back y e.link.role e.link.phase refl refl some h.sim at)
-heard_packet law a b e f out back (control (rr y)) h at = heard_rr law a b e f out back y e.link.phase refl h at
-heard_packet law a b e f out back (control (rj y)) h at = heard_rj law a b e f out back y e.link.phase refl h at
-heard_packet law a b e f out back (control (srj y)) h at = heard_srj law a b e f out back y e.link.phase h at
-heard_packet law a b e f out back (carry seq ack k message) h at =
-    heard_data law a b e f out back seq ack k message e.link.phase refl h at
+    (λ some. heard_init_c a b e f out back y e.link.role e.link.phase refl refl some h.sim at)
+heard_packet a b e f out back (control (rr y)) h at = heard_rr a b e f out back y e.link.phase refl h at
+heard_packet a b e f out back (control (rj y)) h at = heard_rj a b e f out back y e.link.phase refl h at
+heard_packet a b e f out back (control (srj y)) h at = heard_srj a b e f out back y e.link.phase h at
+heard_packet a b e f out back (carry seq ack k message) h at =
+    heard_data a b e f out back seq ack k message e.link.phase refl h at
 
 -- a link that has ended is not up
 halted_loses : (phase : Phase) → is_halted phase ≡ true → found_at phase ≡ loses
@@ -395,14 +389,14 @@ halted_loses Halted h = refl
 halted_loses Up h = absurd (true≢false (sym h))
 halted_loses _ h = refl
 
-pub heard : (law : LawsBelow) (a b : Announced) (e f : End) (out back : Wire) (p : PacketValue) →
-    Running law a b e f out back → IsNext e f p →
+pub heard : (a b : Announced) (e f : End) (out back : Wire) (p : PacketValue) →
+    Running a b e f out back → IsNext e f p →
     Next a b e f out back (comes e f (hears p)) (gone_past (moved_by e (packet_found p)))
-heard law a b e f out back p h at =
+heard a b e f out back p h at =
     heard_if a b e f out back (comes e f (hears p)) p (is_halted e.link.phase) _ _
     (λ halted. subst (λ (act : Act). Heard a b e f out back (becomes act (Some p)) p (answers_halted e.link))
     (sym (halted_loses e.link.phase halted)) (heard_halted a b e f out back p h.sim at))
-    (λ on. heard_packet law a b e f out back p h at)
+    (λ on. heard_packet a b e f out back p h at)
 
 -- ---- the link's own events
 
@@ -467,26 +461,26 @@ emits_repeated a b e f out back _ Up h low =
 emits_repeated a b e f out back _ Closing h low = emits_close a e.sent out.acked back.taken
 emits_repeated a b e f out back _ _ h low = emits_nothing a e.sent out.acked back.taken
 
-times_out : (law : LawsBelow) (a b : Announced) (e f : End) (out back : Wire) → Running law a b e f out back →
+times_out : (a b : Announced) (e f : End) (out back : Wire) → Running a b e f out back →
     Next a b e f out back [] (moved_by e timed_out)
-times_out law a b e f out back h =
+times_out a b e f out back h =
     moved_either a b e f out back timed_out (is_halted e.link.phase) _ _ (stays_quiet a b e f out back h.sim)
     (moved_either a b e f out back timed_out (nat_lt (e.link.timeouts + 1) TIMEOUTS_MAX) _ _
     (emit a b e f out back (record e.link { timeouts = e.link.timeouts + 1; reject_left = 0 }) _ h.sim
     (record { unacked = refl; oldest = refl; expected = refl })
     (record { window = h.sim.knows.window; size = h.sim.knows.size }) h.sim.own
-    (emits_repeated a b e f out back e.link.role e.link.phase h.sim (acked_sent law a b e f out back h)))
+    (emits_repeated a b e f out back e.link.role e.link.phase h.sim (acked_sent a b e f out back h)))
     (emit a b e f out back (record e.link { phase = Halted; timeouts = TIMEOUTS_MAX; reject_left = 0 }) _ h.sim
     (record { unacked = refl; oldest = refl; expected = refl })
     (record { window = λ k. absurd k; size = λ k. absurd k }) h.sim.own
     (emits_close a e.sent out.acked back.taken)))
 
 -- a message is sent, by a link that is up
-sent : (law : LawsBelow) (a b : Announced) (e f : End) (out back : Wire) (message : List ℕ) →
-    Running law a b e f out back → HasRoom e.link →
+sent : (a b : Announced) (e f : End) (out back : Wire) (message : List ℕ) →
+    Running a b e f out back → HasRoom e.link →
     Moved a b e f out back (to_send message) (on_event (to_send message) e.link)
-sent law a b e f out back message h room =
-    let counts = law.counts b.window a.window (machine a b e f out back) h.other h.window h.reached in
+sent a b e f out back message h room =
+    let counts = always_counts b.window a.window (machine a b e f out back) h.other h.window h.reached in
     let low : out.acked ≤ length e.sent = omega (arith, counts.0.0, counts.0.1) in
     let agreed : e.link.window ≡ b.window = h.sim.knows.window (subst KnowsWindow (sym room.0) tt) in
     let kept : length e.link.unacked + out.acked ≡ length e.sent =
@@ -541,13 +535,13 @@ if_not : (a b : Announced) (e f : End) (out back : Wire) (event : Event) (t : Bo
 if_not a b e f out back event t x y is h =
     subst (λ (z : Bool). Moved a b e f out back event (if z then x else y)) (sym is) h
 
-pub moves_itself : (law : LawsBelow) (a b : Announced) (e f : End) (out back : Wire) (event : Event) →
-    Running law a b e f out back → MayCall e.link event → Next a b e f out back [] (moved_by e event)
-moves_itself law a b e f out back to_begin h may = begins a b e f out back h.sim
-moves_itself law a b e f out back (packet_found p) h may = absurd may
-moves_itself law a b e f out back bad_found h may = hears_bad a b e f out back h.sim
-moves_itself law a b e f out back timed_out h may = times_out law a b e f out back h
-moves_itself law a b e f out back (to_send message) h may =
+pub moves_itself : (a b : Announced) (e f : End) (out back : Wire) (event : Event) →
+    Running a b e f out back → MayCall e.link event → Next a b e f out back [] (moved_by e event)
+moves_itself a b e f out back to_begin h may = begins a b e f out back h.sim
+moves_itself a b e f out back (packet_found p) h may = absurd may
+moves_itself a b e f out back bad_found h may = hears_bad a b e f out back h.sim
+moves_itself a b e f out back timed_out h may = times_out a b e f out back h
+moves_itself a b e f out back (to_send message) h may =
     if_not a b e f out back (to_send message) (is_halted e.link.phase) _ _ (ap is_halted may.0.0)
-    (sent law a b e f out back message h may.0)
-moves_itself law a b e f out back to_close h may = closes a b e f out back h.sim may
+    (sent a b e f out back message h may.0)
+moves_itself a b e f out back to_close h may = closes a b e f out back h.sim may

@@ -10,8 +10,8 @@ use Rattle.uug_link.specs.State.{State, KnowsWindow, KnowsSize}
 use Rattle.uug_link.specs.TwoLinks.{End, first_end, gone_past, IsFirst, Happening, moves, misses, hears, MayHappen, after_happening, AllMayHappen, after_happenings, Ends, seen_from_far, first_ends, Occurrence, at_near, at_far, MayOccur, after_occurrence, AllMayOccur, after_occurrences, IsRun, AlwaysOfTwo, IsFrontOf}
 use Rattle.uug_link.specs.WindowMachine.{Machine, start, loses, on_out, on_back, IsReached}
 use Rattle.uug_link.proofs.SimulationLemmas.{Wire, machine, direction, Half, Sim-turned, Next, past_only, pass}
-use Rattle.uug_link.proofs.SimulatedSteps.{LawsBelow, Running, heard, moves_itself}
-use Rattle.uug_link.proofs.WindowMachineRuns.{IsReached-start, IsReached-after, IsReached-turned}
+use Rattle.uug_link.proofs.SimulatedSteps.{Running, heard, moves_itself}
+use Rattle.uug_link.proofs.WindowMachineRuns.{IsReached-start, IsReached-after, IsReached-turned, always_counts}
 use Rattle.uug_packet.specs.Packet.{PacketValue, control, close}
 
 -- ---- runs
@@ -131,26 +131,26 @@ IsRun-far near far p h = record {
 
 -- ---- the machine runs with the two links
 
-pub record Simulated (law : LawsBelow) (near far : Announced) (p : Ends) : Type 0 where
+pub record Simulated (near far : Announced) (p : Ends) : Type 0 where
   pub out : Wire
   pub back : Wire
-  pub running : Running law near far p.near p.far out back
+  pub running : Running near far p.near p.far out back
 
 -- a happening at the near end
-pub happens : (law : LawsBelow) (a b : Announced) (e f : End) (out back : Wire) (h : Happening) →
-    Running law a b e f out back → MayHappen e f h → Next a b e f out back (comes e f h) (after_happening e h)
-happens law a b e f out back (moves event) h may = moves_itself law a b e f out back event h may
-happens law a b e f out back misses h may =
+pub happens : (a b : Announced) (e f : End) (out back : Wire) (h : Happening) →
+    Running a b e f out back → MayHappen e f h → Next a b e f out back (comes e f h) (after_happening e h)
+happens a b e f out back (moves event) h may = moves_itself a b e f out back event h may
+happens a b e f out back misses h may =
     let p : PacketValue = get_or f.emitted e.passed (control close) in
     let at : slice_get f.emitted e.passed ≡ Some p = slice_get-get_or f.emitted e.passed (control close) may in
     subst (λ (o : Option PacketValue). Next a b e f out back (becomes loses o) (gone_past e)) (sym at)
     (past_only a b e f out back (becomes loses (Some p)) (pass a b e f out back p h.sim at))
-happens law a b e f out back (hears p) h may = heard law a b e f out back p h may
+happens a b e f out back (hears p) h may = heard a b e f out back p h may
 
-Simulated-near : (law : LawsBelow) (a b : Announced) (p : Ends) (h : Happening) → Simulated law a b p →
-    MayHappen p.near p.far h → Simulated law a b (record p { near = after_happening p.near h })
-Simulated-near law a b p h at may =
-    let next = happens law a b p.near p.far at.out at.back h at.running may in
+Simulated-near : (a b : Announced) (p : Ends) (h : Happening) → Simulated a b p →
+    MayHappen p.near p.far h → Simulated a b (record p { near = after_happening p.near h })
+Simulated-near a b p h at may =
+    let next = happens a b p.near p.far at.out at.back h at.running may in
     record {
       out = next.out';
       back = next.back';
@@ -164,8 +164,8 @@ Simulated-near law a b p h at may =
       };
     }
 
-Simulated-far : (law : LawsBelow) (a b : Announced) (p : Ends) → Simulated law a b p → Simulated law b a (seen_from_far p)
-Simulated-far law a b p h = record {
+Simulated-far : (a b : Announced) (p : Ends) → Simulated a b p → Simulated b a (seen_from_far p)
+Simulated-far a b p h = record {
   out = h.back;
   back = h.out;
   running = record {
@@ -176,18 +176,18 @@ Simulated-far law a b p h = record {
   };
 }
 
-Simulated-occurrence : (law : LawsBelow) (a b : Announced) (p : Ends) (o : Occurrence) → Simulated law a b p →
-    MayOccur p o → Simulated law a b (after_occurrence p o)
-Simulated-occurrence law a b p (at_near h) at may = Simulated-near law a b p h at may
-Simulated-occurrence law a b p (at_far h) at may =
-    Simulated-far law b a (record { near = after_happening p.far h; far = p.near })
-    (Simulated-near law b a (seen_from_far p) h (Simulated-far law a b p at) may)
+Simulated-occurrence : (a b : Announced) (p : Ends) (o : Occurrence) → Simulated a b p →
+    MayOccur p o → Simulated a b (after_occurrence p o)
+Simulated-occurrence a b p (at_near h) at may = Simulated-near a b p h at may
+Simulated-occurrence a b p (at_far h) at may =
+    Simulated-far b a (record { near = after_happening p.far h; far = p.near })
+    (Simulated-near b a (seen_from_far p) h (Simulated-far a b p at) may)
 
-Simulated-occurrences : (law : LawsBelow) (a b : Announced) (p : Ends) (os : List Occurrence) → Simulated law a b p →
-    AllMayOccur p os → Simulated law a b (after_occurrences p os)
-Simulated-occurrences law a b p [] at may = at
-Simulated-occurrences law a b p (o ∷ os) at may =
-    Simulated-occurrences law a b (after_occurrence p o) os (Simulated-occurrence law a b p o at may.0) may.1
+Simulated-occurrences : (a b : Announced) (p : Ends) (os : List Occurrence) → Simulated a b p →
+    AllMayOccur p os → Simulated a b (after_occurrences p os)
+Simulated-occurrences a b p [] at may = at
+Simulated-occurrences a b p (o ∷ os) at may =
+    Simulated-occurrences a b (after_occurrence p o) os (Simulated-occurrence a b p o at may.0) may.1
 
 -- a link to which nothing has happened
 record Begins (own : Announced) (s : State) : Type 0 where
@@ -230,10 +230,10 @@ half_first a b s t h k = record {
   flight = tt;
 }
 
-Simulated-first : (law : LawsBelow) (a b : Announced) (s t : State) → IsWindow a.window → IsWindow b.window →
-    Begins a s → Begins b t → Simulated law a b (first_ends s t)
+Simulated-first : (a b : Announced) (s t : State) → IsWindow a.window → IsWindow b.window →
+    Begins a s → Begins b t → Simulated a b (first_ends s t)
 unfolding idle
-Simulated-first law a b s t wa wb h k = record {
+Simulated-first a b s t wa wb h k = record {
   out = idle;
   back = idle;
   running = record {
@@ -253,12 +253,12 @@ Simulated-first law a b s t wa wb h k = record {
   };
 }
 
-pub simulated : (law : LawsBelow) (a b : Announced) (p : Ends) → IsWindow a.window → IsWindow b.window → IsRun a b p →
-    Simulated law a b p
-simulated law a b p wa wb run =
-    subst (λ (q : Ends). Simulated law a b q) run.leads
-    (Simulated-occurrences law a b (first_ends run.near_first run.far_first) run.occurrences
-    (Simulated-first law a b run.near_first run.far_first wa wb (first_begins a run.near_first run.near_is)
+pub simulated : (a b : Announced) (p : Ends) → IsWindow a.window → IsWindow b.window → IsRun a b p →
+    Simulated a b p
+simulated a b p wa wb run =
+    subst (λ (q : Ends). Simulated a b q) run.leads
+    (Simulated-occurrences a b (first_ends run.near_first run.far_first) run.occurrences
+    (Simulated-first a b run.near_first run.far_first wa wb (first_begins a run.near_first run.near_is)
     (first_begins b run.far_first run.far_is)) run.allowed)
 
 -- ---- what holds after each run
@@ -285,11 +285,11 @@ first_reads near far a b is_a is_b =
       reads (first_end b) (first_end a) near.window idle (half_first far near b a t s),
     )
 
-pub machine_runs : (law : LawsBelow) (near far : Announced) (p : Ends) → IsWindow near.window → IsWindow far.window →
+pub machine_runs : (near far : Announced) (p : Ends) → IsWindow near.window → IsWindow far.window →
     IsRun near far p →
     (m : Machine) × IsReached far.window near.window m × Reads p.near p.far m.out × Reads p.far p.near m.back
-machine_runs law near far p w v run =
-    let h = simulated law near far p w v run in (
+machine_runs near far p w v run =
+    let h = simulated near far p w v run in (
       machine near far p.near p.far h.out h.back,
       h.running.reached,
       reads p.near p.far far.window h.out h.running.sim.out_half,
@@ -297,35 +297,35 @@ machine_runs law near far p w v run =
     )
 
 -- what holds of the near end holds of both
-pub of_two : (law : LawsBelow) (P : End → End → Announced → Type 0) →
-    ((a b : Announced) (e f : End) (out back : Wire) → Running law a b e f out back → P e f b) → AlwaysOfTwo P
-of_two law P from near far p w v run =
-    let h = simulated law near far p w v run in
-    let k = Simulated-far law near far p h in (
+pub of_two : (P : End → End → Announced → Type 0) →
+    ((a b : Announced) (e f : End) (out back : Wire) → Running a b e f out back → P e f b) → AlwaysOfTwo P
+of_two P from near far p w v run =
+    let h = simulated near far p w v run in
+    let k = Simulated-far near far p h in (
       from near far p.near p.far h.out h.back h.running,
       from far near p.far p.near k.out k.back k.running,
     )
 
-pub fronts : (law : LawsBelow) → AlwaysOfTwo (λ e other announced. IsFrontOf e.taken other.sent)
-fronts law = of_two law (λ e other announced. IsFrontOf e.taken other.sent)
+pub fronts : AlwaysOfTwo (λ e other announced. IsFrontOf e.taken other.sent)
+fronts = of_two (λ e other announced. IsFrontOf e.taken other.sent)
     (λ a b e f out back h. (
       drop back.taken f.sent,
       ap (λ (l : List (List ℕ)). l ++ drop back.taken f.sent) h.sim.back_half.taken ∙ take-append-drop back.taken f.sent,
     ))
 
-pub within : (law : LawsBelow) → AlwaysOfTwo (λ e other announced. length e.link.unacked ≤ announced.window)
-within law = of_two law (λ e other announced. length e.link.unacked ≤ announced.window)
+pub within : AlwaysOfTwo (λ e other announced. length e.link.unacked ≤ announced.window)
+within = of_two (λ e other announced. length e.link.unacked ≤ announced.window)
     (λ a b e f out back h.
-    let counts = law.counts b.window a.window (machine a b e f out back) h.other h.window h.reached in
+    let counts = always_counts b.window a.window (machine a b e f out back) h.other h.window h.reached in
     omega (arith, counts.0.2, ap length h.sim.out_half.unacked, length-drop out.acked e.sent))
 
-pub windows : (law : LawsBelow) → AlwaysOfTwo (λ e other announced. KnowsWindow e.link.phase → e.link.window ≡ announced.window)
-windows law = of_two law (λ e other announced. KnowsWindow e.link.phase → e.link.window ≡ announced.window)
+pub windows : AlwaysOfTwo (λ e other announced. KnowsWindow e.link.phase → e.link.window ≡ announced.window)
+windows = of_two (λ e other announced. KnowsWindow e.link.phase → e.link.window ≡ announced.window)
     (λ a b e f out back h. h.sim.knows.window)
 
-pub owns : (law : LawsBelow) → AlwaysOfTwo (λ e other announced. other.link.own ≡ announced)
-owns law = of_two law (λ e other announced. other.link.own ≡ announced) (λ a b e f out back h. h.sim.other_own)
+pub owns : AlwaysOfTwo (λ e other announced. other.link.own ≡ announced)
+owns = of_two (λ e other announced. other.link.own ≡ announced) (λ a b e f out back h. h.sim.other_own)
 
-pub sizes : (law : LawsBelow) → AlwaysOfTwo (λ e other announced. KnowsSize e.link.phase → e.link.size_code ≡ announced.size_code)
-sizes law = of_two law (λ e other announced. KnowsSize e.link.phase → e.link.size_code ≡ announced.size_code)
+pub sizes : AlwaysOfTwo (λ e other announced. KnowsSize e.link.phase → e.link.size_code ≡ announced.size_code)
+sizes = of_two (λ e other announced. KnowsSize e.link.phase → e.link.size_code ≡ announced.size_code)
     (λ a b e f out back h. h.sim.knows.size)

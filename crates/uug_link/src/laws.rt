@@ -154,10 +154,7 @@ pub fn two_links_run_as_the_machine()
         KnowsWindow e.link.phase → e.link.window ≡ announced.window) }
     ensures size { AlwaysOfTwo (λ e other announced.
         KnowsSize e.link.phase → e.link.size_code ≡ announced.size_code) }
-{
-    the_window_is_safe();
-    no_peer_leads_a_link_astray();
-}
+{}
 
 /// What occurs at two links is so many moves of the window machine: first what comes, then what goes out.
 ///
@@ -184,10 +181,7 @@ pub fn each_occurrence_is_moves_of_the_machine()
         → AllMayOccur (first_ends a b) os →
         (made : List (List Move))
         × AllMoveWith (first_ends a b) os (start far.window near.window) made }
-{
-    the_window_is_safe();
-    no_peer_leads_a_link_astray();
-}
+{}
 
 /// How runs of two links are made: from two first links, by one more occurrence or several at one end; and seen from
 /// the other end.
@@ -236,10 +230,7 @@ pub fn what_two_links_emit_arrives()
         ends.near.passed ≤ place → slice_get ends.far.emitted place ≡ Some p
         → acknowledgement p ≡ Some y →
         (step ends.near.link (packet_found p)).state.oldest ≡ (y + 1) % 8 }
-{
-    the_window_is_safe();
-    no_peer_leads_a_link_astray();
-}
+{}
 
 /// What a line brings where nothing on it is lost, between two links that are up: why both come to the end of what they
 /// have to say.
@@ -265,7 +256,4 @@ pub fn a_clean_line_brings_all()
         → length s.unacked ≤ WINDOW_MAX →
         s.timeouts + 1 < TIMEOUTS_MAX
         → Repeats s (step s timed_out).state (emitted_by s timed_out) }
-{
-    the_window_is_safe();
-    no_peer_leads_a_link_astray();
-}
+{}

@@ -20,7 +20,6 @@ use crate::slots::Slots;
 use crate::status::Status;
 use std::alloc::{AllocError, Allocator};
 use std::marker::Model;
-use uug_packet::laws::packets_are_well_formed;
 use uug_packet::{Packet, field_size};
 
 /// One end's link. It knows no time and reads no bytes: its caller hands it the packets and the broken ones that were
@@ -127,7 +126,6 @@ impl Link {
         ensures { Follows (step self.old (to_send message.now)) self.old self.new out.old out.new
             (done result) }
     {
-        packets_are_well_formed();
         let number = plus(self.status.oldest, self.slots.len());
         out.reserve(1)?;
         self.status

@@ -16,7 +16,6 @@ use crate::reaction::Emits;
 use crate::slots::Slots;
 use crate::status::Status;
 use std::alloc::Allocator;
-use uug_packet::laws::packets_are_well_formed;
 use uug_packet::{Packet, Seq, field_code};
 
 impl Status {
@@ -149,7 +148,6 @@ impl Status {
         }) ∷ [] }
         ensures spare { out.old.spare ≤ out.new.spare + 1 }
     {
-        packets_are_well_formed();
         slots.re_ack(i, self.received);
         out.add_within(EntryKind::Packet { first: false }, slots.packet(i));
     }

@@ -1,5 +1,6 @@
 pub mod FolderLemmas
 pub mod JobsTextLemmas
+pub mod KeepingLemmas
 pub mod NameLemmas
 mod OutgoingLemmas
 mod RoomLemmas

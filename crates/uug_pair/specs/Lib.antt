@@ -1,7 +1,6 @@
 pub mod FolderFiles
 pub mod Folders
 pub mod JobsText
-pub mod Keeping
 pub mod Noise
 pub mod Outgoing
 pub mod Pair

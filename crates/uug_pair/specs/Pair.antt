@@ -15,7 +15,7 @@ use Rattle.uug_pair.specs.PairReport.{state_line, failed_lines}
 -- ---- an end
 
 abbrev pub jobs_of_end : NodeState → Lists
-jobs_of_end n = n.engine.talking.machine.lists
+jobs_of_end n = n.engine.dialogue.machine.lists
 
 abbrev pub phase_of_end : NodeState → Phase
 phase_of_end n = phase_at n.engine.stage n.engine.link.phase

@@ -6,7 +6,7 @@ use Rattle.uug_session.specs.Node.{NodeState, node_of, struck_jobs}
 use Rattle.uug_session.specs.NodeArriving.{TakesAll}
 use Rattle.uug_conversation.specs.OwnRequests.{KeepsWhatItAskedFor}
 use Rattle.uug_conversation.specs.Sharing.{HaveSameJobs}
-use Rattle.uug_conversation.specs.Talking.{talking_has_parted}
+use Rattle.uug_conversation.specs.DialogueValue.{dialogue_has_parted}
 use Rattle.uug_pair.specs.Outgoing.{count_behind, outgoing_from}
 use Rattle.uug_pair.specs.declared.noise.Noise.{Noise}
 use Rattle.uug_pair.specs.declared.seat.Seat.{Seat}
@@ -26,7 +26,7 @@ spool_in seat = seat.node.spool
 -- Whatever happened: its three lists have the same jobs together, each as often; what it had kept and what it had struck
 -- stays in front; and each Request job that it struck since has an entry of its own in what it kept since.
 pub record KeepsJobs (kept kept_after : List Kept) (before after : NodeState) : Type 0 where
-  pub same : HaveSameJobs before.engine.talking.machine.lists after.engine.talking.machine.lists
+  pub same : HaveSameJobs before.engine.dialogue.machine.lists after.engine.dialogue.machine.lists
   pub requests : KeepsWhatItAskedFor (struck_jobs before) (struck_jobs after) kept kept_after
 
 -- ---- what goes out
@@ -56,7 +56,7 @@ pub record Hears (h : Holdings) (kept kept_after : List Kept) (failure : Type 0)
 
 -- a timeout does to its session, its link and its conversation what the step of one says
 abbrev pub LateStep : (before after : EngineState) → Type 0
-LateStep before after = Does (stage_late before.number before.identity (talking_has_parted before.talking) before.stage before.link before.talking)
+LateStep before after = Does (stage_late before.number before.identity (dialogue_has_parted before.dialogue) before.stage before.link before.dialogue)
     (bare after) before after
 
 -- Nothing has come for some time; what it then had emitted is to be written.
@@ -67,5 +67,5 @@ pub record Waits (noise noise_after : Noise) (bytes bytes_after : List ℕ) (bef
 
 -- it has taken a timeout
 abbrev pub IsLate : (before after : NodeState) → Type 0
-IsLate before after = bare after.engine ≡ (stage_late before.engine.number before.engine.identity (talking_has_parted before.engine.talking)
-    before.engine.stage before.engine.link before.engine.talking).state
+IsLate before after = bare after.engine ≡ (stage_late before.engine.number before.engine.identity (dialogue_has_parted before.engine.dialogue)
+    before.engine.stage before.engine.link before.engine.dialogue).state

@@ -4,7 +4,6 @@ ghost use Rattle.uug_session.specs.Node.{node_of};
 ghost use Rattle.uug_session.specs.NumberStanding.{KeepsNumber};
 ghost use Rattle.uug_pair.specs.Seats.{seated, spool_in, to_write, Hears, IsLate, KeepsJobs, SendsOut, Waits};
 
-use crate::keeping::calls_keep;
 use crate::noise::Noise;
 use crate::outgoing::add_outgoing;
 use std::alloc::{AllocError, Allocator};
@@ -28,7 +27,6 @@ impl<S: Spool + Drop, A: Allocator + Copy> Seat<S, A> {
             SendsOut noise.old noise.new [] (to_write seat) (node_of node) (seated seat)) }
         ensures spool { IfOk result (λ seat. spool_in seat ≡ node.spool) }
     {
-        calls_keep();
         let mut seat = Seat {
             node,
             outgoing: Vec::new(alloc),
@@ -68,7 +66,6 @@ impl<S: Spool + Drop, A: Allocator + Copy> Seat<S, A> {
             noise.old noise.new (to_write self.old) (to_write self.new) (seated self.old)
             (seated self.new)) }
     {
-        calls_keep();
         a_number_stands_as_the_session_does();
         let Ok(()) = self.node.arrive(piece) else {
             return Err(AllocError);
@@ -88,7 +85,6 @@ impl<S: Spool + Drop, A: Allocator + Copy> Seat<S, A> {
             (KeepsNumber (seated self.old).engine (seated self.new).engine) }
         ensures spool { spool_in self.new ≡ spool_in self.old }
     {
-        calls_keep();
         a_number_stands_as_the_session_does();
         self.node.on_timeout()?;
         self.note_emitted(noise)
@@ -103,7 +99,6 @@ impl<S: Spool + Drop, A: Allocator + Copy> Seat<S, A> {
         ensures outgoing { to_write self.new ≡ to_write self.old }
         ensures spool { spool_in self.new ≡ spool_in self.old }
     {
-        calls_keep();
         a_number_stands_as_the_session_does();
         self.node.hang_up();
     }
@@ -130,7 +125,7 @@ impl<S: Spool + Drop, A: Allocator + Copy> Seat<S, A> {
         ensures sends { OnOk result
             (SendsOut noise.old noise.new (to_write self.old) (to_write self.new)
             (seated self.old) (seated self.new)) }
-        ensures talking { (seated self.new).engine.talking ≡ (seated self.old).engine.talking }
+        ensures dialogue { (seated self.new).engine.dialogue ≡ (seated self.old).engine.dialogue }
         ensures spool { spool_in self.new ≡ spool_in self.old }
     {
         add_outgoing(&mut self.outgoing, self.node.outbox(), noise)?;

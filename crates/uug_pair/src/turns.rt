@@ -4,7 +4,6 @@ ghost use Rattle.uug_session.specs.Engine.{HasFailed, IsEnded};
 ghost use Rattle.uug_pair.specs.Seats.{seated, spool_in, to_write, IsLate, KeepsJobs};
 ghost use Rattle.uug_pair.specs.Turns.{HasRoom, IsQuiet, UnlessLineFailed};
 
-use crate::keeping::calls_keep;
 use crate::line::{Line, UNREAD_MAX};
 use crate::noise::Noise;
 use crate::seat::Seat;
@@ -36,7 +35,6 @@ pub fn run_turns<S: Spool + Drop, T: Spool + Drop, L: Line, A: Allocator + Copy>
         → HasFailed u64.MAX (L.fault_count line.old) (L.fault_count line.new) }
     ensures grows { L.fault_count line.old ≤ L.fault_count line.new }
 {
-    calls_keep();
     let result = take_turns(caller, called, line, noise, limit);
     caller.hang_up();
     called.hang_up();
@@ -61,7 +59,6 @@ fn take_turns<S: Spool + Drop, T: Spool + Drop, L: Line, A: Allocator + Copy>(
         → HasFailed u64.MAX (L.fault_count line.old) (L.fault_count line.new) }
     ensures grows { L.fault_count line.old ≤ L.fault_count line.new }
 {
-    calls_keep();
     let mut buffer = [0; UNREAD_MAX];
     for _ in 0..limit {
         if caller.has_ended() && called.has_ended() {
@@ -96,7 +93,6 @@ fn take_turn<S: Spool + Drop, T: Spool + Drop, L: Line, A: Allocator + Copy>(
         → HasFailed u64.MAX (L.fault_count line.old) (L.fault_count line.new) }
     ensures grows { L.fault_count line.old ≤ L.fault_count line.new }
 {
-    calls_keep();
     if is_quiet(caller.outgoing(), called.outgoing(), line) {
         caller.time_out(noise)?;
         called.time_out(noise)?;
@@ -134,7 +130,6 @@ fn move_end<S: Spool + Drop, L: Line, A: Allocator + Copy>(
         → HasFailed u64.MAX (L.fault_count line.old) (L.fault_count line.new) }
     ensures grows { L.fault_count line.old ≤ L.fault_count line.new }
 {
-    calls_keep();
     let to = match side {
         Side::Caller => Side::Called,
         Side::Called => Side::Caller,
@@ -188,7 +183,6 @@ fn take_unread<S: Spool + Drop, L: Line, A: Allocator + Copy>(
         → HasFailed u64.MAX (L.fault_count line.old) (L.fault_count line.new) }
     ensures grows { L.fault_count line.old ≤ L.fault_count line.new }
 {
-    calls_keep();
     while line.unread(at) > 0 {
         let count = line.read(at, buffer)?;
         seat.arrive(&buffer[..count], noise)?;

@@ -10,7 +10,7 @@ use Rattle.uug_session.specs.Greeting.{number_by}
 use Rattle.uug_conversation.specs.Holdings.{Holdings}
 use Rattle.uug_conversation.specs.Keeper.{Keeper}
 use Rattle.uug_session.specs.NodeArriving.{NodeEnd, fails_first, fails_later, node_taker, with_effect}
-use Rattle.uug_conversation.specs.Talk.{Talk, end_keeper}
+use Rattle.uug_conversation.specs.DialogueState.{DialogueState, end_keeper}
 use Rattle.uug_session.proofs.NumberLemmas.{step_number}
 
 -- ---- what is emitted on the link stands behind what was emitted before
@@ -23,7 +23,7 @@ came_behind front (all_taken y) = all_taken (record { held = y.held; end = with_
 came_behind front (stopped y) = stopped (record { held = y.held; end = with_front front y.end })
 
 module _ (h : Holdings) (id : Identity) where
-  abbrev takes_from : ℕ → (bytes : List ℕ) → EndState Talk → List Emitted → List Bool → Arrival NodeEnd
+  abbrev takes_from : ℕ → (bytes : List ℕ) → EndState DialogueState → List Emitted → List Bool → Arrival NodeEnd
   takes_from n bytes e emitted failures =
       takes_up_to n (node_taker h id) (holds (node_taker h id) bytes (record { state = e; emitted = emitted; failures = failures }))
 
@@ -74,16 +74,16 @@ hails_not (hailing other) is g e = absurd is
 hails_not linked is g e = cc
 hails_not (ended how) is g e = cc
 
-module _ (k : Keeper Talk) (id : Identity) where
-  talks_greeted : (number : Option ℕ) (bad : Bool) (e : Effect) (before after : Talk) → HasGreeted (talks_by number bad k id e before after).state.stage
+module _ (k : Keeper DialogueState) (id : Identity) where
+  talks_greeted : (number : Option ℕ) (bad : Bool) (e : Effect) (before after : DialogueState) → HasGreeted (talks_by number bad k id e before after).state.stage
   talks_greeted number true e before after = tt
   talks_greeted number false e before after = tt
 
-  takes_greeted : (number : Option ℕ) (failed : Bool) (e : Effect) (message : List ℕ) (c : Talk) → HasGreeted (takes_by number failed k id e message c).state.stage
+  takes_greeted : (number : Option ℕ) (failed : Bool) (e : Effect) (message : List ℕ) (c : DialogueState) → HasGreeted (takes_by number failed k id e message c).state.stage
   takes_greeted number true e message c = tt
   takes_greeted number false e message c = talks_greeted number (k.is_bad (k.taking message c)) e c (k.taking message c)
 
-  link_greeted : (number : Option ℕ) (failed : Bool) (o : OutcomeValue) (e : Effect) (message : List ℕ) (c : Talk) → HasGreeted (behind_link number k id failed o e message c).state.stage
+  link_greeted : (number : Option ℕ) (failed : Bool) (o : OutcomeValue) (e : Effect) (message : List ℕ) (c : DialogueState) → HasGreeted (behind_link number k id failed o e message c).state.stage
   link_greeted number failed nothing e message c = tt
   link_greeted number failed up e message c = tt
   link_greeted number failed taken e message c = takes_greeted number (failed && k.asks_spool message c) e message c
@@ -91,7 +91,7 @@ module _ (k : Keeper Talk) (id : Identity) where
   link_greeted number failed gave_up e message c = tt
   link_greeted number failed halted e message c = tt
 
-  late_greeted : (number : Option ℕ) (parted : Bool) (o : OutcomeValue) (e : Effect) (c : Talk) → HasGreeted (late_link number id parted o e c).state.stage
+  late_greeted : (number : Option ℕ) (parted : Bool) (o : OutcomeValue) (e : Effect) (c : DialogueState) → HasGreeted (late_link number id parted o e c).state.stage
   late_greeted number parted nothing e c = tt
   late_greeted number parted up e c = tt
   late_greeted number parted taken e c = tt
@@ -99,7 +99,7 @@ module _ (k : Keeper Talk) (id : Identity) where
   late_greeted number parted gave_up e c = tt
   late_greeted number parted halted e c = tt
 
-  linked_greeted : (number : Option ℕ) (event : EndEvent) (s : State) (c : Talk) → HasGreeted (linked_step k id event (record { stage = linked; link = s; keeper = c; number = number })).state.stage
+  linked_greeted : (number : Option ℕ) (event : EndEvent) (s : State) (c : DialogueState) → HasGreeted (linked_step k id event (record { stage = linked; link = s; keeper = c; number = number })).state.stage
   linked_greeted number (text_found text) s c = tt
   linked_greeted number long_text_found s c = tt
   linked_greeted number (packet_found_whole failed p) s c = link_greeted number failed (step s (packet_found p)).outcome (step s (packet_found p)) (message_of p) c
@@ -107,7 +107,7 @@ module _ (k : Keeper Talk) (id : Identity) where
   linked_greeted number time_ran_out s c = late_greeted number (k.has_parted c) (step s timed_out).outcome (step s timed_out) c
   linked_greeted number line_lost s c = tt
 
-  step_greeted : (number : Option ℕ) (stage : Stage) (event : EndEvent) (s : State) (c : Talk) → HasGreeted stage → HasGreeted (stage_step k id stage event (record { stage = stage; link = s; keeper = c; number = number })).state.stage
+  step_greeted : (number : Option ℕ) (stage : Stage) (event : EndEvent) (s : State) (c : DialogueState) → HasGreeted stage → HasGreeted (stage_step k id stage event (record { stage = stage; link = s; keeper = c; number = number })).state.stage
   step_greeted number (hailing g) event s c is = absurd is
   step_greeted number linked event s c is = linked_greeted number event s c
   step_greeted number (ended how) event s c is = tt
@@ -146,7 +146,7 @@ nothing_rises id number linked event is = refl
 nothing_rises id number (ended how) event is = refl
 
 module _ (h : Holdings) (id : Identity) (number : Option ℕ) where
-  keeps_number : (event : EndEvent) (e : EndState Talk) → HasGreeted e.stage → e.number ≡ number → (end_step (end_keeper id.side h) id event e).state.number ≡ number
+  keeps_number : (event : EndEvent) (e : EndState DialogueState) → HasGreeted e.stage → e.number ≡ number → (end_step (end_keeper id.side h) id event e).state.number ≡ number
   keeps_number event e is same =
       step_number (end_keeper id.side h) id event e ∙ ap (λ (b : Bool). number_by b e.number) (nothing_rises id e.number e.stage event is) ∙ same
 

@@ -8,7 +8,7 @@ use Rattle.uug_session.specs.EndStep.{ended, EndState, Emitted, says_text, sends
 use Rattle.uug_conversation.specs.Jobs.{at_start}
 use Rattle.uug_conversation.specs.Keeper.{Keeper}
 use Rattle.uug_conversation.specs.Party.{Party}
-use Rattle.uug_conversation.specs.Talk.{Talk, unopened, end_keeper}
+use Rattle.uug_conversation.specs.DialogueState.{DialogueState, unopened, end_keeper}
 use Rattle.uug_conversation.specs.declared.side.Side.TheVariants.{Caller, Called}
 use Rattle.uug_conversation.specs.View.{conversation_view}
 use Rattle.uug_conversation.proofs.ConversationFacts.{sender, taker}
@@ -77,13 +77,13 @@ played e = record { state = e.state; emitted = e.emitted; took = 0 }
 abbrev pub begun : {C : Type 0} → C → C → Both C
 begun a b = two_ends (played (begins_session caller_id announced None a)) (played (begins_session called_id announced None b))
 
-abbrev pub talk_of : Party → Talk
-talk_of p = unopened (at_start p.jobs [] []) []
+abbrev pub dialogue_of : Party → DialogueState
+dialogue_of p = unopened (at_start p.jobs [] []) []
 
 -- the ends themselves, and the two numbers of each
-abbrev pub by_themselves : (a b : Party) → Both Talk
+abbrev pub by_themselves : (a b : Party) → Both DialogueState
 by_themselves a b =
-    rounds 12 (end_keeper Caller a.holdings) (end_keeper Called b.holdings) caller_id called_id (begun (talk_of a) (talk_of b))
+    rounds 12 (end_keeper Caller a.holdings) (end_keeper Called b.holdings) caller_id called_id (begun (dialogue_of a) (dialogue_of b))
 
 abbrev pub by_numbers : (a b : Party) → Both Count
 by_numbers a b =

@@ -10,7 +10,7 @@ use Rattle.uug_conversation.specs.declared.awaits.Awaits.TheVariants as awaits
 use Rattle.uug_session.specs.declared.end.End.TheVariants as ends
 use Rattle.uug_session.specs.EndStep.{Stage, linked, ended, Emitted, says_text, sends_packet, EndEffect, Identity, EndEvent, packet_found_whole, broken_found, time_ran_out, line_lost, end_step}
 use Rattle.uug_conversation.specs.Jobs.{at_start}
-use Rattle.uug_conversation.specs.Talk.{Talk, end_keeper}
+use Rattle.uug_conversation.specs.DialogueState.{DialogueState, end_keeper}
 use Rattle.uug_conversation.specs.declared.side.Side.{Side}
 use Rattle.uug_conversation.specs.declared.side.Side.TheVariants.{Caller, Called}
 use Rattle.uug_conversation.proofs.FactParties.{Exception, no_exception, fixed, holdings, q, y, text}
@@ -28,8 +28,8 @@ link_of Called = record (called_state announced) { phase = phases.Up; window = 2
 abbrev pub id_of : Side → Identity
 id_of side = record { side = side; me = codes "a"; peer = codes "b" }
 
-abbrev pub talking : Awaits → (gathered : List ℕ) → (waiting : List (List ℕ)) → Talk
-talking next gathered waiting = record {
+abbrev pub dialogue : Awaits → (gathered : List ℕ) → (waiting : List (List ℕ)) → DialogueState
+dialogue next gathered waiting = record {
   opened = true;
   machine = record { lists = at_start [] [] []; awaits = next; gathered = gathered };
   size = 32;
@@ -37,7 +37,7 @@ talking next gathered waiting = record {
   kept = [];
 }
 
-abbrev pub after : Exception → Side → State → Talk → EndEvent → EndEffect Talk
+abbrev pub after : Exception → Side → State → DialogueState → EndEvent → EndEffect DialogueState
 after exception side link talk event =
     end_step (end_keeper side (holdings q None exception)) (id_of side) event (record { stage = linked; link = link; keeper = talk; number = None })
 
@@ -70,73 +70,73 @@ abbrev pub seven_letters : Emitted
 seven_letters = says_text (codes "OOOOOOO")
 
 -- what went out, and where the session then stands
-pub record Leads (e : EndEffect Talk) (emitted : List Emitted) (stage : Stage) : Type 0 where
+pub record Leads (e : EndEffect DialogueState) (emitted : List Emitted) (stage : Stage) : Type 0 where
   pub out : e.emitted ≡ emitted
   pub stands : e.state.stage ≡ stage
 
 -- ---- the end of a session
 
-pub last_words_and_close : Leads (after no_exception Caller (link_of Caller) (talking awaits.HangUpAnswer [] []) (comes (text (codes "HY"))))
+pub last_words_and_close : Leads (after no_exception Caller (link_of Caller) (dialogue awaits.HangUpAnswer [] []) (comes (text (codes "HY"))))
     (puts (rr 1) ∷ says (text (codes "HY")) ∷ puts close ∷ []) linked
 unfolding smallest_code
 last_words_and_close = record { out = refl; stands = refl }
 
-pub closed_at_the_caller : Leads (after no_exception Caller (closing Caller) (talking awaits.NothingMore [] []) close_comes)
+pub closed_at_the_caller : Leads (after no_exception Caller (closing Caller) (dialogue awaits.NothingMore [] []) close_comes)
     (six_letters ∷ []) (ended ends.Done)
 closed_at_the_caller = record { out = refl; stands = refl }
 
-pub closed_at_the_called_end : Leads (after no_exception Called (link_of Called) (talking awaits.LastHangUp [] []) close_comes)
+pub closed_at_the_called_end : Leads (after no_exception Called (link_of Called) (dialogue awaits.LastHangUp [] []) close_comes)
     (puts close ∷ seven_letters ∷ []) (ended ends.Done)
 closed_at_the_called_end = record { out = refl; stands = refl }
 
-pub closed_before_that : Leads (after no_exception Called (link_of Called) (talking awaits.Order [] []) close_comes)
+pub closed_before_that : Leads (after no_exception Called (link_of Called) (dialogue awaits.Order [] []) close_comes)
     (puts close ∷ []) (ended ends.PeerClosed)
 closed_before_that = record { out = refl; stands = refl }
 
 -- HY still waits for room
-pub closed_before_it_was_sent : Leads (after no_exception Called (link_of Called) (talking awaits.LastHangUp [] (text (codes "HY") ∷ [])) close_comes)
+pub closed_before_it_was_sent : Leads (after no_exception Called (link_of Called) (dialogue awaits.LastHangUp [] (text (codes "HY") ∷ [])) close_comes)
     (puts close ∷ []) (ended ends.PeerClosed)
 closed_before_it_was_sent = record { out = refl; stands = refl }
 
-pub bad_text : Leads (after no_exception Called (link_of Called) (talking awaits.Order [] []) (comes (text (codes "E x"))))
+pub bad_text : Leads (after no_exception Called (link_of Called) (dialogue awaits.Order [] []) (comes (text (codes "E x"))))
     (puts (rr 1) ∷ puts close ∷ []) (ended ends.BadTalk)
 bad_text = record { out = refl; stands = refl }
 
-pub bad_text_after_that : Leads (after no_exception Called (link_of Called) (talking awaits.LastHangUp [] []) (comes (text (codes "E x"))))
+pub bad_text_after_that : Leads (after no_exception Called (link_of Called) (dialogue awaits.LastHangUp [] []) (comes (text (codes "E x"))))
     (puts (rr 1) ∷ puts close ∷ seven_letters ∷ []) (ended ends.Done)
 bad_text_after_that = record { out = refl; stands = refl }
 
-pub gives_up : Leads (after no_exception Caller (after_seven_timeouts (link_of Caller)) (talking awaits.Order [] []) time_ran_out)
+pub gives_up : Leads (after no_exception Caller (after_seven_timeouts (link_of Caller)) (dialogue awaits.Order [] []) time_ran_out)
     (puts close ∷ []) (ended ends.GaveUp)
 gives_up = record { out = refl; stands = refl }
 
-pub gives_up_closing : Leads (after no_exception Caller (after_seven_timeouts (closing Caller)) (talking awaits.NothingMore [] []) time_ran_out)
+pub gives_up_closing : Leads (after no_exception Caller (after_seven_timeouts (closing Caller)) (dialogue awaits.NothingMore [] []) time_ran_out)
     (puts close ∷ six_letters ∷ []) (ended ends.Done)
 gives_up_closing = record { out = refl; stands = refl }
 
-pub repeats_close : Leads (after no_exception Caller (closing Caller) (talking awaits.NothingMore [] []) time_ran_out)
+pub repeats_close : Leads (after no_exception Caller (closing Caller) (dialogue awaits.NothingMore [] []) time_ran_out)
     (puts close ∷ []) linked
 repeats_close = record { out = refl; stands = refl }
 
-pub line_is_lost : Leads (after no_exception Caller (link_of Caller) (talking awaits.SendAnswer [] []) line_lost) [] (ended ends.HungUp)
+pub line_is_lost : Leads (after no_exception Caller (link_of Caller) (dialogue awaits.SendAnswer [] []) line_lost) [] (ended ends.HungUp)
 line_is_lost = record { out = refl; stands = refl }
 
-pub line_is_lost_after_that : Leads (after no_exception Caller (closing Caller) (talking awaits.NothingMore [] []) line_lost) [] (ended ends.Done)
+pub line_is_lost_after_that : Leads (after no_exception Caller (closing Caller) (dialogue awaits.NothingMore [] []) line_lost) [] (ended ends.Done)
 line_is_lost_after_that = record { out = refl; stands = refl }
 
 -- ---- the spool's device
 
-pub device_fails : Leads (after no_exception Called (link_of Called) (talking (awaits.SentFile y 420) [] []) (device_fails_at []))
+pub device_fails : Leads (after no_exception Called (link_of Called) (dialogue (awaits.SentFile y 420) [] []) (device_fails_at []))
     (puts (rr 1) ∷ puts close ∷ []) (ended ends.SpoolFault)
 device_fails = record { out = refl; stands = refl }
 
 -- the spool is not asked where the file can't be put in its place, or where no file ends
-pub device_is_not_asked : Leads (after (fixed y) Called (link_of Called) (talking (awaits.SentFile y 420) [] []) (device_fails_at []))
+pub device_is_not_asked : Leads (after (fixed y) Called (link_of Called) (dialogue (awaits.SentFile y 420) [] []) (device_fails_at []))
     (puts (rr 1) ∷ says (text (codes "CN5")) ∷ []) linked
 unfolding smallest_code
 device_is_not_asked = record { out = refl; stands = refl }
 
-pub device_has_no_part : Leads (after no_exception Called (link_of Called) (talking awaits.Order [] []) (device_fails_at (text (codes "H"))))
+pub device_has_no_part : Leads (after no_exception Called (link_of Called) (dialogue awaits.Order [] []) (device_fails_at (text (codes "H"))))
     (puts (rr 1) ∷ says (text (codes "HY")) ∷ []) linked
 unfolding smallest_code
 device_has_no_part = record { out = refl; stands = refl }
@@ -144,10 +144,10 @@ device_has_no_part = record { out = refl; stands = refl }
 -- ---- what waits goes out when there is room
 
 pub sends_what_waits : Leads (after no_exception Called (record (link_of Called) { oldest = 1; unacked = (1 ∷ []) ∷ (2 ∷ []) ∷ [] })
-    (talking awaits.GivenFileDone [] ((3 ∷ []) ∷ (4 ∷ []) ∷ [])) (packet_found_whole false (control (rr 1))))
+    (dialogue awaits.GivenFileDone [] ((3 ∷ []) ∷ (4 ∷ []) ∷ [])) (packet_found_whole false (control (rr 1))))
     (sends_packet (record { packet = carry 3 0 1 (3 ∷ []); first = true }) ∷ []) linked
 unfolding smallest_code
 sends_what_waits = record { out = refl; stands = refl }
 
-pub asks_again : Leads (after no_exception Called (link_of Called) (talking awaits.Order [] []) broken_found) (puts (rj 0) ∷ []) linked
+pub asks_again : Leads (after no_exception Called (link_of Called) (dialogue awaits.Order [] []) broken_found) (puts (rj 0) ∷ []) linked
 asks_again = record { out = refl; stands = refl }

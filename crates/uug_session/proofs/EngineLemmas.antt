@@ -25,8 +25,8 @@ use Rattle.uug_conversation.specs.declared.reaction.Saying.{Saying}
 use Rattle.uug_conversation.specs.Machine.{State as MachineState}
 use Rattle.uug_conversation.specs.Outgoing.{messages_of}
 use Rattle.uug_session.specs.Says.{entry_of_text}
-use Rattle.uug_conversation.specs.Talk.{Talk, end_keeper}
-use Rattle.uug_conversation.specs.Talking.{Talking, talk_of}
+use Rattle.uug_conversation.specs.DialogueState.{DialogueState, end_keeper}
+use Rattle.uug_conversation.specs.DialogueValue.{DialogueValue, dialogue_of}
 use Rattle.uug_conversation.specs.declared.side.Side.{Side}
 use Rattle.uug_conversation.specs.declared.side.Side.TheVariants.{Caller, Called}
 use Rattle.uug_link.proofs.OutcomeLemmas.{moves_of}
@@ -47,13 +47,13 @@ first_not_up Caller own e = cc
 first_not_up Called own e = cc
 
 -- what an end is ready with stays where its link takes a message
-pub ready_behind_taken : (stage : Stage) (id : Identity) (own : Announced) (s after : State) (p : PacketValue) (talking : Talking)
-    → IsReady stage id own s talking → (step s (packet_found p)).outcome ≡ taken → after ≡ (step s (packet_found p)).state
-    → IsReady stage id own after talking
-ready_behind_taken stage id own s after p talking ready is same =
+pub ready_behind_taken : (stage : Stage) (id : Identity) (own : Announced) (s after : State) (p : PacketValue) (dialogue : DialogueValue)
+    → IsReady stage id own s dialogue → (step s (packet_found p)).outcome ≡ taken → after ≡ (step s (packet_found p)).state
+    → IsReady stage id own after dialogue
+ready_behind_taken stage id own s after p dialogue ready is same =
     let e = step s (packet_found p) in
     let was_up : IsUp s = (taken_is_up e.outcome s.phase e.state.phase is (moves_of s (packet_found p) tt)).0 in
-    subst (λ (x : State). IsReady stage id own x talking) (sym same) (record {
+    subst (λ (x : State). IsReady stage id own x dialogue) (sym same) (record {
       first = λ hails. absurd (first_not_up id.side own (subst IsUp (ready.first hails) was_up));
       opened = λ up. ready.opened was_up;
       size = λ up. ready.size was_up ∙ ap size_of_code (sym (size_stays s (packet_found p) was_up));
@@ -72,9 +72,9 @@ entries_behind entries es more =
 speaks_from : (h : Holdings) (kept : List Kept) (id : Identity) (e : Effect) (entries : List EntryValue) (middle : EngineState)
     → middle.link ≡ e.state → middle.outbox.entries ≡ entries ++ map written e.emitted → middle.identity ≡ id
     → after_speaking h kept middle
-    ≡ spoken_with (entries ++ map written e.emitted) (speaks_by (is_up e.state.phase) (end_keeper id.side h) e.state (talk_of h kept middle.talking))
+    ≡ spoken_with (entries ++ map written e.emitted) (speaks_by (is_up e.state.phase) (end_keeper id.side h) e.state (dialogue_of h kept middle.dialogue))
 speaks_from h kept id e entries middle link emitted identity =
-    let talk = talk_of h kept middle.talking in
+    let talk = dialogue_of h kept middle.dialogue in
     ap (λ (x : State). spoken_with middle.outbox.entries (speaks_by (is_up x.phase) (end_keeper middle.identity.side h) x talk)) link
     ∙ ap (λ (x : List EntryValue). spoken_with x (speaks_by (is_up e.state.phase) (end_keeper middle.identity.side h) e.state talk)) emitted
     ∙ ap (λ (x : Identity). spoken_with (entries ++ map written e.emitted) (speaks_by (is_up e.state.phase) (end_keeper x.side h) e.state talk)) identity
@@ -83,14 +83,14 @@ pub goes_on_does : (h : Holdings) (kept : List Kept) (took : Bool) (e : Effect) 
     → middle.link ≡ e.state → middle.outbox.entries ≡ before.outbox.entries ++ map written e.emitted
     → middle.stage ≡ linked → middle.identity ≡ before.identity → middle.own ≡ before.own → middle.number ≡ before.number
     → spoken_of h kept after ≡ after_speaking h kept middle → StandsStill middle after
-    → Does (goes_on before.number (end_keeper before.identity.side h) took e (talk_of h kept middle.talking)) (end_of h kept after) before after
+    → Does (goes_on before.number (end_keeper before.identity.side h) took e (dialogue_of h kept middle.dialogue)) (end_of h kept after) before after
 goes_on_does h kept took e before middle after link emitted stage identity own number spoken still =
-    let x = speaks_by (is_up e.state.phase) (end_keeper before.identity.side h) e.state (talk_of h kept middle.talking) in
+    let x = speaks_by (is_up e.state.phase) (end_keeper before.identity.side h) e.state (dialogue_of h kept middle.dialogue) in
     let all : spoken_of h kept after ≡ spoken_with (before.outbox.entries ++ map written e.emitted) x =
     spoken ∙ speaks_from h kept before.identity e before.outbox.entries middle link emitted identity in
-    let linked_end : Spoken → EndState Talk = λ s. record { stage = linked; link = s.link; keeper = s.talk; number = before.number } in
-    let at_stage : Stage → EndState Talk = λ s. record { stage = s; link = after.link; keeper = talk_of h kept after.talking; number = after.number } in
-    let with_number : Option ℕ → EndState Talk = λ n. record { stage = linked; link = after.link; keeper = talk_of h kept after.talking; number = n } in
+    let linked_end : Spoken → EndState DialogueState = λ s. record { stage = linked; link = s.link; keeper = s.talk; number = before.number } in
+    let at_stage : Stage → EndState DialogueState = λ s. record { stage = s; link = after.link; keeper = dialogue_of h kept after.dialogue; number = after.number } in
+    let with_number : Option ℕ → EndState DialogueState = λ n. record { stage = linked; link = after.link; keeper = dialogue_of h kept after.dialogue; number = n } in
     record {
       end = ap at_stage (still.stage ∙ stage) ∙ ap with_number (still.number ∙ number) ∙ ap linked_end all;
       emitted = ap (λ (s : Spoken). s.entries) all ∙ entries_behind before.outbox.entries e.emitted x.emissions;
@@ -121,8 +121,8 @@ ends_does {C} id has_parted how e c c_after took before after stage link keeper 
     }
 
 -- by an outcome that is known
-pub by_outcome : (k : Keeper Talk) (id : Identity) (device_failed : Bool) (o : OutcomeValue) (e : Effect) (message : List ℕ) (talk : Talk)
-    (end_after : EndState Talk) (before after : EngineState) → o ≡ e.outcome
+pub by_outcome : (k : Keeper DialogueState) (id : Identity) (device_failed : Bool) (o : OutcomeValue) (e : Effect) (message : List ℕ) (talk : DialogueState)
+    (end_after : EndState DialogueState) (before after : EngineState) → o ≡ e.outcome
     → Does (behind_link before.number k id device_failed o e message talk) end_after before after
     → Does (behind_link before.number k id device_failed e.outcome e message talk) end_after before after
 by_outcome k id device_failed o e message talk end_after before after is does =
@@ -141,7 +141,7 @@ closed_behind e link entries entries_then entries_after same before after =
 
 -- ---- a message was taken
 
-pub taken_bad : (number : Option ℕ) (k : Keeper Talk) (id : Identity) (e : Effect) (message : List ℕ) (talk : Talk)
+pub taken_bad : (number : Option ℕ) (k : Keeper DialogueState) (id : Identity) (e : Effect) (message : List ℕ) (talk : DialogueState)
     → e.outcome ≡ taken → k.is_bad (k.taking message talk) ≡ true
     → behind_link number k id false e.outcome e message talk
     ≡ ends_so number id (k.has_parted talk) ends.BadTalk (then_closes e) (k.taking message talk) true
@@ -149,14 +149,14 @@ taken_bad number k id e message talk outcome bad =
     ap (λ (o : OutcomeValue). behind_link number k id false o e message talk) outcome
     ∙ ap (λ (b : Bool). talks_by number b k id e talk (k.taking message talk)) bad
 
-pub taken_well : (number : Option ℕ) (k : Keeper Talk) (id : Identity) (e : Effect) (message : List ℕ) (talk : Talk)
+pub taken_well : (number : Option ℕ) (k : Keeper DialogueState) (id : Identity) (e : Effect) (message : List ℕ) (talk : DialogueState)
     → e.outcome ≡ taken → k.is_bad (k.taking message talk) ≡ false
     → behind_link number k id false e.outcome e message talk ≡ goes_on number k true e (k.taking message talk)
 taken_well number k id e message talk outcome well =
     ap (λ (o : OutcomeValue). behind_link number k id false o e message talk) outcome
     ∙ ap (λ (b : Bool). talks_by number b k id e talk (k.taking message talk)) well
 
-pub taken_failed : (number : Option ℕ) (k : Keeper Talk) (id : Identity) (e : Effect) (message : List ℕ) (talk : Talk)
+pub taken_failed : (number : Option ℕ) (k : Keeper DialogueState) (id : Identity) (e : Effect) (message : List ℕ) (talk : DialogueState)
     → e.outcome ≡ taken → k.asks_spool message talk ≡ true
     → behind_link number k id true e.outcome e message talk
     ≡ ends_so number id (k.has_parted talk) ends.SpoolFault (then_closes e) talk true
@@ -166,13 +166,13 @@ taken_failed number k id e message talk outcome asked =
 
 -- an effect that is known
 pub takes_up : (h : Holdings) (kept kept_after : List Kept) (counts : Bool → Type 0) (device_failed : Bool) (p : PacketValue) (before after : EngineState)
-    (e : EndEffect Talk) → packet_effect h kept device_failed p before ≡ e → Does e (end_of h kept_after after) before after
+    (e : EndEffect DialogueState) → packet_effect h kept device_failed p before ≡ e → Does e (end_of h kept_after after) before after
     → e.took ≡ true → counts device_failed
     → TakesUp h kept kept_after counts p before after true
 takes_up h kept kept_after counts device_failed p before after e is does took device = record {
   device_failed = device_failed;
-  does = subst (λ (x : EndEffect Talk). Does x (end_of h kept_after after) before after) (sym is) does;
-  answer = sym (ap (λ (x : EndEffect Talk). x.took) is ∙ took);
+  does = subst (λ (x : EndEffect DialogueState). Does x (end_of h kept_after after) before after) (sym is) does;
+  answer = sym (ap (λ (x : EndEffect DialogueState). x.took) is ∙ took);
   device = device;
 }
 
@@ -259,22 +259,22 @@ link_after P Closed told = told
 -- ---- with room made for what is to be said
 
 -- such room is no part of the conversation
-pub talk_reserved : (h : Holdings) (kept : List Kept) (t u : Talking) → u.opened ≡ t.opened → u.machine ≡ t.machine → u.size ≡ t.size
-    → u.outgoing.sayings ≡ t.outgoing.sayings → u.outgoing.offset ≡ t.outgoing.offset → talk_of h kept u ≡ talk_of h kept t
+pub talk_reserved : (h : Holdings) (kept : List Kept) (t u : DialogueValue) → u.opened ≡ t.opened → u.machine ≡ t.machine → u.size ≡ t.size
+    → u.outgoing.sayings ≡ t.outgoing.sayings → u.outgoing.offset ≡ t.outgoing.offset → dialogue_of h kept u ≡ dialogue_of h kept t
 talk_reserved h kept t u opened machine size sayings offset =
-    let by_opened : Bool → Talk =
+    let by_opened : Bool → DialogueState =
     λ x. record { opened = x; machine = u.machine; size = u.size; waiting = messages_of h u.size u.outgoing.offset u.outgoing.sayings; kept = kept } in
-    let by_machine : MachineState → Talk =
+    let by_machine : MachineState → DialogueState =
     λ x. record { opened = t.opened; machine = x; size = u.size; waiting = messages_of h u.size u.outgoing.offset u.outgoing.sayings; kept = kept } in
-    let by_size : ℕ → Talk =
+    let by_size : ℕ → DialogueState =
     λ x. record { opened = t.opened; machine = t.machine; size = x; waiting = messages_of h x u.outgoing.offset u.outgoing.sayings; kept = kept } in
-    let by_sayings : List Saying → Talk =
+    let by_sayings : List Saying → DialogueState =
     λ x. record { opened = t.opened; machine = t.machine; size = t.size; waiting = messages_of h t.size u.outgoing.offset x; kept = kept } in
-    let by_offset : ℕ → Talk =
+    let by_offset : ℕ → DialogueState =
     λ x. record { opened = t.opened; machine = t.machine; size = t.size; waiting = messages_of h t.size x t.outgoing.sayings; kept = kept } in
     ap by_opened opened ∙ ap by_machine machine ∙ ap by_size size ∙ ap by_sayings sayings ∙ ap by_offset offset
 
-not_taken : (number : Option ℕ) (k : Keeper Talk) (id : Identity) (o : OutcomeValue) (e : Effect) (message : List ℕ) (talk : Talk)
+not_taken : (number : Option ℕ) (k : Keeper DialogueState) (id : Identity) (o : OutcomeValue) (e : Effect) (message : List ℕ) (talk : DialogueState)
     → o ≢ taken → false ≡ (behind_link number k id false o e message talk).took
 not_taken number k id nothing e message talk none = refl
 not_taken number k id up e message talk none = refl
@@ -286,26 +286,26 @@ not_taken number k id halted e message talk none = refl
 -- a packet whose message is not taken, at an end that had made room
 pub hears_reserved : (h : Holdings) (kept : List Kept) (counts : Bool → Type 0) (p : PacketValue) (before middle after : EngineState)
     → middle.identity ≡ before.identity → middle.own ≡ before.own → middle.number ≡ before.number → middle.link ≡ before.link
-    → talk_of h kept middle.talking ≡ talk_of h kept before.talking → middle.outbox.entries ≡ before.outbox.entries
+    → dialogue_of h kept middle.dialogue ≡ dialogue_of h kept before.dialogue → middle.outbox.entries ≡ before.outbox.entries
     → (step before.link (packet_found p)).outcome ≢ taken → counts false
     → Does (packet_effect h kept false p middle) (end_of h kept after) middle after
     → TakesUp h kept kept counts p before after false
 hears_reserved h kept counts p before middle after identity own number link talk entries none counted does =
     let same : packet_effect h kept false p middle ≡ packet_effect h kept false p before =
-    ap (λ (id : Identity). packet_came middle.number (end_keeper id.side h) id false p middle.link (talk_of h kept middle.talking)) identity
-    ∙ ap (λ (n : Option ℕ). packet_came n (end_keeper before.identity.side h) before.identity false p middle.link (talk_of h kept middle.talking)) number
-    ∙ ap (λ (s : State). packet_came before.number (end_keeper before.identity.side h) before.identity false p s (talk_of h kept middle.talking)) link
+    ap (λ (id : Identity). packet_came middle.number (end_keeper id.side h) id false p middle.link (dialogue_of h kept middle.dialogue)) identity
+    ∙ ap (λ (n : Option ℕ). packet_came n (end_keeper before.identity.side h) before.identity false p middle.link (dialogue_of h kept middle.dialogue)) number
+    ∙ ap (λ (s : State). packet_came before.number (end_keeper before.identity.side h) before.identity false p s (dialogue_of h kept middle.dialogue)) link
     ∙ ap (packet_came before.number (end_keeper before.identity.side h) before.identity false p before.link) talk in
     record {
       device_failed = false;
       does = record {
-        end = does.end ∙ ap (λ (e : EndEffect Talk). e.state) same;
+        end = does.end ∙ ap (λ (e : EndEffect DialogueState). e.state) same;
         emitted = does.emitted ∙ ap (λ (x : List EntryValue). x ++ map entry_of (packet_effect h kept false p middle).emitted) entries
-            ∙ ap (λ (e : EndEffect Talk). before.outbox.entries ++ map entry_of e.emitted) same;
+            ∙ ap (λ (e : EndEffect DialogueState). before.outbox.entries ++ map entry_of e.emitted) same;
         identity = does.identity ∙ identity;
         own = does.own ∙ own;
       };
       answer = not_taken before.number (end_keeper before.identity.side h) before.identity (step before.link (packet_found p)).outcome
-          (step before.link (packet_found p)) (message_of p) (talk_of h kept before.talking) none;
+          (step before.link (packet_found p)) (message_of p) (dialogue_of h kept before.dialogue) none;
       device = counted;
     }

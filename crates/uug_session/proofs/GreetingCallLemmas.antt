@@ -21,8 +21,8 @@ use Rattle.uug_conversation.specs.Jobs.{Lists}
 use Rattle.uug_session.specs.Node.{NodeState, ItemValue, text_item, packet_item, bad_item, ShowsItem, TakesItem, offered_at, searched_at, texts_searched}
 use Rattle.uug_session.specs.NodeCalls.{Adds, Beside, Make, Makes, NodeCall, offers, looks, takes, refuses, times_out, refuses_timeout, clears, taken_in}
 use Rattle.uug_session.specs.Sessions.{HoldsNothing}
-use Rattle.uug_conversation.specs.Talk.{Talk, end_keeper}
-use Rattle.uug_conversation.specs.Talking.{Talking, talking_has_parted}
+use Rattle.uug_conversation.specs.DialogueState.{DialogueState, end_keeper}
+use Rattle.uug_conversation.specs.DialogueValue.{DialogueValue, dialogue_has_parted}
 use Rattle.uug_session.specs.TextsFound.{Taken}
 use Rattle.uug_session.specs.TextsHeld.{TextsHeld, TextSearch, text_waits, text_stands, text_too_long, search_text}
 use Rattle.uug_conversation.specs.declared.side.Side.{Side}
@@ -198,18 +198,18 @@ module _ (h : Holdings) (most : ℕ) where
       (subst (λ (s : Stage). ShowsItem s old.node.texts old.node.packets item) stage shows) t adds
   one_call refuses g texts came added old new stage taken (faults, same) adds =
       quiet_step old.node.engine.identity refuses g texts came added old.node new.node refl
-      (ap (λ (e : EndState Talk). e.stage) same.does.end ∙ stage) (ap (λ (e : EndState Talk). e.link) same.does.end) (ap (λ (e : EndState Talk). e.number) same.does.end) same.does.identity
+      (ap (λ (e : EndState DialogueState). e.stage) same.does.end ∙ stage) (ap (λ (e : EndState DialogueState). e.link) same.does.end) (ap (λ (e : EndState DialogueState). e.number) same.does.end) same.does.identity
       (append_cancel_left (entries_of old.node) added [] (sym adds ∙ same.does.emitted))
       (still_taken texts came old.node.texts.bytes new.node.texts.bytes (ap (λ (r : TextsHeld). r.bytes) same.texts) taken)
   one_call times_out g texts came added old new stage taken (late, same) adds =
       let e = old.node.engine in
-      let does : Does (behind_greeting e.number e.identity (timed_out g) e.link e.talking) (bare new.node.engine) e new.node.engine =
-      subst (λ (s : Stage). Does (stage_late e.number e.identity (talking_has_parted e.talking) s e.link e.talking) (bare new.node.engine) e new.node.engine) stage late in
+      let does : Does (behind_greeting e.number e.identity (timed_out g) e.link e.dialogue) (bare new.node.engine) e new.node.engine =
+      subst (λ (s : Stage). Does (stage_late e.number e.identity (dialogue_has_parted e.dialogue) s e.link e.dialogue) (bare new.node.engine) e new.node.engine) stage late in
       let step = timed_out g in
       record {
         x = Some hears_nothing;
         brings = refl;
-        does = step_done e.identity step added old.node new.node e.talking (bare new.node.engine) refl refl refl does adds;
+        does = step_done e.identity step added old.node new.node e.dialogue (bare new.node.engine) refl refl refl does adds;
         identity = late.identity;
         left = late_left (nat_lt (g.timeouts + 1) TIMEOUTS_MAX) g (texts ++ []) (came ++ []) new.node
             (subst (λ (all : List (List ℕ)). Taken all (came ++ []) new.node.texts.bytes) (sym (append-nil texts))
@@ -217,7 +217,7 @@ module _ (h : Holdings) (most : ℕ) where
       }
   one_call refuses_timeout g texts came added old new stage taken (does, same) adds =
       quiet_step old.node.engine.identity refuses_timeout g texts came added old.node new.node refl
-      (ap (λ (e : EndState Talking). e.stage) does.end ∙ stage) (ap (λ (e : EndState Talking). e.link) does.end) (ap (λ (e : EndState Talking). e.number) does.end) does.identity
+      (ap (λ (e : EndState DialogueValue). e.stage) does.end ∙ stage) (ap (λ (e : EndState DialogueValue). e.link) does.end) (ap (λ (e : EndState DialogueValue). e.number) does.end) does.identity
       (append_cancel_left (entries_of old.node) added [] (sym adds ∙ does.emitted))
       (still_taken texts came old.node.texts.bytes new.node.texts.bytes (ap (λ (r : TextsHeld). r.bytes) same.texts) taken)
   one_call clears g texts came added old new stage taken (is, same) adds =
@@ -265,6 +265,6 @@ pub greets_first : (id : Identity) (own : Announced) (number : Option ℕ) (l : 
     → GreetsAt id (greeting_at_first id.side) [] [] n
 greets_first id own number l entries n begins holds = record {
   identity = begins.identity;
-  stage = ap (λ (e : EndState Talking). e.stage) begins.end;
+  stage = ap (λ (e : EndState DialogueValue). e.stage) begins.end;
   taken = taken_right_behind [] [] n.texts.bytes (sym (ap (λ (r : TextsHeld). r.bytes) holds.texts));
 }

@@ -18,7 +18,7 @@ use Rattle.uug_session.specs.Node.{NodeState, bytes_at, held_bytes}
 use Rattle.uug_session.specs.NodeArriving.{NodeEnd, hearer_of, node_taker}
 use Rattle.uug_session.specs.NodeGreeting.{HasHeard, GreetsStill, HasEnded, HasBegunLink, at_link, come_to, on_link, talk_at_first}
 use Rattle.uug_session.specs.Says.{entry_of_text}
-use Rattle.uug_conversation.specs.Talk.{Talk}
+use Rattle.uug_conversation.specs.DialogueState.{DialogueState}
 use Rattle.uug_session.specs.TextsHeld.{TextsHeld}
 use Rattle.uug_conversation.specs.declared.side.Side.{Side}
 use Rattle.uug_conversation.specs.declared.side.Side.TheVariants.{Caller, Called}
@@ -46,7 +46,7 @@ entries_behind entries texts begun later =
     ∙ ap (λ (e : List EntryValue). e ++ map entry_of later) (sym (append_assoc entries (map entry_of_text texts) (map entry_of begun)))
 
 -- the link's begin stands behind the texts
-link_in_front : (number : Option ℕ) (side : Side) (s : State) (c : Talk) (failures : List Bool) (said : List Emitted) → let e : EndEffect Talk = begins_link number side s c said in let alone : EndEffect Talk = begins_link number side s c [] in
+link_in_front : (number : Option ℕ) (side : Side) (s : State) (c : DialogueState) (failures : List Bool) (said : List Emitted) → let e : EndEffect DialogueState = begins_link number side s c said in let alone : EndEffect DialogueState = begins_link number side s c [] in
     let x : NodeEnd = record { state = alone.state; emitted = []; failures = failures } in
     let y : NodeEnd = record { state = e.state; emitted = e.emitted; failures = failures } in
     with_front (said ++ alone.emitted) x ≡ y
@@ -57,17 +57,17 @@ link_in_front number Called s c failures said =
     ap (λ (e : List Emitted). record { state = record { stage = linked; link = s; keeper = c; number = number }; emitted = e; failures = failures })
     (append-nil (said ++ []) ∙ append-nil said)
 
-link_stage : (number : Option ℕ) (side : Side) (s : State) (c : Talk) → (begins_link number side s c []).state.stage ≡ linked
+link_stage : (number : Option ℕ) (side : Side) (s : State) (c : DialogueState) → (begins_link number side s c []).state.stage ≡ linked
 link_stage number Caller s c = refl
 link_stage number Called s c = refl
 
 module _ (h : Holdings) (id : Identity) (own : Announced) where
-  pub whole : (number : Option ℕ) (talk : Talk) (failures : List Bool) (came behind : List ℕ) (run : GreetingRun) → Greets id.side id.me id.peer number came run behind
+  pub whole : (number : Option ℕ) (talk : DialogueState) (failures : List Bool) (came behind : List ℕ) (run : GreetingRun) → Greets id.side id.me id.peer number came run behind
       → ComesTo h id (first_link id.side own) talk failures number came run behind
   whole number talk failures came behind run m = from_start h id (first_link id.side own) talk failures number came behind run m
 
   module _ (number : Option ℕ) (entries : List EntryValue) (came : List ℕ) (now : NodeState) (m : HasHeard h id own number entries came now) where
-    abbrev c : Talk
+    abbrev c : DialogueState
     c = talk_at_first m
 
     abbrev s : State
@@ -88,12 +88,12 @@ module _ (h : Holdings) (id : Identity) (own : Announced) where
 
     holds_none : held_bytes m.start ≡ []
     holds_none =
-        ap (λ (stage : Stage). bytes_at stage m.start) (ap (λ (e : EndState Talk). e.stage) start_is)
+        ap (λ (stage : Stage). bytes_at stage m.start) (ap (λ (e : EndState DialogueState). e.stage) start_is)
         ∙ ap (λ (texts : TextsHeld). texts.bytes) m.held.texts
 
     heard : t_goes came (come_to (begins_session id own number c) failures) ≡ all_taken (hearer_of h m.kept_now emitted [] now)
     heard =
-        ap (λ (e : EndState Talk). t_goes came (record { state = e; emitted = first_words id.side id.me; failures = failures })) (sym start_is)
+        ap (λ (e : EndState DialogueState). t_goes came (record { state = e; emitted = first_words id.side id.me; failures = failures })) (sym start_is)
         ∙ ap (λ (f : List Bool). t_goes came (record { state = end_of h m.kept m.start.engine; emitted = first_words id.side id.me; failures = f })) (sym (append-nil failures))
         ∙ ap (λ (held : List ℕ). t_goes (held ++ came) (record { state = end_of h m.kept m.start.engine; emitted = first_words id.side id.me; failures = failures ++ [] })) (sym holds_none)
         ∙ subst (λ (i : Identity). takes_piece (node_taker h i) came (hearer_of h m.kept (first_words id.side id.me) (failures ++ []) m.start) ≡ all_taken (hearer_of h m.kept_now emitted [] now))
@@ -143,7 +143,7 @@ module _ (h : Holdings) (id : Identity) (own : Announced) where
             says = texts_entries run.says (ap (λ (z : Buffered NodeEnd). z.end.emitted) hearer);
           }
 
-      abbrev begun : EndEffect Talk
+      abbrev begun : EndEffect DialogueState
       begun = at_link id own run.number c
 
       without : run.greeted ≡ LinkBegins → CameWithout (map says_text run.says ++ begun.emitted) (t_goes behind (on_link id own run.number c failures)) (hearer_of h m.kept_now emitted [] now)

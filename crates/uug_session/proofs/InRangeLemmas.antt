@@ -24,7 +24,7 @@ use Rattle.uug_conversation.specs.Holdings.{Holdings}
 use Rattle.uug_session.specs.InRange.{BeginsFresh, CanBeWritten, HasSize, IsEndInRange, MayFind}
 use Rattle.uug_conversation.specs.Keeper.{Keeper}
 use Rattle.uug_conversation.specs.Machine as machine
-use Rattle.uug_conversation.specs.Talk.{Talk, behind_first, end_keeper, first_of, opened_with, replied, taking, with_first_sent}
+use Rattle.uug_conversation.specs.DialogueState.{DialogueState, behind_first, end_keeper, first_of, opened_with, replied, taking, with_first_sent}
 use Rattle.uug_conversation.specs.Turns.{Said, all_messages, said_messages}
 use Rattle.uug_conversation.specs.declared.side.Side.{Side}
 use Rattle.uug_conversation.specs.declared.side.Side.TheVariants.{Caller, Called}
@@ -43,12 +43,12 @@ all_fit size [] = All-nil (Fits size)
 all_fit size (said ∷ more) =
     All-append (Fits size) (said_messages size said) (all_messages size more) (said_fit size said) (all_fit size more)
 
-has_size_opened : (side : Side) (h : Holdings) (size : ℕ) (talk : Talk)
+has_size_opened : (side : Side) (h : Holdings) (size : ℕ) (talk : DialogueState)
     → HasSize size (opened_with side h size talk)
 has_size_opened side h size talk =
     record { is = refl; fit = all_fit size (machine.opening side h talk.machine.lists).says }
 
-has_size_replied : (size own : ℕ) (talk : Talk) (reply : machine.Reply) → talk.size ≡ own → own ≡ size
+has_size_replied : (size own : ℕ) (talk : DialogueState) (reply : machine.Reply) → talk.size ≡ own → own ≡ size
     → All (Fits size) talk.waiting → HasSize size (replied own talk.waiting talk.kept reply)
 has_size_replied size own talk reply is same fit = record {
   is = same;
@@ -56,7 +56,7 @@ has_size_replied size own talk reply is same fit = record {
       (subst (λ (n : ℕ). All (Fits size) (all_messages n reply.says)) (sym same) (all_fit size reply.says));
 }
 
-has_size_taking : (h : Holdings) (message : List ℕ) (size : ℕ) (talk : Talk)
+has_size_taking : (h : Holdings) (message : List ℕ) (size : ℕ) (talk : DialogueState)
     → HasSize size talk → HasSize size (taking h message talk)
 has_size_taking h message size talk s =
     has_size_replied size talk.size talk (machine.step h talk.machine message) refl s.is s.fit
@@ -164,18 +164,18 @@ leave_can false side = All-nil CanBeWritten
 -- ---- an end, whatever the side on which it stands
 
 -- what the conversation keeps to, by its link
-abbrev Suits : State → Talk → Type 0
+abbrev Suits : State → DialogueState → Type 0
 Suits s talk = IsUp s → HasSize (size_of_code s.size_code) talk
 
 -- the link is up only where it was, under the same size
-suits_later : (s t : State) (talk : Talk) → Suits s talk → (IsUp t → IsUp s) → t.size_code ≡ s.size_code → Suits t talk
+suits_later : (s t : State) (talk : DialogueState) → Suits s talk → (IsUp t → IsUp s) → t.size_code ≡ s.size_code → Suits t talk
 suits_later s t talk h was same is_up =
     subst (λ (code : ℕ). HasSize (size_of_code code) talk) (sym same) (h (was is_up))
 
-suits_down : (s : State) (talk : Talk) → IsDown s.phase → Suits s talk
+suits_down : (s : State) (talk : DialogueState) → IsDown s.phase → Suits s talk
 suits_down s talk h is_up = absurd (down s h is_up)
 
-record IsFine (side : Side) (x : EndEffect Talk) : Type 0 where
+record IsFine (side : Side) (x : EndEffect DialogueState) : Type 0 where
   state : IsEndInRange side x.state
   emitted : AllCan x.emitted
 
@@ -190,7 +190,7 @@ fresh_ended Called how s = tt
 
 -- ---- sends
 
-record FineSending (x : Sending Talk) : Type 0 where
+record FineSending (x : Sending DialogueState) : Type 0 where
   link : IsInRange x.link
   talk : Suits x.link x.keeper
   emissions : AreWellFormed x.emissions
@@ -198,18 +198,18 @@ record FineSending (x : Sending Talk) : Type 0 where
 none_out : AreWellFormed []
 none_out = All-nil (λ (x : Emission). IsWellFormed x.packet)
 
-sends_none : (s : State) (talk : Talk) → IsInRange s → Suits s talk → FineSending (sending_nothing s talk)
+sends_none : (s : State) (talk : DialogueState) → IsInRange s → Suits s talk → FineSending (sending_nothing s talk)
 sends_none s talk range suits = record { link = range; talk = suits; emissions = none_out }
 
 module _ (on : Side) (h : Holdings) where
-  abbrev k : Keeper Talk
+  abbrev k : Keeper DialogueState
   k = end_keeper on h
 
   -- what is sent by more
-  abbrev SendsFine : (State → Talk → Sending Talk) → Type 0
-  SendsFine more = (s : State) (talk : Talk) → IsInRange s → Suits s talk → FineSending (more s talk)
+  abbrev SendsFine : (State → DialogueState → Sending DialogueState) → Type 0
+  SendsFine more = (s : State) (talk : DialogueState) → IsInRange s → Suits s talk → FineSending (more s talk)
 
-  next_fine : (more : State → Talk → Sending Talk) (o : Option (List ℕ)) (s : State) (talk : Talk) → SendsFine more
+  next_fine : (more : State → DialogueState → Sending DialogueState) (o : Option (List ℕ)) (s : State) (talk : DialogueState) → SendsFine more
       → first_of talk.waiting ≡ o → IsUp s → IsInRange s → HasSize (size_of_code s.size_code) talk
       → FineSending (sends_next more k o s talk)
   next_fine more None s talk fine e is_up range size = sends_none s talk range (λ again. size)
@@ -225,7 +225,7 @@ module _ (on : Side) (h : Holdings) where
         emissions = joined_emissions (step s (to_send message)).emitted _ (emits_well_formed s (to_send message) range may) after.emissions;
       }
 
-  room_fine : (more : State → Talk → Sending Talk) (room : Bool) (s : State) (talk : Talk) → SendsFine more → has_room s ≡ room
+  room_fine : (more : State → DialogueState → Sending DialogueState) (room : Bool) (s : State) (talk : DialogueState) → SendsFine more → has_room s ≡ room
       → IsInRange s → Suits s talk → FineSending (sends_by room more k s talk)
   room_fine more false s talk fine e range suits = sends_none s talk range suits
   room_fine more true s talk fine e range suits =
@@ -236,7 +236,7 @@ module _ (on : Side) (h : Holdings) where
   sends_fine zero s talk range suits = sends_none s talk range suits
   sends_fine (suc n) s talk range suits = room_fine (sends_up_to n k) (has_room s) s talk (sends_fine n) refl range suits
 
-  closes_fine : (over : Bool) (x : Sending Talk) → FineSending x → FineSending (closes_by over x)
+  closes_fine : (over : Bool) (x : Sending DialogueState) → FineSending x → FineSending (closes_by over x)
   closes_fine false x fine = fine
   closes_fine true x fine = record {
     link = range_stays x.link to_close fine.link tt;
@@ -251,7 +251,7 @@ module _ (on : Side) (h : Holdings) where
 
   -- ---- behind the link's answer
 
-  goes_on_with_fine : (number : Option ℕ) (side : Side) (took : Bool) (es : List Emission) (x : Sending Talk) → AreWellFormed es → FineSending x
+  goes_on_with_fine : (number : Option ℕ) (side : Side) (took : Bool) (es : List Emission) (x : Sending DialogueState) → AreWellFormed es → FineSending x
       → IsFine side (goes_on_with number took es x)
   goes_on_with_fine number side took es x out fine = record {
     state = record { link = fine.link; fresh = fresh_linked side x.link; talk = fine.talk };
@@ -263,13 +263,13 @@ module _ (on : Side) (h : Holdings) where
     state : IsInRange e.state
     emitted : AreWellFormed e.emitted
 
-  goes_on_fine : (number : Option ℕ) (side : Side) (took : Bool) (e : Effect) (talk : Talk) → FineEffect e → Suits e.state talk
+  goes_on_fine : (number : Option ℕ) (side : Side) (took : Bool) (e : Effect) (talk : DialogueState) → FineEffect e → Suits e.state talk
       → IsFine side (goes_on number k took e talk)
   goes_on_fine number side took e talk fine suits =
       goes_on_with_fine number side took e.emitted (speaks_by (is_up e.state.phase) k e.state talk) fine.emitted
       (speaks_fine (is_up e.state.phase) e.state talk fine.state suits)
 
-  ends_fine : (number : Option ℕ) (id : Identity) (has_parted : Bool) (how : End) (e : Effect) (talk : Talk) (took : Bool) → FineEffect e
+  ends_fine : (number : Option ℕ) (id : Identity) (has_parted : Bool) (how : End) (e : Effect) (talk : DialogueState) (took : Bool) → FineEffect e
       → IsDown e.state.phase → IsFine id.side (ends_so number id has_parted how e talk took)
   ends_fine number id has_parted how e talk took fine is_down = record {
     state = record {
@@ -287,13 +287,13 @@ module _ (on : Side) (h : Holdings) where
     emitted = joined_emissions e.emitted (step e.state to_close).emitted fine.emitted (emits_well_formed e.state to_close fine.state tt);
   }
 
-  talks_fine : (number : Option ℕ) (bad : Bool) (id : Identity) (e : Effect) (before after : Talk) → FineEffect e → Suits e.state after
+  talks_fine : (number : Option ℕ) (bad : Bool) (id : Identity) (e : Effect) (before after : DialogueState) → FineEffect e → Suits e.state after
       → IsFine id.side (talks_by number bad k id e before after)
   talks_fine number true id e before after fine suits =
       ends_fine number id (k.has_parted before) ends.BadTalk (then_closes e) after true (closed_fine e fine) (closed_down e.state)
   talks_fine number false id e before after fine suits = goes_on_fine number id.side true e after fine suits
 
-  takes_fine : (number : Option ℕ) (device_failed : Bool) (id : Identity) (e : Effect) (message : List ℕ) (talk : Talk) → FineEffect e
+  takes_fine : (number : Option ℕ) (device_failed : Bool) (id : Identity) (e : Effect) (message : List ℕ) (talk : DialogueState) → FineEffect e
       → Suits e.state talk → IsFine id.side (takes_by number device_failed k id e message talk)
   takes_fine number true id e message talk fine suits =
       ends_fine number id (k.has_parted talk) ends.SpoolFault (then_closes e) talk true (closed_fine e fine) (closed_down e.state)
@@ -307,7 +307,7 @@ module _ (on : Side) (h : Holdings) where
     phases : MovesPhase o s.phase e.state.phase
     size_stays : IsUp s → e.state.size_code ≡ s.size_code
 
-  suits_moved : (s : State) (e : Effect) (talk : Talk) → Suits s talk → (IsUp e.state → IsUp s)
+  suits_moved : (s : State) (e : Effect) (talk : DialogueState) → Suits s talk → (IsUp e.state → IsUp s)
       → (IsUp s → e.state.size_code ≡ s.size_code) → Suits e.state talk
   suits_moved s e talk suits was same is_up =
       subst (λ (code : ℕ). HasSize (size_of_code code) talk) (sym (same (was is_up))) (suits (was is_up))
@@ -321,7 +321,7 @@ module _ (on : Side) (h : Holdings) where
   was_up before after (inl same) is_up = sym same ∙ is_up
   was_up before after (inr starting) is_up = absurd (subst IsDown is_up (starting_down after starting.1))
 
-  behind_fine : (number : Option ℕ) (id : Identity) (device_failed : Bool) (o : OutcomeValue) (s : State) (e : Effect) (message : List ℕ) (talk : Talk)
+  behind_fine : (number : Option ℕ) (id : Identity) (device_failed : Bool) (o : OutcomeValue) (s : State) (e : Effect) (message : List ℕ) (talk : DialogueState)
       → FineAnswer s o e → Suits s talk → IsFine id.side (behind_link number k id device_failed o e message talk)
   behind_fine number id device_failed nothing s e message talk a suits =
       goes_on_fine number id.side false e talk a.effect
@@ -352,22 +352,22 @@ module _ (on : Side) (h : Holdings) where
     size_stays = size_stays s event;
   }
 
-  packet_fine : (number : Option ℕ) (id : Identity) (device_failed : Bool) (p : PacketValue) (s : State) (talk : Talk) → IsWellFormed p
+  packet_fine : (number : Option ℕ) (id : Identity) (device_failed : Bool) (p : PacketValue) (s : State) (talk : DialogueState) → IsWellFormed p
       → IsInRange s → Suits s talk → IsFine id.side (packet_came number k id device_failed p s talk)
   packet_fine number id device_failed p s talk whole range suits =
       behind_fine number id device_failed (step s (packet_found p)).outcome s (step s (packet_found p)) (message_of p) talk
       (answer_fine s (packet_found p) tt range whole) suits
 
-  bad_fine : (number : Option ℕ) (id : Identity) (s : State) (talk : Talk) → IsInRange s → Suits s talk → IsFine id.side (bad_came number k id s talk)
+  bad_fine : (number : Option ℕ) (id : Identity) (s : State) (talk : DialogueState) → IsInRange s → Suits s talk → IsFine id.side (bad_came number k id s talk)
   bad_fine number id s talk range suits =
       behind_fine number id false (step s bad_found).outcome s (step s bad_found) [] talk (answer_fine s bad_found tt range tt) suits
 
-  stays_fine : (number : Option ℕ) (side : Side) (e : Effect) (talk : Talk) → FineEffect e → Suits e.state talk
+  stays_fine : (number : Option ℕ) (side : Side) (e : Effect) (talk : DialogueState) → FineEffect e → Suits e.state talk
       → IsFine side (goes_on_with number false e.emitted (sending_nothing e.state talk))
   stays_fine number side e talk fine suits =
       goes_on_with_fine number side false e.emitted (sending_nothing e.state talk) fine.emitted (sends_none e.state talk fine.state suits)
 
-  late_fine : (number : Option ℕ) (id : Identity) (has_parted : Bool) (o : OutcomeValue) (s : State) (e : Effect) (talk : Talk) → MayAnswer o timed_out
+  late_fine : (number : Option ℕ) (id : Identity) (has_parted : Bool) (o : OutcomeValue) (s : State) (e : Effect) (talk : DialogueState) → MayAnswer o timed_out
       → FineAnswer s o e → Suits s talk → IsFine id.side (late_link number id has_parted o e talk)
   late_fine number id has_parted nothing s e talk may a suits =
       stays_fine number id.side e talk a.effect
@@ -382,7 +382,7 @@ module _ (on : Side) (h : Holdings) where
 
   -- ---- the greeting
 
-  begun_fine : (number : Option ℕ) (side : Side) (g : Greeting) (s : State) (talk : Talk) (said : List Emitted) → AllCan said → IsInRange s
+  begun_fine : (number : Option ℕ) (side : Side) (g : Greeting) (s : State) (talk : DialogueState) (said : List Emitted) → AllCan said → IsInRange s
       → BeginsFresh side (hailing g) s → Suits s talk → IsFine side (begins_link number side s talk said)
   begun_fine number Caller g s talk said out range fresh suits = record {
     state = record {
@@ -400,7 +400,7 @@ module _ (on : Side) (h : Holdings) where
   still_fresh Caller g next s fresh = fresh
   still_fresh Called g next s fresh = tt
 
-  greeted_fine : (number : Option ℕ) (id : Identity) (g : Greeting) (greeted : Greeted) (said : List Emitted) (s : State) (talk : Talk) → AllCan said
+  greeted_fine : (number : Option ℕ) (id : Identity) (g : Greeting) (greeted : Greeted) (said : List Emitted) (s : State) (talk : DialogueState) → AllCan said
       → IsInRange s → BeginsFresh id.side (hailing g) s → Suits s talk → IsFine id.side (greeted_so number id greeted said s talk)
   greeted_fine number id g (GoesOn next) said s talk out range fresh suits = record {
     state = record { link = range; fresh = still_fresh id.side g next s fresh; talk = suits };
@@ -410,12 +410,12 @@ module _ (on : Side) (h : Holdings) where
   greeted_fine number id g (Ended how) said s talk out range fresh suits =
       record { state = record { link = range; fresh = fresh_ended id.side how s; talk = suits }; emitted = out }
 
-  unmoved_fine : (side : Side) (e : EndState Talk) → IsEndInRange side e → IsFine side (unmoved e)
+  unmoved_fine : (side : Side) (e : EndState DialogueState) → IsEndInRange side e → IsFine side (unmoved e)
   unmoved_fine side e r = record { state = r; emitted = All-nil CanBeWritten }
 
   -- ---- the step
 
-  hailing_fine : (id : Identity) (g : Greeting) (event : EndEvent) (e : EndState Talk) → e.stage ≡ hailing g
+  hailing_fine : (id : Identity) (g : Greeting) (event : EndEvent) (e : EndState DialogueState) → e.stage ≡ hailing g
       → IsEndInRange id.side e → IsFine id.side (hailing_step id g event e)
   hailing_fine id g (text_found text) e is r =
       let came : GreetingStep = text_came id.me id.peer e.number g text in
@@ -434,7 +434,7 @@ module _ (on : Side) (h : Holdings) where
   hailing_fine id g (packet_found_whole device_failed p) e is r = unmoved_fine id.side e r
   hailing_fine id g broken_found e is r = unmoved_fine id.side e r
 
-  linked_fine : (id : Identity) (event : EndEvent) (e : EndState Talk) → MayFind event → IsEndInRange id.side e
+  linked_fine : (id : Identity) (event : EndEvent) (e : EndState DialogueState) → MayFind event → IsEndInRange id.side e
       → IsFine id.side (linked_step k id event e)
   linked_fine id (packet_found_whole device_failed p) e may r = packet_fine e.number id device_failed p e.link e.keeper may r.link r.talk
   linked_fine id broken_found e may r = bad_fine e.number id e.link e.keeper r.link r.talk
@@ -448,17 +448,17 @@ module _ (on : Side) (h : Holdings) where
   linked_fine id (text_found text) e may r = unmoved_fine id.side e r
   linked_fine id long_text_found e may r = unmoved_fine id.side e r
 
-  stage_fine : (id : Identity) (stage : Stage) (event : EndEvent) (e : EndState Talk) → e.stage ≡ stage → MayFind event
+  stage_fine : (id : Identity) (stage : Stage) (event : EndEvent) (e : EndState DialogueState) → e.stage ≡ stage → MayFind event
       → IsEndInRange id.side e → IsFine id.side (stage_step k id stage event e)
   stage_fine id (hailing g) event e is may r = hailing_fine id g event e is r
   stage_fine id linked event e is may r = linked_fine id event e may r
   stage_fine id (ended how) event e is may r = unmoved_fine id.side e r
 
-  pub end_stays : (id : Identity) (event : EndEvent) (e : EndState Talk) → IsEndInRange id.side e → MayFind event
+  pub end_stays : (id : Identity) (event : EndEvent) (e : EndState DialogueState) → IsEndInRange id.side e → MayFind event
       → IsEndInRange id.side (end_step k id event e).state
   end_stays id event e r may = (stage_fine id e.stage event e refl may r).state
 
-  pub end_emits : (id : Identity) (event : EndEvent) (e : EndState Talk) → IsEndInRange id.side e → MayFind event
+  pub end_emits : (id : Identity) (event : EndEvent) (e : EndState DialogueState) → IsEndInRange id.side e → MayFind event
       → All CanBeWritten (end_step k id event e).emitted
   end_emits id event e r may = (stage_fine id e.stage event e refl may r).emitted
 
@@ -476,7 +476,7 @@ first_down : (side : Side) (own : Announced) → IsDown (first_link side own).ph
 first_down Caller own = tt
 first_down Called own = tt
 
-pub end_begins : (id : Identity) (own : Announced) (number : Option ℕ) (talk : Talk) → IsAnnouncement own
+pub end_begins : (id : Identity) (own : Announced) (number : Option ℕ) (talk : DialogueState) → IsAnnouncement own
     → IsEndInRange id.side (begins_session id own number talk).state
 end_begins id own number talk h = record {
   link = first_in_range id.side own h;
@@ -484,5 +484,5 @@ end_begins id own number talk h = record {
   talk = suits_down (first_link id.side own) talk (first_down id.side own);
 }
 
-pub first_words_can : (id : Identity) (own : Announced) (number : Option ℕ) (talk : Talk) → All CanBeWritten (begins_session id own number talk).emitted
+pub first_words_can : (id : Identity) (own : Announced) (number : Option ℕ) (talk : DialogueState) → All CanBeWritten (begins_session id own number talk).emitted
 first_words_can id own number talk = texts_can (first_texts id.side id.me)

@@ -14,7 +14,7 @@ use Rattle.uug_session.specs.Greeting.{number_by, text_came, timed_out as greeti
 use Rattle.uug_conversation.specs.Holdings.{Holdings}
 use Rattle.uug_conversation.specs.Keeper.{Keeper}
 use Rattle.uug_session.specs.NodeArriving.{NodeEnd, fails_first, fails_later, node_taker, with_effect}
-use Rattle.uug_conversation.specs.Talk.{Talk, end_keeper}
+use Rattle.uug_conversation.specs.DialogueState.{DialogueState, end_keeper}
 use Rattle.uug_conversation.specs.declared.side.Side.{Side}
 use Rattle.uug_conversation.specs.declared.side.Side.TheVariants.{Caller, Called}
 
@@ -117,11 +117,11 @@ abbrev pub end_in : Arrival NodeEnd → NodeEnd
 end_in (all_taken r) = r.end
 end_in (stopped r) = r.end
 
-abbrev pub talk_in : Arrival NodeEnd → Talk
+abbrev pub talk_in : Arrival NodeEnd → DialogueState
 talk_in came = (end_in came).state.keeper
 
-module _ (id : Identity) (h : Holdings) (P : Talk → Type 0)
-    (steps : (event : EndEvent) (e : EndState Talk) → P e.keeper → P (end_step (end_keeper id.side h) id event e).state.keeper) where
+module _ (id : Identity) (h : Holdings) (P : DialogueState → Type 0)
+    (steps : (event : EndEvent) (e : EndState DialogueState) → P e.keeper → P (end_step (end_keeper id.side h) id event e).state.keeper) where
   abbrev t : Receiver NodeEnd
   t = node_taker h id
 

@@ -8,8 +8,8 @@ pub mod InRangeLemmas
 mod KeeperLemmas
 mod LinkEndLemmas
 mod LongTextLemmas
-mod OwnRequestLemmas
-mod SameJobsLemmas
+pub mod OwnRequestLemmas
+pub mod SameJobsLemmas
 pub mod ShownItemLemmas
 pub mod TextCallLemmas
 mod TextSearchFacts

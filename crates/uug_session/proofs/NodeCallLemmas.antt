@@ -162,7 +162,7 @@ module _ (h : Holdings) where
   cleared most old new is same shows = record {
     goes_on = quiet h old.kept new.kept (HasFailed most old.faults new.faults) [] (with_entries [] old.node) (with_entries [] new.node)
         refl (ap (λ (e : EngineState). e.identity) is) (ap (λ (e : EngineState). e.own) is)
-        (ap (λ (e : EngineState). e.talking.machine.lists.struck) is) same.spool.kept
+        (ap (λ (e : EngineState). e.dialogue.machine.lists.struck) is) same.spool.kept
         (λ more said later. ap (takes_piece (node_taker h old.node.engine.identity) more)
         (hearer_put h old.kept said later (entries_of [] old.node) old.node
         ∙ sym (cleared_hearer old new said later is same)

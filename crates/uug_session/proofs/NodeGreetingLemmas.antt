@@ -13,7 +13,7 @@ use Rattle.uug_session.specs.Finding.{text_finding, behind_long_text, LeavesFewe
 use Rattle.uug_session.specs.Greeting.{first_texts, greeting_at_first, number_by, text_came}
 use Rattle.uug_conversation.specs.Holdings.{Holdings}
 use Rattle.uug_session.specs.NodeArriving.{NodeEnd, node_taker}
-use Rattle.uug_conversation.specs.Talk.{Talk}
+use Rattle.uug_conversation.specs.DialogueState.{DialogueState}
 use Rattle.uug_session.specs.TextsFound.{FindsText}
 use Rattle.uug_session.specs.TextsHeld.{TextSearch, text_waits, text_stands, text_too_long, size_of_text, search_text}
 use Rattle.uug_conversation.specs.declared.side.Side.{Side}
@@ -28,9 +28,9 @@ use Rattle.uug_talk.proofs.StreamTextLemmas.{reads}
 -- ---- texts that are said one after another
 
 -- a node in whose session this became of the greeting, behind what it had emitted
-abbrev pub node_by : (number : Option ℕ) → Identity → State → Talk → List Bool → (before : List Emitted) → Greeted → (says : List (List ℕ)) → NodeEnd
+abbrev pub node_by : (number : Option ℕ) → Identity → State → DialogueState → List Bool → (before : List Emitted) → Greeted → (says : List (List ℕ)) → NodeEnd
 node_by number id s c failures before greeted says =
-    let e : EndEffect Talk = greeted_so number id greeted (map says_text says) s c in
+    let e : EndEffect DialogueState = greeted_so number id greeted (map says_text says) s c in
     record { state = e.state; emitted = before ++ e.emitted; failures = failures }
 
 said_both : (before : List Emitted) (first later : List (List ℕ))
@@ -46,12 +46,12 @@ said_all before first later behind =
     ∙ ap (λ (e : List Emitted). e ++ behind) (said_both before first later)
     ∙ append_assoc before (map says_text (first ++ later)) behind
 
-abbrev link_by : (number : Option ℕ) → Side → State → Talk → List Bool → (before : List Emitted) → (says : List (List ℕ)) → NodeEnd
+abbrev link_by : (number : Option ℕ) → Side → State → DialogueState → List Bool → (before : List Emitted) → (says : List (List ℕ)) → NodeEnd
 link_by number side s c failures before says =
-    let e : EndEffect Talk = begins_link number side s c (map says_text says) in
+    let e : EndEffect DialogueState = begins_link number side s c (map says_text says) in
     record { state = e.state; emitted = before ++ e.emitted; failures = failures }
 
-same_link : (number : Option ℕ) (side : Side) (s : State) (c : Talk) (failures : List Bool) (before : List Emitted) (first later : List (List ℕ))
+same_link : (number : Option ℕ) (side : Side) (s : State) (c : DialogueState) (failures : List Bool) (before : List Emitted) (first later : List (List ℕ))
     → link_by number side s c failures (before ++ map says_text first) later ≡ link_by number side s c failures before (first ++ later)
 same_link number Caller s c failures before first later =
     ap (λ (e : List Emitted). record { state = record { stage = linked; link = (step s to_begin).state; keeper = c; number = number }; emitted = e; failures = failures })
@@ -59,7 +59,7 @@ same_link number Caller s c failures before first later =
 same_link number Called s c failures before first later =
     ap (λ (e : List Emitted). record { state = record { stage = linked; link = s; keeper = c; number = number }; emitted = e; failures = failures }) (said_both before first later)
 
-same_node : (number : Option ℕ) (id : Identity) (s : State) (c : Talk) (failures : List Bool) (before : List Emitted) (first later : List (List ℕ)) (greeted : Greeted)
+same_node : (number : Option ℕ) (id : Identity) (s : State) (c : DialogueState) (failures : List Bool) (before : List Emitted) (first later : List (List ℕ)) (greeted : Greeted)
     → node_by number id s c failures (before ++ map says_text first) greeted later ≡ node_by number id s c failures before greeted (first ++ later)
 same_node number id s c failures before first later (GoesOn g) =
     ap (λ (e : List Emitted). record { state = record { stage = hailing g; link = s; keeper = c; number = number }; emitted = e; failures = failures }) (said_both before first later)
@@ -87,7 +87,7 @@ stands_first bytes text others f =
       refl,
     )
 
-module _ (h : Holdings) (id : Identity) (s : State) (c : Talk) (failures : List Bool) where
+module _ (h : Holdings) (id : Identity) (s : State) (c : DialogueState) (failures : List Bool) where
   abbrev pub t : Receiver NodeEnd
   t = node_taker h id
 

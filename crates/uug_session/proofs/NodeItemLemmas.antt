@@ -21,8 +21,8 @@ use Rattle.uug_session.specs.Node.{NodeState, ItemValue, text_item, packet_item,
 use Rattle.uug_session.specs.NodeArriving.{NodeEnd, with_effect, node_taker, GoesOn, IsAtRest}
 use Rattle.uug_session.specs.NodeCalls.{ShowsWhatIsFound}
 use Rattle.uug_conversation.specs.OwnRequests.{KeepsWhatItAskedFor}
-use Rattle.uug_conversation.specs.Talk.{Talk, end_keeper}
-use Rattle.uug_conversation.specs.Talking.{talk_of}
+use Rattle.uug_conversation.specs.DialogueState.{DialogueState, end_keeper}
+use Rattle.uug_conversation.specs.DialogueValue.{dialogue_of}
 use Rattle.uug_session.specs.TextsHeld.{TextsHeld, TextSearch, text_waits, text_stands, text_too_long, search_text, ShowsText}
 use Rattle.uug_session.proofs.ArrivingLemmas.{held_fewer, held_same, found_event, found_packet, found_more, found_fewer}
 use Rattle.uug_session.proofs.PacketSearchLemmas.{Within, search_within, IsFoundAgain, search_again, read_stands}
@@ -45,15 +45,15 @@ abbrev IsPastGreeting : Stage → Type 0
 IsPastGreeting (hailing g) = ⊥
 IsPastGreeting _ = Unit {0}
 
-past_talk : (number : Option ℕ) (bad_talk : Bool) (k : Keeper Talk) (id : Identity) (e : Effect) (before after : Talk) → IsPastGreeting (talks_by number bad_talk k id e before after).state.stage
+past_talk : (number : Option ℕ) (bad_talk : Bool) (k : Keeper DialogueState) (id : Identity) (e : Effect) (before after : DialogueState) → IsPastGreeting (talks_by number bad_talk k id e before after).state.stage
 past_talk number true k id e before after = tt
 past_talk number false k id e before after = tt
 
-past_taking : (number : Option ℕ) (failed : Bool) (k : Keeper Talk) (id : Identity) (e : Effect) (message : List ℕ) (talk : Talk) → IsPastGreeting (takes_by number failed k id e message talk).state.stage
+past_taking : (number : Option ℕ) (failed : Bool) (k : Keeper DialogueState) (id : Identity) (e : Effect) (message : List ℕ) (talk : DialogueState) → IsPastGreeting (takes_by number failed k id e message talk).state.stage
 past_taking number true k id e message talk = tt
 past_taking number false k id e message talk = past_talk number (k.is_bad (k.taking message talk)) k id e talk (k.taking message talk)
 
-past_link : (number : Option ℕ) (o : OutcomeValue) (k : Keeper Talk) (id : Identity) (failed : Bool) (e : Effect) (message : List ℕ) (talk : Talk)
+past_link : (number : Option ℕ) (o : OutcomeValue) (k : Keeper DialogueState) (id : Identity) (failed : Bool) (e : Effect) (message : List ℕ) (talk : DialogueState)
     → IsPastGreeting (behind_link number k id failed o e message talk).state.stage
 past_link number nothing k id failed e message talk = tt
 past_link number up k id failed e message talk = tt
@@ -62,10 +62,10 @@ past_link number closed k id failed e message talk = tt
 past_link number gave_up k id failed e message talk = tt
 past_link number halted k id failed e message talk = tt
 
-past_packet : (number : Option ℕ) (k : Keeper Talk) (id : Identity) (failed : Bool) (p : PacketValue) (s : State) (talk : Talk) → IsPastGreeting (packet_came number k id failed p s talk).state.stage
+past_packet : (number : Option ℕ) (k : Keeper DialogueState) (id : Identity) (failed : Bool) (p : PacketValue) (s : State) (talk : DialogueState) → IsPastGreeting (packet_came number k id failed p s talk).state.stage
 past_packet number k id failed p s talk = past_link number (step s (packet_found p)).outcome k id failed (step s (packet_found p)) (message_of p) talk
 
-past_bad : (number : Option ℕ) (k : Keeper Talk) (id : Identity) (s : State) (talk : Talk) → IsPastGreeting (bad_came number k id s talk).state.stage
+past_bad : (number : Option ℕ) (k : Keeper DialogueState) (id : Identity) (s : State) (talk : DialogueState) → IsPastGreeting (bad_came number k id s talk).state.stage
 past_bad number k id s talk = past_link number (step s bad_found).outcome k id false (step s bad_found) [] talk
 
 left_text : (s : Stage) (n : NodeState) (behind : List ℕ) → n.texts.bytes ≡ behind → n.packets.bytes ≡ behind → bytes_at s n ≡ held_in s behind
@@ -165,11 +165,11 @@ module _ (h : Holdings) where
   left_behind linked e texts packets (text_item text) kept kept_after failed after shows left does = absurd shows
   left_behind linked e texts packets (packet_item p) kept kept_after failed after shows left does =
       left_packets after.engine.stage after (drop packets.shown_size packets.bytes)
-      (subst IsPastGreeting (sym (ap (λ (x : EndState Talk). x.stage) does.end)) (past_packet e.number (end_keeper e.identity.side h) e.identity failed p e.link (talk_of h kept e.talking)))
+      (subst IsPastGreeting (sym (ap (λ (x : EndState DialogueState). x.stage) does.end)) (past_packet e.number (end_keeper e.identity.side h) e.identity failed p e.link (dialogue_of h kept e.dialogue)))
       (ap (λ (r : Reading). r.bytes) left)
   left_behind linked e texts packets bad_item kept kept_after failed after shows left does =
       left_packets after.engine.stage after (drop packets.shown_size packets.bytes)
-      (subst IsPastGreeting (sym (ap (λ (x : EndState Talk). x.stage) does.end)) (past_bad e.number (end_keeper e.identity.side h) e.identity e.link (talk_of h kept e.talking)))
+      (subst IsPastGreeting (sym (ap (λ (x : EndState DialogueState). x.stage) does.end)) (past_bad e.number (end_keeper e.identity.side h) e.identity e.link (dialogue_of h kept e.dialogue)))
       (ap (λ (r : Reading). r.bytes) left)
   left_behind (ended how) e texts packets item kept kept_after failed after shows left does = absurd shows
 
@@ -216,15 +216,15 @@ module _ (h : Holdings) where
         (with_effect effect later (end_at h kept said (failures_at item did.device_failed ++ later) n.engine))
         (end_at h kept_after (said ++ effect.emitted) later after.engine) (held_bytes after)
         (leads_behind s e texts packets item kept did.device_failed is shows more said later)
-        (ap (λ (x : EndState Talk). record { state = x; emitted = said ++ effect.emitted; failures = later }) did.does.end)
+        (ap (λ (x : EndState DialogueState). record { state = x; emitted = said ++ effect.emitted; failures = later }) did.does.end)
         (left_behind s e texts packets item kept kept_after did.device_failed after shows did.left did.does);
-    requests = subst (λ (x : EndState Talk). KeepsWhatItAskedFor (struck_jobs n) x.keeper.machine.lists.struck kept x.keeper.kept)
+    requests = subst (λ (x : EndState DialogueState). KeepsWhatItAskedFor (struck_jobs n) x.keeper.machine.lists.struck kept x.keeper.kept)
         (sym did.does.end) (event_keeps h kept (event_of did.device_failed item) n.engine);
   } where
     n : NodeState
     n = at s e texts packets
 
-    effect : EndEffect Talk
+    effect : EndEffect DialogueState
     effect = effect_of h kept (event_of did.device_failed item) n.engine
 
   behind_fewer : (item : ItemValue) (bytes : List ℕ) (texts : TextsHeld) (packets : Reading) → LeavesFewer (shown_finding item texts packets) bytes → length (behind_item item texts packets) < length bytes
@@ -258,12 +258,12 @@ module _ (h : Holdings) where
   pub refused : (n after : NodeState) (kept kept_after : List Kept) (failure : Type 0) → IsAsBefore h kept kept_after n after → GoesOn h kept kept_after failure [] n after
   refused n after kept kept_after failure same =
       quiet h kept kept_after failure [] n after (same.does.emitted ∙ append-nil n.engine.outbox.entries) same.does.identity same.does.own
-      (ap (λ (x : EndState Talk). x.keeper.machine.lists.struck) same.does.end) (ap (λ (x : EndState Talk). x.keeper.kept) same.does.end)
+      (ap (λ (x : EndState DialogueState). x.keeper.machine.lists.struck) same.does.end) (ap (λ (x : EndState DialogueState). x.keeper.kept) same.does.end)
       (λ more said later.
       ap (λ (bs : List ℕ). takes_piece (node_taker h n.engine.identity) more (hearer_with bs (end_at h kept said later n.engine))) (sym held)
-      ∙ ap (λ (x : EndState Talk). takes_piece (node_taker h n.engine.identity) more (hearer_with (held_bytes after) (record { state = x; emitted = said; failures = later }))) (sym same.does.end)) where
+      ∙ ap (λ (x : EndState DialogueState). takes_piece (node_taker h n.engine.identity) more (hearer_with (held_bytes after) (record { state = x; emitted = said; failures = later }))) (sym same.does.end)) where
         stage : after.engine.stage ≡ n.engine.stage
-        stage = ap (λ (x : EndState Talk). x.stage) same.does.end
+        stage = ap (λ (x : EndState DialogueState). x.stage) same.does.end
 
         held : held_bytes after ≡ held_bytes n
         held = ap (λ (s : Stage). bytes_at s after) stage ∙ same_bytes n.engine.stage n after same.texts same.packets

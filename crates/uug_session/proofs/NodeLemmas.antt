@@ -17,8 +17,8 @@ use Rattle.uug_session.specs.Engine.{Does, EngineState, TakesUp, bare, end_of}
 use Rattle.uug_session.specs.Greeting.{number_by, text_came}
 use Rattle.uug_conversation.specs.Holdings.{Kept, Holdings}
 use Rattle.uug_session.specs.Node.{NodeState, ShowsItem, TakesItem, IsLeft, text_item, packet_item, bad_item, effect_of}
-use Rattle.uug_conversation.specs.Talk.{Talk, end_keeper}
-use Rattle.uug_conversation.specs.Talking.{Talking, talk_of}
+use Rattle.uug_conversation.specs.DialogueState.{DialogueState, end_keeper}
+use Rattle.uug_conversation.specs.DialogueValue.{DialogueValue, dialogue_of}
 use Rattle.uug_session.specs.TextsHeld.{TextsHeld, ShowsText}
 use Rattle.uug_conversation.specs.declared.side.Side.{Side}
 use Rattle.uug_conversation.specs.declared.side.Side.TheVariants.{Caller, Called}
@@ -30,12 +30,12 @@ shows_bad stage texts packets f at is shows =
 
 -- ---- steps beside a spool
 
-beside : Holdings → List Kept → EndState Talking → EndState Talk
-beside h kept e = record { stage = e.stage; link = e.link; keeper = talk_of h kept e.keeper; number = e.number }
+beside : Holdings → List Kept → EndState DialogueValue → EndState DialogueState
+beside h kept e = record { stage = e.stage; link = e.link; keeper = dialogue_of h kept e.keeper; number = e.number }
 
 begun_beside : (number : Option ℕ) (h : Holdings) (kept : List Kept) (side : Side) (said : List Emitted) (s : State) (e after : EngineState)
-    → Does (begins_link number side s e.talking said) (bare after) e after
-    → Does (begins_link number side s (talk_of h kept e.talking) said) (end_of h kept after) e after
+    → Does (begins_link number side s e.dialogue said) (bare after) e after
+    → Does (begins_link number side s (dialogue_of h kept e.dialogue) said) (end_of h kept after) e after
 unfolding beside
 begun_beside number h kept Caller said s e after does =
     record { end = ap (beside h kept) does.end; emitted = does.emitted; identity = does.identity; own = does.own }
@@ -43,8 +43,8 @@ begun_beside number h kept Called said s e after does =
     record { end = ap (beside h kept) does.end; emitted = does.emitted; identity = does.identity; own = does.own }
 
 pub greeted_beside : (number : Option ℕ) (h : Holdings) (kept : List Kept) (id : Identity) (greeted : Greeted) (said : List Emitted) (s : State) (e after : EngineState)
-    → Does (greeted_so number id greeted said s e.talking) (bare after) e after
-    → Does (greeted_so number id greeted said s (talk_of h kept e.talking)) (end_of h kept after) e after
+    → Does (greeted_so number id greeted said s e.dialogue) (bare after) e after
+    → Does (greeted_so number id greeted said s (dialogue_of h kept e.dialogue)) (end_of h kept after) e after
 unfolding beside
 greeted_beside number h kept id (GoesOn g) said s e after does =
     record { end = ap (beside h kept) does.end; emitted = does.emitted; identity = does.identity; own = does.own }
@@ -52,11 +52,11 @@ greeted_beside number h kept id LinkBegins said s e after does = begun_beside nu
 greeted_beside number h kept id (Ended how) said s e after does =
     record { end = ap (beside h kept) does.end; emitted = does.emitted; identity = does.identity; own = does.own }
 
-begun_takes_nothing : (number : Option ℕ) (side : Side) (said : List Emitted) (s : State) (talk : Talk) → false ≡ (begins_link number side s talk said).took
+begun_takes_nothing : (number : Option ℕ) (side : Side) (said : List Emitted) (s : State) (talk : DialogueState) → false ≡ (begins_link number side s talk said).took
 begun_takes_nothing number Caller said s talk = refl
 begun_takes_nothing number Called said s talk = refl
 
-greeted_takes_nothing : (number : Option ℕ) (id : Identity) (greeted : Greeted) (said : List Emitted) (s : State) (talk : Talk)
+greeted_takes_nothing : (number : Option ℕ) (id : Identity) (greeted : Greeted) (said : List Emitted) (s : State) (talk : DialogueState)
     → false ≡ (greeted_so number id greeted said s talk).took
 greeted_takes_nothing number id (GoesOn g) said s talk = refl
 greeted_takes_nothing number id LinkBegins said s talk = begun_takes_nothing number id.side said s talk
@@ -69,15 +69,15 @@ at_stage : (h : Holdings) (kept : List Kept) (event : EndEvent) (e : EngineState
 at_stage h kept event e stage at = ap (λ (x : Stage). stage_step (end_keeper e.identity.side h) e.identity x event (end_of h kept e)) at
 
 -- an effect that is known, of an item at which no device was asked
-takes_quietly : (h : Holdings) (kept kept_after : List Kept) (before after : NodeState) (e : EndEffect Talk) (event : EndEvent) → effect_of h kept event before.engine ≡ e
+takes_quietly : (h : Holdings) (kept kept_after : List Kept) (before after : NodeState) (e : EndEffect DialogueState) (event : EndEvent) → effect_of h kept event before.engine ≡ e
     → Does e (end_of h kept_after after.engine) before.engine after.engine
     → Does (effect_of h kept event before.engine) (end_of h kept_after after.engine) before.engine after.engine
 takes_quietly h kept kept_after before after e event is does =
-    subst (λ (x : EndEffect Talk). Does x (end_of h kept_after after.engine) before.engine after.engine) (sym is) does
+    subst (λ (x : EndEffect DialogueState). Does x (end_of h kept_after after.engine) before.engine after.engine) (sym is) does
 
 pub takes_text : (h : Holdings) (kept : List Kept) (counts : Bool → Type 0) (greeting : Greeting) (text : List ℕ) (before after : NodeState)
     → before.engine.stage ≡ hailing greeting → ShowsText text before.texts
-    → Does (behind_greeting before.engine.number before.engine.identity (text_came before.engine.identity.me before.engine.identity.peer before.engine.number greeting text) before.engine.link before.engine.talking)
+    → Does (behind_greeting before.engine.number before.engine.identity (text_came before.engine.identity.me before.engine.identity.peer before.engine.number greeting text) before.engine.link before.engine.dialogue)
     (bare after.engine) before.engine after.engine
     → IsLeft (text_item text) before after → counts false
     → ShowsItem before.engine.stage before.texts before.packets (text_item text)
@@ -87,13 +87,13 @@ takes_text h kept counts greeting text before after at shows does left stands =
     let step = text_came id.me id.peer before.engine.number greeting text in
     let number = number_by step.rises before.engine.number in
     let is = at_stage h kept (text_found text) before.engine (hailing greeting) at in
-    let talk = talk_of h kept before.engine.talking in (
+    let talk = dialogue_of h kept before.engine.dialogue in (
       subst (λ (x : Stage). ShowsItem x before.texts before.packets (text_item text)) (sym at) shows,
       record {
         device_failed = false;
         does = takes_quietly h kept kept before after _ (text_found text) is
             (greeted_beside number h kept id step.greeted _ before.engine.link before.engine after.engine does);
-        answer = greeted_takes_nothing number id step.greeted _ before.engine.link talk ∙ sym (ap (λ (x : EndEffect Talk). x.took) is);
+        answer = greeted_takes_nothing number id step.greeted _ before.engine.link talk ∙ sym (ap (λ (x : EndEffect DialogueState). x.took) is);
         device = stands;
         left = left;
       },
@@ -111,7 +111,7 @@ takes_packet h kept kept_after counts p before after took at shows taken_up left
       record {
         device_failed = taken_up.device_failed;
         does = takes_quietly h kept kept_after before after _ (packet_found_whole taken_up.device_failed p) is taken_up.does;
-        answer = taken_up.answer ∙ sym (ap (λ (x : EndEffect Talk). x.took) is);
+        answer = taken_up.answer ∙ sym (ap (λ (x : EndEffect DialogueState). x.took) is);
         device = taken_up.device;
         left = left;
       },

@@ -51,7 +51,7 @@ held_stays (ended how) n = refl
 module _ (h : Holdings) where
   pub offers : (kept : List Kept) (failure : Type 0) (bytes : List ℕ) (n : NodeState) → GoesOn h kept kept failure bytes n (offered bytes n)
   offers kept failure bytes n =
-      quiet h kept kept failure bytes n (offered bytes n) (ap (λ (e : EngineState). e.outbox.entries) engine) (ap (λ (e : EngineState). e.identity) engine) (ap (λ (e : EngineState). e.own) engine) (ap (λ (e : EngineState). e.talking.machine.lists.struck) engine) refl same where
+      quiet h kept kept failure bytes n (offered bytes n) (ap (λ (e : EngineState). e.outbox.entries) engine) (ap (λ (e : EngineState). e.identity) engine) (ap (λ (e : EngineState). e.own) engine) (ap (λ (e : EngineState). e.dialogue.machine.lists.struck) engine) refl same where
         s : Stage
         s = n.engine.stage
 

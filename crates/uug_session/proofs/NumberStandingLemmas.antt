@@ -26,8 +26,8 @@ use Rattle.uug_conversation.specs.Keeper.{Keeper}
 use Rattle.uug_session.specs.Node.{NodeState, effect_of}
 use Rattle.uug_session.specs.NodeArriving.{NodeEnd, TakesAll, fails_first, fails_later, hearer_of, node_taker, with_effect}
 use Rattle.uug_session.specs.NumberStanding.{EndsWithNumber, KeepsNumber, NumberStands, number_while}
-use Rattle.uug_conversation.specs.Talk.{end_keeper}
-use Rattle.uug_conversation.specs.Talking.{Talking, talking_has_parted}
+use Rattle.uug_conversation.specs.DialogueState.{end_keeper}
+use Rattle.uug_conversation.specs.DialogueValue.{DialogueValue, dialogue_has_parted}
 use Rattle.uug_conversation.specs.declared.side.Side.{Side}
 use Rattle.uug_conversation.specs.declared.side.Side.TheVariants.{Caller, Called}
 use Rattle.uug_session.specs.WholeGreeting.{IsRefusal}
@@ -233,12 +233,12 @@ late_at n number id parted linked s c h = was_late n number h id parted (step s 
 late_at n number id parted (ended how) s c h = h
 
 pub late_keeps : (before after : EngineState)
-    → Does (stage_late before.number before.identity (talking_has_parted before.talking) before.stage before.link before.talking)
+    → Does (stage_late before.number before.identity (dialogue_has_parted before.dialogue) before.stage before.link before.dialogue)
     (bare after) before after → KeepsNumber before after
 late_keeps before after d = record {
   stands = λ number stands.
-      subst (λ (e : EndState Talking). Stands number e) (sym d.end)
-      (late_at number before.number before.identity (talking_has_parted before.talking) before.stage before.link before.talking stands);
+      subst (λ (e : EndState DialogueValue). Stands number e) (sym d.end)
+      (late_at number before.number before.identity (dialogue_has_parted before.dialogue) before.stage before.link before.dialogue stands);
 }
 
 lost_at : (n number : Option ℕ) (parted : Bool) (stage : Stage) → NumberStands n stage number → NumberStands n (hung_up parted stage) number
@@ -246,8 +246,8 @@ lost_at n number parted (hailing g) h = breaks n number g ends.HungUp (λ is. is
 lost_at n number parted linked h = over n number parted ends.HungUp (λ is. is) h
 lost_at n number parted (ended how) h = h
 
-pub lost_keeps : (e : EngineState) → KeepsNumber e (with_stage (hung_up (talking_has_parted e.talking) e.stage) e)
-lost_keeps e = record { stands = λ number stands. lost_at number e.number (talking_has_parted e.talking) e.stage stands }
+pub lost_keeps : (e : EngineState) → KeepsNumber e (with_stage (hung_up (dialogue_has_parted e.dialogue) e.stage) e)
+lost_keeps e = record { stands = λ number stands. lost_at number e.number (dialogue_has_parted e.dialogue) e.stage stands }
 
 -- ---- a session begins
 
@@ -259,4 +259,4 @@ first Called me peer own number c = refl
 pub begins_right : (id : Identity) (own : Announced) (number : Option ℕ) (l : Lists) (entries : List EntryValue) (after : EngineState)
     → BeginsSession id own number l entries after → NumberStands number after.stage after.number
 begins_right id own number l entries after b =
-    subst (λ (e : EndState Talking). Stands number e) (sym b.end) (first id.side id.me id.peer own number after.talking)
+    subst (λ (e : EndState DialogueValue). Stands number e) (sym b.end) (first id.side id.me id.peer own number after.dialogue)

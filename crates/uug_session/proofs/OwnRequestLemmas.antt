@@ -25,7 +25,7 @@ use Rattle.uug_conversation.specs.Machine.{State, Reply, goes_on, on_send, on_re
 use Rattle.uug_session.specs.Node.{NodeState, effect_of, struck_jobs}
 use Rattle.uug_session.specs.NodeArriving.{NodeEnd, TakesAll, hearer_of, node_taker}
 use Rattle.uug_conversation.specs.OwnRequests.{OwnRequestEntries, none, not_asked_for, asked_for, sent, KeepsWhatItAskedFor}
-use Rattle.uug_conversation.specs.Talk.{Talk, end_keeper, opened_with, taking}
+use Rattle.uug_conversation.specs.DialogueState.{DialogueState, end_keeper, opened_with, taking}
 use Rattle.uug_conversation.specs.Turns.{Said, the_answer}
 use Rattle.uug_conversation.specs.declared.side.Side.{Side}
 use Rattle.uug_conversation.specs.declared.side.Side.TheVariants.{Caller, Called}
@@ -277,35 +277,35 @@ behind_kept s t kept new k = record {
 }
 
 module _ (id : Identity) (h : Holdings) (struck : List Job) (kept : List Kept) where
-  abbrev Since : Talk → Type 0
+  abbrev Since : DialogueState → Type 0
   Since talk = KeepsWhatItAskedFor struck talk.machine.lists.struck kept talk.kept
 
-  since_reply : (talk : Talk) (r : Reply) → Since talk → KeepsIn talk.machine.lists.struck r
+  since_reply : (talk : DialogueState) (r : Reply) → Since talk → KeepsIn talk.machine.lists.struck r
       → KeepsWhatItAskedFor struck r.state.lists.struck kept (talk.kept ++ r.keeps)
   since_reply talk r is next =
       let now = talk.machine.lists.struck in
       then_keeps struck now r.state.lists.struck kept talk.kept (talk.kept ++ r.keeps) is
       (behind_kept now r.state.lists.struck talk.kept r.keeps next)
 
-  opened_keeps : (size : ℕ) (talk : Talk) → Since talk → Since (opened_with id.side h size talk)
+  opened_keeps : (size : ℕ) (talk : DialogueState) → Since talk → Since (opened_with id.side h size talk)
   opened_keeps size talk is =
       since_reply talk (opening id.side h talk.machine.lists) is (after_opening id.side h talk.machine.lists)
 
-  taking_keeps : (message : List ℕ) (talk : Talk) → Since talk → Since (taking h message talk)
+  taking_keeps : (message : List ℕ) (talk : DialogueState) → Since talk → Since (taking h message talk)
   taking_keeps message talk is = since_reply talk (step h talk.machine message) is (after_step h talk.machine message)
 
-  event_since : (event : EndEvent) (e : EndState Talk) → Since e.keeper → Since (end_step (end_keeper id.side h) id event e).state.keeper
+  event_since : (event : EndEvent) (e : EndState DialogueState) → Since e.keeper → Since (end_step (end_keeper id.side h) id event e).state.keeper
   event_since event e is =
-      step_keeps Talk (end_keeper id.side h) Since opened_keeps taking_keeps (λ talk same. same) id event e is
+      step_keeps DialogueState (end_keeper id.side h) Since opened_keeps taking_keeps (λ talk same. same) id event e is
 
   piece_since : (piece : List ℕ) (r : Buffered NodeEnd) → Since r.end.state.keeper → Since (talk_in (takes_piece (node_taker h id) piece r))
   piece_since piece r is = piece_keeps id h Since event_since piece r is
 
 pub event_keeps : (h : Holdings) (kept : List Kept) (event : EndEvent) (e : EngineState)
-    → KeepsWhatItAskedFor e.talking.machine.lists.struck (effect_of h kept event e).state.keeper.machine.lists.struck
+    → KeepsWhatItAskedFor e.dialogue.machine.lists.struck (effect_of h kept event e).state.keeper.machine.lists.struck
     kept (effect_of h kept event e).state.keeper.kept
 event_keeps h kept event e =
-    let struck = e.talking.machine.lists.struck in
+    let struck = e.dialogue.machine.lists.struck in
     event_since e.identity h struck kept event (end_of h kept e) (nothing_new struck kept)
 
 pub takes_all_keeps : (h : Holdings) (kept kept_after : List Kept) (failure : Type 0) (bytes : List ℕ) (before after : NodeState)

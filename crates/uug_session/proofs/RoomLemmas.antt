@@ -17,7 +17,7 @@ use Rattle.uug_session.specs.Engine.{Does, EngineState, end_of}
 use Rattle.uug_conversation.specs.Holdings.{Holdings, Kept}
 use Rattle.uug_conversation.specs.Keeper.{Keeper}
 use Rattle.uug_session.specs.Node.{effect_of}
-use Rattle.uug_conversation.specs.Talk.{Talk, end_keeper}
+use Rattle.uug_conversation.specs.DialogueState.{DialogueState, end_keeper}
 use Rattle.uug_session.specs.Sending.{HasSaidWhatItCan, NodeHasSaidWhatItCan, SaidAt}
 use Rattle.uug_conversation.specs.declared.side.Side.{Side}
 use Rattle.uug_conversation.specs.declared.side.Side.TheVariants.{Caller, Called}
@@ -283,6 +283,6 @@ pub node_said : (h : Holdings) (kept kept_after : List Kept) (event : EndEvent) 
 node_said h kept kept_after event before after within does said =
     let k = end_keeper before.identity.side h in
     let kept_up = stays_said k before.identity event (end_of h kept before)
-    (subst (λ (s : EndState Talk). s.link.window ≤ WINDOW_MAX) does.end within) said in
+    (subst (λ (s : EndState DialogueState). s.link.window ≤ WINDOW_MAX) does.end within) said in
     subst (λ (id : Identity). HasSaidWhatItCan (end_keeper id.side h) (end_of h kept_after after)) (sym does.identity)
-    (subst (λ (s : EndState Talk). HasSaidWhatItCan k s) (sym does.end) kept_up)
+    (subst (λ (s : EndState DialogueState). HasSaidWhatItCan k s) (sym does.end) kept_up)

@@ -13,7 +13,7 @@ use Rattle.uug_conversation.specs.Machine as machine
 use Rattle.uug_session.specs.Node.{NodeState, effect_of}
 use Rattle.uug_session.specs.NodeArriving.{NodeEnd, GoesOn, TakesAll, hearer_of, node_taker}
 use Rattle.uug_conversation.specs.Sharing.{OnlyMoves, HaveSameJobs, all_jobs}
-use Rattle.uug_conversation.specs.Talk.{Talk, end_keeper, opened_with, taking}
+use Rattle.uug_conversation.specs.DialogueState.{DialogueState, end_keeper, opened_with, taking}
 use Rattle.uug_conversation.specs.declared.side.Side.{Side}
 use Rattle.uug_session.proofs.KeeperLemmas.{piece_keeps, step_keeps, talk_in}
 use Rattle.uug_conversation.proofs.MachineMoveLemmas.{after_opening, after_step, stays, then_moves}
@@ -63,25 +63,25 @@ moved_together before after h = subst (HaveSameJobs before) (sym h.are) (all_mov
 -- ---- an end's own jobs
 
 module _ (side : Side) (h : Holdings) (l : Lists) where
-  abbrev Moved : Talk → Type 0
+  abbrev Moved : DialogueState → Type 0
   Moved talk = OnlyMoves l talk.machine.lists
 
-  opened_moves : (size : ℕ) (talk : Talk) → Moved talk → Moved (opened_with side h size talk)
+  opened_moves : (size : ℕ) (talk : DialogueState) → Moved talk → Moved (opened_with side h size talk)
   opened_moves size talk is =
       then_moves l talk.machine.lists (machine.opening side h talk.machine.lists).state.lists is (after_opening side h talk.machine.lists)
 
-  taking_moves : (message : List ℕ) (talk : Talk) → Moved talk → Moved (taking h message talk)
+  taking_moves : (message : List ℕ) (talk : DialogueState) → Moved talk → Moved (taking h message talk)
   taking_moves message talk is =
       then_moves l talk.machine.lists (machine.step h talk.machine message).state.lists is (after_step h talk.machine message)
 
-  step_moves : (id : Identity) (event : EndEvent) (e : EndState Talk) → Moved e.keeper → Moved (end_step (end_keeper side h) id event e).state.keeper
+  step_moves : (id : Identity) (event : EndEvent) (e : EndState DialogueState) → Moved e.keeper → Moved (end_step (end_keeper side h) id event e).state.keeper
   step_moves id event e is =
-      step_keeps Talk (end_keeper side h) Moved opened_moves taking_moves (λ talk same. same) id event e is
+      step_keeps DialogueState (end_keeper side h) Moved opened_moves taking_moves (λ talk same. same) id event e is
 
 pub event_moves : (h : Holdings) (kept : List Kept) (event : EndEvent) (e : EngineState)
-    → OnlyMoves e.talking.machine.lists (effect_of h kept event e).state.keeper.machine.lists
+    → OnlyMoves e.dialogue.machine.lists (effect_of h kept event e).state.keeper.machine.lists
 event_moves h kept event e =
-    let l = e.talking.machine.lists in
+    let l = e.dialogue.machine.lists in
     step_moves e.identity.side h l e.identity event (end_of h kept e) (stays l)
 
 -- ---- bytes that come
@@ -91,7 +91,7 @@ piece_moves : (id : Identity) (h : Holdings) (l : Lists) (piece : List ℕ) (r :
 piece_moves id h l piece r is = piece_keeps id h (Moved id.side h l) (step_moves id.side h l id) piece r is
 
 abbrev jobs_of : NodeState → Lists
-jobs_of n = n.engine.talking.machine.lists
+jobs_of n = n.engine.dialogue.machine.lists
 
 pub goes_on_together : (h : Holdings) (kept kept_after : List Kept) (failure : Type 0) (bytes : List ℕ) (before after : NodeState)
     → GoesOn h kept kept_after failure bytes before after → HaveSameJobs (jobs_of before) (jobs_of after)

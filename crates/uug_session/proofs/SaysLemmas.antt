@@ -11,8 +11,8 @@ use Rattle.uug_session.specs.Node.{IsAsBefore, NodeState, offered, offered_at, s
 use Rattle.uug_conversation.specs.Outgoing.{Outgoing, is_silent, outgoing_messages}
 use Rattle.uug_session.specs.Sending.{SaysWhatItCan}
 use Rattle.uug_session.specs.TextsHeld.{TextSearch, text_too_long, text_waits, text_stands, search_text}
-use Rattle.uug_conversation.specs.Talk.{Talk, end_keeper, first_of, is_empty}
-use Rattle.uug_conversation.specs.Talking.{talk_of}
+use Rattle.uug_conversation.specs.DialogueState.{DialogueState, end_keeper, first_of, is_empty}
+use Rattle.uug_conversation.specs.DialogueValue.{dialogue_of}
 use Rattle.uug_conversation.proofs.OutgoingLemmas.{silent_is_empty}
 use Rattle.uug_session.proofs.RoomLemmas.{said_up_to}
 
@@ -43,14 +43,14 @@ SaidBy x = (has_room x.link ≡ false) ⊎ (first_of x.talk.waiting ≡ None)
 
 all_said : (h : Holdings) (kept : List Kept) (e : EngineState) → SaidBy (spoken_of h kept e) → SaysWhatItCan e
 all_said h kept e (inl none) is room = absurd (has_none e.link none room)
-all_said h kept e (inr none) is room = nothing_next h e.talking.size e.talking.outgoing none
+all_said h kept e (inr none) is room = nothing_next h e.dialogue.size e.dialogue.outgoing none
 
 -- behind as many messages as any window lets out
 pub sends_say : (h : Holdings) (kept : List Kept) (e sent : EngineState) → e.link.window ≤ WINDOW_MAX
     → spoken_of h kept sent ≡ after_sends WINDOW_MAX h kept e → SaysWhatItCan sent
 sends_say h kept e sent within is =
     all_said h kept sent (subst SaidBy (sym is)
-    (said_up_to WINDOW_MAX (end_keeper e.identity.side h) e.link (talk_of h kept e.talking) (omega (arith, within))))
+    (said_up_to WINDOW_MAX (end_keeper e.identity.side h) e.link (dialogue_of h kept e.dialogue) (omega (arith, within))))
 
 -- ---- bytes that come change nothing of it
 
@@ -82,11 +82,11 @@ searched_says n says = searched_by n.engine.stage n says
 pub refused_says : (h : Holdings) (kept kept_after : List Kept) (before after : NodeState) → IsAsBefore h kept kept_after before after
     → SaysWhatItCan before.engine → SaysWhatItCan after.engine
 refused_says h kept kept_after before after same says is room =
-    let stage = ap (λ (x : EndState Talk). x.stage) same.does.end in
-    let link = ap (λ (x : EndState Talk). x.link) same.does.end in
-    let out = before.engine.talking.outgoing in
-    let out_after = after.engine.talking.outgoing in
+    let stage = ap (λ (x : EndState DialogueState). x.stage) same.does.end in
+    let link = ap (λ (x : EndState DialogueState). x.link) same.does.end in
+    let out = before.engine.dialogue.outgoing in
+    let out_after = after.engine.dialogue.outgoing in
     let silent : out.sayings ≡ [] = says (sym stage ∙ is) (subst HasRoom link room) in
-    nothing_left out_after.sayings (silent_is_empty h after.engine.talking.size out_after
-    ∙ ap (λ (x : EndState Talk). is_empty x.keeper.waiting) same.does.end
-    ∙ sym (silent_is_empty h before.engine.talking.size out) ∙ ap is_silent silent)
+    nothing_left out_after.sayings (silent_is_empty h after.engine.dialogue.size out_after
+    ∙ ap (λ (x : EndState DialogueState). is_empty x.keeper.waiting) same.does.end
+    ∙ sym (silent_is_empty h before.engine.dialogue.size out) ∙ ap is_silent silent)

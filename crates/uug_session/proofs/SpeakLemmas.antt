@@ -12,8 +12,8 @@ use Rattle.uug_session.specs.Engine.{EngineState, Spoken, after_sends, after_spe
 use Rattle.uug_conversation.specs.Holdings.{Kept, Holdings}
 use Rattle.uug_conversation.specs.Keeper.{Keeper}
 use Rattle.uug_conversation.specs.Runs.{is_over}
-use Rattle.uug_conversation.specs.Talk.{Talk, behind_first, end_keeper, first_of, has_parted_by, is_through, talk_has_parted, with_first_sent}
-use Rattle.uug_conversation.specs.Talking.{Talking, talk_of, talking_has_parted, talking_is_through}
+use Rattle.uug_conversation.specs.DialogueState.{DialogueState, behind_first, end_keeper, first_of, has_parted_by, is_through, state_has_parted, with_first_sent}
+use Rattle.uug_conversation.specs.DialogueValue.{DialogueValue, dialogue_of, dialogue_has_parted, dialogue_is_through}
 use Rattle.uug_conversation.proofs.OutgoingLemmas.{silent_is_empty}
 
 -- ---- whether there is room
@@ -51,7 +51,7 @@ nothing_next k zero s c e = refl
 nothing_next k (suc n) s c e = with_nothing k (sends_up_to n k) (has_room s) s c e
 
 -- so the end is as it was
-pub stays_so : (entries : List EntryValue) (x : Sending Talk) (s : State) (talk : Talk) → x ≡ sending_nothing s talk
+pub stays_so : (entries : List EntryValue) (x : Sending DialogueState) (s : State) (talk : DialogueState) → x ≡ sending_nothing s talk
     → spoken_with entries x ≡ record { link = s; talk = talk; entries = entries }
 stays_so entries x s talk e =
     let so : List EntryValue → Spoken = λ es. record { link = s; talk = talk; entries = es } in
@@ -63,49 +63,49 @@ no_first : (messages : List (List ℕ)) → first_of messages ≡ None → behin
 no_first [] e = refl
 no_first (message ∷ messages) e = grind arith
 
-unsent : (talk : Talk) → first_of talk.waiting ≡ None → with_first_sent talk ≡ talk
+unsent : (talk : DialogueState) → first_of talk.waiting ≡ None → with_first_sent talk ≡ talk
 unsent talk e =
-    let so : List (List ℕ) → Talk = λ waiting. record talk { waiting = waiting } in
+    let so : List (List ℕ) → DialogueState = λ waiting. record talk { waiting = waiting } in
     ap so (no_first talk.waiting e)
 
-pub says_nothing_more : (n : ℕ) (h : Holdings) (kept : List Kept) (e : EngineState) (after : Talking)
-    → first_of (talk_of h kept e.talking).waiting ≡ None
-    → talk_of h kept after ≡ with_first_sent (talk_of h kept e.talking)
-    → after_sends n h kept e ≡ record { link = e.link; talk = talk_of h kept after; entries = e.outbox.entries }
+pub says_nothing_more : (n : ℕ) (h : Holdings) (kept : List Kept) (e : EngineState) (after : DialogueValue)
+    → first_of (dialogue_of h kept e.dialogue).waiting ≡ None
+    → dialogue_of h kept after ≡ with_first_sent (dialogue_of h kept e.dialogue)
+    → after_sends n h kept e ≡ record { link = e.link; talk = dialogue_of h kept after; entries = e.outbox.entries }
 says_nothing_more n h kept e after none sent =
-    let talk = talk_of h kept e.talking in
-    let so : Talk → Spoken = λ t. record { link = e.link; talk = t; entries = e.outbox.entries } in
+    let talk = dialogue_of h kept e.dialogue in
+    let so : DialogueState → Spoken = λ t. record { link = e.link; talk = t; entries = e.outbox.entries } in
     stays_so e.outbox.entries _ e.link talk (nothing_next (end_keeper e.identity.side h) n e.link talk none)
     ∙ ap so (sym (sent ∙ unsent talk none))
 
 -- ---- what the code asks of its conversation is what the definitions ask
 
-pub is_through_told : (h : Holdings) (kept : List Kept) (t : Talking) → talking_is_through t ≡ is_through (talk_of h kept t)
+pub is_through_told : (h : Holdings) (kept : List Kept) (t : DialogueValue) → dialogue_is_through t ≡ is_through (dialogue_of h kept t)
 is_through_told h kept t = ap (λ (b : Bool). is_over t.machine.awaits && b) (silent_is_empty h t.size t.outgoing)
 
-pub has_parted_told : (h : Holdings) (kept : List Kept) (t : Talking) → talking_has_parted t ≡ talk_has_parted (talk_of h kept t)
+pub has_parted_told : (h : Holdings) (kept : List Kept) (t : DialogueValue) → dialogue_has_parted t ≡ state_has_parted (dialogue_of h kept t)
 has_parted_told h kept t = ap (has_parted_by t.machine.awaits) (silent_is_empty h t.size t.outgoing)
 
 -- ---- behind the sends
 
-abbrev all_sent : Holdings → List Kept → EngineState → Sending Talk
-all_sent h kept e = sends_up_to WINDOW_MAX (end_keeper e.identity.side h) e.link (talk_of h kept e.talking)
+abbrev all_sent : Holdings → List Kept → EngineState → Sending DialogueState
+all_sent h kept e = sends_up_to WINDOW_MAX (end_keeper e.identity.side h) e.link (dialogue_of h kept e.dialogue)
 
 speaks_up : (h : Holdings) (kept : List Kept) (e : EngineState) → IsUp e.link
     → after_speaking h kept e ≡ spoken_with e.outbox.entries (closes_by (is_through (all_sent h kept e).keeper) (all_sent h kept e))
 speaks_up h kept e up =
     let k = end_keeper e.identity.side h in
-    ap (λ (b : Bool). spoken_with e.outbox.entries (speaks_by b k e.link (talk_of h kept e.talking))) (ap is_up up)
+    ap (λ (b : Bool). spoken_with e.outbox.entries (speaks_by b k e.link (dialogue_of h kept e.dialogue))) (ap is_up up)
 
 -- the keeper's answer is that of the end which has sent
 through_then : (h : Holdings) (kept : List Kept) (e sent : EngineState)
     → spoken_of h kept sent ≡ after_sends WINDOW_MAX h kept e
-    → is_through (all_sent h kept e).keeper ≡ talking_is_through sent.talking
+    → is_through (all_sent h kept e).keeper ≡ dialogue_is_through sent.dialogue
 through_then h kept e sent is =
-    ap (λ (x : Spoken). is_through x.talk) (sym is) ∙ sym (is_through_told h kept sent.talking)
+    ap (λ (x : Spoken). is_through x.talk) (sym is) ∙ sym (is_through_told h kept sent.dialogue)
 
 pub goes_on_open : (h : Holdings) (kept : List Kept) (e sent : EngineState) → IsUp e.link
-    → spoken_of h kept sent ≡ after_sends WINDOW_MAX h kept e → talking_is_through sent.talking ≡ false
+    → spoken_of h kept sent ≡ after_sends WINDOW_MAX h kept e → dialogue_is_through sent.dialogue ≡ false
     → spoken_of h kept sent ≡ after_speaking h kept e
 goes_on_open h kept e sent up is open_still =
     is ∙ sym (speaks_up h kept e up
@@ -114,7 +114,7 @@ goes_on_open h kept e sent up is open_still =
 pub says_nothing_down : (h : Holdings) (kept : List Kept) (e : EngineState) → is_up e.link.phase ≡ false
     → spoken_of h kept e ≡ after_speaking h kept e
 says_nothing_down h kept e down =
-    let talk = talk_of h kept e.talking in
+    let talk = dialogue_of h kept e.dialogue in
     sym (stays_so e.outbox.entries _ e.link talk
     (ap (λ (b : Bool). speaks_by b (end_keeper e.identity.side h) e.link talk) down))
 

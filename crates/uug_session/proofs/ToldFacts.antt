@@ -5,7 +5,7 @@ use Rattle.uug_conversation.specs.Count.{count_keeper}
 use Rattle.uug_conversation.specs.Holdings.{Kept}
 use Rattle.uug_conversation.specs.Keeper.{Keeper}
 use Rattle.uug_conversation.specs.Party.{Party}
-use Rattle.uug_conversation.specs.Talk.{end_keeper}
+use Rattle.uug_conversation.specs.DialogueState.{end_keeper}
 use Rattle.uug_session.specs.Told.{talk_behind, count_of_talker}
 use Rattle.uug_conversation.specs.declared.side.Side.{Side}
 use Rattle.uug_conversation.specs.declared.side.Side.TheVariants.{Caller, Called}

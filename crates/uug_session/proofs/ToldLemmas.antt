@@ -5,7 +5,7 @@ use Rattle.uug_conversation.specs.declared.awaits.Awaits.TheVariants as awaits
 use Rattle.uug_conversation.specs.Count.{message_before}
 use Rattle.uug_conversation.specs.Party.{Party}
 use Rattle.uug_conversation.specs.Runs.{is_over, has_said_all}
-use Rattle.uug_conversation.specs.Talk.{first_of, is_empty, has_parted_by}
+use Rattle.uug_conversation.specs.DialogueState.{first_of, is_empty, has_parted_by}
 use Rattle.uug_conversation.specs.declared.side.Side.{Side}
 use Rattle.uug_session.specs.TwoEnds.{Talker, IsTold}
 use Rattle.uug_conversation.specs.View.{Seen, says, hears, conversation_view, own_messages, others_messages, floor}

@@ -16,8 +16,8 @@ use Rattle.uug_conversation.specs.Holdings.{Kept, Holdings}
 use Rattle.uug_conversation.specs.Jobs.{Lists, at_start, pending}
 use Rattle.uug_conversation.specs.Machine.{between}
 use Rattle.uug_session.specs.Says.{entry_of_text}
-use Rattle.uug_conversation.specs.Talk.{Talk, end_keeper}
-use Rattle.uug_conversation.specs.Talking.{Talking, talk_of}
+use Rattle.uug_conversation.specs.DialogueState.{DialogueState, end_keeper}
+use Rattle.uug_conversation.specs.DialogueValue.{DialogueValue, dialogue_of}
 
 pub record EngineState : Type 0 where
   pub identity : Identity
@@ -25,16 +25,16 @@ pub record EngineState : Type 0 where
   pub own : Announced
   pub stage : Stage
   pub link : State
-  pub talking : Talking
+  pub dialogue : DialogueValue
   -- what was emitted and not yet cleared
   pub outbox : Held
   -- the number of its conversations, where it keeps one
   pub number : Option ℕ
 
 -- beside a spool with these holdings that has kept these files
-abbrev pub end_of : Holdings → List Kept → EngineState → EndState Talk
+abbrev pub end_of : Holdings → List Kept → EngineState → EndState DialogueState
 end_of h kept engine =
-    record { stage = engine.stage; link = engine.link; keeper = talk_of h kept engine.talking; number = engine.number }
+    record { stage = engine.stage; link = engine.link; keeper = dialogue_of h kept engine.dialogue; number = engine.number }
 
 -- what goes out, as an outbox holds it: a text framed, a packet in its canonical spelling
 abbrev pub entry_of : Emitted → EntryValue
@@ -48,8 +48,8 @@ stage_of Linked = linked
 stage_of (Ended how) = ended how
 
 -- with what the code keeps of the conversation as its keeper's value
-abbrev pub bare : EngineState → EndState Talking
-bare engine = record { stage = engine.stage; link = engine.link; keeper = engine.talking; number = engine.number }
+abbrev pub bare : EngineState → EndState DialogueValue
+bare engine = record { stage = engine.stage; link = engine.link; keeper = engine.dialogue; number = engine.number }
 
 -- The call did what the step says: the end is then as it says, and exactly what it emits stands in order behind what the
 -- outbox held. Who the end is stays.
@@ -66,30 +66,30 @@ IsHailing (hailing greeting) = ⊤
 IsHailing _ = ⊥
 
 -- in the greeting the link has not begun; where it is up, the conversation goes on in messages of its size
-pub record IsReady (stage : Stage) (id : Identity) (own : Announced) (link : State) (talking : Talking) : Type 0 where
+pub record IsReady (stage : Stage) (id : Identity) (own : Announced) (link : State) (dialogue : DialogueValue) : Type 0 where
   pub first : IsHailing stage → link ≡ first_link id.side own
-  pub opened : IsUp link → talking.opened ≡ true
-  pub size : IsUp link → talking.size ≡ size_of_code link.size_code
+  pub opened : IsUp link → dialogue.opened ≡ true
+  pub size : IsUp link → dialogue.size ≡ size_of_code link.size_code
 
 -- ---- sends
 
 -- what the link and the conversation come to, and what the outbox then has
 pub record Spoken : Type 0 where
   pub link : State
-  pub talk : Talk
+  pub talk : DialogueState
   pub entries : List EntryValue
 
 abbrev pub spoken_of : Holdings → List Kept → EngineState → Spoken
 spoken_of h kept engine =
-    record { link = engine.link; talk = talk_of h kept engine.talking; entries = engine.outbox.entries }
+    record { link = engine.link; talk = dialogue_of h kept engine.dialogue; entries = engine.outbox.entries }
 
-abbrev pub spoken_with : List EntryValue → Sending Talk → Spoken
+abbrev pub spoken_with : List EntryValue → Sending DialogueState → Spoken
 spoken_with entries x = record { link = x.link; talk = x.keeper; entries = entries ++ map written x.emissions }
 
 -- when at most so many messages were sent
 abbrev pub after_sends : ℕ → Holdings → List Kept → EngineState → Spoken
 after_sends n h kept engine =
-    spoken_with engine.outbox.entries (sends_up_to n (end_keeper engine.identity.side h) engine.link (talk_of h kept engine.talking))
+    spoken_with engine.outbox.entries (sends_up_to n (end_keeper engine.identity.side h) engine.link (dialogue_of h kept engine.dialogue))
 
 -- all else stays
 pub record StandsStill (before after : EngineState) : Type 0 where
@@ -101,16 +101,16 @@ pub record StandsStill (before after : EngineState) : Type 0 where
 -- when what there is to say was said, and CLOSE behind it where all is over
 abbrev pub after_speaking : Holdings → List Kept → EngineState → Spoken
 after_speaking h kept engine = spoken_with engine.outbox.entries
-    (speaks_by (is_up engine.link.phase) (end_keeper engine.identity.side h) engine.link (talk_of h kept engine.talking))
+    (speaks_by (is_up engine.link.phase) (end_keeper engine.identity.side h) engine.link (dialogue_of h kept engine.dialogue))
 
 -- ---- a session begins
 
 -- the link has not come up in this session, and these are the jobs
-pub record IsUnopened (l : Lists) (talking : Talking) : Type 0 where
-  pub opened : talking.opened ≡ false
-  pub machine : talking.machine ≡ between l awaits.Order
-  pub size : talking.size ≡ 0
-  pub silent : talking.outgoing.sayings ≡ []
+pub record IsUnopened (l : Lists) (dialogue : DialogueValue) : Type 0 where
+  pub opened : dialogue.opened ≡ false
+  pub machine : dialogue.machine ≡ between l awaits.Order
+  pub size : dialogue.size ≡ 0
+  pub silent : dialogue.outgoing.sayings ≡ []
 
 -- ---- nothing has come for some time
 
@@ -138,10 +138,10 @@ hung_up has_parted (ended how) = ended how
 
 -- ---- a packet
 
-abbrev pub packet_effect : Holdings → List Kept → (device_failed : Bool) → PacketValue → EngineState → EndEffect Talk
+abbrev pub packet_effect : Holdings → List Kept → (device_failed : Bool) → PacketValue → EngineState → EndEffect DialogueState
 packet_effect h kept device_failed p engine =
     packet_came engine.number (end_keeper engine.identity.side h) engine.identity device_failed p engine.link
-    (talk_of h kept engine.talking)
+    (dialogue_of h kept engine.dialogue)
 
 -- the device failed between these counts of faults, of which the greatest stands
 abbrev pub HasFailed : (most faults faults_after : ℕ) → Type 0
@@ -178,8 +178,8 @@ all_ahead l = at_start (pending l) l.struck l.failed
 -- The end that is so called, announces this, and keeps this number or none has begun a session, with these jobs: nothing is
 -- left of an earlier session, and what it says first stands behind these entries of its outbox.
 pub record BeginsSession (id : Identity) (announces : Announced) (number : Option ℕ) (l : Lists) (entries : List EntryValue) (after : EngineState) : Type 0 where
-  pub end : bare after ≡ (begins_session id announces number after.talking).state
-  pub emitted : after.outbox.entries ≡ entries ++ map entry_of (begins_session id announces number after.talking).emitted
+  pub end : bare after ≡ (begins_session id announces number after.dialogue).state
+  pub emitted : after.outbox.entries ≡ entries ++ map entry_of (begins_session id announces number after.dialogue).emitted
   pub identity : after.identity ≡ id
   pub own : after.own ≡ announces
-  pub unopened : IsUnopened l after.talking
+  pub unopened : IsUnopened l after.dialogue

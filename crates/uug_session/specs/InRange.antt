@@ -6,7 +6,7 @@ use Rattle.uug_link.specs.State.{State, IsFresh, IsUp}
 use Rattle.uug_link.specs.Terms.{size_of_code}
 use Rattle.uug_packet.specs.WellFormed.{IsWellFormed}
 use Rattle.uug_session.specs.EndStep.{EndEvent, packet_found_whole, EndState, Emitted, says_text, sends_packet, Stage, hailing}
-use Rattle.uug_conversation.specs.Talk.{Talk}
+use Rattle.uug_conversation.specs.DialogueState.{DialogueState}
 use Rattle.uug_conversation.specs.declared.side.Side.{Side}
 use Rattle.uug_conversation.specs.declared.side.Side.TheVariants.{Caller}
 
@@ -21,7 +21,7 @@ MayFind (packet_found_whole device_failed p) = IsWellFormed p
 MayFind _ = ⊤
 
 -- it speaks in messages of this size, and none that waits is longer
-pub record HasSize (size : ℕ) (talk : Talk) : Type 0 where
+pub record HasSize (size : ℕ) (talk : DialogueState) : Type 0 where
   pub is : talk.size ≡ size
   pub fit : All (λ message. length message ≤ size) talk.waiting
 
@@ -31,7 +31,7 @@ BeginsFresh Caller (hailing greeting) s = IsFresh s
 BeginsFresh _ _ s = ⊤
 
 -- The end on the side has a link in range, and once that is up, messages of the size that the other end announced.
-pub record IsEndInRange (side : Side) (e : EndState Talk) : Type 0 where
+pub record IsEndInRange (side : Side) (e : EndState DialogueState) : Type 0 where
   pub link : IsInRange e.link
   pub fresh : BeginsFresh side e.stage e.link
   pub talk : IsUp e.link → HasSize (size_of_code e.link.size_code) e.keeper

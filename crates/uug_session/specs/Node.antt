@@ -13,7 +13,7 @@ use Rattle.uug_session.specs.declared.end.End.TheVariants as ends
 use Rattle.uug_session.specs.EndStep.{Stage, hailing, linked, ended, EndEffect, EndEvent, text_found, packet_found_whole, broken_found, end_step, unmoved}
 use Rattle.uug_session.specs.Engine.{EngineState, Does, end_of, with_stage}
 use Rattle.uug_conversation.specs.Holdings.{Kept, Holdings}
-use Rattle.uug_conversation.specs.Talk.{Talk, end_keeper}
+use Rattle.uug_conversation.specs.DialogueState.{DialogueState, end_keeper}
 use Rattle.uug_session.specs.TextsHeld.{TextsHeld, TextSearch, ShowsText, text_too_long, text_waits, text_stands, after_text_search, search_text}
 
 pub record NodeState : Type 0 where
@@ -31,7 +31,7 @@ spool_of n = n.spool
 
 -- the jobs that are done
 abbrev pub struck_jobs : NodeState → List Job
-struck_jobs n = n.engine.talking.machine.lists.struck
+struck_jobs n = n.engine.dialogue.machine.lists.struck
 
 -- ---- items
 
@@ -124,7 +124,7 @@ event_of device_failed (text_item text) = text_found text
 event_of device_failed (packet_item p) = packet_found_whole device_failed p
 event_of device_failed bad_item = broken_found
 
-abbrev pub effect_of : Holdings → List Kept → EndEvent → EngineState → EndEffect Talk
+abbrev pub effect_of : Holdings → List Kept → EndEvent → EngineState → EndEffect DialogueState
 effect_of h kept event e = end_step (end_keeper e.identity.side h) e.identity event (end_of h kept e)
 
 -- Just the item's bytes are taken away. What is left behind a text is what the link begins with, too.

@@ -7,13 +7,13 @@ use Rattle.uug_session.specs.Finding.{finds_nothing, finding}
 use Rattle.uug_conversation.specs.Holdings.{Kept, Holdings}
 use Rattle.uug_session.specs.Node.{NodeState, held_bytes, struck_jobs}
 use Rattle.uug_conversation.specs.OwnRequests.{KeepsWhatItAskedFor}
-use Rattle.uug_conversation.specs.Talk.{Talk, end_keeper}
+use Rattle.uug_conversation.specs.DialogueState.{DialogueState, end_keeper}
 
 -- ---- what takes up what is found
 
 -- what a node has come to beside its spool
 pub record NodeEnd : Type 0 where
-  pub state : EndState Talk
+  pub state : EndState DialogueState
   pub emitted : List Emitted
   -- whether the spool's device fails at each of the packets that are still to come; at those behind them it does not
   pub failures : List Bool
@@ -26,7 +26,7 @@ abbrev pub fails_later : List Bool → List Bool
 fails_later [] = []
 fails_later (failed ∷ failures) = failures
 
-abbrev pub with_effect : EndEffect Talk → List Bool → NodeEnd → NodeEnd
+abbrev pub with_effect : EndEffect DialogueState → List Bool → NodeEnd → NodeEnd
 with_effect effect failures x = record { state = effect.state; emitted = x.emitted ++ effect.emitted; failures = failures }
 
 -- each item does what the step of its event says; a packet is always taken up

@@ -8,7 +8,7 @@ use Rattle.uug_session.specs.EndStep.{unmoved}
 use Rattle.uug_session.specs.Engine.{CountsFaults, Does, EngineState, bare, stage_late, with_outbox}
 use Rattle.uug_conversation.specs.Holdings.{Kept, Holdings}
 use Rattle.uug_session.specs.Node.{NodeState, IsAsBefore, TakesShown, offered, searched}
-use Rattle.uug_conversation.specs.Talking.{talking_has_parted}
+use Rattle.uug_conversation.specs.DialogueValue.{dialogue_has_parted}
 
 -- a node beside its spool: what that has kept, and how often its device has failed
 pub record Beside : Type 0 where
@@ -47,7 +47,7 @@ pub record HoldsTheSame (old new : Beside) : Type 0 where
 -- what a timeout does to an end
 abbrev pub IsLate : (old new : EngineState) → Type 0
 IsLate old new =
-    Does (stage_late old.number old.identity (talking_has_parted old.talking) old.stage old.link old.talking) (bare new) old new
+    Does (stage_late old.number old.identity (dialogue_has_parted old.dialogue) old.stage old.link old.dialogue) (bare new) old new
 
 -- the clauses of `offer`, of `next_found`, of `take_found`, of `on_timeout` and of `clear_outbox`; `most` is the greatest
 -- count of faults

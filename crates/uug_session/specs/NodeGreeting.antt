@@ -14,26 +14,26 @@ use Rattle.uug_session.specs.Node.{NodeState, held_bytes}
 use Rattle.uug_session.specs.NodeArriving.{NodeEnd, TakesAll, hearer_of, node_taker}
 use Rattle.uug_session.specs.Says.{entry_of_text}
 use Rattle.uug_session.specs.Sessions.{HoldsNothing}
-use Rattle.uug_conversation.specs.Talk.{Talk, unopened}
+use Rattle.uug_conversation.specs.DialogueState.{DialogueState, unopened}
 use Rattle.uug_session.specs.WholeGreeting.{GreetingRun}
 
 -- what a node is beside its spool when its session has come to this, and only this was emitted
-abbrev pub come_to : EndEffect Talk → (failures : List Bool) → NodeEnd
+abbrev pub come_to : EndEffect DialogueState → (failures : List Bool) → NodeEnd
 come_to effect failures = record { state = effect.state; emitted = effect.emitted; failures = failures }
 
 abbrev pub holding_nothing : NodeEnd → Buffered NodeEnd
 holding_nothing x = record { held = []; end = x }
 
 -- when its greeting was this run: it has said these texts, and where they led to the link, the caller has begun it
-abbrev pub greeted_by : Identity → Announced → GreetingRun → Talk → EndEffect Talk
+abbrev pub greeted_by : Identity → Announced → GreetingRun → DialogueState → EndEffect DialogueState
 greeted_by id own run talk = greeted_so run.number id run.greeted (map says_text run.says) (first_link id.side own) talk
 
 -- the link's begin alone, at an end that keeps this number or none
-abbrev pub at_link : Identity → Announced → (number : Option ℕ) → Talk → EndEffect Talk
+abbrev pub at_link : Identity → Announced → (number : Option ℕ) → DialogueState → EndEffect DialogueState
 at_link id own number talk = begins_link number id.side (first_link id.side own) talk []
 
 -- a node whose link has begun so, and that has emitted nothing since
-abbrev pub on_link : Identity → Announced → (number : Option ℕ) → Talk → (failures : List Bool) → NodeEnd
+abbrev pub on_link : Identity → Announced → (number : Option ℕ) → DialogueState → (failures : List Bool) → NodeEnd
 on_link id own number talk failures = record { state = (at_link id own number talk).state; emitted = []; failures = failures }
 
 -- ---- a node to which bytes came
@@ -54,7 +54,7 @@ pub record HasHeard (h : Holdings) (id : Identity) (own : Announced) (number : O
   pub takes : TakesAll h kept kept_now (HasFailed most faults faults_now) came start now
 
 -- what it keeps of the conversation until its link is up
-abbrev pub talk_at_first : {h : Holdings} {id : Identity} {own : Announced} {number : Option ℕ} {entries : List EntryValue} {came : List ℕ} {now : NodeState} → HasHeard h id own number entries came now → Talk
+abbrev pub talk_at_first : {h : Holdings} {id : Identity} {own : Announced} {number : Option ℕ} {entries : List EntryValue} {came : List ℕ} {now : NodeState} → HasHeard h id own number entries came now → DialogueState
 talk_at_first m = unopened m.lists m.kept
 
 -- It greets still. It has said these texts, keeps this number or none, its link has not begun, and it holds what waits of

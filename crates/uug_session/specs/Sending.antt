@@ -5,7 +5,7 @@ use Rattle.uug_session.specs.EndStep.{EndState, Stage, hailing, linked, ended, h
 use Rattle.uug_session.specs.Engine.{EngineState, end_of}
 use Rattle.uug_conversation.specs.Holdings.{Holdings, Kept}
 use Rattle.uug_conversation.specs.Keeper.{Keeper}
-use Rattle.uug_conversation.specs.Talk.{end_keeper}
+use Rattle.uug_conversation.specs.DialogueState.{end_keeper}
 
 -- by how far its session is: the link is not up in the greeting; on a link that is up the window lets no message more out,
 -- or none waits to be sent
@@ -34,4 +34,4 @@ NodeHasSaidWhatItCan h kept e = HasSaidWhatItCan (end_keeper e.identity.side h) 
 
 -- The same of an end without what its spool holds: on a link that has begun and has room nothing is left to be said.
 abbrev pub SaysWhatItCan : EngineState → Type 0
-SaysWhatItCan e = e.stage ≡ linked → HasRoom e.link → e.talking.outgoing.sayings ≡ []
+SaysWhatItCan e = e.stage ≡ linked → HasRoom e.link → e.dialogue.outgoing.sayings ≡ []

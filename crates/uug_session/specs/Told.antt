@@ -4,12 +4,12 @@ use Rattle.uug_conversation.specs.declared.job.Job.{Job}
 use Rattle.uug_conversation.specs.Count.{Count}
 use Rattle.uug_conversation.specs.EarlierJobs.{state_behind}
 use Rattle.uug_conversation.specs.Holdings.{Kept}
-use Rattle.uug_conversation.specs.Talk.{Talk}
+use Rattle.uug_conversation.specs.DialogueState.{DialogueState}
 use Rattle.uug_session.specs.TwoEnds.{Talker}
 
 -- what it keeps once its link is up, where these jobs were struck and failed and these files kept before, and its messages
 -- have this size
-abbrev pub talk_behind : (struck failed : List Job) → (kept : List Kept) → (size : ℕ) → Talker → Talk
+abbrev pub talk_behind : (struck failed : List Job) → (kept : List Kept) → (size : ℕ) → Talker → DialogueState
 talk_behind struck failed kept size t = record {
   opened = true;
   machine = state_behind struck failed t.state;

@@ -15,7 +15,7 @@ ghost use Rattle.uug_conversation.specs.Keeper.{Keeper};
 ghost use Rattle.uug_conversation.specs.Machine.{State, step, opening};
 ghost use Rattle.uug_conversation.specs.Party.{Party};
 ghost use Rattle.uug_session.specs.Phases.{EndsWithItsLink, phase_at};
-ghost use Rattle.uug_conversation.specs.Talk.{Talk, end_keeper};
+ghost use Rattle.uug_conversation.specs.DialogueState.{DialogueState, end_keeper};
 ghost use Rattle.uug_conversation.specs.declared.side.Side.{Side};
 ghost use Rattle.uug_conversation.specs.View.{conversation_view, own_messages, party};
 
@@ -40,16 +40,16 @@ pub fn own_messages_fit()
 /// Each packet that an end emits can be written, and so is read again as what it is, where the end has made a right
 /// announcement.
 pub fn what_an_end_emits_can_be_written()
-    ensures first { (id : Identity) (own : Announced) (number : Option ℕ) (talk : Talk)
+    ensures first { (id : Identity) (own : Announced) (number : Option ℕ) (talk : DialogueState)
         → IsAnnouncement own
         → IsEndInRange id.side (begins_session id own number talk).state
         × All CanBeWritten (begins_session id own number talk).emitted }
     ensures stays { (side : Side) (h : Holdings) (id : Identity) (event : EndEvent)
-        (e : EndState Talk)
+        (e : EndState DialogueState)
         → IsEndInRange id.side e → MayFind event
         → IsEndInRange id.side (end_step (end_keeper side h) id event e).state }
     ensures emitted { (side : Side) (h : Holdings) (id : Identity) (event : EndEvent)
-        (e : EndState Talk)
+        (e : EndState DialogueState)
         → IsEndInRange id.side e → MayFind event
         → All CanBeWritten (end_step (end_keeper side h) id event e).emitted }
 {}

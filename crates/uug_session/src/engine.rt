@@ -10,9 +10,9 @@ ghost use Rattle.uug_session.specs.EndStep.{bad_came, begins_link, ended, final_
 ghost use Rattle.uug_conversation.specs.Jobs.{pending};
 ghost use Rattle.uug_conversation.specs.Party.{HasNames};
 ghost use Rattle.uug_session.specs.Sending.{SaysWhatItCan};
-ghost use Rattle.uug_conversation.specs.Talk.{end_keeper};
+ghost use Rattle.uug_conversation.specs.DialogueState.{end_keeper};
 ghost use Rattle.uug_session.specs.Phases.{phase_at, timeouts_in};
-ghost use Rattle.uug_conversation.specs.Talking.{talk_of, talking_has_parted};
+ghost use Rattle.uug_conversation.specs.DialogueValue.{dialogue_of, dialogue_has_parted};
 
 use crate::end::End;
 use crate::greeting::{Greeted, Greeting, number_behind};
@@ -59,7 +59,7 @@ impl<A: Allocator> Model for Engine<A> {
       own = announced engine.place.announce;
       stage = stage_of engine.stage;
       link = engine.link;
-      talking = engine.dialogue;
+      dialogue = engine.dialogue;
       outbox = engine.outbox;
       number = engine.place.number;
     } };
@@ -136,7 +136,7 @@ impl<A: Allocator + Copy> Engine<A> {
         ensures link { self.new.link ≡ (step self.old.link to_close).state }
         ensures emitted { self.new.outbox.entries
             ≡ self.old.outbox.entries ++ map written (step self.old.link to_close).emitted }
-        ensures talking { self.new.talking ≡ self.old.talking }
+        ensures dialogue { self.new.dialogue ≡ self.old.dialogue }
         ensures still { StandsStill self.old self.new }
         ensures spare { self.old.outbox.spare ≤ self.new.outbox.spare + 1 }
     {
@@ -152,7 +152,7 @@ impl<A: Allocator + Copy> Engine<A> {
         ensures emitted { self.new.outbox.entries
             ≡ self.old.outbox.entries ++ map entry_of (leave has_parted self.old.identity.side) }
         ensures link { self.new.link ≡ self.old.link }
-        ensures talking { self.new.talking ≡ self.old.talking }
+        ensures dialogue { self.new.dialogue ≡ self.old.dialogue }
         ensures identity { self.new.identity ≡ self.old.identity }
         ensures own { self.new.own ≡ self.old.own }
         ensures number { self.new.number ≡ self.old.number }
@@ -171,7 +171,7 @@ impl<A: Allocator + Copy> Engine<A> {
     fn hear<S: Spool>(&mut self, spool: &S, packet: &Packet<'_>)
         requires linked { self.old.stage ≡ linked }
         requires spare { EMITTED_MAX ≤ self.old.outbox.spare }
-        requires room { SAYINGS_MAX ≤ self.old.talking.outgoing.room }
+        requires room { SAYINGS_MAX ≤ self.old.dialogue.outgoing.room }
         requires not_taken { (step self.old.link (packet_found (shown packet.now))).outcome
             ≢ taken }
         ensures does { Does (packet_effect (S.holdings spool.now) (S.kept spool.now) false
@@ -199,7 +199,7 @@ impl<A: Allocator + Copy> Engine<A> {
     fn take<S: Spool>(&mut self, spool: &mut S, packet: &Packet<'_>) -> Result<(), AllocError>
         requires linked { self.old.stage ≡ linked }
         requires spare { EMITTED_MAX ≤ self.old.outbox.spare }
-        requires room { SAYINGS_MAX ≤ self.old.talking.outgoing.room }
+        requires room { SAYINGS_MAX ≤ self.old.dialogue.outgoing.room }
         requires taken { (step self.old.link (packet_found (shown packet.now))).outcome ≡ taken }
         ensures ok { OnOk result (TakesUp (S.holdings spool.old) (S.kept spool.old)
             (S.kept spool.new)
@@ -240,7 +240,7 @@ impl<A: Allocator + Copy> Engine<A> {
         ensures emitted { self.new.outbox.entries ≡ self.old.outbox.entries
             ++ map written (step self.old.link (packet_found (shown packet.now))).emitted }
         ensures up { IsUp self.new.link }
-        ensures talking { self.new.talking ≡ self.old.talking }
+        ensures dialogue { self.new.dialogue ≡ self.old.dialogue }
         ensures still { StandsStill self.old self.new }
         ensures spare { EMITTED_MAX ≤ self.new.outbox.spare + WINDOW_MAX }
     {
@@ -258,7 +258,7 @@ impl<A: Allocator + Copy> Engine<A> {
         ensures emitted { self.new.outbox.entries ≡ (self.old.outbox.entries
             ++ map written (step self.old.link to_close).emitted)
             ++ map entry_of (leave has_parted self.old.identity.side) }
-        ensures talking { self.new.talking ≡ self.old.talking }
+        ensures dialogue { self.new.dialogue ≡ self.old.dialogue }
         ensures identity { self.new.identity ≡ self.old.identity }
         ensures own { self.new.own ≡ self.old.own }
         ensures number { self.new.number ≡ self.old.number }
@@ -302,7 +302,7 @@ impl<A: Allocator + Copy> Engine<A> {
         requires linked { self.old.stage ≡ linked }
         ensures ok { OnOk result (Does (bad_came self.old.number (end_keeper self.old.identity.side
             (S.holdings spool.now)) self.old.identity
-            self.old.link (talk_of (S.holdings spool.now) (S.kept spool.now) self.old.talking))
+            self.old.link (dialogue_of (S.holdings spool.now) (S.kept spool.now) self.old.dialogue))
             (end_of (S.holdings spool.now) (S.kept spool.now) self.new) self.old self.new) }
         ensures says { OnOk result (SaysWhatItCan self.new) }
         ensures err { OnErr result (Does (unmoved (bare self.old))
@@ -310,7 +310,7 @@ impl<A: Allocator + Copy> Engine<A> {
         ensures nothing_taken { (bad_came self.old.number
             (end_keeper self.old.identity.side (S.holdings spool.now))
             self.old.identity
-            self.old.link (talk_of (S.holdings spool.now) (S.kept spool.now) self.old.talking)).took
+            self.old.link (dialogue_of (S.holdings spool.now) (S.kept spool.now) self.old.dialogue)).took
             ≡ false }
     {
         self.outbox.reserve(EMITTED_MAX)?;
@@ -326,8 +326,8 @@ impl<A: Allocator + Copy> Engine<A> {
     /// Takes up that nothing has come for some time.
     pub(crate) fn on_timeout(&mut self) -> Result<(), AllocError>
         ensures ok { OnOk result (Does (stage_late self.old.number self.old.identity
-            (talking_has_parted self.old.talking) self.old.stage
-            self.old.link self.old.talking) (bare self.new) self.old self.new) }
+            (dialogue_has_parted self.old.dialogue) self.old.stage
+            self.old.link self.old.dialogue) (bare self.new) self.old self.new) }
         ensures err { OnErr result (Does (unmoved (bare self.old))
             (bare self.new) self.old self.new) }
         ensures only_linked { OnErr result (self.old.stage ≡ linked) }
@@ -345,8 +345,8 @@ impl<A: Allocator + Copy> Engine<A> {
     fn late(&mut self) -> Result<(), AllocError>
         requires linked { self.old.stage ≡ linked }
         ensures ok { OnOk result (Does (late self.old.number self.old.identity
-            (talking_has_parted self.old.talking)
-            self.old.link self.old.talking) (bare self.new) self.old self.new) }
+            (dialogue_has_parted self.old.dialogue)
+            self.old.link self.old.dialogue) (bare self.new) self.old self.new) }
         ensures err { OnErr result (Does (unmoved (bare self.old))
             (bare self.new) self.old self.new) }
         ensures speaks { OnErr result ((step self.old.link timed_out).emitted ≢ []) }
@@ -362,8 +362,8 @@ impl<A: Allocator + Copy> Engine<A> {
     fn repeat(&mut self) -> Result<(), AllocError>
         requires linked { self.old.stage ≡ linked }
         ensures ok { OnOk result (Does (late self.old.number self.old.identity
-            (talking_has_parted self.old.talking)
-            self.old.link self.old.talking) (bare self.new) self.old self.new) }
+            (dialogue_has_parted self.old.dialogue)
+            self.old.link self.old.dialogue) (bare self.new) self.old self.new) }
         ensures err { OnErr result (Does (unmoved (bare self.old))
             (bare self.new) self.old self.new) }
     {
@@ -385,8 +385,8 @@ impl<A: Allocator + Copy> Engine<A> {
     fn stay_silent(&mut self)
         requires linked { self.old.stage ≡ linked }
         requires silent { (step self.old.link timed_out).emitted ≡ [] }
-        ensures { Does (late self.old.number self.old.identity (talking_has_parted self.old.talking)
-            self.old.link self.old.talking) (bare self.new) self.old self.new }
+        ensures { Does (late self.old.number self.old.identity (dialogue_has_parted self.old.dialogue)
+            self.old.link self.old.dialogue) (bare self.new) self.old self.new }
     {
         match self.link.on_timeout(&mut self.outbox) {
             Ok(Outcome::Nothing) => {}
@@ -425,7 +425,7 @@ impl<A: Allocator + Copy> Engine<A> {
         requires hailing { IsHailing self.old.stage }
         requires spare { greeted ≡ Greeted.LinkBegins → WINDOW_MAX ≤ self.old.outbox.spare }
         ensures does { Does (greeted_so self.old.number self.old.identity greeted []
-            self.old.link self.old.talking)
+            self.old.link self.old.dialogue)
             (bare self.new) self.old self.new }
         ensures says { SaysWhatItCan self.new }
     {
@@ -441,7 +441,7 @@ impl<A: Allocator + Copy> Engine<A> {
         requires hailing { IsHailing self.old.stage }
         requires spare { WINDOW_MAX ≤ self.old.outbox.spare }
         ensures does { Does (begins_link self.old.number self.old.identity.side
-            self.old.link self.old.talking [])
+            self.old.link self.old.dialogue [])
             (bare self.new) self.old self.new }
         ensures says { SaysWhatItCan self.new }
     {
@@ -458,7 +458,7 @@ impl<A: Allocator + Copy> Engine<A> {
 
     /// The line is gone.
     pub(crate) fn hang_up(&mut self)
-        ensures { self.new ≡ with_stage (hung_up (talking_has_parted self.old.talking)
+        ensures { self.new ≡ with_stage (hung_up (dialogue_has_parted self.old.dialogue)
             self.old.stage) self.old }
     {
         match self.stage {
@@ -549,8 +549,8 @@ impl<A: Allocator + Copy> Engine<A> {
 
     /// The jobs.
     pub(crate) fn queue(&self) -> &Queue<A>
-        ensures jobs { result.now ≡ self.now.talking.machine.lists }
-        ensures names { All HasNames (pending self.now.talking.machine.lists) }
+        ensures jobs { result.now ≡ self.now.dialogue.machine.lists }
+        ensures names { All HasNames (pending self.now.dialogue.machine.lists) }
     {
         self.dialogue.queue()
     }
@@ -595,7 +595,7 @@ impl<A: Allocator + Copy> Engine<A> {
     pub(crate) fn restart(&mut self)
         requires spare { 1 ≤ self.old.outbox.spare }
         ensures { BeginsSession self.old.identity self.old.own self.old.number
-            (all_ahead self.old.talking.machine.lists)
+            (all_ahead self.old.dialogue.machine.lists)
             self.old.outbox.entries self.new }
     {
         let greeting = first_greeting(self.side, &self.place.me, &mut self.outbox);

@@ -20,7 +20,7 @@ ghost use Rattle.uug_session.specs.NodeArriving.{node_taker};
 ghost use Rattle.uug_session.specs.NodeCalls.{Beside, Make, NodeCall};
 ghost use Rattle.uug_session.specs.NodeGreeting.{GreetsStill, HasBegunLink, HasEnded, HasHeard, come_to, greeted_by, holding_nothing};
 ghost use Rattle.uug_session.specs.Sessions.{HoldsNothing};
-ghost use Rattle.uug_conversation.specs.Talk.{Talk};
+ghost use Rattle.uug_conversation.specs.DialogueState.{DialogueState};
 ghost use Rattle.uug_conversation.specs.declared.side.Side.{Side};
 ghost use Rattle.uug_conversation.specs.declared.side.Side.TheVariants.{Caller, Called};
 ghost use Rattle.uug_session.specs.WholeGreeting.{GreetingRun, GreetsBy, Greets, GreetEachOther, BecomeOf, IsNumber, IsOver, IsRefusal, greeting_run, has_let_in, whole_greeting, run_behind};
@@ -184,7 +184,7 @@ pub fn a_node_greets()
     // The same as one equation, whatever the node keeps and its spool's device does: all bytes from the start lead to what the
     // bytes left lead to behind the whole greeting.
     ensures comes { (h : Holdings) (id : Identity) (own : Announced) (number : Option ℕ)
-        (talk : Talk)
+        (talk : DialogueState)
         (failures : List Bool)
         (came behind : List ℕ) (run : GreetingRun)
         → Greets id.side id.me id.peer number came run behind

@@ -13,7 +13,7 @@ ghost use Rattle.uug_session.specs.NodeLoan.{EndsFound};
 ghost use Rattle.uug_conversation.specs.Party.{HasNames};
 ghost use Rattle.uug_session.specs.Phases.{phase_at, timeouts_in};
 ghost use Rattle.uug_session.specs.Sending.{SaysWhatItCan};
-ghost use Rattle.uug_conversation.specs.Talking.{talking_has_parted};
+ghost use Rattle.uug_conversation.specs.DialogueValue.{dialogue_has_parted};
 ghost use Rattle.std.specs.Borrow.{sem};
 ghost use Rattle.uug_session.specs.EndStep.{hailing, linked, unmoved};
 
@@ -204,8 +204,8 @@ impl<S: Spool, A: Allocator + Copy> Node<S, A> {
     pub fn on_timeout(&mut self) -> Result<(), AllocError>
         ensures ok { OnOk result (Does (stage_late (node_of self.old).engine.number
             (node_of self.old).engine.identity
-            (talking_has_parted (node_of self.old).engine.talking) (node_of self.old).engine.stage
-            (node_of self.old).engine.link (node_of self.old).engine.talking)
+            (dialogue_has_parted (node_of self.old).engine.dialogue) (node_of self.old).engine.stage
+            (node_of self.old).engine.link (node_of self.old).engine.dialogue)
             (bare (node_of self.new).engine) (node_of self.old).engine (node_of self.new).engine) }
         ensures err { OnErr result (Does (unmoved (bare (node_of self.old).engine))
             (bare (node_of self.new).engine) (node_of self.old).engine (node_of self.new).engine) }
@@ -224,7 +224,7 @@ impl<S: Spool, A: Allocator + Copy> Node<S, A> {
     /// The line is gone: the session is over. Nothing is emitted.
     pub fn hang_up(&mut self)
         ensures stage { (node_of self.new).engine
-            ≡ with_stage (hung_up (talking_has_parted (node_of self.old).engine.talking)
+            ≡ with_stage (hung_up (dialogue_has_parted (node_of self.old).engine.dialogue)
             (node_of self.old).engine.stage) (node_of self.old).engine }
         ensures bytes { ((node_of self.new).texts ≡ (node_of self.old).texts)
             × ((node_of self.new).packets ≡ (node_of self.old).packets) }
@@ -309,9 +309,9 @@ impl<S: Spool, A: Allocator + Copy> Node<S, A> {
 
     /// The jobs. The names of those that are pending are names.
     pub fn queue(&self) -> &Queue<A>
-        ensures jobs { result.now ≡ (node_of self.now).engine.talking.machine.lists }
+        ensures jobs { result.now ≡ (node_of self.now).engine.dialogue.machine.lists }
         ensures names { All HasNames
-            (pending (node_of self.now).engine.talking.machine.lists) }
+            (pending (node_of self.now).engine.dialogue.machine.lists) }
     {
         self.engine.queue()
     }

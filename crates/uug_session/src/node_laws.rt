@@ -12,19 +12,19 @@ ghost use Rattle.uug_session.specs.NodeArriving.{GoesOn, TakesAll};
 ghost use Rattle.uug_session.specs.NumberStanding.{KeepsNumber, NumberStands};
 ghost use Rattle.uug_conversation.specs.OwnRequests.{KeepsWhatItAskedFor};
 ghost use Rattle.uug_conversation.specs.Sharing.{HaveSameJobs, OnlyMoves, all_jobs};
-ghost use Rattle.uug_conversation.specs.Talk.{unopened};
-ghost use Rattle.uug_conversation.specs.Talking.{talking_has_parted};
+ghost use Rattle.uug_conversation.specs.DialogueState.{unopened};
+ghost use Rattle.uug_conversation.specs.DialogueValue.{dialogue_has_parted};
 
 /// What is told of a call without the spool is the end's step beside it.
 pub fn calls_are_steps()
     ensures late { (h : Holdings) (kept : List Kept) (before after : EngineState)
         → Does (stage_late before.number before.identity
-        (talking_has_parted before.talking) before.stage before.link before.talking)
+        (dialogue_has_parted before.dialogue) before.stage before.link before.dialogue)
         (bare after) before after
         → Does (effect_of h kept time_ran_out before) (end_of h kept after) before after }
     ensures lost { (h : Holdings) (kept : List Kept) (e : EngineState)
         → effect_of h kept line_lost e
-        ≡ unmoved (end_of h kept (with_stage (hung_up (talking_has_parted e.talking) e.stage) e)) }
+        ≡ unmoved (end_of h kept (with_stage (hung_up (dialogue_has_parted e.dialogue) e.stage) e)) }
     ensures begins { (h : Holdings) (kept : List Kept) (id : Identity) (own : Announced)
         (number : Option ℕ) (l : Lists)
         (entries : List EntryValue) (after : EngineState)
@@ -37,19 +37,19 @@ pub fn calls_are_steps()
 pub fn jobs_stay_together()
     // An event only moves some from one list to another.
     ensures event { (h : Holdings) (kept : List Kept) (event : EndEvent) (e : EngineState)
-        → OnlyMoves e.talking.machine.lists (effect_of h kept event e).state.keeper.machine.lists }
+        → OnlyMoves e.dialogue.machine.lists (effect_of h kept event e).state.keeper.machine.lists }
     ensures moved { (before after : Lists) → OnlyMoves before after → HaveSameJobs before after }
     // So it is with all that is found in bytes that come, in whatever pieces.
     ensures goes_on { (h : Holdings) (kept kept_after : List Kept) (most faults later : ℕ)
         (bytes : List ℕ)
         (before after : NodeState)
         → GoesOn h kept kept_after (HasFailed most faults later) bytes before after
-        → HaveSameJobs before.engine.talking.machine.lists after.engine.talking.machine.lists }
+        → HaveSameJobs before.engine.dialogue.machine.lists after.engine.dialogue.machine.lists }
     ensures taken { (h : Holdings) (kept kept_after : List Kept) (most faults later : ℕ)
         (bytes : List ℕ)
         (before after : NodeState)
         → TakesAll h kept kept_after (HasFailed most faults later) bytes before after
-        → HaveSameJobs before.engine.talking.machine.lists after.engine.talking.machine.lists }
+        → HaveSameJobs before.engine.dialogue.machine.lists after.engine.dialogue.machine.lists }
     // The next session begins with the same ones.
     ensures again { (l : Lists) → all_jobs (all_ahead l) ≡ all_jobs l }
 {}
@@ -59,7 +59,7 @@ pub fn jobs_stay_together()
 pub fn struck_requests_were_kept()
     // Each event that happens to an end.
     ensures event { (h : Holdings) (kept : List Kept) (event : EndEvent) (e : EngineState)
-        → KeepsWhatItAskedFor e.talking.machine.lists.struck
+        → KeepsWhatItAskedFor e.dialogue.machine.lists.struck
         (effect_of h kept event e).state.keeper.machine.lists.struck
         kept (effect_of h kept event e).state.keeper.kept }
     // All that is found in bytes that come, in whatever pieces.
@@ -105,8 +105,8 @@ pub fn a_number_stands_as_the_session_does()
         → KeepsNumber before.engine after.engine }
     ensures late { (before after : EngineState)
         → Does (stage_late before.number before.identity
-        (talking_has_parted before.talking) before.stage before.link before.talking)
+        (dialogue_has_parted before.dialogue) before.stage before.link before.dialogue)
         (bare after) before after → KeepsNumber before after }
     ensures lost { (e : EngineState)
-        → KeepsNumber e (with_stage (hung_up (talking_has_parted e.talking) e.stage) e) }
+        → KeepsNumber e (with_stage (hung_up (dialogue_has_parted e.dialogue) e.stage) e) }
 {}

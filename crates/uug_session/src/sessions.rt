@@ -77,7 +77,7 @@ impl<S: Spool, A: Allocator + Copy> Node<S, A> {
         requires ended { IsEnded (node_of self.old).engine.stage }
         ensures session { OnOk result (BeginsSession (node_of self.old).engine.identity
             (node_of self.old).engine.own (node_of self.old).engine.number
-            (all_ahead (node_of self.old).engine.talking.machine.lists)
+            (all_ahead (node_of self.old).engine.dialogue.machine.lists)
             (node_of self.old).engine.outbox.entries (node_of self.new).engine) }
         ensures nothing_held { OnOk result (HoldsNothing (node_of self.new)) }
         ensures spool { spool_of self.new ≡ spool_of self.old }

@@ -6,7 +6,7 @@ ghost use Rattle.uug_conversation.specs.EarlierJobs.{behind};
 ghost use Rattle.uug_conversation.specs.Holdings.{Kept};
 ghost use Rattle.uug_conversation.specs.Jobs.{at_start};
 ghost use Rattle.uug_conversation.specs.Party.{Party};
-ghost use Rattle.uug_conversation.specs.Talk.{end_keeper, opened_with, taking, unopened, with_first_sent};
+ghost use Rattle.uug_conversation.specs.DialogueState.{end_keeper, opened_with, taking, unopened, with_first_sent};
 ghost use Rattle.uug_session.specs.Told.{count_of_talker, talk_behind};
 ghost use Rattle.uug_conversation.specs.declared.side.Side.{Side};
 ghost use Rattle.uug_session.specs.TwoEnds.{IsTold, Talker, after_act, first_talker, sends, takes};

@@ -8,7 +8,7 @@ use Rattle.uug_reader.specs.Cut.{Item}
 use Rattle.uug_reader.specs.Finding.{StandsFirst, PassesNoise}
 use Rattle.uug_reader.specs.Loan.{HasSearched}
 use Rattle.uug_reader.specs.Reading.{Reading}
-use Rattle.uug_reader.specs.Scan.{Finds}
+use Rattle.uug_reader.proofs.ScanLemmas.{Finds-item, Finds-join, Finds-append, Finds-fewer}
 use Rattle.uug_reader.specs.Shown.{item_of}
 use Rattle.uug_tool.specs.Listing.{line_of, lines_of, rest_line, listing_of}
 use Rattle.uug_tool.specs.Streams.{Appends, Moves}
@@ -21,21 +21,11 @@ lines_of-append [] more = refl
 lines_of-append (item ∷ items) more =
     ap (λ x. line_of item ++ x) (lines_of-append items more) ∙ sym (append_assoc (line_of item) (lines_of items) (lines_of more))
 
--- the law of a reader on what is found in steps
-abbrev pub Steps : Type 0
-Steps = record {
-  none : (s : List ℕ) → Finds s [] s;
-  item : (s : List ℕ) (item : Item) (n : ℕ) → StandsFirst item n s → Finds s (item ∷ []) (drop n s);
-  more : (s middle others : List ℕ) (items more : List Item) → Finds s items middle → Finds middle more others → Finds s (items ++ more) others;
-  behind : (s others t : List ℕ) (items : List Item) → Finds s items others → Finds (s ++ t) items (others ++ t);
-  fewer : (s others : List ℕ) (items : List Item) → Finds s items others → length others + length items ≤ length s;
-}
-
 -- items and then more items
-pub AddsLines-join : Steps → (s middle others x y z : List ℕ) → AddsLines s middle x y → AddsLines middle others y z → AddsLines s others x z
-AddsLines-join steps s middle others x y z h k = (
+pub AddsLines-join : (s middle others x y z : List ℕ) → AddsLines s middle x y → AddsLines middle others y z → AddsLines s others x z
+AddsLines-join s middle others x y z h k = (
   h.0 ++ k.0,
-  steps.more s middle others h.0 k.0 h.1 k.1,
+  Finds-join s middle others h.0 k.0 h.1 k.1,
   k.2 ∙ ap (λ t. t ++ lines_of k.0) h.2
       ∙ append_assoc x (lines_of h.0) (lines_of k.0)
       ∙ ap (λ t. x ++ t) (sym (lines_of-append h.0 k.0)),
@@ -46,9 +36,9 @@ AddsLines-noise : (s others x : List ℕ) → PassesNoise s others → AddsLines
 AddsLines-noise s others x h = ([], h, sym (append-nil x))
 
 -- an item at the front, whose line is added
-AddsLines-item : Steps → (item : Item) (n : ℕ) (s x y : List ℕ) → StandsFirst item n s → y ≡ x ++ line_of item → AddsLines s (drop n s) x y
-AddsLines-item steps item n s x y h e =
-    (item ∷ [], steps.item s item n h, e ∙ ap (λ t. x ++ t) (sym (append-nil (line_of item))))
+AddsLines-item : (item : Item) (n : ℕ) (s x y : List ℕ) → StandsFirst item n s → y ≡ x ++ line_of item → AddsLines s (drop n s) x y
+AddsLines-item item n s x y h e =
+    (item ∷ [], Finds-item s item n h, e ∙ ap (λ t. x ++ t) (sym (append-nil (line_of item))))
 
 -- ---- the loop over the items that a reader finds
 
@@ -57,42 +47,42 @@ pub record AddsItem (first old new x z : List ℕ) : Type 0 where
   pub added : AddsLines first new x z
 
 -- an item is found, its line is added, and it is dropped
-adds_item : Steps → (item : Item) (n : ℕ) (first old middle new x y z : List ℕ) → AddsLines first old x y → PassesNoise old middle → StandsFirst item n middle → new ≡ drop n middle → z ≡ y ++ line_of item → AddsItem first old new x z
-adds_item steps item n first old middle new x y z added passes stands new_is line_is =
-    let found_middle : AddsLines first middle x y = AddsLines-join steps first old middle x y y added (AddsLines-noise old middle y passes) in
-    let next : AddsLines first (drop n middle) x z = AddsLines-join steps first middle (drop n middle) x y z found_middle (AddsLines-item steps item n middle y z stands line_is) in
+adds_item : (item : Item) (n : ℕ) (first old middle new x y z : List ℕ) → AddsLines first old x y → PassesNoise old middle → StandsFirst item n middle → new ≡ drop n middle → z ≡ y ++ line_of item → AddsItem first old new x z
+adds_item item n first old middle new x y z added passes stands new_is line_is =
+    let found_middle : AddsLines first middle x y = AddsLines-join first old middle x y y added (AddsLines-noise old middle y passes) in
+    let next : AddsLines first (drop n middle) x z = AddsLines-join first middle (drop n middle) x y z found_middle (AddsLines-item item n middle y z stands line_is) in
     record {
-      fewer = omega (arith, steps.fewer old middle [] passes, steps.fewer middle (drop n middle) (item ∷ []) (steps.item middle item n stands), ap length new_is);
+      fewer = omega (arith, Finds-fewer old middle [] passes, Finds-fewer middle (drop n middle) (item ∷ []) (Finds-item middle item n stands), ap length new_is);
       added = subst (λ t. AddsLines first t x z) (sym new_is) next;
     }
 
 -- the same, as a reader finds it and drops it
-pub adds_found : Steps → (old ended : Reading) (new : List ℕ) (result : Option Found) (item : Found) (first x y z : List ℕ) → HasSearched old result ended → result ≡ Some item → new ≡ drop ended.shown_size ended.bytes → AddsLines first old.bytes x y → z ≡ y ++ line_of (item_of item) → AddsItem first old.bytes new x z
-adds_found steps old ended new result item first x y z searched is dropped added line_is =
+pub adds_found : (old ended : Reading) (new : List ℕ) (result : Option Found) (item : Found) (first x y z : List ℕ) → HasSearched old result ended → result ≡ Some item → new ≡ drop ended.shown_size ended.bytes → AddsLines first old.bytes x y → z ≡ y ++ line_of (item_of item) → AddsItem first old.bytes new x z
+adds_found old ended new result item first x y z searched is dropped added line_is =
     let here : HasSearched old (Some item) ended = subst (λ r. HasSearched old r ended) is searched in
-    adds_item steps (item_of item) ended.shown_size first old.bytes ended.bytes new x y z added here.passes here.shows.0 dropped line_is
+    adds_item (item_of item) ended.shown_size first old.bytes ended.bytes new x y z added here.passes here.shows.0 dropped line_is
 
 -- nothing more is found
-pub adds_ended : Steps → (first old ended x y : List ℕ) → AddsLines first old x y → PassesNoise old ended → AddsLines first ended x y
-adds_ended steps first old ended x y added passes = AddsLines-join steps first old ended x y y added (AddsLines-noise old ended y passes)
+pub adds_ended : (first old ended x y : List ℕ) → AddsLines first old x y → PassesNoise old ended → AddsLines first ended x y
+adds_ended first old ended x y added passes = AddsLines-join first old ended x y y added (AddsLines-noise old ended y passes)
 
 -- ---- the loop over a piece
 
-AddsLines-append : Steps → (s others t x y : List ℕ) → AddsLines s others x y → AddsLines (s ++ t) (others ++ t) x y
-AddsLines-append steps s others t x y h = (h.0, steps.behind s others t h.0 h.1, h.2)
+AddsLines-append : (s others t x y : List ℕ) → AddsLines s others x y → AddsLines (s ++ t) (others ++ t) x y
+AddsLines-append s others t x y h = (h.0, Finds-append s others t h.0 h.1, h.2)
 
 pub record AddsTaken (first rest old new x z : List ℕ) : Type 0 where
   pub fewer : length new < length old
   pub added : AddsLines first (rest ++ new) x z
 
 -- the reader takes the first bytes of what is left of a piece, and the lines of its items are added
-pub adds_taken : Steps → (n size : ℕ) (first held rest grown left behind x y z : List ℕ) → AddsLines first (held ++ rest) x y → n ≡ min (size - length held) (length rest) → length held < size → 0 < length rest → grown ≡ held ++ take n rest → left ≡ take (length rest - n) (drop n rest) → AddsLines grown behind y z → AddsTaken first behind rest left x z
-adds_taken steps n size first held rest grown left behind x y z added count room some grown_is left_is next =
+pub adds_taken : (n size : ℕ) (first held rest grown left behind x y z : List ℕ) → AddsLines first (held ++ rest) x y → n ≡ min (size - length held) (length rest) → length held < size → 0 < length rest → grown ≡ held ++ take n rest → left ≡ take (length rest - n) (drop n rest) → AddsLines grown behind y z → AddsTaken first behind rest left x z
+adds_taken n size first held rest grown left behind x y z added count room some grown_is left_is next =
     let left_rest : left ≡ drop n rest = left_is ∙ take_rest rest n in
     let same : held ++ rest ≡ grown ++ left = ap (λ t. held ++ t) (sym (take-append-drop n rest)) ∙ sym (append_assoc held (take n rest) (drop n rest)) ∙ ap (λ t. t ++ drop n rest) (sym grown_is) ∙ ap (λ t. grown ++ t) (sym left_rest) in
     record {
       fewer = omega (arith, count, room, some, ap length left_rest, length-drop n rest);
-      added = AddsLines-join steps first (grown ++ left) (behind ++ left) x y z (subst (λ t. AddsLines first t x y) same added) (AddsLines-append steps grown behind left y z next);
+      added = AddsLines-join first (grown ++ left) (behind ++ left) x y z (subst (λ t. AddsLines first t x y) same added) (AddsLines-append grown behind left y z next);
     }
 
 -- ---- the loop over the reads of an input
@@ -106,21 +96,21 @@ Progress reads (Some bytes) now held x y =
     × (text : List ℕ) × AddsLines bytes (held ++ rest) [] text × Appends text x y
 
 -- a piece is read, and the lines of the parts of what is then held are written
-pub Progress-piece : Steps → (reads n : ℕ) (first now then : Option (List ℕ)) (held others buffer lines : List ℕ) (x y z : Option (List ℕ)) → Progress reads first now held x y → Moves n buffer now then → (n ≡ 0 → ⊥) → n ≤ length buffer → length buffer ≡ PIECE_SIZE → AddsLines (held ++ take n buffer) others [] lines → Appends lines y z → Progress (reads + 1) first then others x z
-Progress-piece steps reads n None now then held others buffer lines x y z h moves some fits size added appended = tt
-Progress-piece steps reads n (Some bytes) now then held others buffer lines x y z h moves some fits size added appended =
+pub Progress-piece : (reads n : ℕ) (first now then : Option (List ℕ)) (held others buffer lines : List ℕ) (x y z : Option (List ℕ)) → Progress reads first now held x y → Moves n buffer now then → (n ≡ 0 → ⊥) → n ≤ length buffer → length buffer ≡ PIECE_SIZE → AddsLines (held ++ take n buffer) others [] lines → Appends lines y z → Progress (reads + 1) first then others x z
+Progress-piece reads n None now then held others buffer lines x y z h moves some fits size added appended = tt
+Progress-piece reads n (Some bytes) now then held others buffer lines x y z h moves some fits size added appended =
     let moved : Moves n buffer (Some h.0) then = rw h.1 at moves in
     let piece = take n buffer in
     let regrouped : held ++ h.0 ≡ (held ++ piece) ++ moved.0 = ap (λ t. held ++ t) moved.2 ∙ sym (append_assoc held piece moved.0) in
     let before : AddsLines bytes ((held ++ piece) ++ moved.0) [] h.4 = subst (λ t. AddsLines bytes t [] h.4) regrouped h.5 in
     let behind : AddsLines (held ++ piece) others h.4 (h.4 ++ lines) = (added.0, added.1, ap (λ t. h.4 ++ t) added.2) in
-    let after = AddsLines-append steps (held ++ piece) others moved.0 h.4 (h.4 ++ lines) behind in (
+    let after = AddsLines-append (held ++ piece) others moved.0 h.4 (h.4 ++ lines) behind in (
       moved.0,
       moved.1,
       omega (arith, h.2, some, fits, length-take n buffer, ap length moved.2, length-append piece moved.0),
       omega (arith, h.3, fits, size, length-take n buffer, ap length moved.2, length-append piece moved.0),
       h.4 ++ lines,
-      AddsLines-join steps bytes ((held ++ piece) ++ moved.0) (others ++ moved.0) [] h.4 (h.4 ++ lines) before after,
+      AddsLines-join bytes ((held ++ piece) ++ moved.0) (others ++ moved.0) [] h.4 (h.4 ++ lines) before after,
       Appends-join h.4 lines x y z h.6 appended,
     )
 

@@ -4,16 +4,13 @@ ghost use Rattle.uug_packet.specs.Bytes.{AreBytes};
 ghost use Rattle.uug_tool.specs.Listing.{IsListing};
 ghost use Rattle.uug_tool.specs.declared.scan.TheConstants.{PIECE_SIZE, READ_LIMIT};
 
-use uug_reader::laws::one_scan;
 
 /// Each stream of bytes has one listing, as it has one scan.
 pub fn one_listing()
     ensures some { (s : List ℕ) → AreBytes s → (text : List ℕ) × IsListing s text }
     ensures only { (s text other : List ℕ) → IsListing s text → IsListing s other
         → text ≡ other }
-{
-    one_scan();
-}
+{}
 
 /// The limits of a tool.
 pub fn limits()

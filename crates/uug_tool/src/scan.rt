@@ -9,7 +9,6 @@ use crate::input::Input;
 use crate::listing::{add_line, add_rest_line};
 use crate::output::{Output, write_all};
 use std::alloc::{AllocError, Allocator};
-use uug_reader::laws::found_in_steps;
 use uug_reader::{READER_SIZE, Reader};
 
 /// How many times an input is read, the read that finds its end among them.
@@ -28,7 +27,6 @@ fn list_items<A: Allocator>(
     ensures lists { OnOk result (AddsLines reader.old.bytes reader.new.bytes
         (string_bytes lines.old) (string_bytes lines.new)) }
 {
-    found_in_steps();
     while let Some(found) = reader.find() {
         add_line(lines, &found)?;
         reader.drop_found();
@@ -49,7 +47,6 @@ fn list_piece<A: Allocator>(
     ensures lists { OnOk result (AddsLines (reader.old.bytes ++ piece.now) reader.new.bytes
         (string_bytes lines.old) (string_bytes lines.new)) }
 {
-    found_in_steps();
     let mut rest = piece;
     while !rest.is_empty() {
         let taken = reader.push(rest);
@@ -79,7 +76,6 @@ pub fn scan_within<A: Allocator, I: Input, O: Output>(
         → IfSome (I.to_come input.old) (λ bytes. limit ≤ length bytes) }
     ensures no_other { IfErr result IsScanFault }
 {
-    found_in_steps();
     let mut reader = Reader::new(&alloc)?;
     let mut lines = String::new(&alloc);
     let mut piece = [0; PIECE_SIZE];

@@ -2,7 +2,7 @@ use Rattle.std.proofs.Common.{[], List, ◌++◌, ap, ◌∙◌, append_assoc}
 use Rattle.uug_conversation.specs.Holdings.{Kept}
 use Rattle.uug_conversation.specs.Jobs.{at_start}
 use Rattle.uug_conversation.specs.Machine.{Reply, step}
-use Rattle.uug_conversation.specs.Talk.{replied}
+use Rattle.uug_conversation.specs.DialogueState.{replied}
 use Rattle.uug_conversation.proofs.EarlierJobLemmas.{opening_behind, step_behind}
 use Rattle.uug_session.specs.Told.{talk_behind}
 use Rattle.uug_session.specs.TwoEnds.{after_act, takes}

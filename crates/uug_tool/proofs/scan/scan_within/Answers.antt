@@ -22,7 +22,7 @@ loop-preserved g c =
     let appended = subst (λ t. Appends t (g.O.Output.written c.loop.output) (g.O.Output.written c.write_all-in-loop.new.output)) c.as_bytes-in-loop.ensures.value c.in_ok-write_all.ensures.appends in
     record {
       progress =
-          Progress-piece c.found_in_steps.ensures c.loop.counter c.in_ok-count.count _ _ _ c.loop.reader.bytes c.list_piece.new.reader.bytes c.read.new.buffer lines _ _ _
+          Progress-piece c.loop.counter c.in_ok-count.count _ _ _ c.loop.reader.bytes c.list_piece.new.reader.bytes c.read.new.buffer lines _ _ _
           c.loop.invariant.progress c.in_ok-count.ensures.moves c.if-count-eq0.false (omega (arith, c.in_ok-count.ensures.within, c.read.auto.buffer)) (search rules) added appended;
       waits = c.in_ok-list_piece.ensures.waits;
       room = c.in_ok-list_piece.ensures.room;

@@ -1,6 +1,6 @@
 use Rattle.std.proofs.Common.{refl, ap, ◌∙◌}
-use Rattle.uug_conversation.specs.Talk.{taking}
-use Rattle.uug_conversation.specs.Talking.{Talking, state_of, talk_of}
+use Rattle.uug_conversation.specs.DialogueState.{taking}
+use Rattle.uug_conversation.specs.DialogueValue.{DialogueValue, state_of, dialogue_of}
 use Rattle.uug_conversation.proofs.DialogueLemmas.{taken_is}
 use Rattle.uug_conversation.proofs.dialogue.Dialogue.take.Goals as goal
 
@@ -12,13 +12,13 @@ returns-in-Some-clause-taken g c =
     let message = c.args.message.now in
     let next = c.in-Some.reaction in
     let jobs = c.reaction_to.new.queue in
-    let before : Talking = record {
+    let before : DialogueValue = record {
       opened = q.opened;
       machine = state_of q.queue q.awaits q.gather;
       size = q.size;
       outgoing = q.outgoing;
     } in
-    let after : Talking = record {
+    let after : DialogueValue = record {
       opened = q.opened;
       machine = state_of jobs next.awaits c.gather_for.result;
       size = q.size;
@@ -26,7 +26,7 @@ returns-in-Some-clause-taken g c =
     } in
     taken_is h kept (g.S.Spool.kept c.reaction_to.new.spool) before after message c.in_ok-told.told next
     (state_of jobs q.awaits c.reaction_to.new.gather)
-    (ap (λ (x : Talking). x.opened) c.self.view_is ∙ c.requires.opened) c.in-Some.is c.in_ok-told.ensures.reply
+    (ap (λ (x : DialogueValue). x.opened) c.self.view_is ∙ c.requires.opened) c.in-Some.is c.in_ok-told.ensures.reply
     c.in_ok-told.ensures.kept refl refl (ap (λ z. record { lists = jobs; awaits = next.awaits; gathered = z }) c.gather_for.ensures.bytes)
     c.say.ensures.within c.say.ensures.sayings c.say.ensures.offset
-    ∙ ap (λ (x : Talking). taking h message (talk_of h kept x)) c.self.view_is
+    ∙ ap (λ (x : DialogueValue). taking h message (dialogue_of h kept x)) c.self.view_is

@@ -1,4 +1,4 @@
-use Rattle.uug_conversation.specs.Talk.{Talk}
+use Rattle.uug_conversation.specs.DialogueState.{DialogueState}
 use Rattle.uug_line.specs.Belongings.{SetupValue}
 use Rattle.uug_line.specs.Run.{Run}
 use Rattle.uug_line.specs.RunValue.{IsSteady, StandsAs, run_value}
@@ -9,6 +9,6 @@ use Rattle.uug_line.proofs.running.RunSoFar.go_through.Given as goal
 abbrev pub invariant-loop-number : goal.invariant-loop-number
 invariant-loop-number g l = record {
   steady : IsSteady (run_value l.self);
-  runs : (setup : SetupValue) (run : Run Talk) → StandsAs setup run (run_value l.fn.self)
+  runs : (setup : SetupValue) (run : Run DialogueState) → StandsAs setup run (run_value l.fn.self)
       → StillRuns l.events l.number setup run (run_value l.self);
 }

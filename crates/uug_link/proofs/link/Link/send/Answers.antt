@@ -20,7 +20,7 @@ send_first-requires-clause-fits g c =
 pub invariant_of-self : goal.invariant_of-self
 invariant_of-self g c =
     let own = c.self.inside in
-    sent-linked c.packets_are_well_formed.ensures.read own.status (number_of c.plus-number.result) c.args.message.now own.slots
+    sent-linked own.status (number_of c.plus-number.result) c.args.message.now own.slots
     c.send_first.new.slots (record {
       linked = c.self.invariant;
       room = subst HasRoom (sym c.self.view_is) c.requires.room;
@@ -46,7 +46,7 @@ returns g c =
     c.send_first.new.out (Some nothing)) c.self.view_is
     (sent-follows _ _ message c.args.out.now c.send_first.new.out (record {
       up = sent.room.0;
-      state = ap (state_of own.status) (sent-messages c.packets_are_well_formed.ensures.read own.status _ message own.slots after sent);
+      state = ap (state_of own.status) (sent-messages own.status _ message own.slots after sent);
       emitted = c.send_first.ensures.emitted
           ∙ ap (λ (es : List EntryValue). es ++ written (record {
             packet = data_packet (state_of own.status []) (number_of c.plus-number.result) message;

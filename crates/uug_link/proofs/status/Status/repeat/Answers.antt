@@ -29,14 +29,14 @@ returns-clause-slots g c =
     let s = c.args.self in
     let h = again (number_of s.oldest) (number_of s.received) c.args.i c.args.slots.now c.re_ack.new.self
     s.oldest.below s.received.below c.requires.slots c.requires.within c.re_ack.ensures in
-    again-slots c.packets_are_well_formed.ensures.read _ _ c.args.i _ _ s.oldest.below c.requires.slots h
+    again-slots _ _ c.args.i _ _ s.oldest.below c.requires.slots h
 
 pub returns-clause-messages : goal.returns-clause-messages
 returns-clause-messages g c =
     let s = c.args.self in
     let h = again (number_of s.oldest) (number_of s.received) c.args.i c.args.slots.now c.re_ack.new.self
     s.oldest.below s.received.below c.requires.slots c.requires.within c.re_ack.ensures in
-    again-messages c.packets_are_well_formed.ensures.read _ _ c.args.i _ _ h
+    again-messages _ _ c.args.i _ _ h
 
 pub returns-clause-emitted : goal.returns-clause-emitted
 returns-clause-emitted g c =

@@ -1,21 +1,22 @@
 use Rattle.std.proofs.Common.{ap, ◌∙◌}
 use Rattle.uug_session.specs.EndStep.{EndState}
 use Rattle.uug_session.specs.Node.{node_of}
-use Rattle.uug_conversation.specs.Talking.{Talking}
+use Rattle.uug_conversation.specs.DialogueValue.{DialogueValue}
 use Rattle.uug_pair.specs.Seats.{seated}
+use Rattle.uug_pair.proofs.KeepingLemmas.{keeps_late, keeps_later, keeps_same}
 use Rattle.uug_pair.proofs.seat.Seat.time_out.Goals as goal
 
 pub returns-in_err-on_timeout-clause-jobs : goal.returns-in_err-on_timeout-clause-jobs
 returns-in_err-on_timeout-clause-jobs g c =
-    c.calls_keep.ensures.same _ _ _ _ (ap (λ (e : EndState Talking). e.keeper) c.in_err-on_timeout.ensures.err.end)
+    keeps_same _ _ _ _ (ap (λ (e : EndState DialogueValue). e.keeper) c.in_err-on_timeout.ensures.err.end)
     (ap g.S.Spool.kept c.on_timeout.ensures.spool)
 
 pub returns-clause-jobs : goal.returns-clause-jobs
 returns-clause-jobs g c =
     let before = g.S.Spool.kept c.args.self.now.node.spool in
     let between = node_of c.on_timeout.new.self in
-    c.calls_keep.ensures.later before before _ (seated c.args.self.now) between (seated c.note_emitted.new.self)
-    (c.calls_keep.ensures.late (g.S.Spool.holdings c.args.self.now.node.spool) before (seated c.args.self.now) between
+    keeps_later before before _ (seated c.args.self.now) between (seated c.note_emitted.new.self)
+    (keeps_late (g.S.Spool.holdings c.args.self.now.node.spool) before (seated c.args.self.now) between
     c.in_ok-on_timeout.ensures.ok)
-    (c.calls_keep.ensures.same before _ between (seated c.note_emitted.new.self) c.note_emitted.ensures.talking
+    (keeps_same before _ between (seated c.note_emitted.new.self) c.note_emitted.ensures.dialogue
     (ap g.S.Spool.kept (c.note_emitted.ensures.spool ∙ c.on_timeout.ensures.spool)))

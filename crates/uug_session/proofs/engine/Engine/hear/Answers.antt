@@ -11,8 +11,8 @@ use Rattle.uug_packet.specs.Packet.{shown}
 use Rattle.uug_session.specs.declared.end.End.TheVariants as ends
 use Rattle.uug_session.specs.EndStep.{ends_so, goes_on, leave, message_of}
 use Rattle.uug_session.specs.Engine.{Does, EngineState, end_of, entry_of, packet_effect, stage_of}
-use Rattle.uug_conversation.specs.Talk.{Talk, end_keeper, opened_with}
-use Rattle.uug_conversation.specs.Talking.{talk_of}
+use Rattle.uug_conversation.specs.DialogueState.{DialogueState, end_keeper, opened_with}
+use Rattle.uug_conversation.specs.DialogueValue.{dialogue_of}
 use Rattle.uug_session.proofs.EngineLemmas.{by_outcome, ends_does, goes_on_does}
 use Rattle.uug_session.proofs.SpeakLemmas.{has_parted_told}
 use Rattle.uug_link.proofs.OutcomeLemmas.{moves_of}
@@ -29,7 +29,7 @@ returns-in-Ok-Nothing-clause-does g c =
       own = announced i.place.announce;
       stage = stage_of i.stage;
       link = i.link;
-      talking = i.dialogue;
+      dialogue = i.dialogue;
       outbox = i.outbox;
       number = i.place.number;
     } in
@@ -38,7 +38,7 @@ returns-in-Ok-Nothing-clause-does g c =
       own = b.own;
       stage = b.stage;
       link = c.on_packet.new.self;
-      talking = i.dialogue;
+      dialogue = i.dialogue;
       outbox = c.on_packet.new.out;
       number = b.number;
     } in
@@ -47,7 +47,7 @@ returns-in-Ok-Nothing-clause-does g c =
     c.in-Ok-Nothing.field-0-is c.in-Ok-Nothing.ensures in
     let after = c.speak.new.self in
     subst (λ (x : EngineState). Does (packet_effect h kept false p x) (end_of h kept after) x after) c.self.view_is
-    (by_outcome (end_keeper b.identity.side h) b.identity false nothing e (message_of p) (talk_of h kept b.talking) (end_of h kept after) b after told.outcome
+    (by_outcome (end_keeper b.identity.side h) b.identity false nothing e (message_of p) (dialogue_of h kept b.dialogue) (end_of h kept after) b after told.outcome
     (goes_on_does h kept false e b m after told.state told.emitted
     (ap (λ (x : EngineState). x.stage) c.self.view_is ∙ c.requires.linked) refl refl refl c.speak.ensures.spoken c.speak.ensures.still))
 
@@ -62,7 +62,7 @@ returns-in-Err-Halted-clause-does g c =
       own = announced i.place.announce;
       stage = stage_of i.stage;
       link = i.link;
-      talking = i.dialogue;
+      dialogue = i.dialogue;
       outbox = i.outbox;
       number = i.place.number;
     } in
@@ -71,7 +71,7 @@ returns-in-Err-Halted-clause-does g c =
       own = b.own;
       stage = b.stage;
       link = c.on_packet.new.self;
-      talking = i.dialogue;
+      dialogue = i.dialogue;
       outbox = c.on_packet.new.out;
       number = b.number;
     } in
@@ -80,7 +80,7 @@ returns-in-Err-Halted-clause-does g c =
     c.in-Err-Halted.field-0-is c.in-Err-Halted.ensures in
     let after = c.speak-in-Err-Halted.new.self in
     subst (λ (x : EngineState). Does (packet_effect h kept false p x) (end_of h kept after) x after) c.self.view_is
-    (by_outcome (end_keeper b.identity.side h) b.identity false halted e (message_of p) (talk_of h kept b.talking) (end_of h kept after) b after told.outcome
+    (by_outcome (end_keeper b.identity.side h) b.identity false halted e (message_of p) (dialogue_of h kept b.dialogue) (end_of h kept after) b after told.outcome
     (goes_on_does h kept false e b m after told.state told.emitted
     (ap (λ (x : EngineState). x.stage) c.self.view_is ∙ c.requires.linked) refl refl refl c.speak-in-Err-Halted.ensures.spoken c.speak-in-Err-Halted.ensures.still))
 
@@ -107,7 +107,7 @@ returns-in-Ok-Up-clause-does g c =
       own = announced i.place.announce;
       stage = stage_of i.stage;
       link = i.link;
-      talking = i.dialogue;
+      dialogue = i.dialogue;
       outbox = i.outbox;
       number = i.place.number;
     } in
@@ -116,7 +116,7 @@ returns-in-Ok-Up-clause-does g c =
       own = b.own;
       stage = b.stage;
       link = c.on_packet.new.self;
-      talking = c.open.new.self;
+      dialogue = c.open.new.self;
       outbox = c.on_packet.new.out;
       number = b.number;
     } in
@@ -124,13 +124,13 @@ returns-in-Ok-Up-clause-does g c =
     let told = subst (λ (o : Outcome). Follows e i.link c.on_packet.new.self i.outbox c.on_packet.new.out (answered (Ok o)))
     c.in-Ok-Up.field-0-is c.in-Ok-Up.ensures in
     let after = c.speak-in-Ok-Up.new.self in
-    let talk = talk_of h kept b.talking in
-    let opened : talk_of h kept c.open.new.self ≡ opened_with b.identity.side h (size_of_code e.state.size_code) talk =
+    let talk = dialogue_of h kept b.dialogue in
+    let opened : dialogue_of h kept c.open.new.self ≡ opened_with b.identity.side h (size_of_code e.state.size_code) talk =
     c.open.ensures.opened ∙ ap (λ (n : ℕ). opened_with b.identity.side h n talk)
     (c.size-size.ensures.value ∙ ap (λ (s : State). size_of_code s.size_code) told.state) in
     subst (λ (x : EngineState). Does (packet_effect h kept false p x) (end_of h kept after) x after) c.self.view_is
     (by_outcome (end_keeper b.identity.side h) b.identity false up e (message_of p) talk (end_of h kept after) b after told.outcome
-    (subst (λ (t : Talk). Does (goes_on b.number (end_keeper b.identity.side h) false e t) (end_of h kept after) b after) opened
+    (subst (λ (t : DialogueState). Does (goes_on b.number (end_keeper b.identity.side h) false e t) (end_of h kept after) b after) opened
     (goes_on_does h kept false e b m after told.state told.emitted
     (ap (λ (x : EngineState). x.stage) c.self.view_is ∙ c.requires.linked) refl refl refl c.speak-in-Ok-Up.ensures.spoken c.speak-in-Ok-Up.ensures.still)))
 
@@ -145,7 +145,7 @@ returns-in-Ok-Closed-clause-does g c =
       own = announced i.place.announce;
       stage = stage_of i.stage;
       link = i.link;
-      talking = i.dialogue;
+      dialogue = i.dialogue;
       outbox = i.outbox;
       number = i.place.number;
     } in
@@ -154,12 +154,12 @@ returns-in-Ok-Closed-clause-does g c =
     c.in-Ok-Closed.field-0-is c.in-Ok-Closed.ensures in
     let after = c.finish.new.self in
     let done = c.finish.ensures in
-    let talk = talk_of h kept b.talking in
-    let parted = c.has_parted-has_parted.ensures ∙ has_parted_told h kept b.talking in
+    let talk = dialogue_of h kept b.dialogue in
+    let parted = c.has_parted-has_parted.ensures ∙ has_parted_told h kept b.dialogue in
     subst (λ (x : EngineState). Does (packet_effect h kept false p x) (end_of h kept after) x after) c.self.view_is
     (by_outcome (end_keeper b.identity.side h) b.identity false closed e (message_of p) talk (end_of h kept after) b after told.outcome
     (subst (λ (x : Bool). Does (ends_so b.number b.identity x ends.PeerClosed e talk false) (end_of h kept after) b after) parted
-    (ends_does b.identity c.has_parted-has_parted.result ends.PeerClosed e talk (talk_of h kept after.talking) false b after
-    done.stage (done.link ∙ told.state) (ap (talk_of h kept) done.talking)
+    (ends_does b.identity c.has_parted-has_parted.result ends.PeerClosed e talk (dialogue_of h kept after.dialogue) false b after
+    done.stage (done.link ∙ told.state) (ap (dialogue_of h kept) done.dialogue)
     (done.emitted ∙ ap (λ x. x ++ map entry_of (leave c.has_parted-has_parted.result b.identity.side)) told.emitted)
     done.identity done.own done.number)))

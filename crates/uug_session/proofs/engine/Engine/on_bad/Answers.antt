@@ -5,8 +5,8 @@ use Rattle.uug_link.specs.Follows.{Follows, answered, written}
 use Rattle.uug_link.specs.Step.{Effect, step, bad_found, nothing}
 use Rattle.uug_session.specs.EndStep.{bad_came}
 use Rattle.uug_session.specs.Engine.{Does, EngineState, end_of, stage_of}
-use Rattle.uug_conversation.specs.Talk.{end_keeper}
-use Rattle.uug_conversation.specs.Talking.{talk_of}
+use Rattle.uug_conversation.specs.DialogueState.{end_keeper}
+use Rattle.uug_conversation.specs.DialogueValue.{dialogue_of}
 use Rattle.uug_session.proofs.EngineLemmas.{by_outcome, goes_on_does}
 use Rattle.uug_session.proofs.engine.Engine.on_bad.Goals as goal
 
@@ -20,7 +20,7 @@ returns-in-Ok-Nothing-clause-ok g c =
       own = announced i.place.announce;
       stage = stage_of i.stage;
       link = i.link;
-      talking = i.dialogue;
+      dialogue = i.dialogue;
       outbox = i.outbox;
       number = i.place.number;
     } in
@@ -29,7 +29,7 @@ returns-in-Ok-Nothing-clause-ok g c =
       own = b.own;
       stage = b.stage;
       link = c.on_bad.new.self;
-      talking = i.dialogue;
+      dialogue = i.dialogue;
       outbox = c.on_bad.new.out;
       number = b.number;
     } in
@@ -37,8 +37,8 @@ returns-in-Ok-Nothing-clause-ok g c =
     let told = subst (λ (o : Outcome). Follows e i.link c.on_bad.new.self c.reserve.new.self c.on_bad.new.out (answered (Ok o)))
     c.in-Ok-Nothing.field-0-is c.in-Ok-Nothing.ensures in
     let after = c.speak.new.self in
-    subst (λ (x : EngineState). Does (bad_came x.number (end_keeper x.identity.side h) x.identity x.link (talk_of h kept x.talking))
+    subst (λ (x : EngineState). Does (bad_came x.number (end_keeper x.identity.side h) x.identity x.link (dialogue_of h kept x.dialogue))
     (end_of h kept after) x after) c.self.view_is
-    (by_outcome (end_keeper b.identity.side h) b.identity false nothing e [] (talk_of h kept b.talking) (end_of h kept after) b after told.outcome
+    (by_outcome (end_keeper b.identity.side h) b.identity false nothing e [] (dialogue_of h kept b.dialogue) (end_of h kept after) b after told.outcome
     (goes_on_does h kept false e b m after told.state (told.emitted ∙ ap (λ x. x ++ map written e.emitted) c.reserve.ensures.entries)
     (ap (λ (x : EngineState). x.stage) c.self.view_is ∙ c.requires.linked) refl refl refl c.speak.ensures.spoken c.speak.ensures.still))

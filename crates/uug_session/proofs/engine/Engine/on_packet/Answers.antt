@@ -17,7 +17,7 @@ returns-else-takes-clause-ok g c =
       own = announced i.place.announce;
       stage = stage_of i.stage;
       link = i.link;
-      talking = i.dialogue;
+      dialogue = i.dialogue;
       outbox = i.outbox;
       number = i.place.number;
     } in
@@ -26,7 +26,7 @@ returns-else-takes-clause-ok g c =
       own = b.own;
       stage = b.stage;
       link = i.link;
-      talking = c.reserve-2.new.self;
+      dialogue = c.reserve-2.new.self;
       outbox = c.reserve.new.self;
       number = b.number;
     } in

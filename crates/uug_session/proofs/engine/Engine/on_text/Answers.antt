@@ -17,7 +17,7 @@ returns-clause-ok g c =
       own = announced i.place.announce;
       stage = stage_of i.stage;
       link = i.link;
-      talking = i.dialogue;
+      dialogue = i.dialogue;
       outbox = i.outbox;
       number = i.place.number;
     } in
@@ -26,7 +26,7 @@ returns-clause-ok g c =
       own = b.own;
       stage = b.stage;
       link = i.link;
-      talking = i.dialogue;
+      dialogue = i.dialogue;
       outbox = c.on_text.new.out;
       number = c.number_behind-self-inside.result;
     } in
@@ -34,7 +34,7 @@ returns-clause-ok g c =
     let came : GreetingStep = text_came i.place.me i.place.peer i.place.number c.args.greeting c.args.text.now in
     let risen_so : m.number ≡ number_by came.rises b.number =
     c.number_behind-self-inside.ensures ∙ ap (λ (x : Bool). number_by x i.place.number) c.in_ok-led.ensures.rises in
-    subst (λ (x : EngineState). Does (behind_greeting x.number x.identity (text_came x.identity.me x.identity.peer x.number c.args.greeting c.args.text.now) x.link x.talking)
+    subst (λ (x : EngineState). Does (behind_greeting x.number x.identity (text_came x.identity.me x.identity.peer x.number c.args.greeting c.args.text.now) x.link x.dialogue)
     (bare after) x after) c.self.view_is
     (subst (λ (x : Greeted). Does (greeted_so (number_by came.rises b.number) b.identity x (map says_text came.says) i.link i.dialogue) (bare after) b after) c.in_ok-led.ensures.greeted
     (subst (λ (x : Option ℕ). Does (greeted_so x b.identity c.in_ok-led.led.greeted (map says_text came.says) i.link i.dialogue) (bare after) b after) risen_so

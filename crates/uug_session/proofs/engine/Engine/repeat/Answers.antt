@@ -5,7 +5,7 @@ use Rattle.uug_link.specs.Follows.{Follows, answered, written}
 use Rattle.uug_link.specs.Step.{Effect, step, timed_out, nothing}
 use Rattle.uug_session.specs.EndStep.{late}
 use Rattle.uug_session.specs.Engine.{Does, EngineState, bare, stage_of}
-use Rattle.uug_conversation.specs.Talking.{talking_has_parted}
+use Rattle.uug_conversation.specs.DialogueValue.{dialogue_has_parted}
 use Rattle.uug_session.proofs.EngineLemmas.{late_by, quiet_does}
 use Rattle.uug_session.proofs.engine.Engine.repeat.Goals as goal
 
@@ -17,7 +17,7 @@ returns-in-Ok-Nothing-clause-ok g c =
       own = announced i.place.announce;
       stage = stage_of i.stage;
       link = i.link;
-      talking = i.dialogue;
+      dialogue = i.dialogue;
       outbox = i.outbox;
       number = i.place.number;
     } in
@@ -26,13 +26,13 @@ returns-in-Ok-Nothing-clause-ok g c =
       own = b.own;
       stage = b.stage;
       link = c.on_timeout.new.self;
-      talking = i.dialogue;
+      dialogue = i.dialogue;
       outbox = c.on_timeout.new.out;
       number = b.number;
     } in
     let e : Effect = step i.link timed_out in
     let told = subst (λ (o : Outcome). Follows e i.link c.on_timeout.new.self c.reserve.new.self c.on_timeout.new.out (answered (Ok o)))
     c.in-Ok-Nothing.field-0-is c.in-Ok-Nothing.ensures in
-    subst (λ (x : EngineState). Does (late x.number x.identity (talking_has_parted x.talking) x.link x.talking) (bare m) x m) c.self.view_is
-    (late_by b.identity (talking_has_parted b.talking) nothing e b.talking (bare m) b m told.outcome
-    (quiet_does e b.talking b m (ap (λ (x : EngineState). x.stage) c.self.view_is ∙ c.requires.linked) told.state (told.emitted ∙ ap (λ x. x ++ map written e.emitted) c.reserve.ensures.entries) refl refl refl))
+    subst (λ (x : EngineState). Does (late x.number x.identity (dialogue_has_parted x.dialogue) x.link x.dialogue) (bare m) x m) c.self.view_is
+    (late_by b.identity (dialogue_has_parted b.dialogue) nothing e b.dialogue (bare m) b m told.outcome
+    (quiet_does e b.dialogue b m (ap (λ (x : EngineState). x.stage) c.self.view_is ∙ c.requires.linked) told.state (told.emitted ∙ ap (λ x. x ++ map written e.emitted) c.reserve.ensures.entries) refl refl refl))

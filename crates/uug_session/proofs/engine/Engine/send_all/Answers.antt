@@ -1,7 +1,7 @@
 use Rattle.std.proofs.Common.{◌≡◌, ◌-◌, ◌+◌, ℕ, zero, suc, ap, refl, sym, ◌∙◌, arith}
 use Rattle.uug_link.specs.declared.limits.TheConstants.{WINDOW_MAX}
 use Rattle.uug_session.specs.Engine.{after_sends}
-use Rattle.uug_conversation.specs.Talking.{talk_of}
+use Rattle.uug_conversation.specs.DialogueValue.{dialogue_of}
 use Rattle.uug_session.proofs.SaysLemmas.{sends_say}
 use Rattle.uug_session.proofs.SpeakLemmas.{stays_so}
 use Rattle.uug_session.proofs.engine.Engine.send_all.Goals as goal
@@ -34,7 +34,7 @@ returns-clause-sent g c =
     let kept = g.S.Spool.kept c.args.spool.now in
     let e = c.loop-sent.self in
     let none_left : zero ≡ WINDOW_MAX - c.loop-sent._sent = omega (arith, c.loop-sent-test.false) in
-    sym (stays_so e.outbox.entries _ e.link (talk_of h kept e.talking) refl)
+    sym (stays_so e.outbox.entries _ e.link (dialogue_of h kept e.dialogue) refl)
     ∙ ap (λ (n : ℕ). after_sends n h kept e) none_left ∙ c.loop-sent.invariant.sends
 
 pub returns-then-not-send_next-clause-says : goal.returns-then-not-send_next-clause-says
@@ -51,5 +51,5 @@ returns-clause-says g c within =
     let e = c.loop-sent.self in
     let none_left : zero ≡ WINDOW_MAX - c.loop-sent._sent = omega (arith, c.loop-sent-test.false) in
     sends_say h kept c.args.self.now e within
-    (sym (stays_so e.outbox.entries _ e.link (talk_of h kept e.talking) refl)
+    (sym (stays_so e.outbox.entries _ e.link (dialogue_of h kept e.dialogue) refl)
     ∙ ap (λ (n : ℕ). after_sends n h kept e) none_left ∙ c.loop-sent.invariant.sends)

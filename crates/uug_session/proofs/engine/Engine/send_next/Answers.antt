@@ -2,8 +2,8 @@ use Rattle.std.proofs.Common.{sym, ◌∙◌, ap}
 use Rattle.uug_link.specs.Announced.{announced}
 use Rattle.uug_session.specs.EndStep.{has_room}
 use Rattle.uug_session.specs.Engine.{EngineState, after_sends, stage_of}
-use Rattle.uug_conversation.specs.Talk.{end_keeper}
-use Rattle.uug_conversation.specs.Talking.{talk_of}
+use Rattle.uug_conversation.specs.DialogueState.{end_keeper}
+use Rattle.uug_conversation.specs.DialogueValue.{dialogue_of}
 use Rattle.uug_session.proofs.SpeakLemmas.{room_told, no_room, stays_so, says_nothing_more}
 use Rattle.uug_session.proofs.engine.Engine.send_next.Goals as goal
 
@@ -12,8 +12,8 @@ returns-then-not-room-clause-done g c n =
     let h = g.S.Spool.holdings c.args.spool.now in
     let kept = g.S.Spool.kept c.args.spool.now in
     let e = c.args.self.now in
-    stays_so e.outbox.entries _ e.link (talk_of h kept e.talking)
-    (no_room (end_keeper e.identity.side h) n e.link (talk_of h kept e.talking)
+    stays_so e.outbox.entries _ e.link (dialogue_of h kept e.dialogue)
+    (no_room (end_keeper e.identity.side h) n e.link (dialogue_of h kept e.dialogue)
     (ap (λ (x : EngineState). has_room x.link) (sym c.self.view_is)
     ∙ room_told c.self.inside.link c.room.result c.room.ensures ∙ c.if-not-room.true))
 
@@ -27,7 +27,7 @@ returns-then-not-take_message-clause-done g c n =
       own = announced i.place.announce;
       stage = stage_of i.stage;
       link = i.link;
-      talking = i.dialogue;
+      dialogue = i.dialogue;
       outbox = i.outbox;
       number = i.place.number;
     } in

@@ -1,7 +1,7 @@
 use Rattle.std.proofs.Common.{sym, ap, ◌∙◌}
 use Rattle.uug_session.specs.Engine.{EngineState}
 use Rattle.uug_session.specs.EndStep.{is_up}
-use Rattle.uug_conversation.specs.Talking.{talking_is_through}
+use Rattle.uug_conversation.specs.DialogueValue.{dialogue_is_through}
 use Rattle.uug_session.proofs.SpeakLemmas.{goes_on_open, says_nothing_down, up_from, up_told}
 use Rattle.uug_session.proofs.engine.Engine.speak.Goals as goal
 
@@ -17,4 +17,4 @@ returns-else-is_through-clause-spoken g c =
     (ap (λ (x : EngineState). x.link.phase) (sym c.self.view_is)
     ∙ up_from c.self.inside.link c.is_up.result c.is_up.ensures.up c.if-not-is_up.false)
     c.send_all.ensures.sent
-    (ap (λ (x : EngineState). talking_is_through x.talking) (sym c.self-2.view_is) ∙ sym c.is_through.ensures ∙ c.if-is_through.false)
+    (ap (λ (x : EngineState). dialogue_is_through x.dialogue) (sym c.self-2.view_is) ∙ sym c.is_through.ensures ∙ c.if-is_through.false)

@@ -10,8 +10,8 @@ use Rattle.uug_session.specs.EndStep.{Identity, ends_so, goes_on, leave, message
 use Rattle.uug_session.specs.Engine.{CountsFaults, Does, EngineState, TakesUp, after_speaking, end_of, entry_of, spoken_of, stage_of, faults_max}
 use Rattle.uug_conversation.specs.Holdings.{Holdings, Kept}
 use Rattle.uug_conversation.specs.Runs.{is_bad}
-use Rattle.uug_conversation.specs.Talk.{Talk, asks_spool, end_keeper, taking}
-use Rattle.uug_conversation.specs.Talking.{Talking, talk_of}
+use Rattle.uug_conversation.specs.DialogueState.{DialogueState, asks_spool, end_keeper, taking}
+use Rattle.uug_conversation.specs.DialogueValue.{DialogueValue, dialogue_of}
 use Rattle.uug_session.proofs.EngineLemmas.{closed_behind, ends_does, goes_on_does, taken_bad, taken_failed, taken_well, takes_up}
 use Rattle.uug_session.proofs.SpeakLemmas.{has_parted_told}
 use Rattle.uug_session.proofs.engine.Engine.take.Goals as goal
@@ -29,22 +29,22 @@ returns-then-is_bad-clause-ok g c =
       own = announced i.place.announce;
       stage = stage_of i.stage;
       link = i.link;
-      talking = i.dialogue;
+      dialogue = i.dialogue;
       outbox = i.outbox;
       number = i.place.number;
     } in
     let e : Effect = step i.link (packet_found p) in
     let k = end_keeper b.identity.side h in
-    let talk = talk_of h kept i.dialogue in
+    let talk = dialogue_of h kept i.dialogue in
     let outcome = ap (λ (x : EngineState). (step x.link (packet_found p)).outcome) c.self.view_is ∙ c.requires.taken in
-    let told : talk_of h kept_after c.take.new.self ≡ taking h (message_of p) talk =
+    let told : dialogue_of h kept_after c.take.new.self ≡ taking h (message_of p) talk =
     c.in-Ok.ensures.taken ∙ ap (λ (x : List ℕ). taking h x talk) c.message_of.ensures in
     let a = c.answer.new.self in
     let answered = c.answer.ensures in
     let bad_as : is_bad (taking h (message_of p) talk).machine.awaits ≡ c.is_bad.result =
-    ap (λ (x : Talk). is_bad x.machine.awaits) (sym told)
-    ∙ ap (λ (x : Talking). is_bad x.machine.awaits) (sym answered.talking)
-    ∙ ap (λ (x : EngineState). is_bad x.talking.machine.awaits) (sym c.self-in-Ok.view_is)
+    ap (λ (x : DialogueState). is_bad x.machine.awaits) (sym told)
+    ∙ ap (λ (x : DialogueValue). is_bad x.machine.awaits) (sym answered.dialogue)
+    ∙ ap (λ (x : EngineState). is_bad x.dialogue.machine.awaits) (sym c.self-in-Ok.view_is)
     ∙ sym c.is_bad.ensures in
     let after = c.break_off.new.self in
     let done = c.break_off.ensures in
@@ -54,9 +54,9 @@ returns-then-is_bad-clause-ok g c =
     (takes_up h kept kept_after counts false p b after (ends_so b.number b.identity (k.has_parted talk) ends.BadTalk (then_closes e) (taking h (message_of p) talk) true)
     (taken_bad b.number k b.identity e (message_of p) talk outcome (bad_as ∙ c.if-is_bad.true))
     (subst (λ (x : Bool). Does (ends_so b.number b.identity x ends.BadTalk (then_closes e) (taking h (message_of p) talk) true) (end_of h kept_after after) b after) as_parted
-    (ends_does b.identity parted ends.BadTalk (then_closes e) (taking h (message_of p) talk) (talk_of h kept_after after.talking) true b after
+    (ends_does b.identity parted ends.BadTalk (then_closes e) (taking h (message_of p) talk) (dialogue_of h kept_after after.dialogue) true b after
     done.stage (done.link ∙ ap (λ (s : State). (step s to_close).state) answered.link)
-    (ap (talk_of h kept_after) (done.talking ∙ answered.talking) ∙ told)
+    (ap (dialogue_of h kept_after) (done.dialogue ∙ answered.dialogue) ∙ told)
     (done.emitted
     ∙ ap (λ (x : Identity). (a.outbox.entries ++ map written (step a.link to_close).emitted) ++ map entry_of (leave parted x.side)) answered.still.identity
     ∙ ap (λ (x : List EntryValue). x ++ map entry_of (leave parted b.identity.side))
@@ -77,29 +77,29 @@ returns-else-is_bad-clause-ok g c =
       own = announced i.place.announce;
       stage = stage_of i.stage;
       link = i.link;
-      talking = i.dialogue;
+      dialogue = i.dialogue;
       outbox = i.outbox;
       number = i.place.number;
     } in
     let e : Effect = step i.link (packet_found p) in
     let k = end_keeper b.identity.side h in
-    let talk = talk_of h kept i.dialogue in
+    let talk = dialogue_of h kept i.dialogue in
     let outcome = ap (λ (x : EngineState). (step x.link (packet_found p)).outcome) c.self.view_is ∙ c.requires.taken in
-    let told : talk_of h kept_after c.take.new.self ≡ taking h (message_of p) talk =
+    let told : dialogue_of h kept_after c.take.new.self ≡ taking h (message_of p) talk =
     c.in-Ok.ensures.taken ∙ ap (λ (x : List ℕ). taking h x talk) c.message_of.ensures in
     let a = c.answer.new.self in
     let answered = c.answer.ensures in
     let bad_as : is_bad (taking h (message_of p) talk).machine.awaits ≡ c.is_bad.result =
-    ap (λ (x : Talk). is_bad x.machine.awaits) (sym told)
-    ∙ ap (λ (x : Talking). is_bad x.machine.awaits) (sym answered.talking)
-    ∙ ap (λ (x : EngineState). is_bad x.talking.machine.awaits) (sym c.self-in-Ok.view_is)
+    ap (λ (x : DialogueState). is_bad x.machine.awaits) (sym told)
+    ∙ ap (λ (x : DialogueValue). is_bad x.machine.awaits) (sym answered.dialogue)
+    ∙ ap (λ (x : EngineState). is_bad x.dialogue.machine.awaits) (sym c.self-in-Ok.view_is)
     ∙ sym c.is_bad.ensures in
     let after = c.speak.new.self in
     let spoken = subst (λ (x : Holdings). spoken_of x kept_after after ≡ after_speaking x kept_after a) c.in-Ok.ensures.holdings c.speak.ensures.spoken in
     subst (λ (x : EngineState). TakesUp h kept kept_after counts p x after true) c.self.view_is
     (takes_up h kept kept_after counts false p b after (goes_on b.number k true e (taking h (message_of p) talk))
     (taken_well b.number k b.identity e (message_of p) talk outcome (bad_as ∙ c.if-is_bad.false))
-    (subst (λ (x : Talk). Does (goes_on b.number k true e x) (end_of h kept_after after) b after) (ap (talk_of h kept_after) answered.talking ∙ told)
+    (subst (λ (x : DialogueState). Does (goes_on b.number k true e x) (end_of h kept_after after) b after) (ap (dialogue_of h kept_after) answered.dialogue ∙ told)
     (goes_on_does h kept_after true e b a after answered.link answered.emitted
     (answered.still.stage ∙ ap (λ (x : EngineState). x.stage) c.self.view_is ∙ c.requires.linked)
     answered.still.identity answered.still.own answered.still.number spoken c.speak.ensures.still))
@@ -118,13 +118,13 @@ returns-in-Err-Device-clause-ok g c =
       own = announced i.place.announce;
       stage = stage_of i.stage;
       link = i.link;
-      talking = i.dialogue;
+      dialogue = i.dialogue;
       outbox = i.outbox;
       number = i.place.number;
     } in
     let e : Effect = step i.link (packet_found p) in
     let k = end_keeper b.identity.side h in
-    let talk = talk_of h kept i.dialogue in
+    let talk = dialogue_of h kept i.dialogue in
     let outcome = ap (λ (x : EngineState). (step x.link (packet_found p)).outcome) c.self.view_is ∙ c.requires.taken in
     let failed = c.in-Err-Device.ensures in
     let a = c.answer-in-Err-Device.new.self in
@@ -133,16 +133,16 @@ returns-in-Err-Device-clause-ok g c =
     let done = c.break_off-in-Err-Device.ensures in
     let parted = c.has_parted-has_parted.result in
     let as_parted = c.has_parted-has_parted.ensures ∙ has_parted_told h kept i.dialogue in
-    let told : talk_of h kept_after c.take.new.self ≡ talk =
-    ap (talk_of h kept_after) failed.same ∙ ap (λ (x : List Kept). talk_of h x i.dialogue) failed.none_kept in
+    let told : dialogue_of h kept_after c.take.new.self ≡ talk =
+    ap (dialogue_of h kept_after) failed.same ∙ ap (λ (x : List Kept). dialogue_of h x i.dialogue) failed.none_kept in
     subst (λ (x : EngineState). TakesUp h kept kept_after counts p x after true) c.self.view_is
     (takes_up h kept kept_after counts true p b after (ends_so b.number b.identity (k.has_parted talk) ends.SpoolFault (then_closes e) talk true)
     (taken_failed b.number k b.identity e (message_of p) talk outcome
     (ap (asks_spool h i.dialogue.machine) (sym c.message_of.ensures) ∙ failed.asked (ap Err c.in-Err-Device.field-0-is)))
     (subst (λ (x : Bool). Does (ends_so b.number b.identity x ends.SpoolFault (then_closes e) talk true) (end_of h kept_after after) b after) as_parted
-    (ends_does b.identity parted ends.SpoolFault (then_closes e) talk (talk_of h kept_after after.talking) true b after
+    (ends_does b.identity parted ends.SpoolFault (then_closes e) talk (dialogue_of h kept_after after.dialogue) true b after
     done.stage (done.link ∙ ap (λ (s : State). (step s to_close).state) answered.link)
-    (ap (talk_of h kept_after) (done.talking ∙ answered.talking) ∙ told)
+    (ap (dialogue_of h kept_after) (done.dialogue ∙ answered.dialogue) ∙ told)
     (done.emitted
     ∙ ap (λ (x : Identity). (a.outbox.entries ++ map written (step a.link to_close).emitted) ++ map entry_of (leave parted x.side)) answered.still.identity
     ∙ ap (λ (x : List EntryValue). x ++ map entry_of (leave parted b.identity.side))

@@ -10,9 +10,9 @@ use Rattle.uug_conversation.specs.Machine.{State, Reply, kind_awaited}
 use Rattle.uug_conversation.specs.Outgoing.{Outgoing, is_silent, outgoing_messages}
 use Rattle.uug_conversation.specs.Reactions.{reply_of}
 use Rattle.uug_conversation.specs.Runs.{is_over}
-use Rattle.uug_conversation.specs.Talk.{Talk, has_parted_by}
+use Rattle.uug_conversation.specs.DialogueState.{DialogueState, has_parted_by}
 
-pub record Talking : Type 0 where
+pub record DialogueValue : Type 0 where
   -- the link has come up in this session
   pub opened : Bool
   pub machine : State
@@ -21,8 +21,8 @@ pub record Talking : Type 0 where
   pub outgoing : Outgoing
 
 -- beside a spool with these holdings that has kept these files
-abbrev pub talk_of : Holdings → List Kept → Talking → Talk
-talk_of h kept t = record {
+abbrev pub dialogue_of : Holdings → List Kept → DialogueValue → DialogueState
+dialogue_of h kept t = record {
   opened = t.opened;
   machine = t.machine;
   size = t.size;
@@ -31,12 +31,12 @@ talk_of h kept t = record {
 }
 
 -- all is said and nothing more is to come
-abbrev pub talking_is_through : Talking → Bool
-talking_is_through t = is_over t.machine.awaits && is_silent t.outgoing.sayings
+abbrev pub dialogue_is_through : DialogueValue → Bool
+dialogue_is_through t = is_over t.machine.awaits && is_silent t.outgoing.sayings
 
 -- HY was said or taken
-abbrev pub talking_has_parted : Talking → Bool
-talking_has_parted t = has_parted_by t.machine.awaits (is_silent t.outgoing.sayings)
+abbrev pub dialogue_has_parted : DialogueValue → Bool
+dialogue_has_parted t = has_parted_by t.machine.awaits (is_silent t.outgoing.sayings)
 
 -- what has come of what is awaited: it is not whole, and within its limit
 pub record IsPart (awaited : Awaits) (g : Gathering) : Type 0 where

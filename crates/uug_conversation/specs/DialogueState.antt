@@ -13,7 +13,7 @@ use Rattle.uug_conversation.specs.Runs.{is_over, is_bad}
 use Rattle.uug_conversation.specs.Turns.{all_messages}
 use Rattle.uug_conversation.specs.declared.side.Side.{Side}
 
-pub record Talk : Type 0 where
+pub record DialogueState : Type 0 where
   -- the link has come up in this session
   pub opened : Bool
   pub machine : State
@@ -25,10 +25,10 @@ pub record Talk : Type 0 where
   pub kept : List Kept
 
 -- before the link is up nothing is done
-abbrev pub unopened : Lists → List Kept → Talk
+abbrev pub unopened : Lists → List Kept → DialogueState
 unopened l kept = record { opened = false; machine = between l awaits.Order; size = 0; waiting = []; kept = kept }
 
-abbrev pub replied : (size : ℕ) → (waiting : List (List ℕ)) → (kept : List Kept) → Reply → Talk
+abbrev pub replied : (size : ℕ) → (waiting : List (List ℕ)) → (kept : List Kept) → Reply → DialogueState
 replied size waiting kept reply = record {
   opened = true;
   machine = reply.state;
@@ -64,26 +64,26 @@ abbrev pub asks_spool : Holdings → State → (message : List ℕ) → Bool
 asks_spool h s message = is_kept_now h (gathered_with s message) (file_awaited s.awaits s.lists.ahead)
 
 -- the link has come up, with messages of this size
-abbrev pub opened_with : Side → Holdings → (size : ℕ) → Talk → Talk
+abbrev pub opened_with : Side → Holdings → (size : ℕ) → DialogueState → DialogueState
 opened_with side h size talk = replied size [] talk.kept (opening side h talk.machine.lists)
 
 -- a message of the other end is taken
-abbrev pub taking : Holdings → (message : List ℕ) → Talk → Talk
+abbrev pub taking : Holdings → (message : List ℕ) → DialogueState → DialogueState
 taking h message talk = replied talk.size talk.waiting talk.kept (step h talk.machine message)
 
 -- the first message that waits is sent
-abbrev pub with_first_sent : Talk → Talk
+abbrev pub with_first_sent : DialogueState → DialogueState
 with_first_sent talk = record talk { waiting = behind_first talk.waiting }
 
 -- all is said and nothing more is to come
-abbrev pub is_through : Talk → Bool
+abbrev pub is_through : DialogueState → Bool
 is_through talk = is_over talk.machine.awaits && is_empty talk.waiting
 
-abbrev pub talk_has_parted : Talk → Bool
-talk_has_parted talk = has_parted_by talk.machine.awaits (is_empty talk.waiting)
+abbrev pub state_has_parted : DialogueState → Bool
+state_has_parted talk = has_parted_by talk.machine.awaits (is_empty talk.waiting)
 
 -- the keeper of an end on this side with these holdings
-abbrev pub end_keeper : Side → Holdings → Keeper Talk
+abbrev pub end_keeper : Side → Holdings → Keeper DialogueState
 end_keeper side h = record {
   opened = opened_with side h;
   taking = taking h;
@@ -92,5 +92,5 @@ end_keeper side h = record {
   sent = with_first_sent;
   is_bad = λ talk. is_bad talk.machine.awaits;
   is_over = is_through;
-  has_parted = talk_has_parted;
+  has_parted = state_has_parted;
 }
