@@ -32,6 +32,10 @@ use Rattle.uug_conversation.specs.declared.side.Side.TheVariants.{Caller, Called
 use Rattle.uug_link.proofs.OutcomeLemmas.{moves_of}
 use Rattle.uug_link.proofs.TermsLemmas.{size_stays}
 
+-- what an engine showed, of the equation that says what it shows
+abbrev pub shown_by : {T : Type 0} {x y : T} → x ≡ y → T
+shown_by {x = x} e = x
+
 -- packets stand in an outbox as they are written
 pub packets_written : (es : List Emission) → map entry_of (packets es) ≡ map written es
 packets_written [] = refl

@@ -1,5 +1,4 @@
 use Rattle.std.proofs.Common.{◌≡◌, ℕ, Bool, false, ◌++◌, map, subst, sym, ap, ◌∙◌, refl, Err, Ok}
-use Rattle.uug_link.specs.Announced.{announced}
 use Rattle.uug_link.specs.declared.outcome.LinkFault.{LinkFault}
 use Rattle.uug_link.specs.declared.outcome.Outcome.{Outcome}
 use Rattle.uug_link.specs.Follows.{Follows, answered}
@@ -10,10 +9,10 @@ use Rattle.uug_link.specs.Terms.{size_of_code}
 use Rattle.uug_packet.specs.Packet.{shown}
 use Rattle.uug_session.specs.declared.end.End.TheVariants as ends
 use Rattle.uug_session.specs.EndStep.{ends_so, goes_on, leave, message_of}
-use Rattle.uug_session.specs.Engine.{Does, EngineState, end_of, entry_of, packet_effect, stage_of}
+use Rattle.uug_session.specs.Engine.{Does, EngineState, end_of, entry_of, packet_effect}
 use Rattle.uug_conversation.specs.DialogueState.{DialogueState, end_keeper, opened_with}
 use Rattle.uug_conversation.specs.DialogueValue.{dialogue_of}
-use Rattle.uug_session.proofs.EngineLemmas.{by_outcome, ends_does, goes_on_does}
+use Rattle.uug_session.proofs.EngineLemmas.{by_outcome, ends_does, goes_on_does, shown_by}
 use Rattle.uug_session.proofs.SpeakLemmas.{has_parted_told}
 use Rattle.uug_link.proofs.OutcomeLemmas.{moves_of}
 use Rattle.uug_session.proofs.engine.Engine.hear.Goals as goal
@@ -24,24 +23,8 @@ returns-in-Ok-Nothing-clause-does g c =
     let kept = g.S.Spool.kept c.args.spool.now in
     let p = shown c.args.packet.now in
     let i = c.self.inside in
-    let b : EngineState = record {
-      identity = record { side = i.side; me = i.place.me; peer = i.place.peer };
-      own = announced i.place.announce;
-      stage = stage_of i.stage;
-      link = i.link;
-      dialogue = i.dialogue;
-      outbox = i.outbox;
-      number = i.place.number;
-    } in
-    let m : EngineState = record {
-      identity = b.identity;
-      own = b.own;
-      stage = b.stage;
-      link = c.on_packet.new.self;
-      dialogue = i.dialogue;
-      outbox = c.on_packet.new.out;
-      number = b.number;
-    } in
+    let b = shown_by c.self.view_is in
+    let m : EngineState = record b { link = c.on_packet.new.self; outbox = c.on_packet.new.out } in
     let e : Effect = step i.link (packet_found p) in
     let told = subst (λ (o : Outcome). Follows e i.link c.on_packet.new.self i.outbox c.on_packet.new.out (answered (Ok o)))
     c.in-Ok-Nothing.field-0-is c.in-Ok-Nothing.ensures in
@@ -57,24 +40,8 @@ returns-in-Err-Halted-clause-does g c =
     let kept = g.S.Spool.kept c.args.spool.now in
     let p = shown c.args.packet.now in
     let i = c.self.inside in
-    let b : EngineState = record {
-      identity = record { side = i.side; me = i.place.me; peer = i.place.peer };
-      own = announced i.place.announce;
-      stage = stage_of i.stage;
-      link = i.link;
-      dialogue = i.dialogue;
-      outbox = i.outbox;
-      number = i.place.number;
-    } in
-    let m : EngineState = record {
-      identity = b.identity;
-      own = b.own;
-      stage = b.stage;
-      link = c.on_packet.new.self;
-      dialogue = i.dialogue;
-      outbox = c.on_packet.new.out;
-      number = b.number;
-    } in
+    let b = shown_by c.self.view_is in
+    let m : EngineState = record b { link = c.on_packet.new.self; outbox = c.on_packet.new.out } in
     let e : Effect = step i.link (packet_found p) in
     let told = subst (λ (o : LinkFault). Follows e i.link c.on_packet.new.self i.outbox c.on_packet.new.out (answered (Err o)))
     c.in-Err-Halted.field-0-is c.in-Err-Halted.ensures in
@@ -102,24 +69,8 @@ returns-in-Ok-Up-clause-does g c =
     let kept = g.S.Spool.kept c.args.spool.now in
     let p = shown c.args.packet.now in
     let i = c.self.inside in
-    let b : EngineState = record {
-      identity = record { side = i.side; me = i.place.me; peer = i.place.peer };
-      own = announced i.place.announce;
-      stage = stage_of i.stage;
-      link = i.link;
-      dialogue = i.dialogue;
-      outbox = i.outbox;
-      number = i.place.number;
-    } in
-    let m : EngineState = record {
-      identity = b.identity;
-      own = b.own;
-      stage = b.stage;
-      link = c.on_packet.new.self;
-      dialogue = c.open.new.self;
-      outbox = c.on_packet.new.out;
-      number = b.number;
-    } in
+    let b = shown_by c.self.view_is in
+    let m : EngineState = record b { link = c.on_packet.new.self; dialogue = c.open.new.self; outbox = c.on_packet.new.out } in
     let e : Effect = step i.link (packet_found p) in
     let told = subst (λ (o : Outcome). Follows e i.link c.on_packet.new.self i.outbox c.on_packet.new.out (answered (Ok o)))
     c.in-Ok-Up.field-0-is c.in-Ok-Up.ensures in
@@ -140,15 +91,7 @@ returns-in-Ok-Closed-clause-does g c =
     let kept = g.S.Spool.kept c.args.spool.now in
     let p = shown c.args.packet.now in
     let i = c.self.inside in
-    let b : EngineState = record {
-      identity = record { side = i.side; me = i.place.me; peer = i.place.peer };
-      own = announced i.place.announce;
-      stage = stage_of i.stage;
-      link = i.link;
-      dialogue = i.dialogue;
-      outbox = i.outbox;
-      number = i.place.number;
-    } in
+    let b = shown_by c.self.view_is in
     let e : Effect = step i.link (packet_found p) in
     let told = subst (λ (o : Outcome). Follows e i.link c.on_packet.new.self i.outbox c.on_packet.new.out (answered (Ok o)))
     c.in-Ok-Closed.field-0-is c.in-Ok-Closed.ensures in

@@ -1,13 +1,12 @@
 use Rattle.std.proofs.Common.{false, ◌++◌, map, [], subst, ap, ◌∙◌, refl, Ok}
-use Rattle.uug_link.specs.Announced.{announced}
 use Rattle.uug_link.specs.declared.outcome.Outcome.{Outcome}
 use Rattle.uug_link.specs.Follows.{Follows, answered, written}
 use Rattle.uug_link.specs.Step.{Effect, step, bad_found, nothing}
 use Rattle.uug_session.specs.EndStep.{bad_came}
-use Rattle.uug_session.specs.Engine.{Does, EngineState, end_of, stage_of}
+use Rattle.uug_session.specs.Engine.{Does, EngineState, end_of}
 use Rattle.uug_conversation.specs.DialogueState.{end_keeper}
 use Rattle.uug_conversation.specs.DialogueValue.{dialogue_of}
-use Rattle.uug_session.proofs.EngineLemmas.{by_outcome, goes_on_does}
+use Rattle.uug_session.proofs.EngineLemmas.{by_outcome, goes_on_does, shown_by}
 use Rattle.uug_session.proofs.engine.Engine.on_bad.Goals as goal
 
 pub returns-in-Ok-Nothing-clause-ok : goal.returns-in-Ok-Nothing-clause-ok
@@ -15,24 +14,8 @@ returns-in-Ok-Nothing-clause-ok g c =
     let h = g.S.Spool.holdings c.args.spool.now in
     let kept = g.S.Spool.kept c.args.spool.now in
     let i = c.self.inside in
-    let b : EngineState = record {
-      identity = record { side = i.side; me = i.place.me; peer = i.place.peer };
-      own = announced i.place.announce;
-      stage = stage_of i.stage;
-      link = i.link;
-      dialogue = i.dialogue;
-      outbox = i.outbox;
-      number = i.place.number;
-    } in
-    let m : EngineState = record {
-      identity = b.identity;
-      own = b.own;
-      stage = b.stage;
-      link = c.on_bad.new.self;
-      dialogue = i.dialogue;
-      outbox = c.on_bad.new.out;
-      number = b.number;
-    } in
+    let b = shown_by c.self.view_is in
+    let m : EngineState = record b { link = c.on_bad.new.self; outbox = c.on_bad.new.out } in
     let e : Effect = step i.link bad_found in
     let told = subst (λ (o : Outcome). Follows e i.link c.on_bad.new.self c.reserve.new.self c.on_bad.new.out (answered (Ok o)))
     c.in-Ok-Nothing.field-0-is c.in-Ok-Nothing.ensures in

@@ -1,8 +1,7 @@
 use Rattle.std.proofs.Common.{◌∙◌, false, subst, sym, refl, true≢false}
-use Rattle.uug_link.specs.Announced.{announced}
 use Rattle.uug_packet.specs.Packet.{shown}
-use Rattle.uug_session.specs.Engine.{CountsFaults, EngineState, TakesUp, stage_of, faults_max}
-use Rattle.uug_session.proofs.EngineLemmas.{hears_reserved, talk_reserved}
+use Rattle.uug_session.specs.Engine.{CountsFaults, EngineState, TakesUp, faults_max}
+use Rattle.uug_session.proofs.EngineLemmas.{hears_reserved, shown_by, talk_reserved}
 use Rattle.uug_session.proofs.engine.Engine.on_packet.Goals as goal
 
 pub returns-else-takes-clause-ok : goal.returns-else-takes-clause-ok
@@ -12,24 +11,8 @@ returns-else-takes-clause-ok g c =
     let faults = g.S.Spool.faults c.args.spool.now in
     let p = shown c.args.packet.now in
     let i = c.self.inside in
-    let b : EngineState = record {
-      identity = record { side = i.side; me = i.place.me; peer = i.place.peer };
-      own = announced i.place.announce;
-      stage = stage_of i.stage;
-      link = i.link;
-      dialogue = i.dialogue;
-      outbox = i.outbox;
-      number = i.place.number;
-    } in
-    let m : EngineState = record {
-      identity = b.identity;
-      own = b.own;
-      stage = b.stage;
-      link = i.link;
-      dialogue = c.reserve-2.new.self;
-      outbox = c.reserve.new.self;
-      number = b.number;
-    } in
+    let b = shown_by c.self.view_is in
+    let m : EngineState = record b { dialogue = c.reserve-2.new.self; outbox = c.reserve.new.self } in
     let room = c.in_ok-reserve-2.ensures in
     subst (λ (x : EngineState). TakesUp h kept kept (CountsFaults faults_max faults faults) p x c.hear.new.self false) c.self.view_is
     (hears_reserved h kept (CountsFaults faults_max faults faults) p b m c.hear.new.self refl refl refl refl

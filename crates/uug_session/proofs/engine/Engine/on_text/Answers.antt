@@ -1,35 +1,18 @@
 use Rattle.std.proofs.Common.{◌≡◌, ℕ, Bool, List, Option, ◌++◌, map, subst, ap, ◌∙◌, refl}
-use Rattle.uug_link.specs.Announced.{announced}
 use Rattle.uug_link.specs.Entries.{EntryValue}
 use Rattle.uug_session.specs.declared.greeting.Greeted.{Greeted}
 use Rattle.uug_session.specs.EndStep.{behind_greeting, greeted_so, says_text}
-use Rattle.uug_session.specs.Engine.{Does, EngineState, bare, stage_of}
+use Rattle.uug_session.specs.Engine.{Does, EngineState, bare}
 use Rattle.uug_session.specs.Greeting.{GreetingStep, number_by, text_came}
 use Rattle.uug_session.specs.Says.{entry_of_text}
-use Rattle.uug_session.proofs.EngineLemmas.{greeted_does}
+use Rattle.uug_session.proofs.EngineLemmas.{greeted_does, shown_by}
 use Rattle.uug_session.proofs.engine.Engine.on_text.Goals as goal
 
 pub returns-clause-ok : goal.returns-clause-ok
 returns-clause-ok g c =
     let i = c.self.inside in
-    let b : EngineState = record {
-      identity = record { side = i.side; me = i.place.me; peer = i.place.peer };
-      own = announced i.place.announce;
-      stage = stage_of i.stage;
-      link = i.link;
-      dialogue = i.dialogue;
-      outbox = i.outbox;
-      number = i.place.number;
-    } in
-    let m : EngineState = record {
-      identity = b.identity;
-      own = b.own;
-      stage = b.stage;
-      link = i.link;
-      dialogue = i.dialogue;
-      outbox = c.on_text.new.out;
-      number = c.number_behind-self-inside.result;
-    } in
+    let b = shown_by c.self.view_is in
+    let m : EngineState = record b { outbox = c.on_text.new.out; number = c.number_behind-self-inside.result } in
     let after = c.lead_to.new.self in
     let came : GreetingStep = text_came i.place.me i.place.peer i.place.number c.args.greeting c.args.text.now in
     let risen_so : m.number ≡ number_by came.rises b.number =

@@ -1,35 +1,18 @@
 use Rattle.std.proofs.Common.{◌++◌, map, subst, ap, ◌∙◌, refl, Ok}
-use Rattle.uug_link.specs.Announced.{announced}
 use Rattle.uug_link.specs.declared.outcome.Outcome.{Outcome}
 use Rattle.uug_link.specs.Follows.{Follows, answered, written}
 use Rattle.uug_link.specs.Step.{Effect, step, timed_out, nothing}
 use Rattle.uug_session.specs.EndStep.{late}
-use Rattle.uug_session.specs.Engine.{Does, EngineState, bare, stage_of}
+use Rattle.uug_session.specs.Engine.{Does, EngineState, bare}
 use Rattle.uug_conversation.specs.DialogueValue.{dialogue_has_parted}
-use Rattle.uug_session.proofs.EngineLemmas.{late_by, quiet_does}
+use Rattle.uug_session.proofs.EngineLemmas.{late_by, quiet_does, shown_by}
 use Rattle.uug_session.proofs.engine.Engine.repeat.Goals as goal
 
 pub returns-in-Ok-Nothing-clause-ok : goal.returns-in-Ok-Nothing-clause-ok
 returns-in-Ok-Nothing-clause-ok g c =
     let i = c.self.inside in
-    let b : EngineState = record {
-      identity = record { side = i.side; me = i.place.me; peer = i.place.peer };
-      own = announced i.place.announce;
-      stage = stage_of i.stage;
-      link = i.link;
-      dialogue = i.dialogue;
-      outbox = i.outbox;
-      number = i.place.number;
-    } in
-    let m : EngineState = record {
-      identity = b.identity;
-      own = b.own;
-      stage = b.stage;
-      link = c.on_timeout.new.self;
-      dialogue = i.dialogue;
-      outbox = c.on_timeout.new.out;
-      number = b.number;
-    } in
+    let b = shown_by c.self.view_is in
+    let m : EngineState = record b { link = c.on_timeout.new.self; outbox = c.on_timeout.new.out } in
     let e : Effect = step i.link timed_out in
     let told = subst (λ (o : Outcome). Follows e i.link c.on_timeout.new.self c.reserve.new.self c.on_timeout.new.out (answered (Ok o)))
     c.in-Ok-Nothing.field-0-is c.in-Ok-Nothing.ensures in

@@ -1,5 +1,4 @@
 use Rattle.std.proofs.Common.{◌≡◌, ℕ, Bool, true, false, List, ◌++◌, map, sym, subst, ap, ◌∙◌, refl, Err}
-use Rattle.uug_link.specs.Announced.{announced}
 use Rattle.uug_link.specs.Entries.{EntryValue}
 use Rattle.uug_link.specs.Follows.{written}
 use Rattle.uug_link.specs.State.{State}
@@ -7,12 +6,12 @@ use Rattle.uug_link.specs.Step.{Effect, step, packet_found, to_close}
 use Rattle.uug_packet.specs.Packet.{shown}
 use Rattle.uug_session.specs.declared.end.End.TheVariants as ends
 use Rattle.uug_session.specs.EndStep.{Identity, ends_so, goes_on, leave, message_of, then_closes}
-use Rattle.uug_session.specs.Engine.{CountsFaults, Does, EngineState, TakesUp, after_speaking, end_of, entry_of, spoken_of, stage_of, faults_max}
+use Rattle.uug_session.specs.Engine.{CountsFaults, Does, EngineState, TakesUp, after_speaking, end_of, entry_of, spoken_of, faults_max}
 use Rattle.uug_conversation.specs.Holdings.{Holdings, Kept}
 use Rattle.uug_conversation.specs.Runs.{is_bad}
 use Rattle.uug_conversation.specs.DialogueState.{DialogueState, asks_spool, end_keeper, taking}
 use Rattle.uug_conversation.specs.DialogueValue.{DialogueValue, dialogue_of}
-use Rattle.uug_session.proofs.EngineLemmas.{closed_behind, ends_does, goes_on_does, taken_bad, taken_failed, taken_well, takes_up}
+use Rattle.uug_session.proofs.EngineLemmas.{closed_behind, ends_does, goes_on_does, shown_by, taken_bad, taken_failed, taken_well, takes_up}
 use Rattle.uug_session.proofs.SpeakLemmas.{has_parted_told}
 use Rattle.uug_session.proofs.engine.Engine.take.Goals as goal
 
@@ -24,15 +23,7 @@ returns-then-is_bad-clause-ok g c =
     let counts = CountsFaults faults_max (g.S.Spool.faults c.args.spool.now) (g.S.Spool.faults c.take.new.spool) in
     let p = shown c.args.packet.now in
     let i = c.self.inside in
-    let b : EngineState = record {
-      identity = record { side = i.side; me = i.place.me; peer = i.place.peer };
-      own = announced i.place.announce;
-      stage = stage_of i.stage;
-      link = i.link;
-      dialogue = i.dialogue;
-      outbox = i.outbox;
-      number = i.place.number;
-    } in
+    let b = shown_by c.self.view_is in
     let e : Effect = step i.link (packet_found p) in
     let k = end_keeper b.identity.side h in
     let talk = dialogue_of h kept i.dialogue in
@@ -72,15 +63,7 @@ returns-else-is_bad-clause-ok g c =
     let counts = CountsFaults faults_max (g.S.Spool.faults c.args.spool.now) (g.S.Spool.faults c.take.new.spool) in
     let p = shown c.args.packet.now in
     let i = c.self.inside in
-    let b : EngineState = record {
-      identity = record { side = i.side; me = i.place.me; peer = i.place.peer };
-      own = announced i.place.announce;
-      stage = stage_of i.stage;
-      link = i.link;
-      dialogue = i.dialogue;
-      outbox = i.outbox;
-      number = i.place.number;
-    } in
+    let b = shown_by c.self.view_is in
     let e : Effect = step i.link (packet_found p) in
     let k = end_keeper b.identity.side h in
     let talk = dialogue_of h kept i.dialogue in
@@ -113,15 +96,7 @@ returns-in-Err-Device-clause-ok g c =
     let counts = CountsFaults faults_max (g.S.Spool.faults c.args.spool.now) (g.S.Spool.faults c.take.new.spool) in
     let p = shown c.args.packet.now in
     let i = c.self.inside in
-    let b : EngineState = record {
-      identity = record { side = i.side; me = i.place.me; peer = i.place.peer };
-      own = announced i.place.announce;
-      stage = stage_of i.stage;
-      link = i.link;
-      dialogue = i.dialogue;
-      outbox = i.outbox;
-      number = i.place.number;
-    } in
+    let b = shown_by c.self.view_is in
     let e : Effect = step i.link (packet_found p) in
     let k = end_keeper b.identity.side h in
     let talk = dialogue_of h kept i.dialogue in
