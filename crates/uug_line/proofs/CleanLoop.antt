@@ -7,6 +7,7 @@ use Rattle.uug_session.specs.EndStep.{time_ran_out}
 use Rattle.uug_conversation.specs.DialogueState.{DialogueState}
 use Rattle.uug_line.specs.declared.event.Event.{Event}
 use Rattle.uug_line.specs.declared.event.Event.TheVariants.{Pass, Timeout}
+use Rattle.uug_conversation.specs.declared.side.Side.{Side}
 use Rattle.uug_conversation.specs.declared.side.Side.TheVariants.{Caller, Called}
 use Rattle.uug_line.specs.declared.verdict.LineVerdict.TheVariants.{Clean, Fooled}
 use Rattle.uug_line.specs.Belongings.{SetupValue}
@@ -17,10 +18,11 @@ use Rattle.uug_line.specs.RunKeeper.{by_numbers, by_themselves}
 use Rattle.uug_line.specs.RunValue.{Happens, HappensAt, Passes, RunValue, StandsAs, hearing_side}
 use Rattle.uug_line.specs.Settle.{AllBringOn, AreRounds, IsOver, PassesClean, Round, Settles, behind_two, events_of, late, line_from, one_if_over, passing, run_weight}
 use Rattle.uug_line.specs.Code.Settling.{AreOver, IsFinished, MayFinish, RoundHappens, goes, parts_weight, stops}
+use Rattle.uug_line.specs.Sides.{at}
 use Rattle.uug_line.specs.World.{counted, run_of_ends, world}
 use Rattle.uug_line.proofs.CleanLaw.{settles_by, settles_of, settles_from}
 use Rattle.uug_line.proofs.PastLemmas.{next_event}
-use Rattle.uug_line.proofs.RunLemmas.{happens_clean, happens_fooled}
+use Rattle.uug_line.proofs.RunLemmas.{counted_at, happens_clean, happens_fooled}
 use Rattle.uug_line.proofs.Standing.{run_goes}
 use Rattle.uug_line.specs.SoundSetup.{IsSoundSetup}
 
@@ -80,38 +82,31 @@ module _ (setup : SetupValue) (sound : IsSoundSetup setup) where
   world_clean : (events : List Event) (r : RunValue) → IsAt events r → (world setup events).verdict ≡ Clean
   world_clean events r stands = ap (λ (run : Run Count). run.verdict) (sym (is_world events)) ∙ stands.clean
 
-  caller_line : (events : List Event) (r : RunValue) → IsAt events r → line_from Caller (world setup events) ≡ r.caller.line
-  caller_line events r stands =
-      ap (λ (run : Run Count). line_from Caller run) (sym (is_world events))
-      ∙ ap (λ (h : Buffered (LineEnd DialogueState)). h.end.line) stands.caller
+  line_is : (side : Side) (events : List Event) (r : RunValue) → IsAt events r → line_from side (world setup events) ≡ (at side r.ends).line
+  line_is side events r stands =
+      ap (λ (run : Run Count). line_from side run) (sym (is_world events))
+      ∙ ap (λ (h : Buffered (LineEnd Count)). h.end.line) (counted_at (run_of_ends setup events) side)
+      ∙ ap (λ (h : Buffered (LineEnd DialogueState)). h.end.line) (stands.ends side).hearer
 
-  called_line : (events : List Event) (r : RunValue) → IsAt events r → line_from Called (world setup events) ≡ r.called.line
-  called_line events r stands =
-      ap (λ (run : Run Count). line_from Called run) (sym (is_world events))
-      ∙ ap (λ (h : Buffered (LineEnd DialogueState)). h.end.line) stands.called
+  stage_is : (side : Side) (events : List Event) (r : RunValue) → IsAt events r →
+      (end_at side (world setup events)).end.state.stage ≡ (at side r.ends).node.engine.stage
+  stage_is side events r stands =
+      ap (λ (run : Run Count). (end_at side run).end.state.stage) (sym (is_world events))
+      ∙ ap (λ (h : Buffered (LineEnd Count)). h.end.state.stage) (counted_at (run_of_ends setup events) side)
+      ∙ ap (λ (h : Buffered (LineEnd DialogueState)). h.end.state.stage) (stands.ends side).hearer
 
   world_over : (events : List Event) (r : RunValue) → IsAt events r → AreOver r → IsOver (world setup events)
-  world_over events r stands over = (
-    ap (λ (run : Run Count). (end_at Caller run).end.state.stage) (sym (is_world events))
-        ∙ ap (λ (h : Buffered (LineEnd DialogueState)). h.end.state.stage) stands.caller ∙ over.0,
-    ap (λ (run : Run Count). (end_at Called run).end.state.stage) (sym (is_world events))
-        ∙ ap (λ (h : Buffered (LineEnd DialogueState)). h.end.state.stage) stands.called ∙ over.1,
-  )
+  world_over events r stands over = (stage_is Caller events r stands ∙ over.0, stage_is Called events r stands ∙ over.1)
 
   parts_over : (events : List Event) (r : RunValue) → IsAt events r → IsOver (world setup events) → AreOver r
-  parts_over events r stands over = (
-    sym (ap (λ (run : Run Count). (end_at Caller run).end.state.stage) (sym (is_world events))
-        ∙ ap (λ (h : Buffered (LineEnd DialogueState)). h.end.state.stage) stands.caller) ∙ over.0,
-    sym (ap (λ (run : Run Count). (end_at Called run).end.state.stage) (sym (is_world events))
-        ∙ ap (λ (h : Buffered (LineEnd DialogueState)). h.end.state.stage) stands.called) ∙ over.1,
-  )
+  parts_over events r stands over = (sym (stage_is Caller events r stands) ∙ over.0, sym (stage_is Called events r stands) ∙ over.1)
 
   weight_is : (events : List Event) (r : RunValue) → IsAt events r → run_weight (world setup events) ≡ parts_weight r
   weight_is events r stands =
       let weight : (a b : Buffered (LineEnd DialogueState)) → ℕ = λ a b.
       (length a.end.log.taken + length b.end.log.taken) + (length a.end.log.sent + length b.end.log.sent)
       + (one_if_over a.end.state.stage + one_if_over b.end.state.stage) in
-      ap (λ (run : Run Count). run_weight run) (sym (is_world events)) ∙ ap₂ weight stands.caller stands.called
+      ap (λ (run : Run Count). run_weight run) (sym (is_world events)) ∙ ap₂ weight (stands.ends Caller).hearer (stands.ends Called).hearer
 
   -- ---- an event behind others
 
@@ -183,18 +178,18 @@ module _ (setup : SetupValue) (sound : IsSoundSetup setup) where
       m ≡ length (line_from Called (after_event by_numbers setup (length so_far) (Pass Called n) (world setup so_far))) →
       PassesClean by_numbers setup (length so_far) n m (world setup so_far) → Rounded setup so_far n m all_sent new
   round_passes so_far n m all_sent old new stands (stops unsent one) n_is m_is clean =
-      let same : length old.caller.line ≡ n = sym (n_is ∙ ap length (caller_line so_far old stands)) in
+      let same : length old.ends.at_caller.line ≡ n = sym (n_is ∙ ap length (line_is Caller so_far old stands)) in
       absurd (not_fooled so_far (Pass Called n) old new stands
       (subst (λ (count : ℕ). Passes Called count false old new) same one) clean.0)
   round_passes so_far n m all_sent old new stands (goes middle one two) n_is m_is clean =
-      let same : length old.caller.line ≡ n = sym (n_is ∙ ap length (caller_line so_far old stands)) in
+      let same : length old.ends.at_caller.line ≡ n = sym (n_is ∙ ap length (line_is Caller so_far old stands)) in
       let first = subst (λ (count : ℕ). Passes Called count true old middle) same one in
       let then = so_far ++ Pass Called n ∷ [] in
       let at_middle = pushed so_far (Pass Called n) old middle stands first in
-      let same_too : length middle.called.line ≡ m =
+      let same_too : length middle.ends.at_called.line ≡ m =
       sym (m_is ∙ ap (λ (run : Run Count). length (line_from Called run))
       (sym (next_event by_numbers setup so_far (Pass Called n) (world_clean so_far old stands)))
-      ∙ ap length (called_line then middle at_middle)) in
+      ∙ ap length (line_is Called then middle at_middle)) in
       second_pass so_far n m all_sent old middle new stands first
       (subst (λ (count : ℕ). Passes Caller count all_sent middle new) same_too two) clean
 

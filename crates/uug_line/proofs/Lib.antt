@@ -40,6 +40,7 @@ mod TalkLemmas
 mod ToldLemmas
 mod VerdictLemmas
 mod RunLemmas
+mod SideLemmas
 mod SightingLemmas
 mod SpokenLemmas
 mod SpeakingLemmas

@@ -38,7 +38,7 @@ use Rattle.uug_line.specs.StillHeld.{HoldWhatIsLeft}
 use Rattle.uug_line.specs.Told.{EndNow, SpelledEnd, SpelledReport}
 use Rattle.uug_line.specs.WholeReport.{WholeReport, left_of, part_from, report_shown, whole_report}
 use Rattle.uug_line.specs.World.{counted, report_of_world, run_of_ends, world}
-use Rattle.uug_line.proofs.RunLemmas.{ends_clean, give_as_set_up, held_counted, told_by_world}
+use Rattle.uug_line.proofs.RunLemmas.{ends_clean, give_as_set_up, held_at, held_counted, told_by_world}
 use Rattle.uug_line.proofs.Standing.{report_is, run_goes}
 
 -- ---- a report of the program's run
@@ -47,9 +47,9 @@ lines_are : (setup : SetupValue) (events : List Event) (verdict : LineVerdict) (
     EndsAs setup (run_of_ends setup events) verdict r → counted (run_of_ends setup events) ≡ world setup events →
     (side : Side) → (at side (whole_report r verdict).left).line ≡ line_from side (world setup events)
 lines_are setup events verdict r ends is_world Caller =
-    sym (ap (λ (e : LineEnd DialogueState). e.line) ends.caller) ∙ ap (λ (run : Run Count). line_from Caller run) is_world
+    sym (ap (λ (e : LineEnd DialogueState). e.line) (ends.ends Caller).end_is) ∙ ap (λ (run : Run Count). line_from Caller run) is_world
 lines_are setup events verdict r ends is_world Called =
-    sym (ap (λ (e : LineEnd DialogueState). e.line) ends.called) ∙ ap (λ (run : Run Count). line_from Called run) is_world
+    sym (ap (λ (e : LineEnd DialogueState). e.line) (ends.ends Called).end_is) ∙ ap (λ (run : Run Count). line_from Called run) is_world
 
 pub is_run_of : (setup : SetupValue) (events : List Event) (verdict : LineVerdict) (r : RunValue) → AreOfTypes setup events →
     EndsAs setup (run_of_ends setup events) verdict r → IsRunOf setup events (whole_report r verdict)
@@ -85,17 +85,21 @@ pub same_parts : (r : RunValue) (report : WholeReport) (past : List (AtBoth Spel
     report.told.sessions ≡ past ++ record { at_caller = caller; at_called = called } ∷ [] →
     record {
       past = past;
-      caller = part_from caller report.left.at_caller report.spools.at_caller;
-      called = part_from called report.left.at_called report.spools.at_called;
+      ends = record {
+        at_caller = part_from caller report.left.at_caller report.spools.at_caller;
+        at_called = part_from called report.left.at_called report.spools.at_called;
+      };
     } ≡ r
 same_parts r report past caller called shown sessions =
-    let last : AtBoth SpelledEnd = record { at_caller = told_of r.caller; at_called = told_of r.called } in
+    let last : AtBoth SpelledEnd = record { at_caller = told_of r.ends.at_caller; at_called = told_of r.ends.at_called } in
     let ends = same_ends past r.past (record { at_caller = caller; at_called = called }) last
     (sym sessions ∙ sym (ap (λ (w : WholeReport). w.told.sessions) shown)) in
     let made : List (AtBoth SpelledEnd) → AtBoth SpelledEnd → WholeReport → RunValue = λ front back w. record {
       past = front;
-      caller = part_from back.at_caller w.left.at_caller w.spools.at_caller;
-      called = part_from back.at_called w.left.at_called w.spools.at_called;
+      ends = record {
+        at_caller = part_from back.at_caller w.left.at_caller w.spools.at_caller;
+        at_called = part_from back.at_called w.left.at_called w.spools.at_called;
+      };
     } in
     ap (λ (front : List (AtBoth SpelledEnd)). made front (record { at_caller = caller; at_called = called }) report) ends.0
     ∙ ap (λ (back : AtBoth SpelledEnd). made r.past back report) ends.1
@@ -172,17 +176,21 @@ stands_again setup events report r shown can ends =
     let hearer : List ℕ → LineEnd DialogueState → Buffered (LineEnd DialogueState) = λ held end. record { held = held; end = end } in
     record {
       past = ends.past;
-      caller = ap₂ hearer (sym (ends.held.all clean Caller)) ends.caller;
-      called = ap₂ hearer (sym (ends.held.all clean Called)) ends.called;
-      caller_standing = ends.caller_standing;
-      called_standing = ends.called_standing;
+      ends = λ side. record {
+        hearer = ap₂ hearer (sym (ends.held.all clean side) ∙ held_at r side) (ends.ends side).end_is;
+        standing = (ends.ends side).standing;
+      };
       steady = record {
-        caller_ordered = ends.caller_ordered;
-        caller_room = has_room (held_bytes r.caller.node)
-            (ap (λ (w : WholeReport). w.held.at_caller) shown ∙ can.caller.holds_none);
-        called_ordered = ends.called_ordered;
-        called_room = has_room (held_bytes r.called.node)
-            (ap (λ (w : WholeReport). w.held.at_called) shown ∙ can.called.holds_none);
+        at_caller = record {
+          ordered = (ends.ends Caller).ordered;
+          room = has_room (held_bytes r.ends.at_caller.node)
+              (ap (λ (w : WholeReport). w.held.at_caller) shown ∙ can.caller.holds_none);
+        };
+        at_called = record {
+          ordered = (ends.ends Called).ordered;
+          room = has_room (held_bytes r.ends.at_called.node)
+              (ap (λ (w : WholeReport). w.held.at_called) shown ∙ can.called.holds_none);
+        };
       };
       clean = clean;
     }
@@ -248,13 +256,16 @@ pub goes_on_as : {A : Type 0} (sessions front : List (SessionReport A)) (last : 
     caller ≡ part_from (end_shown last.caller) (left_of kept_caller) (held_by kept_caller.node.spool) →
     called ≡ part_from (end_shown last.called) (left_of kept_called) (held_by kept_called.node.spool) →
     (parts : RunValue) → whole_report parts report.told.verdict ≡ report →
-    record { past = map session_shown front; caller = caller; called = called } ≡ parts
+    record { past = map session_shown front; ends = record { at_caller = caller; at_called = called } } ≡ parts
 goes_on_as {A} sessions front last kept_caller kept_called verdict report caller called view_is one_more caller_is called_is parts shown =
-    let made : LiveEndValue → LiveEndValue → RunValue = λ a b. record { past = map session_shown front; caller = a; called = b } in
+    let made : LiveEndValue → LiveEndValue → RunValue =
+    λ a b. record { past = map session_shown front; ends = record { at_caller = a; at_called = b } } in
     let from_report : WholeReport → RunValue = λ w. record {
       past = map session_shown front;
-      caller = part_from (end_shown last.caller) w.left.at_caller w.spools.at_caller;
-      called = part_from (end_shown last.called) w.left.at_called w.spools.at_called;
+      ends = record {
+        at_caller = part_from (end_shown last.caller) w.left.at_caller w.spools.at_caller;
+        at_called = part_from (end_shown last.called) w.left.at_called w.spools.at_called;
+      };
     } in
     let told = sym (ap (λ (w : WholeReport). w.told.sessions) view_is) ∙ one_less sessions front last one_more in
     ap₂ made caller_is called_is ∙ ap from_report view_is

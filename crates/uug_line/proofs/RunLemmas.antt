@@ -1,5 +1,5 @@
 -- What happens to the program's run is what happens in the definitions' one.
-use Rattle.std.proofs.Common.{◌≡◌, ℕ, suc, ◌+◌, ◌<◌, ◌≤◌, Bool, true, false, List, [], ◌∷◌, ◌++◌, length, get_or, map, take, drop, ap, sym, subst, ◌∙◌, refl, arith, Option}
+use Rattle.std.proofs.Common.{◌≡◌, ℕ, suc, ◌+◌, ◌<◌, ◌≤◌, Bool, true, false, List, [], ◌∷◌, ◌++◌, length, get_or, map, take, drop, ap, sym, subst, ◌∙◌, refl, arith, Option, ap₂}
 use Rattle.std.proofs.lemmas.List.{drop_all, drop_more, map-append, take_all}
 use Rattle.uug_reader.specs.declared.reader.TheConstants.{READER_SIZE}
 use Rattle.uug_link.specs.Announced.{Announced}
@@ -7,6 +7,7 @@ use Rattle.uug_conversation.specs.Turns.{other}
 use Rattle.uug_packet.specs.Spelling.{canonical}
 use Rattle.uug_session.specs.Arriving.{Arrival, Buffered, all_taken, stopped, takes_piece}
 use Rattle.uug_session.specs.EndStep.{EndEvent, EndState, Identity, Stage, hailing, linked, ended, begins_session, line_lost, stage_step, time_ran_out}
+use Rattle.uug_conversation.specs.Count.{Count}
 use Rattle.uug_conversation.specs.Holdings.{Holdings, Kept}
 use Rattle.uug_conversation.specs.Jobs.{Lists}
 use Rattle.uug_conversation.specs.MemoryHoldings.{MemoryHoldings, holdings_of}
@@ -26,269 +27,222 @@ use Rattle.uug_line.specs.JournalValue.{packet_in}
 use Rattle.uug_line.specs.LineEnd.{LineEnd, Participant, begins, called_with, changed_line}
 use Rattle.uug_line.specs.Live.{AreWritten, BeginsAgain, HasBegun, HasRoom, IsCalled, IsOrdered, LiveEndValue, Standing, hearer_of, line_end_of, player_of, standing_of, taker_of, told_of}
 use Rattle.uug_line.specs.Report.{end_now, report_of_end}
-use Rattle.uug_line.specs.Run.{Run, flipped, after_event, after_hearing, calls, end_at, first_run, goes_through, hung_up, participant, unless_fooled, with_line_to}
+use Rattle.uug_line.specs.Run.{Run, flipped, after_event, after_hearing, calls, end_at, first_run, goes_through, hears_next, hung_up, participant, unless_fooled, with_end_at, with_line_to}
 use Rattle.uug_line.specs.RunKeeper.{by_themselves}
-use Rattle.uug_line.specs.RunValue.{CallsAgain, ChangesLine, EndsAs, Happens, HappensAt, IsSteady, Passes, RunValue, StandsAs, hearing_side, held_parts, owned_parts, parts_now, standing_at, told_in_all, with_line}
+use Rattle.uug_line.specs.RunValue.{CallsAgain, ChangesLine, EndsAs, Happens, HappensAt, IsEnd, IsLastEnd, IsReady, IsSteady, Passes, RunValue, StandsAs, hearing_side, held_parts, owned_parts, parts_now, standing_at, told_in_all, with_line}
 use Rattle.uug_line.specs.Shown.{end_shown, session_shown}
-use Rattle.uug_line.specs.Sides.{AtBoth, at}
+use Rattle.uug_line.specs.Sides.{AtBoth, at, at_each}
 use Rattle.uug_line.specs.Spelled.{GiveAsSetUp, spelled, spelled_end, spelled_session}
 use Rattle.uug_line.specs.StillHeld.{HoldWhatIsLeft}
 use Rattle.uug_line.specs.Taking.{line_taker}
 use Rattle.uug_line.specs.WholeReport.{whole_report}
-use Rattle.uug_line.specs.World.{counted, report_of, report_of_ends, report_of_world, run_of_ends}
-use Rattle.uug_line.specs.Told.{EndReportValue, SpelledEnd, SpelledReport}
+use Rattle.uug_line.specs.World.{counted, counted_hearer, report_of, report_of_ends, report_of_world, run_of_ends}
+use Rattle.uug_line.specs.Told.{EndNow, EndReportValue, SpelledEnd, SpelledReport}
+use Rattle.uug_line.proofs.SideLemmas.{at_each_is, each, each_are, with_both, with_here}
 
 -- ---- who an end is
 
 player_by : Standing → Participant DialogueState
 player_by s = record { identity = s.identity; keeper = end_keeper s.identity.side s.holdings }
 
-caller_is : (setup : SetupValue) (run : Run DialogueState) (r : RunValue) → StandsAs setup run r → player_of r.caller ≡ participant by_themselves setup run Caller
+who_is : (setup : SetupValue) (run : Run DialogueState) (side : Side) (e : LiveEndValue) → standing_of e ≡ standing_at setup side
+    → player_of e ≡ participant by_themselves setup run side
 unfolding player_by
-caller_is setup run r stands = ap player_by stands.caller_standing
+who_is setup run Caller e standing = ap player_by standing
+who_is setup run Called e standing = ap player_by standing
 
-called_is : (setup : SetupValue) (run : Run DialogueState) (r : RunValue) → StandsAs setup run r → player_of r.called ≡ participant by_themselves setup run Called
-unfolding player_by
-called_is setup run r stands = ap player_by stands.called_standing
+-- ---- between two events
 
--- ---- a call at an end
+ready_at : (r : RunValue) → IsSteady r → (side : Side) → IsReady (at side r.ends)
+ready_at r steady = each (λ side. IsReady (at side r.ends)) steady.at_caller steady.at_called
 
-caller_called : (event : EndEvent) (setup : SetupValue) (run : Run DialogueState) (old new : RunValue) → StandsAs setup run old
-    → HappensAt Caller (IsCalled event) old new → StandsAs setup (calls by_themselves setup Caller event run) new
-caller_called event setup run old new stands happens =
-    let is = happens.0 in record {
-      past = stands.past ∙ sym happens.2;
-      caller = ap (λ (p : Participant DialogueState). called_with p event (end_at Caller run)) (sym (caller_is setup run old stands))
-          ∙ ap (called_with (player_of old.caller) event) stands.caller ∙ sym is.hearer;
-      called = stands.called ∙ ap hearer_of (sym happens.1);
-      caller_standing = is.standing ∙ stands.caller_standing;
-      called_standing = ap standing_of happens.1 ∙ stands.called_standing;
-      steady = record {
-        caller_ordered = is.ordered;
-        caller_room = is.room;
-        called_ordered = subst IsOrdered (sym happens.1) stands.steady.called_ordered;
-        called_room = subst HasRoom (sym happens.1) stands.steady.called_room;
+both_ready : (side : Side) (r : RunValue) → IsReady (at side r.ends) → IsReady (at (other side) r.ends) → IsSteady r
+both_ready Caller r here there = record { at_caller = here; at_called = there }
+both_ready Called r here there = record { at_caller = there; at_called = here }
+
+line_ready : (change : List ℕ → List ℕ) (old new : LiveEndValue) → new ≡ with_line change old → IsReady old → IsReady new
+line_ready change old new is ready =
+    let ordered = ready.ordered in
+    subst IsReady (sym is) (record {
+      ordered = record {
+        cleared = ordered.cleared;
+        in_range = ordered.in_range;
+        own = ordered.own;
+        written = ordered.written;
+        most = ordered.most;
       };
-      clean = stands.clean;
-    }
+      room = ready.room;
+    })
 
-called_called : (event : EndEvent) (setup : SetupValue) (run : Run DialogueState) (old new : RunValue) → StandsAs setup run old
-    → HappensAt Called (IsCalled event) old new → StandsAs setup (calls by_themselves setup Called event run) new
-called_called event setup run old new stands happens =
-    let is = happens.0 in record {
-      past = stands.past ∙ sym happens.2;
-      called = ap (λ (p : Participant DialogueState). called_with p event (end_at Called run)) (sym (called_is setup run old stands))
-          ∙ ap (called_with (player_of old.called) event) stands.called ∙ sym is.hearer;
-      caller = stands.caller ∙ ap hearer_of (sym happens.1);
-      called_standing = is.standing ∙ stands.called_standing;
-      caller_standing = ap standing_of happens.1 ∙ stands.caller_standing;
-      steady = record {
-        called_ordered = is.ordered;
-        called_room = is.room;
-        caller_ordered = subst IsOrdered (sym happens.1) stands.steady.caller_ordered;
-        caller_room = subst HasRoom (sym happens.1) stands.steady.caller_room;
-      };
-      clean = stands.clean;
-    }
+one_ready : (side : Side) (old new : RunValue) → IsSteady old → IsReady (at side new.ends) → at (other side) new.ends ≡ at (other side) old.ends
+    → IsSteady new
+one_ready side old new steady ready same = both_ready side new ready (subst IsReady (sym same) (ready_at old steady (other side)))
+
+steady_changed : (change : List ℕ → List ℕ) (side : Side) (old new : RunValue) → IsSteady old → HappensAt side (ChangesLine change) old new
+    → IsSteady new
+steady_changed change side old new steady happens =
+    one_ready side old new steady (line_ready change (at side old.ends) (at side new.ends) happens.0 (ready_at old steady side)) happens.1
+
+steady_called : (event : EndEvent) (side : Side) (old new : RunValue) → IsSteady old → HappensAt side (IsCalled event) old new → IsSteady new
+steady_called event side old new steady happens =
+    one_ready side old new steady (record { ordered = happens.0.ordered; room = happens.0.room }) happens.1
+
+pub happens_steady : (event : Event) (old new : RunValue) → IsSteady old → Happens event true old new → IsSteady new
+happens_steady (Pass side n) old new steady happens =
+    both_ready side new (record { ordered = happens.0.ordered; room = happens.0.room })
+    (line_ready (drop n) (at (other side) old.ends) (at (other side) new.ends) happens.1 (ready_at old steady (other side)))
+happens_steady (Drop side n) old new steady happens = steady_changed (drop n) (other side) old new steady happens.1
+happens_steady (Flip side mask) old new steady happens = steady_changed (flipped mask) (other side) old new steady happens.1
+happens_steady (Insert side byte) old new steady happens = steady_changed (λ line. byte ∷ line) (other side) old new steady happens.1
+happens_steady (Timeout side) old new steady happens = steady_called time_ran_out side old new steady happens.1
+happens_steady (HangUp side) old new steady happens = steady_called line_lost side old new steady happens.1
+happens_steady Call old new steady happens =
+    let ready : (side : Side) → IsReady (at side new.ends) =
+    λ side. record { ordered = (happens.1.begins side).ordered; room = (happens.1.begins side).room } in
+    both_ready Caller new (ready Caller) (ready Called)
+
+-- ---- one end becomes another
+
+changes_end : (side : Side) (setup : SetupValue) (run : Run DialogueState) (old new : RunValue) (here : Buffered (LineEnd DialogueState))
+    → StandsAs setup run old → IsSteady new → IsEnd setup side here (at side new.ends)
+    → (at (other side) new.ends ≡ at (other side) old.ends) × (new.past ≡ old.past) → StandsAs setup (with_end_at side here run) new
+changes_end side setup run old new here stands steady is same = record {
+  past = stands.past ∙ sym same.1;
+  ends = with_here (λ (s : Side) (h : Buffered (LineEnd DialogueState)). IsEnd setup s h (at s new.ends)) side here run.ends is
+      (subst (λ (e : LiveEndValue). IsEnd setup (other side) (end_at (other side) run) e) (sym same.0) (stands.ends (other side)));
+  steady = steady;
+  clean = stands.clean;
+}
+
+-- by a call
+end_called : (event : EndEvent) (side : Side) (setup : SetupValue) (run : Run DialogueState) (old new : LiveEndValue)
+    → IsEnd setup side (end_at side run) old → IsCalled event old new
+    → IsEnd setup side (called_with (participant by_themselves setup run side) event (end_at side run)) new
+end_called event side setup run old new was is = record {
+  hearer = ap (λ (p : Participant DialogueState). called_with p event (end_at side run)) (sym (who_is setup run side old was.standing))
+      ∙ ap (called_with (player_of old) event) was.hearer ∙ sym is.hearer;
+  standing = is.standing ∙ was.standing;
+}
 
 at_called : (event : EndEvent) (side : Side) (setup : SetupValue) (run : Run DialogueState) (old new : RunValue) → StandsAs setup run old
-    → HappensAt side (IsCalled event) old new → StandsAs setup (calls by_themselves setup side event run) new
-at_called event Caller setup run old new stands happens = caller_called event setup run old new stands happens
-at_called event Called setup run old new stands happens = called_called event setup run old new stands happens
+    → IsSteady new → HappensAt side (IsCalled event) old new → StandsAs setup (calls by_themselves setup side event run) new
+at_called event side setup run old new stands steady happens =
+    changes_end side setup run old new (called_with (participant by_themselves setup run side) event (end_at side run)) stands steady
+    (end_called event side setup run (at side old.ends) (at side new.ends) (stands.ends side) happens.0) (happens.1, happens.2)
 
--- ---- the bytes on the line
-
-line_ordered : (change : List ℕ → List ℕ) (e : LiveEndValue) → IsOrdered e → IsOrdered (with_line change e)
-line_ordered change e ordered = record {
-  cleared = ordered.cleared;
-  in_range = ordered.in_range;
-  own = ordered.own;
-  written = ordered.written;
-  most = ordered.most;
+-- by what becomes of the bytes on the line
+end_changed : (change : List ℕ → List ℕ) (side : Side) (setup : SetupValue) (h : Buffered (LineEnd DialogueState)) (old new : LiveEndValue)
+    → IsEnd setup side h old → new ≡ with_line change old → IsEnd setup side (changed_line change h) new
+end_changed change side setup h old new was is = record {
+  hearer = ap (changed_line change) was.hearer ∙ ap hearer_of (sym is);
+  standing = ap standing_of is ∙ was.standing;
 }
 
 line_changed : (change : List ℕ → List ℕ) (side : Side) (setup : SetupValue) (run : Run DialogueState) (old new : RunValue) → StandsAs setup run old
-    → HappensAt (other side) (ChangesLine change) old new → StandsAs setup (with_line_to side change run) new
-line_changed change Called setup run old new stands happens = record {
-  past = stands.past ∙ sym happens.2;
-  caller = ap (changed_line change) stands.caller ∙ ap hearer_of (sym happens.0);
-  called = stands.called ∙ ap hearer_of (sym happens.1);
-  caller_standing = ap standing_of happens.0 ∙ stands.caller_standing;
-  called_standing = ap standing_of happens.1 ∙ stands.called_standing;
-  steady = record {
-    caller_ordered = subst IsOrdered (sym happens.0) (line_ordered change old.caller stands.steady.caller_ordered);
-    caller_room = subst HasRoom (sym happens.0) stands.steady.caller_room;
-    called_ordered = subst IsOrdered (sym happens.1) stands.steady.called_ordered;
-    called_room = subst HasRoom (sym happens.1) stands.steady.called_room;
-  };
-  clean = stands.clean;
-}
-line_changed change Caller setup run old new stands happens = record {
-  past = stands.past ∙ sym happens.2;
-  called = ap (changed_line change) stands.called ∙ ap hearer_of (sym happens.0);
-  caller = stands.caller ∙ ap hearer_of (sym happens.1);
-  called_standing = ap standing_of happens.0 ∙ stands.called_standing;
-  caller_standing = ap standing_of happens.1 ∙ stands.caller_standing;
-  steady = record {
-    called_ordered = subst IsOrdered (sym happens.0) (line_ordered change old.called stands.steady.called_ordered);
-    called_room = subst HasRoom (sym happens.0) stands.steady.called_room;
-    caller_ordered = subst IsOrdered (sym happens.1) stands.steady.caller_ordered;
-    caller_room = subst HasRoom (sym happens.1) stands.steady.caller_room;
-  };
-  clean = stands.clean;
-}
+    → IsSteady new → HappensAt side (ChangesLine change) old new → StandsAs setup (with_end_at side (changed_line change (end_at side run)) run) new
+line_changed change side setup run old new stands steady happens =
+    changes_end side setup run old new (changed_line change (end_at side run)) stands steady
+    (end_changed change side setup (end_at side run) (at side old.ends) (at side new.ends) (stands.ends side) happens.0) (happens.1, happens.2)
 
 -- ---- a piece comes
 
 -- what comes to an end is what comes to the end of the definitions' run
-came_to : (p : Participant DialogueState) (n : ℕ) (hearer speaker : LiveEndValue) (hearing speaking : Buffered (LineEnd DialogueState)) (came : Arrival (LineEnd DialogueState))
-    → player_of hearer ≡ p → hearing ≡ hearer_of hearer → speaking ≡ hearer_of speaker
-    → takes_piece (taker_of speaker.journal.packets hearer) (take n speaker.line) (hearer_of hearer) ≡ came
-    → takes_piece (line_taker p speaking.end.log.packets) (take n speaking.end.line) hearing ≡ came
-came_to p n hearer speaker hearing speaking came who hears speaks is =
-    ap (λ (h : Buffered (LineEnd DialogueState)). takes_piece (line_taker p h.end.log.packets) (take n h.end.line) hearing) speaks
-    ∙ ap (λ (h : Buffered (LineEnd DialogueState)). takes_piece (line_taker p (line_end_of speaker).log.packets) (take n speaker.line) h) hears
-    ∙ ap (λ (x : Participant DialogueState). takes_piece (line_taker x (line_end_of speaker).log.packets) (take n speaker.line) (hearer_of hearer)) (sym who)
+came_to : (side : Side) (n : ℕ) (setup : SetupValue) (run : Run DialogueState) (old : RunValue) (came : Arrival (LineEnd DialogueState)) → StandsAs setup run old
+    → takes_piece (taker_of (at (other side) old.ends).journal.packets (at side old.ends)) (take n (at (other side) old.ends).line) (hearer_of (at side old.ends)) ≡ came
+    → hears_next by_themselves setup side n run ≡ came
+came_to side n setup run old came stands is =
+    let p = participant by_themselves setup run side in
+    let here = at side old.ends in
+    let there = at (other side) old.ends in
+    ap (λ (h : Buffered (LineEnd DialogueState)). takes_piece (line_taker p h.end.log.packets) (take n h.end.line) (end_at side run)) (stands.ends (other side)).hearer
+    ∙ ap (takes_piece (line_taker p (line_end_of there).log.packets) (take n there.line)) (stands.ends side).hearer
+    ∙ ap (λ (x : Participant DialogueState). takes_piece (line_taker x (line_end_of there).log.packets) (take n there.line) (hearer_of here))
+    (sym (who_is setup run side here (stands.ends side).standing))
     ∙ is
 
-to_caller : (n number : ℕ) (setup : SetupValue) (run : Run DialogueState) (old new : RunValue) → StandsAs setup run old
-    → Passes Caller n true old new → StandsAs setup (after_event by_themselves setup number (Pass Caller n) run) new
-to_caller n number setup run old new stands passes =
+passed_on : (side : Side) (n number : ℕ) (setup : SetupValue) (run : Run DialogueState) (old new : RunValue) → StandsAs setup run old → IsSteady new
+    → Passes side n true old new → StandsAs setup (after_event by_themselves setup number (Pass side n) run) new
+passed_on side n number setup run old new stands steady passes =
     let is = passes.0 in
-    let came = came_to (participant by_themselves setup run Caller) n old.caller old.called (end_at Caller run) (end_at Called run) (all_taken (hearer_of new.caller))
-    (caller_is setup run old stands) stands.caller stands.called is.came in
-    let ends : StandsAs setup (after_hearing number Caller (all_taken (hearer_of new.caller)) (with_line_to Caller (drop n) run)) new = record {
+    let heard = hearer_of (at side new.ends) in
+    let there = end_at (other side) run in
+    let after : StandsAs setup (after_hearing number side (all_taken heard) (with_line_to side (drop n) run)) new = record {
       past = stands.past ∙ sym passes.2;
-      caller = refl;
-      called = ap (changed_line (drop n)) stands.called ∙ ap hearer_of (sym passes.1);
-      caller_standing = is.standing ∙ stands.caller_standing;
-      called_standing = ap standing_of passes.1 ∙ stands.called_standing;
-      steady = record {
-        caller_ordered = is.ordered;
-        caller_room = is.room;
-        called_ordered = subst IsOrdered (sym passes.1) (line_ordered (drop n) old.called stands.steady.called_ordered);
-        called_room = subst HasRoom (sym passes.1) stands.steady.called_room;
-      };
+      ends = with_both (λ (s : Side) (h : Buffered (LineEnd DialogueState)). IsEnd setup s h (at s new.ends)) side heard (changed_line (drop n) there) run.ends
+          (record { hearer = refl; standing = is.standing ∙ (stands.ends side).standing })
+          (end_changed (drop n) (other side) setup there (at (other side) old.ends) (at (other side) new.ends) (stands.ends (other side)) passes.1);
+      steady = steady;
       clean = stands.clean;
     } in
-    subst (λ (c : Arrival (LineEnd DialogueState)). StandsAs setup (after_hearing number Caller c (with_line_to Caller (drop n) run)) new) (sym came) ends
-
-to_called : (n number : ℕ) (setup : SetupValue) (run : Run DialogueState) (old new : RunValue) → StandsAs setup run old
-    → Passes Called n true old new → StandsAs setup (after_event by_themselves setup number (Pass Called n) run) new
-to_called n number setup run old new stands passes =
-    let is = passes.0 in
-    let came = came_to (participant by_themselves setup run Called) n old.called old.caller (end_at Called run) (end_at Caller run) (all_taken (hearer_of new.called))
-    (called_is setup run old stands) stands.called stands.caller is.came in
-    let ends : StandsAs setup (after_hearing number Called (all_taken (hearer_of new.called)) (with_line_to Called (drop n) run)) new = record {
-      past = stands.past ∙ sym passes.2;
-      called = refl;
-      caller = ap (changed_line (drop n)) stands.caller ∙ ap hearer_of (sym passes.1);
-      called_standing = is.standing ∙ stands.called_standing;
-      caller_standing = ap standing_of passes.1 ∙ stands.caller_standing;
-      steady = record {
-        called_ordered = is.ordered;
-        called_room = is.room;
-        caller_ordered = subst IsOrdered (sym passes.1) (line_ordered (drop n) old.caller stands.steady.caller_ordered);
-        caller_room = subst HasRoom (sym passes.1) stands.steady.caller_room;
-      };
-      clean = stands.clean;
-    } in
-    subst (λ (c : Arrival (LineEnd DialogueState)). StandsAs setup (after_hearing number Called c (with_line_to Called (drop n) run)) new) (sym came) ends
+    subst (λ (c : Arrival (LineEnd DialogueState)). StandsAs setup (after_hearing number side c (with_line_to side (drop n) run)) new)
+    (sym (came_to side n setup run old (all_taken heard) stands is.came)) after
 
 -- ---- what the ends still hold
+
+-- as they stop
+last_end : (setup : SetupValue) (side : Side) (h : Buffered (LineEnd DialogueState)) (e : LiveEndValue) → IsEnd setup side h e → IsOrdered e
+    → IsLastEnd setup side h.end e
+last_end setup side h e is ordered =
+    record { end_is = ap (λ (x : Buffered (LineEnd DialogueState)). x.end) is.hearer; standing = is.standing; ordered = ordered }
+
+all_held : (setup : SetupValue) (side : Side) (h : Buffered (LineEnd DialogueState)) (e : LiveEndValue) → IsEnd setup side h e → held_bytes e.node ≡ h.held
+all_held setup side h e is = sym (ap (λ (x : Buffered (LineEnd DialogueState)). x.held) is.hearer)
 
 all_fits : (bytes held : List ℕ) → bytes ≡ held → length bytes < READER_SIZE → bytes ≡ take READER_SIZE held
 all_fits bytes held is room =
     let size = ap (λ (x : List ℕ). length x) is in
     is ∙ sym (take_all READER_SIZE held (omega (arith, size, room)))
 
-caller_holds : (number n : ℕ) (stop : Buffered (LineEnd DialogueState)) (run : Run DialogueState) (new : RunValue)
-    → held_bytes new.caller.node ≡ take READER_SIZE stop.held → held_bytes new.called.node ≡ (end_at Called run).held → HasRoom new.called
-    → HoldWhatIsLeft (after_hearing number Caller (stopped stop) (with_line_to Caller (drop n) run)) (held_parts new)
-caller_holds number n stop run new here there room =
-    record { fits = fits; all = λ clean. absurd (let e : Fooled number Caller ≡ Clean = clean in cc) }
-  where
-    fits : (side : Side) → at side (held_parts new)
-        ≡ take READER_SIZE (end_at side (after_hearing number Caller (stopped stop) (with_line_to Caller (drop n) run))).held
-    fits Caller = here
-    fits Called = all_fits (held_bytes new.called.node) (end_at Called run).held there room
+pub held_at : (r : RunValue) (side : Side) → at side (held_parts r) ≡ held_bytes (at side r.ends).node
+held_at r side = at_each_is (λ (s : Side). held_bytes (at s r.ends).node) side
 
-called_holds : (number n : ℕ) (stop : Buffered (LineEnd DialogueState)) (run : Run DialogueState) (new : RunValue)
-    → held_bytes new.called.node ≡ take READER_SIZE stop.held → held_bytes new.caller.node ≡ (end_at Caller run).held → HasRoom new.caller
-    → HoldWhatIsLeft (after_hearing number Called (stopped stop) (with_line_to Called (drop n) run)) (held_parts new)
-called_holds number n stop run new here there room =
-    record { fits = fits; all = λ clean. absurd (let e : Fooled number Called ≡ Clean = clean in cc) }
-  where
-    fits : (side : Side) → at side (held_parts new)
-        ≡ take READER_SIZE (end_at side (after_hearing number Called (stopped stop) (with_line_to Called (drop n) run))).held
-    fits Caller = all_fits (held_bytes new.caller.node) (end_at Caller run).held there room
-    fits Called = here
-
-clean_holds : (run : Run DialogueState) (r : RunValue) → end_at Caller run ≡ hearer_of r.caller → end_at Called run ≡ hearer_of r.called
-    → IsSteady r → HoldWhatIsLeft run (held_parts r)
-clean_holds run r caller called steady = record { fits = fits; all = λ clean. all }
+clean_holds : (setup : SetupValue) (run : Run DialogueState) (r : RunValue) → StandsAs setup run r → HoldWhatIsLeft run (held_parts r)
+clean_holds setup run r stands = record { fits = fits; all = λ clean. all }
   where
     all : (side : Side) → at side (held_parts r) ≡ (end_at side run).held
-    all Caller = sym (ap (λ (h : Buffered (LineEnd DialogueState)). h.held) caller)
-    all Called = sym (ap (λ (h : Buffered (LineEnd DialogueState)). h.held) called)
+    all side = held_at r side ∙ all_held setup side (end_at side run) (at side r.ends) (stands.ends side)
 
     fits : (side : Side) → at side (held_parts r) ≡ take READER_SIZE (end_at side run).held
-    fits Caller = all_fits (held_bytes r.caller.node) (end_at Caller run).held (all Caller) steady.caller_room
-    fits Called = all_fits (held_bytes r.called.node) (end_at Called run).held (all Called) steady.called_room
+    fits side = held_at r side
+        ∙ all_fits (held_bytes (at side r.ends).node) (end_at side run).held
+        (all_held setup side (end_at side run) (at side r.ends) (stands.ends side)) (ready_at r stands.steady side).room
 
 -- so it is in the world
-pub held_counted : (run : Run DialogueState) (held : AtBoth (List ℕ)) → HoldWhatIsLeft run held → HoldWhatIsLeft (counted run) held
-held_counted run held holds = record { fits = fits; all = all }
-  where
-    fits : (side : Side) → at side held ≡ take READER_SIZE (end_at side (counted run)).held
-    fits Caller = holds.fits Caller
-    fits Called = holds.fits Called
+pub counted_at : (run : Run DialogueState) (side : Side) → end_at side (counted run) ≡ counted_hearer (end_at side run)
+counted_at run side = at_each_is (λ (s : Side). counted_hearer (end_at s run)) side
 
-    all : run.verdict ≡ Clean → (side : Side) → at side held ≡ (end_at side (counted run)).held
-    all clean Caller = holds.all clean Caller
-    all clean Called = holds.all clean Called
+pub held_counted : (run : Run DialogueState) (held : AtBoth (List ℕ)) → HoldWhatIsLeft run held → HoldWhatIsLeft (counted run) held
+held_counted run held holds = record {
+  fits = λ side. holds.fits side ∙ sym (ap (λ (h : Buffered (LineEnd Count)). take READER_SIZE h.held) (counted_at run side));
+  all = λ clean side. holds.all clean side ∙ sym (ap (λ (h : Buffered (LineEnd Count)). h.held) (counted_at run side));
+}
 
 -- the run is fooled
 fooled_at : (side : Side) (n number : ℕ) (setup : SetupValue) (run : Run DialogueState) (old new : RunValue) → StandsAs setup run old
     → Passes side n false old new → EndsAs setup (after_event by_themselves setup number (Pass side n) run) (Fooled number side) new
-fooled_at Caller n number setup run old new stands passes =
+fooled_at side n number setup run old new stands passes =
     let is = passes.0 in
-    let stop : Buffered (LineEnd DialogueState) = record { held = is.held; end = line_end_of new.caller } in
-    let came = came_to (participant by_themselves setup run Caller) n old.caller old.called (end_at Caller run) (end_at Called run) (stopped stop)
-    (caller_is setup run old stands) stands.caller stands.called is.came in
-    let ends : EndsAs setup (after_hearing number Caller (stopped stop) (with_line_to Caller (drop n) run)) (Fooled number Caller) new = record {
+    let stop : Buffered (LineEnd DialogueState) = record { held = is.held; end = line_end_of (at side new.ends) } in
+    let there = changed_line (drop n) (end_at (other side) run) in
+    let far = at (other side) new.ends in
+    let changed : IsEnd setup (other side) there far =
+    end_changed (drop n) (other side) setup (end_at (other side) run) (at (other side) old.ends) far (stands.ends (other side)) passes.1 in
+    let ready = line_ready (drop n) (at (other side) old.ends) far passes.1 (ready_at old stands.steady (other side)) in
+    let fits = with_both (λ (s : Side) (h : Buffered (LineEnd DialogueState)). held_bytes (at s new.ends).node ≡ take READER_SIZE h.held) side stop there run.ends is.fits
+    (all_fits (held_bytes far.node) there.held (all_held setup (other side) there far changed) ready.room) in
+    let after : EndsAs setup (after_hearing number side (stopped stop) (with_line_to side (drop n) run)) (Fooled number side) new = record {
       past = stands.past ∙ sym passes.2;
-      caller = refl;
-      called = ap (λ (h : Buffered (LineEnd DialogueState)). (changed_line (drop n) h).end) stands.called ∙ ap line_end_of (sym passes.1);
-      caller_standing = is.standing ∙ stands.caller_standing;
-      called_standing = ap standing_of passes.1 ∙ stands.called_standing;
-      caller_ordered = is.ordered;
-      called_ordered = subst IsOrdered (sym passes.1) (line_ordered (drop n) old.called stands.steady.called_ordered);
+      ends = with_both (λ (s : Side) (h : Buffered (LineEnd DialogueState)). IsLastEnd setup s h.end (at s new.ends)) side stop there run.ends
+          (record { end_is = refl; standing = is.standing ∙ (stands.ends side).standing; ordered = is.ordered })
+          (last_end setup (other side) there far changed ready.ordered);
       verdict_is = refl;
-      held = caller_holds number n stop run new is.fits
-          (ap (λ (e : LiveEndValue). held_bytes e.node) passes.1 ∙ sym (ap (λ (h : Buffered (LineEnd DialogueState)). h.held) stands.called))
-          (subst HasRoom (sym passes.1) stands.steady.called_room);
+      held = record {
+        fits = λ s. held_at new s ∙ fits s;
+        all = λ clean. absurd (let e : Fooled number side ≡ Clean = clean in cc);
+      };
     } in
-    subst (λ (c : Arrival (LineEnd DialogueState)). EndsAs setup (after_hearing number Caller c (with_line_to Caller (drop n) run)) (Fooled number Caller) new) (sym came) ends
-fooled_at Called n number setup run old new stands passes =
-    let is = passes.0 in
-    let stop : Buffered (LineEnd DialogueState) = record { held = is.held; end = line_end_of new.called } in
-    let came = came_to (participant by_themselves setup run Called) n old.called old.caller (end_at Called run) (end_at Caller run) (stopped stop)
-    (called_is setup run old stands) stands.called stands.caller is.came in
-    let ends : EndsAs setup (after_hearing number Called (stopped stop) (with_line_to Called (drop n) run)) (Fooled number Called) new = record {
-      past = stands.past ∙ sym passes.2;
-      called = refl;
-      caller = ap (λ (h : Buffered (LineEnd DialogueState)). (changed_line (drop n) h).end) stands.caller ∙ ap line_end_of (sym passes.1);
-      called_standing = is.standing ∙ stands.called_standing;
-      caller_standing = ap standing_of passes.1 ∙ stands.caller_standing;
-      called_ordered = is.ordered;
-      caller_ordered = subst IsOrdered (sym passes.1) (line_ordered (drop n) old.caller stands.steady.caller_ordered);
-      verdict_is = refl;
-      held = called_holds number n stop run new is.fits
-          (ap (λ (e : LiveEndValue). held_bytes e.node) passes.1 ∙ sym (ap (λ (h : Buffered (LineEnd DialogueState)). h.held) stands.caller))
-          (subst HasRoom (sym passes.1) stands.steady.caller_room);
-    } in
-    subst (λ (c : Arrival (LineEnd DialogueState)). EndsAs setup (after_hearing number Called c (with_line_to Called (drop n) run)) (Fooled number Called) new) (sym came) ends
+    subst (λ (c : Arrival (LineEnd DialogueState)). EndsAs setup (after_hearing number side c (with_line_to side (drop n) run)) (Fooled number side) new)
+    (sym (came_to side n setup run old (stopped stop) stands is.came)) after
 
 -- ---- a new call
 
@@ -316,23 +270,23 @@ owned_by_talk : (number : Option ℕ) → DialogueState → Belongings
 owned_by_talk number talk = record { lists = talk.machine.lists; kept = talk.kept; number = number }
 
 -- at an end that has begun again
-began_so : (setup : SetupValue) (side : Side) (old lost new : LiveEndValue) (now : Buffered (LineEnd DialogueState)) → standing_of old ≡ standing_at setup side
-    → now ≡ hearer_of old → IsCalled line_lost old lost → BeginsAgain lost new
-    → begins (begins_session (standing_at setup side).identity (standing_at setup side).own now.end.state.number
-    (by_themselves.first (renewed (owned_by_talk now.end.state.number now.end.state.keeper)))) ≡ hearer_of new
+end_begun : (setup : SetupValue) (side : Side) (old lost new : LiveEndValue) (now : Buffered (LineEnd DialogueState)) → IsEnd setup side now old
+    → IsCalled line_lost old lost → BeginsAgain lost new
+    → IsEnd setup side (begins (begins_session (standing_at setup side).identity (standing_at setup side).own now.end.state.number
+    (by_themselves.first (renewed (owned_by_talk now.end.state.number now.end.state.keeper))))) new
 unfolding owned_by_talk
-began_so setup side old lost new now standing is lost_is begun =
+end_begun setup side old lost new now was lost_is begun =
     let first : Standing → Option ℕ → DialogueState → Buffered (LineEnd DialogueState) =
     λ s number talk. begins (begins_session s.identity s.own number (by_themselves.first (renewed (owned_by_talk number talk)))) in
-    ap (λ (h : Buffered (LineEnd DialogueState)). first (standing_at setup side) h.end.state.number h.end.state.keeper) is
-    ∙ ap (λ (n : Option ℕ). first (standing_at setup side) n (line_end_of old).state.keeper) (sym (number_as_lost old lost lost_is))
-    ∙ ap (first (standing_at setup side) (line_end_of lost).state.number) (sym (kept_as_lost old lost lost_is))
-    ∙ ap (λ (s : Standing). first s (line_end_of lost).state.number (line_end_of lost).state.keeper) (sym (lost_is.standing ∙ standing))
-    ∙ sym begun.hearer
-
-began_standing : (setup : SetupValue) (side : Side) (old lost new : LiveEndValue) → standing_of old ≡ standing_at setup side
-    → IsCalled line_lost old lost → BeginsAgain lost new → standing_of new ≡ standing_at setup side
-began_standing setup side old lost new standing lost_is begun = begun.standing ∙ lost_is.standing ∙ standing
+    let standing = lost_is.standing ∙ was.standing in
+    record {
+      hearer = ap (λ (h : Buffered (LineEnd DialogueState)). first (standing_at setup side) h.end.state.number h.end.state.keeper) was.hearer
+          ∙ ap (λ (n : Option ℕ). first (standing_at setup side) n (line_end_of old).state.keeper) (sym (number_as_lost old lost lost_is))
+          ∙ ap (first (standing_at setup side) (line_end_of lost).state.number) (sym (kept_as_lost old lost lost_is))
+          ∙ ap (λ (s : Standing). first s (line_end_of lost).state.number (line_end_of lost).state.keeper) (sym standing)
+          ∙ sym begun.hearer;
+      standing = begun.standing ∙ standing;
+    }
 
 -- what is told of an end is told as the program tells it
 spelled_back : (spellings : List (List ℕ)) → AreWritten spellings → map canonical (map packet_in spellings) ≡ spellings
@@ -345,15 +299,12 @@ told_so : (e : LiveEndValue) → AreWritten e.journal.packets → spelled_end (r
 told_so e written = ap (λ (ps : List (List ℕ)). record (told_of e) { packets = ps }) (spelled_back e.journal.packets written)
 
 -- both of them
-both_told : (run_caller run_called : LineEnd DialogueState) (caller called : LiveEndValue) → run_caller ≡ line_end_of caller → run_called ≡ line_end_of called
-    → AreWritten caller.journal.packets → AreWritten called.journal.packets
-    → spelled_session (record { at_caller = report_of_end run_caller; at_called = report_of_end run_called })
-    ≡ record { at_caller = told_of caller; at_called = told_of called }
-both_told run_caller run_called caller called a b caller_written called_written =
-    let by_caller : SpelledEnd → AtBoth SpelledEnd = λ x. record { at_caller = x; at_called = spelled_end (report_of_end run_called) } in
-    let by_called : SpelledEnd → AtBoth SpelledEnd = λ x. record { at_caller = told_of caller; at_called = x } in
-    ap by_caller (ap (λ (e : LineEnd DialogueState). spelled_end (report_of_end e)) a ∙ told_so caller caller_written)
-    ∙ ap by_called (ap (λ (e : LineEnd DialogueState). spelled_end (report_of_end e)) b ∙ told_so called called_written)
+both_told : (now : Side → LineEnd DialogueState) (ends : AtBoth LiveEndValue) → ((side : Side) → now side ≡ line_end_of (at side ends))
+    → ((side : Side) → IsOrdered (at side ends))
+    → spelled_session (at_each (λ side. report_of_end (now side))) ≡ at_each (λ side. told_of (at side ends))
+both_told now ends same ordered =
+    each_are (λ side. spelled_end (report_of_end (now side))) (λ side. told_of (at side ends))
+    (λ side. ap (λ (e : LineEnd DialogueState). spelled_end (report_of_end e)) (same side) ∙ told_so (at side ends) (ordered side).written)
 
 one_more_session : (past : List (AtBoth EndReportValue)) (last : AtBoth EndReportValue) (told : List (AtBoth SpelledEnd)) (last_told : AtBoth SpelledEnd)
     → map spelled_session past ≡ told → spelled_session last ≡ last_told
@@ -363,36 +314,22 @@ one_more_session past last told last_told is last_is =
     ∙ ap (λ (xs : List (AtBoth SpelledEnd)). xs ++ spelled_session last ∷ []) is
     ∙ ap (λ (x : AtBoth SpelledEnd). told ++ x ∷ []) last_is
 
-called_again : (setup : SetupValue) (run : Run DialogueState) (old new : RunValue) → StandsAs setup run old → CallsAgain old new
+called_again : (setup : SetupValue) (run : Run DialogueState) (old new : RunValue) → StandsAs setup run old → IsSteady new → CallsAgain old new
     → StandsAs setup (after_event by_themselves setup 0 Call run) new
 unfolding owned_by_talk
-called_again setup run old new stands again =
-    let lost_at : (hung_up by_themselves setup run Caller).end ≡ line_end_of again.lost_caller =
-    ap (λ (p : Participant DialogueState). (called_with p line_lost (end_at Caller run)).end) (sym (caller_is setup run old stands))
-    ∙ ap (λ (h : Buffered (LineEnd DialogueState)). (called_with (player_of old.caller) line_lost h).end) stands.caller
-    ∙ ap (λ (h : Buffered (LineEnd DialogueState)). h.end) (sym again.caller_lost.hearer) in
-    let lost_too : (hung_up by_themselves setup run Called).end ≡ line_end_of again.lost_called =
-    ap (λ (p : Participant DialogueState). (called_with p line_lost (end_at Called run)).end) (sym (called_is setup run old stands))
-    ∙ ap (λ (h : Buffered (LineEnd DialogueState)). (called_with (player_of old.called) line_lost h).end) stands.called
-    ∙ ap (λ (h : Buffered (LineEnd DialogueState)). h.end) (sym again.called_lost.hearer) in
+called_again setup run old new stands steady again =
+    let hung : (side : Side) → IsEnd setup side (hung_up by_themselves setup run side) (at side again.lost) =
+    λ side. end_called line_lost side setup run (at side old.ends) (at side again.lost) (stands.ends side) (again.hangs_up side) in
+    let begun = λ (side : Side).
+    end_begun setup side (at side old.ends) (at side again.lost) (at side new.ends) (end_at side run) (stands.ends side) (again.hangs_up side) (again.begins side) in
     record {
-      past = one_more_session run.past (record {
-        at_caller = report_of_end (hung_up by_themselves setup run Caller).end;
-        at_called = report_of_end (hung_up by_themselves setup run Called).end;
-      }) old.past (record { at_caller = told_of again.lost_caller; at_called = told_of again.lost_called }) stands.past
-          (both_told (hung_up by_themselves setup run Caller).end (hung_up by_themselves setup run Called).end again.lost_caller again.lost_called
-          lost_at lost_too again.caller_lost.ordered.written again.called_lost.ordered.written)
+      past = one_more_session run.past (at_each (λ side. report_of_end (hung_up by_themselves setup run side).end)) old.past
+          (at_each (λ side. told_of (at side again.lost))) stands.past
+          (both_told (λ side. (hung_up by_themselves setup run side).end) again.lost
+          (λ side. ap (λ (h : Buffered (LineEnd DialogueState)). h.end) (hung side).hearer) (λ side. (again.hangs_up side).ordered))
           ∙ sym again.past;
-      caller = began_so setup Caller old.caller again.lost_caller new.caller (end_at Caller run) stands.caller_standing stands.caller again.caller_lost again.caller;
-      called = began_so setup Called old.called again.lost_called new.called (end_at Called run) stands.called_standing stands.called again.called_lost again.called;
-      caller_standing = began_standing setup Caller old.caller again.lost_caller new.caller stands.caller_standing again.caller_lost again.caller;
-      called_standing = began_standing setup Called old.called again.lost_called new.called stands.called_standing again.called_lost again.called;
-      steady = record {
-        caller_ordered = again.caller.ordered;
-        caller_room = again.caller.room;
-        called_ordered = again.called.ordered;
-        called_room = again.called.room;
-      };
+      ends = each (λ side. IsEnd setup side (end_at side (after_event by_themselves setup 0 Call run)) (at side new.ends)) (begun Caller) (begun Called);
+      steady = steady;
       clean = refl;
     }
 
@@ -400,15 +337,16 @@ called_again setup run old new stands again =
 
 pub happens_clean : (event : Event) (number : ℕ) (setup : SetupValue) (run : Run DialogueState) (old new : RunValue) → StandsAs setup run old
     → Happens event true old new → StandsAs setup (after_event by_themselves setup number event run) new
-happens_clean (Pass Caller n) number setup run old new stands happens = to_caller n number setup run old new stands happens
-happens_clean (Pass Called n) number setup run old new stands happens = to_called n number setup run old new stands happens
-happens_clean (Drop side n) number setup run old new stands happens = line_changed (drop n) side setup run old new stands happens.1
-happens_clean (Flip side mask) number setup run old new stands happens = line_changed (flipped mask) side setup run old new stands happens.1
-happens_clean (Insert side byte) number setup run old new stands happens =
-    line_changed (λ line. byte ∷ line) side setup run old new stands happens.1
-happens_clean (Timeout side) number setup run old new stands happens = at_called time_ran_out side setup run old new stands happens.1
-happens_clean (HangUp side) number setup run old new stands happens = at_called line_lost side setup run old new stands happens.1
-happens_clean Call number setup run old new stands happens = called_again setup run old new stands happens.1
+happens_clean event number setup run old new stands happens = goes event happens (happens_steady event old new stands.steady happens)
+  where
+    goes : (event : Event) → Happens event true old new → IsSteady new → StandsAs setup (after_event by_themselves setup number event run) new
+    goes (Pass side n) happens steady = passed_on side n number setup run old new stands steady happens
+    goes (Drop side n) happens steady = line_changed (drop n) (other side) setup run old new stands steady happens.1
+    goes (Flip side mask) happens steady = line_changed (flipped mask) (other side) setup run old new stands steady happens.1
+    goes (Insert side byte) happens steady = line_changed (λ line. byte ∷ line) (other side) setup run old new stands steady happens.1
+    goes (Timeout side) happens steady = at_called time_ran_out side setup run old new stands steady happens.1
+    goes (HangUp side) happens steady = at_called line_lost side setup run old new stands steady happens.1
+    goes Call happens steady = called_again setup run old new stands steady happens.1
 
 -- only bytes that come may fool an end
 pub happens_fooled : (event : Event) (number : ℕ) (setup : SetupValue) (run : Run DialogueState) (old new : RunValue) → StandsAs setup run old
@@ -420,60 +358,6 @@ happens_fooled (Insert side byte) number setup run old new stands happens = let 
 happens_fooled (Timeout side) number setup run old new stands happens = let never = happens.0 in absurd cc
 happens_fooled (HangUp side) number setup run old new stands happens = let never = happens.0 in absurd cc
 happens_fooled Call number setup run old new stands happens = let never = happens.0 in absurd cc
-
-steady_changed : (change : List ℕ → List ℕ) (side : Side) (old new : RunValue) → IsSteady old
-    → HappensAt (other side) (ChangesLine change) old new → IsSteady new
-steady_changed change Called old new steady happens = record {
-  caller_ordered = subst IsOrdered (sym happens.0) (line_ordered change old.caller steady.caller_ordered);
-  caller_room = subst HasRoom (sym happens.0) steady.caller_room;
-  called_ordered = subst IsOrdered (sym happens.1) steady.called_ordered;
-  called_room = subst HasRoom (sym happens.1) steady.called_room;
-}
-steady_changed change Caller old new steady happens = record {
-  called_ordered = subst IsOrdered (sym happens.0) (line_ordered change old.called steady.called_ordered);
-  called_room = subst HasRoom (sym happens.0) steady.called_room;
-  caller_ordered = subst IsOrdered (sym happens.1) steady.caller_ordered;
-  caller_room = subst HasRoom (sym happens.1) steady.caller_room;
-}
-
-steady_called : (event : EndEvent) (side : Side) (old new : RunValue) → IsSteady old → HappensAt side (IsCalled event) old new → IsSteady new
-steady_called event Caller old new steady happens = record {
-  caller_ordered = happens.0.ordered;
-  caller_room = happens.0.room;
-  called_ordered = subst IsOrdered (sym happens.1) steady.called_ordered;
-  called_room = subst HasRoom (sym happens.1) steady.called_room;
-}
-steady_called event Called old new steady happens = record {
-  called_ordered = happens.0.ordered;
-  called_room = happens.0.room;
-  caller_ordered = subst IsOrdered (sym happens.1) steady.caller_ordered;
-  caller_room = subst HasRoom (sym happens.1) steady.caller_room;
-}
-
-pub happens_steady : (event : Event) (old new : RunValue) → IsSteady old → Happens event true old new → IsSteady new
-happens_steady (Pass Caller n) old new steady happens = record {
-  caller_ordered = happens.0.ordered;
-  caller_room = happens.0.room;
-  called_ordered = subst IsOrdered (sym happens.1) (line_ordered (drop n) old.called steady.called_ordered);
-  called_room = subst HasRoom (sym happens.1) steady.called_room;
-}
-happens_steady (Pass Called n) old new steady happens = record {
-  called_ordered = happens.0.ordered;
-  called_room = happens.0.room;
-  caller_ordered = subst IsOrdered (sym happens.1) (line_ordered (drop n) old.caller steady.caller_ordered);
-  caller_room = subst HasRoom (sym happens.1) steady.caller_room;
-}
-happens_steady (Drop side n) old new steady happens = steady_changed (drop n) side old new steady happens.1
-happens_steady (Flip side mask) old new steady happens = steady_changed (flipped mask) side old new steady happens.1
-happens_steady (Insert side byte) old new steady happens = steady_changed (λ line. byte ∷ line) side old new steady happens.1
-happens_steady (Timeout side) old new steady happens = steady_called time_ran_out side old new steady happens.1
-happens_steady (HangUp side) old new steady happens = steady_called line_lost side old new steady happens.1
-happens_steady Call old new steady happens = record {
-  caller_ordered = happens.1.caller.ordered;
-  caller_room = happens.1.caller.room;
-  called_ordered = happens.1.called.ordered;
-  called_room = happens.1.called.room;
-}
 
 -- ---- the events
 
@@ -499,14 +383,9 @@ pub record StillRuns (events : List Event) (number : ℕ) (setup : SetupValue) (
 pub ends_clean : (run : Run DialogueState) (setup : SetupValue) (r : RunValue) → StandsAs setup run r → EndsAs setup run Clean r
 ends_clean run setup r stands = record {
   past = stands.past;
-  caller = ap (λ (h : Buffered (LineEnd DialogueState)). h.end) stands.caller;
-  called = ap (λ (h : Buffered (LineEnd DialogueState)). h.end) stands.called;
-  caller_standing = stands.caller_standing;
-  called_standing = stands.called_standing;
-  caller_ordered = stands.steady.caller_ordered;
-  called_ordered = stands.steady.called_ordered;
+  ends = λ side. last_end setup side (end_at side run) (at side r.ends) (stands.ends side) (ready_at r stands.steady side).ordered;
   verdict_is = stands.clean;
-  held = clean_holds run r stands.caller stands.called stands.steady;
+  held = clean_holds setup run r stands;
 }
 
 pub runs_on : (events : List Event) (number : ℕ) (event : Event) (setup : SetupValue) (run : Run DialogueState) (old new : RunValue)
@@ -550,43 +429,19 @@ pub told_as : (setup : SetupValue) (run : Run DialogueState) (verdict : LineVerd
     → spelled (report_of by_themselves setup run) ≡ told_in_all r verdict
 unfolding owned_by_talk
 told_as setup run verdict r ends =
-    let sessions = one_more_session run.past (record {
-      at_caller = report_of_end (end_at Caller run).end;
-      at_called = report_of_end (end_at Called run).end;
-    }) r.past (record { at_caller = told_of r.caller; at_called = told_of r.called }) ends.past
-    (both_told (end_at Caller run).end (end_at Called run).end r.caller r.called ends.caller ends.called ends.caller_ordered.written ends.called_ordered.written) in
-    let by_sessions : List (AtBoth SpelledEnd) → SpelledReport = λ x. record {
-      sessions = x;
-      ends = record { at_caller = end_now (end_at Caller run).end; at_called = end_now (end_at Called run).end };
-      belongings = record {
-        at_caller = owned_by_talk (end_at Caller run).end.state.number (end_at Caller run).end.state.keeper;
-        at_called = owned_by_talk (end_at Called run).end.state.number (end_at Called run).end.state.keeper;
-      };
-      verdict = run.verdict;
-    } in
-    let told = r.past ++ record { at_caller = told_of r.caller; at_called = told_of r.called } ∷ [] in
-    let by_caller : LineEnd DialogueState → SpelledReport = λ x. record {
-      sessions = told;
-      ends = record { at_caller = end_now x; at_called = end_now (end_at Called run).end };
-      belongings = record {
-        at_caller = owned_by_talk x.state.number x.state.keeper;
-        at_called = owned_by_talk (end_at Called run).end.state.number (end_at Called run).end.state.keeper;
-      };
-      verdict = run.verdict;
-    } in
-    let by_called : LineEnd DialogueState → SpelledReport = λ x. record {
-      sessions = told;
-      ends = record { at_caller = parts_now r.caller; at_called = end_now x };
-      belongings = record { at_caller = owned_parts r.caller; at_called = owned_by_talk x.state.number x.state.keeper };
-      verdict = run.verdict;
-    } in
-    let by_verdict : LineVerdict → SpelledReport = λ x. record {
-      sessions = told;
-      ends = record { at_caller = parts_now r.caller; at_called = parts_now r.called };
-      belongings = record { at_caller = owned_parts r.caller; at_called = owned_parts r.called };
-      verdict = x;
-    } in
-    ap by_sessions sessions ∙ ap by_caller ends.caller ∙ ap by_called ends.called ∙ ap by_verdict ends.verdict_is
+    let now : Side → LineEnd DialogueState = λ side. (end_at side run).end in
+    let told : Side → SpelledEnd = λ side. told_of (at side r.ends) in
+    let stand : Side → EndNow = λ side. parts_now (at side r.ends) in
+    let own : LineEnd DialogueState → Belongings = λ e. owned_by_talk e.state.number e.state.keeper in
+    let tells : List (AtBoth SpelledEnd) → AtBoth EndNow → AtBoth Belongings → LineVerdict → SpelledReport =
+    λ sessions at_ends belongings says. record { sessions = sessions; ends = at_ends; belongings = belongings; verdict = says } in
+    ap₂ (λ sessions at_ends. tells sessions at_ends (at_each (λ side. own (now side))) run.verdict)
+    (one_more_session run.past (at_each (λ side. report_of_end (now side))) r.past (at_each told) ends.past
+    (both_told now r.ends (λ side. (ends.ends side).end_is) (λ side. (ends.ends side).ordered)))
+    (each_are (λ side. end_now (now side)) stand (λ side. ap (λ (e : LineEnd DialogueState). end_now e) (ends.ends side).end_is))
+    ∙ ap₂ (tells (r.past ++ at_each told ∷ []) (at_each stand))
+    (each_are (λ side. own (now side)) (λ side. owned_parts (at side r.ends)) (λ side. ap own (ends.ends side).end_is))
+    ends.verdict_is
 
 -- a run that ends so is what the two ends do, and what the world tells
 pub told_by_ends : (setup : SetupValue) (events : List Event) (verdict : LineVerdict) (r : RunValue)
@@ -601,46 +456,44 @@ told_by_world setup events verdict r ends same = told_by_ends setup events verdi
 -- the spools give and accept what they did at first
 pub give_as_set_up : (setup : SetupValue) (run : Run DialogueState) (verdict : LineVerdict) (r : RunValue) → EndsAs setup run verdict r
     → GiveAsSetUp setup (whole_report r verdict).spools
-give_as_set_up setup run verdict r ends Caller = ap (λ (s : Standing). s.holdings) ends.caller_standing
-give_as_set_up setup run verdict r ends Called = ap (λ (s : Standing). s.holdings) ends.called_standing
+give_as_set_up setup run verdict r ends side =
+    ap holdings_of (at_each_is (λ (s : Side). (at s r.ends).spool) side) ∙ ap (λ (s : Standing). s.holdings) (ends.ends side).standing
 
 -- ---- the first session
 
--- of ends that are set up so
+-- of an end that is set up so
+end_starts : (setup : SetupValue) (side : Side) (spool : MemoryHoldings) (e : LiveEndValue) → (at side setup).holdings ≡ holdings_of spool
+    → (at side setup).belongings.kept ≡ spool.stored
+    → HasBegun (standing_at setup side).identity (standing_at setup side).own (at side setup).belongings.number (renewed (at side setup).belongings).lists spool e
+    → IsEnd setup side (begins (begins_session (standing_at setup side).identity (standing_at setup side).own (at side setup).belongings.number
+    (by_themselves.first (renewed (at side setup).belongings)))) e
+end_starts setup side spool e holdings kept begun =
+    let standing = standing_at setup side in
+    let belongings = (at side setup).belongings in
+    record {
+      hearer = ap (λ (files : List Kept). begins (begins_session standing.identity standing.own belongings.number (unopened (renewed belongings).lists files))) kept
+          ∙ sym begun.hearer;
+      standing = begun.standing ∙ ap (λ (h : Holdings). record { identity = standing.identity; own = standing.own; holdings = h }) (sym holdings);
+    }
+
+-- of both
 pub starts_as : (setup : SetupValue) (caller_spool called_spool : MemoryHoldings) (r : RunValue) → r.past ≡ []
     → setup.at_caller.holdings ≡ holdings_of caller_spool → setup.at_called.holdings ≡ holdings_of called_spool
     → setup.at_caller.belongings.kept ≡ caller_spool.stored → setup.at_called.belongings.kept ≡ called_spool.stored
-    → HasBegun (standing_at setup Caller).identity (standing_at setup Caller).own setup.at_caller.belongings.number (renewed setup.at_caller.belongings).lists caller_spool r.caller
-    → HasBegun (standing_at setup Called).identity (standing_at setup Called).own setup.at_called.belongings.number (renewed setup.at_called.belongings).lists called_spool r.called
+    → HasBegun (standing_at setup Caller).identity (standing_at setup Caller).own setup.at_caller.belongings.number (renewed setup.at_caller.belongings).lists caller_spool r.ends.at_caller
+    → HasBegun (standing_at setup Called).identity (standing_at setup Called).own setup.at_called.belongings.number (renewed setup.at_called.belongings).lists called_spool r.ends.at_called
     → StandsAs setup (first_run by_themselves setup) r
-starts_as setup caller_spool called_spool r none caller_holdings called_holdings caller_kept called_kept caller called =
-    let first : Side → Lists → List Kept → Buffered (LineEnd DialogueState) =
-    λ side l kept. begins (begins_session (standing_at setup side).identity (standing_at setup side).own
-    (at side setup).belongings.number (unopened l kept)) in
-    let caller_lists = (renewed setup.at_caller.belongings).lists in
-    let called_lists = (renewed setup.at_called.belongings).lists in
-    record {
-      past = sym none;
-      caller = ap (first Caller caller_lists) caller_kept ∙ sym caller.hearer;
-      called = ap (first Called called_lists) called_kept ∙ sym called.hearer;
-      caller_standing = caller.standing ∙ ap (λ (h : Holdings). record {
-        identity = (standing_at setup Caller).identity;
-        own = (standing_at setup Caller).own;
-        holdings = h;
-      }) (sym caller_holdings);
-      called_standing = called.standing ∙ ap (λ (h : Holdings). record {
-        identity = (standing_at setup Called).identity;
-        own = (standing_at setup Called).own;
-        holdings = h;
-      }) (sym called_holdings);
-      steady = record {
-        caller_ordered = caller.ordered;
-        caller_room = caller.room;
-        called_ordered = called.ordered;
-        called_room = called.room;
-      };
-      clean = refl;
-    }
+starts_as setup caller_spool called_spool r none caller_holdings called_holdings caller_kept called_kept caller called = record {
+  past = sym none;
+  ends = each (λ side. IsEnd setup side (end_at side (first_run by_themselves setup)) (at side r.ends))
+      (end_starts setup Caller caller_spool r.ends.at_caller caller_holdings caller_kept caller)
+      (end_starts setup Called called_spool r.ends.at_called called_holdings called_kept called);
+  steady = record {
+    at_caller = record { ordered = caller.ordered; room = caller.room };
+    at_called = record { ordered = called.ordered; room = called.room };
+  };
+  clean = refl;
+}
 
 -- ---- the program's reports and loop
 

@@ -1,6 +1,7 @@
 -- How the program's run stands, in the terms of the definitions, and what its events do.
 use Rattle.std.specs.Prelude.{◌≡◌, ℕ, Bool, true, List, [], ◌∷◌, ◌++◌, map, take, drop}
 use Rattle.uug_conversation.specs.Turns.{other}
+use Rattle.uug_session.specs.Arriving.{Buffered}
 use Rattle.uug_session.specs.EndStep.{line_lost, time_ran_out}
 use Rattle.uug_session.specs.Node.{held_bytes}
 use Rattle.uug_line.specs.declared.event.Event.{Event}
@@ -11,6 +12,7 @@ use Rattle.uug_conversation.specs.declared.side.Side.TheVariants.{Caller, Called
 use Rattle.uug_line.specs.declared.verdict.LineVerdict.{LineVerdict}
 use Rattle.uug_line.specs.declared.verdict.LineVerdict.TheVariants.{Clean}
 use Rattle.uug_line.specs.Belongings.{Belongings, SetupValue, identity}
+use Rattle.uug_line.specs.LineEnd.{LineEnd}
 use Rattle.uug_line.specs.Live.{BeginsAgain, HasRoom, HearsPiece, IsCalled, IsOrdered, LiveEndValue, Standing, hearer_of, line_end_of, live_end_value, standing_of, told_of}
 use Rattle.uug_line.specs.Told.{EndNow, SpelledEnd, SpelledReport}
 use Rattle.uug_line.specs.Run.{Run, end_at, flipped}
@@ -23,25 +25,29 @@ use Rattle.uug_conversation.specs.DialogueState.{DialogueState}
 pub record RunValue : Type 0 where
   -- what is told of the sessions that are over
   pub past : List (AtBoth SpelledEnd)
-  pub caller : LiveEndValue
-  pub called : LiveEndValue
+  pub ends : AtBoth LiveEndValue
 
 abbrev pub run_value : {A : Type 0} → RunSoFar A → RunValue
-run_value r = record { past = map session_shown r.past.items; caller = live_end_value r.caller; called = live_end_value r.called }
+run_value r = record {
+  past = map session_shown r.past.items;
+  ends = record { at_caller = live_end_value r.caller; at_called = live_end_value r.called };
+}
 
 -- between two events
+pub record IsReady (e : LiveEndValue) : Type 0 where
+  pub ordered : IsOrdered e
+  pub room : HasRoom e
+
 pub record IsSteady (r : RunValue) : Type 0 where
-  pub caller_ordered : IsOrdered r.caller
-  pub caller_room : HasRoom r.caller
-  pub called_ordered : IsOrdered r.called
-  pub called_room : HasRoom r.called
+  pub at_caller : IsReady r.ends.at_caller
+  pub at_called : IsReady r.ends.at_called
 
 -- ---- what happens
 
 -- this happens at the side, and nothing else
 abbrev pub HappensAt : Side → (LiveEndValue → LiveEndValue → Type 0) → (old new : RunValue) → Type 0
-HappensAt Caller what old new = what old.caller new.caller × (new.called ≡ old.called) × (new.past ≡ old.past)
-HappensAt Called what old new = what old.called new.called × (new.caller ≡ old.caller) × (new.past ≡ old.past)
+HappensAt side what old new =
+    what (at side old.ends) (at side new.ends) × (at (other side) new.ends ≡ at (other side) old.ends) × (new.past ≡ old.past)
 
 -- the bytes that the end has emitted become others
 abbrev pub with_line : (List ℕ → List ℕ) → LiveEndValue → LiveEndValue
@@ -52,22 +58,17 @@ ChangesLine change old new = new ≡ with_line change old
 
 -- the next bytes come to the side
 abbrev pub Passes : Side → (n : ℕ) → (all_sent : Bool) → (old new : RunValue) → Type 0
-Passes Caller n all_sent old new =
-    HearsPiece all_sent old.called.journal.packets (take n old.called.line) old.caller new.caller
-    × (new.called ≡ with_line (drop n) old.called) × (new.past ≡ old.past)
-Passes Called n all_sent old new =
-    HearsPiece all_sent old.caller.journal.packets (take n old.caller.line) old.called new.called
-    × (new.caller ≡ with_line (drop n) old.caller) × (new.past ≡ old.past)
+Passes side n all_sent old new =
+    HearsPiece all_sent (at (other side) old.ends).journal.packets (take n (at (other side) old.ends).line)
+    (at side old.ends) (at side new.ends)
+    × (at (other side) new.ends ≡ with_line (drop n) (at (other side) old.ends)) × (new.past ≡ old.past)
 
 -- both ends hang up, and a new session begins
 pub record CallsAgain (old new : RunValue) : Type 0 where
-  pub lost_caller : LiveEndValue
-  pub lost_called : LiveEndValue
-  pub caller_lost : IsCalled line_lost old.caller lost_caller
-  pub called_lost : IsCalled line_lost old.called lost_called
-  pub caller : BeginsAgain lost_caller new.caller
-  pub called : BeginsAgain lost_called new.called
-  pub past : new.past ≡ old.past ++ record { at_caller = told_of lost_caller; at_called = told_of lost_called } ∷ []
+  pub lost : AtBoth LiveEndValue
+  pub hangs_up : (side : Side) → IsCalled line_lost (at side old.ends) (at side lost)
+  pub begins : (side : Side) → BeginsAgain (at side lost) (at side new.ends)
+  pub past : new.past ≡ old.past ++ record { at_caller = told_of lost.at_caller; at_called = told_of lost.at_called } ∷ []
 
 -- the answer is true, and this happens
 abbrev pub HappensClean : (all_sent : Bool) → Type 0 → Type 0
@@ -97,27 +98,30 @@ standing_at setup side = record {
   holdings = (at side setup).holdings;
 }
 
+-- an end of it is the program's
+pub record IsEnd (setup : SetupValue) (side : Side) (h : Buffered (LineEnd DialogueState)) (e : LiveEndValue) : Type 0 where
+  pub hearer : h ≡ hearer_of e
+  pub standing : standing_of e ≡ standing_at setup side
+
 pub record StandsAs (setup : SetupValue) (run : Run DialogueState) (r : RunValue) : Type 0 where
   pub past : map spelled_session run.past ≡ r.past
-  pub caller : end_at Caller run ≡ hearer_of r.caller
-  pub called : end_at Called run ≡ hearer_of r.called
-  pub caller_standing : standing_of r.caller ≡ standing_at setup Caller
-  pub called_standing : standing_of r.called ≡ standing_at setup Called
+  pub ends : (side : Side) → IsEnd setup side (end_at side run) (at side r.ends)
   pub steady : IsSteady r
   pub clean : run.verdict ≡ Clean
 
 abbrev pub held_parts : RunValue → AtBoth (List ℕ)
-held_parts r = record { at_caller = held_bytes r.caller.node; at_called = held_bytes r.called.node }
+held_parts r = record { at_caller = held_bytes r.ends.at_caller.node; at_called = held_bytes r.ends.at_called.node }
 
--- as it stops; of the bytes that were not taken up it holds those that fit
+-- as it stops, whatever bytes it holds
+pub record IsLastEnd (setup : SetupValue) (side : Side) (end : LineEnd DialogueState) (e : LiveEndValue) : Type 0 where
+  pub end_is : end ≡ line_end_of e
+  pub standing : standing_of e ≡ standing_at setup side
+  pub ordered : IsOrdered e
+
+-- of the bytes that were not taken up it holds those that fit
 pub record EndsAs (setup : SetupValue) (run : Run DialogueState) (verdict : LineVerdict) (r : RunValue) : Type 0 where
   pub past : map spelled_session run.past ≡ r.past
-  pub caller : (end_at Caller run).end ≡ line_end_of r.caller
-  pub called : (end_at Called run).end ≡ line_end_of r.called
-  pub caller_standing : standing_of r.caller ≡ standing_at setup Caller
-  pub called_standing : standing_of r.called ≡ standing_at setup Called
-  pub caller_ordered : IsOrdered r.caller
-  pub called_ordered : IsOrdered r.called
+  pub ends : (side : Side) → IsLastEnd setup side (end_at side run).end (at side r.ends)
   pub verdict_is : run.verdict ≡ verdict
   pub held : HoldWhatIsLeft run (held_parts r)
 
@@ -132,13 +136,13 @@ parts_now e = record { stage = e.node.engine.stage; link = e.node.engine.link }
 
 abbrev pub told_in_all : RunValue → LineVerdict → SpelledReport
 told_in_all r verdict = record {
-  sessions = r.past ++ record { at_caller = told_of r.caller; at_called = told_of r.called } ∷ [];
-  ends = record { at_caller = parts_now r.caller; at_called = parts_now r.called };
-  belongings = record { at_caller = owned_parts r.caller; at_called = owned_parts r.called };
+  sessions = r.past ++ record { at_caller = told_of r.ends.at_caller; at_called = told_of r.ends.at_called } ∷ [];
+  ends = record { at_caller = parts_now r.ends.at_caller; at_called = parts_now r.ends.at_called };
+  belongings = record { at_caller = owned_parts r.ends.at_caller; at_called = owned_parts r.ends.at_called };
   verdict = verdict;
 }
 
 -- all that the ends emitted stands on the line
 pub record AllIsSaid (r : RunValue) : Type 0 where
-  pub caller : r.caller.node.engine.outbox.entries ≡ []
-  pub called : r.called.node.engine.outbox.entries ≡ []
+  pub caller : r.ends.at_caller.node.engine.outbox.entries ≡ []
+  pub called : r.ends.at_called.node.engine.outbox.entries ≡ []

@@ -35,9 +35,9 @@ left_parts e = record { node = e.node; line = e.line; passed = e.journal.passed 
 abbrev pub whole_report : RunValue → LineVerdict → WholeReport
 whole_report r verdict = record {
   told = told_in_all r verdict;
-  spools = record { at_caller = r.caller.spool; at_called = r.called.spool };
+  spools = record { at_caller = r.ends.at_caller.spool; at_called = r.ends.at_called.spool };
   held = held_parts r;
-  left = record { at_caller = left_parts r.caller; at_called = left_parts r.called };
+  left = record { at_caller = left_parts r.ends.at_caller; at_called = left_parts r.ends.at_called };
 }
 
 -- an end that goes on, of whose session this is told

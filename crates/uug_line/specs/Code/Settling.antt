@@ -13,20 +13,20 @@ use Rattle.uug_line.specs.World.{run_of_ends, world}
 -- All on the line passes to the called end, and then all to the caller; the answer is false where an end has found a packet
 -- that was not sent.
 pub data RoundHappens (all_sent : Bool) (old new : RunValue) : Type 0 where
-  stops : all_sent ≡ false → Passes Called (length old.caller.line) false old new → RoundHappens all_sent old new
-  goes : (middle : RunValue) → Passes Called (length old.caller.line) true old middle →
-      Passes Caller (length middle.called.line) all_sent middle new → RoundHappens all_sent old new
+  stops : all_sent ≡ false → Passes Called (length old.ends.at_caller.line) false old new → RoundHappens all_sent old new
+  goes : (middle : RunValue) → Passes Called (length old.ends.at_caller.line) true old middle →
+      Passes Caller (length middle.ends.at_called.line) all_sent middle new → RoundHappens all_sent old new
 
 -- both sessions are over
 abbrev pub AreOver : RunValue → Type 0
-AreOver r = (r.caller.node.engine.stage ≡ ended Done) × (r.called.node.engine.stage ≡ ended Done)
+AreOver r = (r.ends.at_caller.node.engine.stage ≡ ended Done) × (r.ends.at_called.node.engine.stage ≡ ended Done)
 
 -- how many messages both ends have sent and taken, and how many sessions are over
 abbrev pub parts_weight : RunValue → ℕ
 parts_weight r =
-    (length r.caller.journal.taken + length r.called.journal.taken)
-    + (length r.caller.journal.sent + length r.called.journal.sent)
-    + (one_if_over r.caller.node.engine.stage + one_if_over r.called.node.engine.stage)
+    (length r.ends.at_caller.journal.taken + length r.ends.at_called.journal.taken)
+    + (length r.ends.at_caller.journal.sent + length r.ends.at_called.journal.sent)
+    + (one_if_over r.ends.at_caller.node.engine.stage + one_if_over r.ends.at_called.node.engine.stage)
 
 -- it is the run of these events, and may settle
 pub record MayFinish (setup : SetupValue) (events : List Event) (r : RunValue) : Type 0 where

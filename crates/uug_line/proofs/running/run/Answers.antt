@@ -1,6 +1,7 @@
 use Rattle.std.proofs.Common.{◌∙◌, ap, subst, sym, take}
 use Rattle.std.proofs.lemmas.List.Elements.{All-take}
 use Rattle.uug_conversation.specs.declared.side.Side.{Side}
+use Rattle.uug_conversation.specs.declared.side.Side.TheVariants.{Caller, Called}
 use Rattle.uug_line.specs.declared.verdict.LineVerdict.{LineVerdict}
 use Rattle.uug_line.specs.Fooled.{NamesUnsent}
 use Rattle.uug_line.specs.Headline.{AllKeptToWindows, AllTookFronts, StaysInFront, StruckWereStored}
@@ -39,7 +40,7 @@ into_report-requires g c =
         events = events;
         is = is_run_of setup events verdict parts types ended;
       };
-      said = record { caller = ended.caller_ordered.cleared; called = ended.called_ordered.cleared };
+      said = record { caller = (ended.ends Caller).ordered.cleared; called = (ended.ends Called).ordered.cleared };
     }
 
 pub returns : goal.returns

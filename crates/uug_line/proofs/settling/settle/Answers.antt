@@ -32,8 +32,8 @@ into_report-requires g c =
     record {
       some_run = record { setup = setup; events = events ++ events_of into.settles.rounds; is = into.is };
       said = record {
-        caller = finished.stands.steady.caller_ordered.cleared;
-        called = finished.stands.steady.called_ordered.cleared;
+        caller = finished.stands.steady.at_caller.ordered.cleared;
+        called = finished.stands.steady.at_called.ordered.cleared;
       };
     }
 
