@@ -17,13 +17,14 @@ use Rattle.uug_line.specs.declared.verdict.LineVerdict.{LineVerdict}
 use Rattle.uug_line.specs.declared.verdict.LineVerdict.TheVariants.{Clean, Fooled}
 use Rattle.uug_line.specs.Belongings.{Belongings, SetupValue, identity}
 use Rattle.uug_line.specs.Delivered.{came_in, comes, comes_with, nothing_came, while_clean}
-use Rattle.uug_line.specs.LineEnd.{LineEnd, Log, Participant, after_call, called_with, does, found_at, nothing_done, packets_in, took}
+use Rattle.uug_line.specs.LineEnd.{LineEnd, Log, Participant, after_call, called_with, changed_line, does, found_at, nothing_done, packets_in, took}
 use Rattle.uug_line.specs.OfBytes.{AreOfBytes, IsOfBytes}
 use Rattle.uug_line.specs.Told.{EndReportValue}
 use Rattle.uug_line.specs.Run.{Run, after_event, after_hearing, calls, calls_again, end_at, first_end, first_run, flipped, goes_through, hears_next, participant, run_of, session_begins, unless_fooled, with_end_at, with_line_to}
 use Rattle.uug_line.specs.RunKeeper.{RunKeeper}
 use Rattle.uug_line.specs.Sides.{AtBoth, at}
 use Rattle.uug_line.specs.Taking.{line_taker, packet_taken_up, takes_sent}
+use Rattle.uug_line.proofs.SideLemmas.{with_here}
 use Rattle.uug_line.proofs.ByteLemmas.{AllBytes, IsByte, are_bytes}
 use Rattle.uug_line.proofs.CarriedLemmas.{all_behind, all_in_front}
 use Rattle.uug_line.proofs.EmittedByteLemmas.{IsRight, SaysBytes, emitted_bytes, first_says, step_says}
@@ -105,25 +106,18 @@ RunGives run came = (side : Side) → Gives (end_at side run).end (at (other sid
 
 with_gives : {C : Type 0} (side : Side) (h : Buffered (LineEnd C)) (run : Run C) (came : AtBoth (List ℕ))
     → Gives h.end (at (other side) came) → RunGives run came → RunGives (with_end_at side h run) came
-with_gives Caller h run came gives all Caller = gives
-with_gives Caller h run came gives all Called = all Called
-with_gives Called h run came gives all Caller = all Caller
-with_gives Called h run came gives all Called = gives
+with_gives {C} side h run came gives all =
+    with_here (λ (s : Side) (x far : Buffered (LineEnd C)). Gives x.end (at (other s) came)) side h run.ends gives (all (other side))
 
--- the bytes that lead to the side become others that are bytes, too
+-- the bytes from the side become others that are bytes, too
 line_gives : {C : Type 0} (side : Side) (change : List ℕ → List ℕ) (run : Run C) (came : AtBoth (List ℕ))
     → ((bytes : List ℕ) → AllBytes bytes → AllBytes (change bytes)) → RunGives run came
-    → RunGives (with_line_to side change run) came
-line_gives Caller change run came stays all Caller = all Caller
-line_gives Caller change run came stays all Called = record {
-  line_is = λ right. stays (end_at Called run).end.line ((all Called).line_is right);
-  came_is = (all Called).came_is;
-}
-line_gives Called change run came stays all Called = all Called
-line_gives Called change run came stays all Caller = record {
-  line_is = λ right. stays (end_at Caller run).end.line ((all Caller).line_is right);
-  came_is = (all Caller).came_is;
-}
+    → RunGives (with_end_at side (changed_line change (end_at side run)) run) came
+line_gives side change run came stays all =
+    with_gives side (changed_line change (end_at side run)) run came (record {
+      line_is = λ right. stays (end_at side run).end.line ((all side).line_is right);
+      came_is = (all side).came_is;
+    }) all
 
 -- the next bytes came
 passed_gives : {C : Type 0} (side : Side) (n : ℕ) (run : Run C) (came : AtBoth (List ℕ)) → RunGives run came
@@ -183,15 +177,15 @@ module _ {C : Type 0} (k : RunKeeper C) (setup : SetupValue) (names : (side : Si
       let passed : RunGives run then = passed_gives side n run came all in
       heard_gives number side (hears_next k setup side n run) (with_line_to side (drop n) run) then
       (hears_gives side n run then passed)
-      (line_gives side (drop n) run then (λ bytes is. All-drop IsByte n bytes is) passed)
+      (line_gives (other side) (drop n) run then (λ bytes is. All-drop IsByte n bytes is) passed)
 
   event_gives : (number : ℕ) (event : Event) (run : Run C) (came : AtBoth (List ℕ)) → IsOfBytes event → RunGives run came
       → RunGives (after_event k setup number event run) (comes event run came)
   event_gives number (Pass side n) run came is all = pass_gives number side n run came all
-  event_gives number (Drop side n) run came is all = line_gives side (drop n) run came (λ bytes bs. All-drop IsByte n bytes bs) all
-  event_gives number (Flip side mask) run came is all = line_gives side (flipped mask) run came (flip_stays mask is) all
+  event_gives number (Drop side n) run came is all = line_gives (other side) (drop n) run came (λ bytes bs. All-drop IsByte n bytes bs) all
+  event_gives number (Flip side mask) run came is all = line_gives (other side) (flipped mask) run came (flip_stays mask is) all
   event_gives number (Insert side byte) run came is all =
-      line_gives side (λ line. byte ∷ line) run came (λ bytes bs. All-cons IsByte byte bytes is bs) all
+      line_gives (other side) (λ line. byte ∷ line) run came (λ bytes bs. All-cons IsByte byte bytes is bs) all
   event_gives number (Timeout side) run came is all = called_gives side time_ran_out run came all
   event_gives number (HangUp side) run came is all = called_gives side line_lost run came all
   event_gives number Call run came is all =

@@ -25,6 +25,7 @@ use Rattle.uug_talk.specs.StreamTexts.{StandBefore}
 use Rattle.uug_talk.specs.Texts.{Passing}
 use Rattle.uug_line.specs.declared.event.Event.{Event}
 use Rattle.uug_line.specs.declared.event.Event.TheVariants.{Pass, Drop, Flip, Insert, Timeout, HangUp, Call}
+use Rattle.uug_conversation.specs.Turns.{other}
 use Rattle.uug_conversation.specs.declared.side.Side.{Side}
 use Rattle.uug_conversation.specs.declared.side.Side.TheVariants.{Caller, Called}
 use Rattle.uug_line.specs.declared.verdict.LineVerdict.{LineVerdict}
@@ -33,13 +34,14 @@ use Rattle.uug_line.specs.Belongings.{Belongings, SetupValue, renewed}
 use Rattle.uug_line.specs.Delivered.{EndedOnLink, GreetsOn, LinkBeganWith, event_of, nothing_came, comes, while_clean, comes_with, came_in, packets_among, IsLeft, HasHeard, HasHeardAt, HasScanned}
 use Rattle.uug_line.specs.Fooled.{FindsNothingMore}
 use Rattle.uug_line.specs.Report.{report_of_end}
-use Rattle.uug_line.specs.Run.{Run, end_at, participant, has_now, first_run, session_begins, flipped, with_line_to, hears_next, after_hearing, calls, hung_up, after_event, unless_fooled, goes_through, run_of}
+use Rattle.uug_line.specs.Run.{Run, end_at, participant, has_now, first_run, session_begins, flipped, with_end_at, with_line_to, hears_next, after_hearing, calls, hung_up, after_event, unless_fooled, goes_through, run_of}
 use Rattle.uug_line.specs.RunKeeper.{RunKeeper}
 use Rattle.uug_line.specs.Sides.{AtBoth, at, at_each}
-use Rattle.uug_line.specs.LineEnd.{LineEnd, Participant, does, called_with, found_at, packets_in, took}
+use Rattle.uug_line.specs.LineEnd.{LineEnd, Participant, does, called_with, changed_line, found_at, packets_in, took}
 use Rattle.uug_line.specs.Taking.{takes_sent, line_taker, packet_taken_up, with_packet}
 use Rattle.uug_line.specs.WereSent.{HavePlaces, passed_at}
 use Rattle.uug_line.specs.Told.{EndReportValue}
+use Rattle.uug_line.proofs.SideLemmas.{at_here, at_there, from_other, with_both, with_here}
 use Rattle.uug_line.proofs.FoundLemmas.{event_takes, packet_takes, held_fewer, passed_behind, place_is_there, took_packets}
 use Rattle.uug_line.proofs.GreetedLemmas.{StandsBehind, text_leads}
 use Rattle.uug_line.proofs.PlaceLemmas.{later_places, next_place}
@@ -560,14 +562,14 @@ hears_piece p brought emitted before piece h all x =
 
 -- ---- a run
 
--- what both ends have heard, where bytes came to them
-pub record BothHear {C : Type 0} (p q : Participant C) (brought far_brought : Option ℕ) (came : AtBoth (List ℕ)) (x y : Buffered (LineEnd C)) : Type 0 where
-  pub near : AreBytes came.at_caller → Hears p brought came.at_caller x y.end.log.packets
-  pub far : AreBytes came.at_called → Hears q far_brought came.at_called y x.end.log.packets
+-- what an end has heard, where bytes came to it
+abbrev pub EndHears : {C : Type 0} → RunKeeper C → SetupValue → (came : AtBoth (List ℕ)) → Run C → Side → (x y : Buffered (LineEnd C)) → Type 0
+EndHears k setup came run side x y =
+    AreBytes (at side came) → Hears (participant k setup run side) (at side run.brought).number (at side came) x y.end.log.packets
 
+-- what both have
 abbrev pub RunHears : {C : Type 0} → RunKeeper C → SetupValue → (came : AtBoth (List ℕ)) → Run C → Type 0
-RunHears k setup came run =
-    BothHear (participant k setup run Caller) (participant k setup run Called) run.brought.at_caller.number run.brought.at_called.number came run.ends.at_caller run.ends.at_called
+RunHears k setup came run = (side : Side) → EndHears k setup came run side (end_at side run) (end_at (other side) run)
 
 module _ {C : Type 0} (k : RunKeeper C) (setup : SetupValue) where
   -- an end with which nothing has happened yet
@@ -592,81 +594,68 @@ module _ {C : Type 0} (k : RunKeeper C) (setup : SetupValue) where
   }
 
   begins_heard : (past : List (AtBoth EndReportValue)) (brought : AtBoth Belongings) → RunHears k setup nothing_came (session_begins k setup past brought)
-  begins_heard past brought =
-      let run = session_begins k setup past brought in record {
-        near = λ all. first_heard (participant k setup run Caller) run.brought.at_caller.number setup.at_caller.own (k.first brought.at_caller);
-        far = λ all. first_heard (participant k setup run Called) run.brought.at_called.number setup.at_called.own (k.first brought.at_called);
-      }
+  begins_heard past brought Caller all =
+      first_heard (participant k setup (session_begins k setup past brought) Caller) brought.at_caller.number setup.at_caller.own (k.first brought.at_caller)
+  begins_heard past brought Called all =
+      first_heard (participant k setup (session_begins k setup past brought) Called) brought.at_called.number setup.at_called.own (k.first brought.at_called)
 
   line_heard : (side : Side) (change : List ℕ → List ℕ) (came : AtBoth (List ℕ)) (run : Run C) → RunHears k setup came run
-      → RunHears k setup came (with_line_to side change run)
-  line_heard Caller change came run b = record { near = b.near; far = b.far }
-  line_heard Called change came run b = record { near = b.near; far = b.far }
+      → RunHears k setup came (with_end_at side (changed_line change (end_at side run)) run)
+  line_heard side change came run hear =
+      let P = EndHears k setup came run in
+      with_here P side (changed_line change (end_at side run)) run.ends (hear side) (from_other P run.ends hear side)
 
+  -- where the other end emits what it does on an event, or takes up bytes
   call_heard : (side : Side) (event : EndEvent) (came : AtBoth (List ℕ)) (run : Run C) → UsesNoBytes event → RunHears k setup came run
       → RunHears k setup came (calls k setup side event run)
-  call_heard Caller event came run uses b =
-      let x = run.ends.at_caller in
-      let y = run.ends.at_called in
-      let p = participant k setup run Caller in record {
-        near = λ all. called_hears p run.brought.at_caller.number event x came.at_caller y.end.log.packets uses (b.near all);
-        far = λ all. emits_more (participant k setup run Called) run.brought.at_called.number came.at_called y.end.state y.held y.end.log.arrivals y.end.log.passed x.end.log.packets
-            (packets_in (end_step p.keeper p.identity event x.end.state).emitted) (b.far all);
-      }
-  call_heard Called event came run uses b =
-      let x = run.ends.at_caller in
-      let y = run.ends.at_called in
-      let p = participant k setup run Called in record {
-        near = λ all. emits_more (participant k setup run Caller) run.brought.at_caller.number came.at_caller x.end.state x.held x.end.log.arrivals x.end.log.passed y.end.log.packets
-            (packets_in (end_step p.keeper p.identity event y.end.state).emitted) (b.near all);
-        far = λ all. called_hears p run.brought.at_called.number event y came.at_called x.end.log.packets uses (b.far all);
-      }
+  call_heard side event came run uses hear =
+      let x = end_at side run in
+      let y = end_at (other side) run in
+      let p = participant k setup run side in
+      let P = EndHears k setup came run in
+      with_here P side (called_with p event x) run.ends
+      (λ all. called_hears p (at side run.brought).number event x (at side came) y.end.log.packets uses (hear side all))
+      (λ all. emits_more (participant k setup run (other side)) (at (other side) run.brought).number (at (other side) came) y.end.state y.held
+      y.end.log.arrivals y.end.log.passed x.end.log.packets (packets_in (end_step p.keeper p.identity event x.end.state).emitted)
+      (from_other P run.ends hear side all))
 
-  after_caller : (number n : ℕ) (came : AtBoth (List ℕ)) (run : Run C) (c : Arrival (LineEnd C))
-      → BothHear (participant k setup run Caller) (participant k setup run Called) run.brought.at_caller.number run.brought.at_called.number came (hearer_of c) run.ends.at_called
-      → RunHears k setup came (after_hearing number Caller c (with_line_to Caller (drop n) run))
-  after_caller number n came run (all_taken h) b = record { near = b.near; far = b.far }
-  after_caller number n came run (stopped h) b = record { near = b.near; far = b.far }
-
-  after_called : (number n : ℕ) (came : AtBoth (List ℕ)) (run : Run C) (c : Arrival (LineEnd C))
-      → BothHear (participant k setup run Caller) (participant k setup run Called) run.brought.at_caller.number run.brought.at_called.number came run.ends.at_caller (hearer_of c)
-      → RunHears k setup came (after_hearing number Called c (with_line_to Called (drop n) run))
-  after_called number n came run (all_taken h) b = record { near = b.near; far = b.far }
-  after_called number n came run (stopped h) b = record { near = b.near; far = b.far }
+  after_heard : (number : ℕ) (side : Side) (n : ℕ) (came : AtBoth (List ℕ)) (run : Run C) (c : Arrival (LineEnd C))
+      → EndHears k setup came run side (hearer_of c) (end_at (other side) run)
+      → EndHears k setup came run (other side) (end_at (other side) run) (hearer_of c)
+      → RunHears k setup came (after_hearing number side c (with_line_to side (drop n) run))
+  after_heard number side n came run (all_taken h) here there =
+      with_both (EndHears k setup came run) side h (changed_line (drop n) (end_at (other side) run)) run.ends here there
+  after_heard number side n came run (stopped h) here there =
+      with_both (EndHears k setup came run) side h (changed_line (drop n) (end_at (other side) run)) run.ends here there
 
   pass_heard : (number : ℕ) (side : Side) (n : ℕ) (came : AtBoth (List ℕ)) (run : Run C) → RunHears k setup came run
       → RunHears k setup (comes (Pass side n) run came) (after_event k setup number (Pass side n) run)
-  pass_heard number Caller n came run b =
-      let x = run.ends.at_caller in
-      let y = run.ends.at_called in
-      let p = participant k setup run Caller in
+  pass_heard number side n came run hear =
+      let x = end_at side run in
+      let y = end_at (other side) run in
+      let p = participant k setup run side in
+      let q = participant k setup run (other side) in
+      let brought = (at (other side) run.brought).number in
       let piece = take n y.end.line in
-      after_caller number n (comes (Pass Caller n) run came) run (hears_next k setup Caller n run) (record {
-        near = λ all. hears_piece p run.brought.at_caller.number y.end.log.packets came.at_caller piece x all
-            (b.near (bytes_in_front came.at_caller piece all));
-        far = far_piece p y.end.log.packets (λ ps. AreBytes came.at_called → Hears (participant k setup run Called) run.brought.at_called.number came.at_called y ps)
-            (λ emitted more far all. emits_more (participant k setup run Called) run.brought.at_called.number came.at_called y.end.state y.held y.end.log.arrivals y.end.log.passed emitted more (far all))
-            piece x b.far;
-      })
-  pass_heard number Called n came run b =
-      let x = run.ends.at_caller in
-      let y = run.ends.at_called in
-      let p = participant k setup run Called in
-      let piece = take n x.end.line in
-      after_called number n (comes (Pass Called n) run came) run (hears_next k setup Called n run) (record {
-        near = far_piece p x.end.log.packets (λ ps. AreBytes came.at_caller → Hears (participant k setup run Caller) run.brought.at_caller.number came.at_caller x ps)
-            (λ emitted more near all. emits_more (participant k setup run Caller) run.brought.at_caller.number came.at_caller x.end.state x.held x.end.log.arrivals x.end.log.passed emitted more (near all))
-            piece y b.near;
-        far = λ all. hears_piece p run.brought.at_called.number x.end.log.packets came.at_called piece y all
-            (b.far (bytes_in_front came.at_called piece all));
-      })
+      let before = at side came in
+      let far = at (other side) came in
+      let heard = hears_next k setup side n run in
+      after_heard number side n (comes (Pass side n) run came) run heard
+      (subst (λ (bytes : List ℕ). AreBytes bytes → Hears p (at side run.brought).number bytes (hearer_of heard) y.end.log.packets)
+      (sym (at_here side (before ++ piece) came))
+      (λ all. hears_piece p (at side run.brought).number y.end.log.packets before piece x all (hear side (bytes_in_front before piece all))))
+      (subst (λ (bytes : List ℕ). AreBytes bytes → Hears q brought bytes y (hearer_of heard).end.log.packets)
+      (sym (at_there side (before ++ piece) came))
+      (far_piece p y.end.log.packets (λ (ps : List PacketValue). AreBytes far → Hears q brought far y ps)
+      (λ emitted more hears all. emits_more q brought far y.end.state y.held y.end.log.arrivals y.end.log.passed emitted more (hears all))
+      piece x (from_other (EndHears k setup came run) run.ends hear side)))
 
   event_heard : (number : ℕ) (event : Event) (came : AtBoth (List ℕ)) (run : Run C) → RunHears k setup came run
       → RunHears k setup (comes event run came) (after_event k setup number event run)
   event_heard number (Pass side n) came run b = pass_heard number side n came run b
-  event_heard number (Drop side n) came run b = line_heard side (drop n) came run b
-  event_heard number (Flip side mask) came run b = line_heard side (flipped mask) came run b
-  event_heard number (Insert side byte) came run b = line_heard side (λ line. byte ∷ line) came run b
+  event_heard number (Drop side n) came run b = line_heard (other side) (drop n) came run b
+  event_heard number (Flip side mask) came run b = line_heard (other side) (flipped mask) came run b
+  event_heard number (Insert side byte) came run b = line_heard (other side) (λ line. byte ∷ line) came run b
   event_heard number (Timeout side) came run b = call_heard side time_ran_out came run tt b
   event_heard number (HangUp side) came run b = call_heard side line_lost came run tt b
   event_heard number Call came run b =
@@ -694,8 +683,7 @@ module _ {C : Type 0} (k : RunKeeper C) (setup : SetupValue) where
 
   pub heard_at : (events : List Event) (side : Side) → AreBytes (at side (came_in k setup events))
       → HasHeardAt k setup (at side (came_in k setup events)) (run_of k setup events) side
-  heard_at events Caller all = ((run_heard events).near all).heard
-  heard_at events Called all = ((run_heard events).far all).heard
+  heard_at events side all = (run_heard events side all).heard
 
   nothing_waits : (h : Buffered (LineEnd C)) → h.end.state.stage ≡ linked → FindsNothingMore h → search_of h.held ≡ waiting h.held
   nothing_waits h on none =

@@ -108,7 +108,7 @@ changes_end : (side : Side) (setup : SetupValue) (run : Run DialogueState) (old 
     → (at (other side) new.ends ≡ at (other side) old.ends) × (new.past ≡ old.past) → StandsAs setup (with_end_at side here run) new
 changes_end side setup run old new here stands steady is same = record {
   past = stands.past ∙ sym same.1;
-  ends = with_here (λ (s : Side) (h : Buffered (LineEnd DialogueState)). IsEnd setup s h (at s new.ends)) side here run.ends is
+  ends = with_here (λ (s : Side) (h far : Buffered (LineEnd DialogueState)). IsEnd setup s h (at s new.ends)) side here run.ends is
       (subst (λ (e : LiveEndValue). IsEnd setup (other side) (end_at (other side) run) e) (sym same.0) (stands.ends (other side)));
   steady = steady;
   clean = stands.clean;
@@ -168,7 +168,7 @@ passed_on side n number setup run old new stands steady passes =
     let there = end_at (other side) run in
     let after : StandsAs setup (after_hearing number side (all_taken heard) (with_line_to side (drop n) run)) new = record {
       past = stands.past ∙ sym passes.2;
-      ends = with_both (λ (s : Side) (h : Buffered (LineEnd DialogueState)). IsEnd setup s h (at s new.ends)) side heard (changed_line (drop n) there) run.ends
+      ends = with_both (λ (s : Side) (h far : Buffered (LineEnd DialogueState)). IsEnd setup s h (at s new.ends)) side heard (changed_line (drop n) there) run.ends
           (record { hearer = refl; standing = is.standing ∙ (stands.ends side).standing })
           (end_changed (drop n) (other side) setup there (at (other side) old.ends) (at (other side) new.ends) (stands.ends (other side)) passes.1);
       steady = steady;
@@ -228,11 +228,11 @@ fooled_at side n number setup run old new stands passes =
     let changed : IsEnd setup (other side) there far =
     end_changed (drop n) (other side) setup (end_at (other side) run) (at (other side) old.ends) far (stands.ends (other side)) passes.1 in
     let ready = line_ready (drop n) (at (other side) old.ends) far passes.1 (ready_at old stands.steady (other side)) in
-    let fits = with_both (λ (s : Side) (h : Buffered (LineEnd DialogueState)). held_bytes (at s new.ends).node ≡ take READER_SIZE h.held) side stop there run.ends is.fits
+    let fits = with_both (λ (s : Side) (h far : Buffered (LineEnd DialogueState)). held_bytes (at s new.ends).node ≡ take READER_SIZE h.held) side stop there run.ends is.fits
     (all_fits (held_bytes far.node) there.held (all_held setup (other side) there far changed) ready.room) in
     let after : EndsAs setup (after_hearing number side (stopped stop) (with_line_to side (drop n) run)) (Fooled number side) new = record {
       past = stands.past ∙ sym passes.2;
-      ends = with_both (λ (s : Side) (h : Buffered (LineEnd DialogueState)). IsLastEnd setup s h.end (at s new.ends)) side stop there run.ends
+      ends = with_both (λ (s : Side) (h far : Buffered (LineEnd DialogueState)). IsLastEnd setup s h.end (at s new.ends)) side stop there run.ends
           (record { end_is = refl; standing = is.standing ∙ (stands.ends side).standing; ordered = is.ordered })
           (last_end setup (other side) there far changed ready.ordered);
       verdict_is = refl;

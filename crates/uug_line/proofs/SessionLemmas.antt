@@ -8,7 +8,7 @@ use Rattle.uug_conversation.specs.Holdings.{Kept}
 use Rattle.uug_conversation.specs.Jobs.{Lists}
 use Rattle.uug_conversation.specs.DialogueState.{DialogueState, end_keeper}
 use Rattle.uug_conversation.specs.Turns.{other}
-use Rattle.uug_session.specs.TwoEnds.{Talker, at_first, first_two}
+use Rattle.uug_session.specs.TwoEnds.{Talker, at_first, first_two, talker}
 use Rattle.uug_conversation.specs.View.{floor, kept_after, lists_after}
 use Rattle.uug_conversation.specs.declared.side.Side.{Side}
 use Rattle.uug_conversation.specs.declared.side.Side.TheVariants.{Caller, Called}
@@ -17,11 +17,13 @@ use Rattle.uug_line.specs.LineEnd.{LineEnd}
 use Rattle.uug_line.specs.Run.{first_end, parties}
 use Rattle.uug_line.specs.RunKeeper.{by_numbers, by_themselves, has_by, view_at}
 use Rattle.uug_line.specs.Sides.{AtBoth, at}
+use Rattle.uug_line.specs.LinkRun.{LinksRan}
 use Rattle.uug_line.specs.World.{count_of, counted_end}
-use Rattle.uug_line.proofs.Joining.{EndsJoined, IsSoundSession, IsTalk, Joined, Moment, link_end, moment_of}
+use Rattle.uug_line.proofs.Joining.{EndsJoined, Hails, IsSoundSession, IsTalk, Joined, Moment, Spoken, link_end, moment_of}
 use Rattle.uug_line.proofs.LinkLemmas.{links_run, not_up}
 use Rattle.uug_line.proofs.SpeakingLemmas.{spoken_at_first}
-use Rattle.uug_line.proofs.LinkRunLemmas.{ran_from_far, ran_nowhere}
+use Rattle.uug_line.proofs.LinkRunLemmas.{first_of, ran_from_far, ran_nowhere}
+use Rattle.uug_line.proofs.SideLemmas.{other_twice}
 use Rattle.uug_line.proofs.TalkLemmas.{IsToldAt, seen_at, talk_at, talker_at, told_at}
 use Rattle.uug_link.proofs.TwoLinksRuns.{fronts}
 
@@ -29,58 +31,39 @@ module _ (setup : SetupValue) (brought : AtBoth Belongings) where
   -- ---- seen from the other side
 
   joined_turned : (side : Side) (m n : Moment) → Joined setup brought side m n → Joined setup brought (other side) n m
-  joined_turned Caller m n j = record {
-    links = ran_from_far (first_link Caller setup.at_caller.own) (first_link Called setup.at_called.own)
-        (record { near = link_end m; far = link_end n }) m.arrivals n.arrivals j.links;
-    two = j.two;
-    reached = j.reached;
-    near_talk = j.far_talk;
-    near_sent = j.far_sent;
-    near_taken = j.far_taken;
-    far_talk = j.near_talk;
-    far_sent = j.near_sent;
-    far_taken = j.near_taken;
-    near_opened = j.far_opened;
-    far_opened = j.near_opened;
-  }
-  joined_turned Called m n j = record {
-    links = ran_from_far (first_link Called setup.at_called.own) (first_link Caller setup.at_caller.own)
-        (record { near = link_end m; far = link_end n }) m.arrivals n.arrivals j.links;
-    two = j.two;
-    reached = j.reached;
-    near_talk = j.far_talk;
-    near_sent = j.far_sent;
-    near_taken = j.far_taken;
-    far_talk = j.near_talk;
-    far_sent = j.near_sent;
-    far_taken = j.near_taken;
-    near_opened = j.far_opened;
-    far_opened = j.near_opened;
-  }
+  joined_turned side m n j =
+      let back = other_twice side in
+      record {
+        links = subst (λ (s : Side). LinksRan (first_of (other side) s (at (other side) setup).own (at s setup).own)
+            (record { near = link_end n; far = link_end m }) n.arrivals m.arrivals) back
+            (ran_from_far (first_link side (at side setup).own) (first_link (other side) (at (other side) setup).own)
+            (record { near = link_end m; far = link_end n }) m.arrivals n.arrivals j.links);
+        two = j.two;
+        reached = j.reached;
+        near_talk = j.far_talk;
+        near_sent = j.far_sent;
+        near_taken = j.far_taken;
+        far_talk = subst (λ (s : Side). IsTalk s (party setup brought s) (at s brought) m.talk (talker s j.two)) back j.near_talk;
+        far_sent = subst (λ (s : Side). (talker s j.two).sent ≡ m.sent) back j.near_sent;
+        far_taken = subst (λ (s : Side). (talker s j.two).taken ≡ m.taken) back j.near_taken;
+        near_opened = j.far_opened;
+        far_opened = j.near_opened;
+      }
 
   pub turned : (side : Side) (e f : LineEnd DialogueState) → EndsJoined setup brought side e f → EndsJoined setup brought (other side) f e
-  turned Caller e f joined = record {
-    joined = joined_turned Caller (moment_of e) (moment_of f) joined.joined;
-    near_hails = joined.far_hails;
-    far_hails = joined.near_hails;
-    near_most = joined.far_most;
-    far_most = joined.near_most;
-    near_passed = joined.far_passed;
-    far_passed = joined.near_passed;
-    near_spoken = joined.far_spoken;
-    far_spoken = joined.near_spoken;
-  }
-  turned Called e f joined = record {
-    joined = joined_turned Called (moment_of e) (moment_of f) joined.joined;
-    near_hails = joined.far_hails;
-    far_hails = joined.near_hails;
-    near_most = joined.far_most;
-    far_most = joined.near_most;
-    near_passed = joined.far_passed;
-    far_passed = joined.near_passed;
-    near_spoken = joined.far_spoken;
-    far_spoken = joined.near_spoken;
-  }
+  turned side e f joined =
+      let back = other_twice side in
+      record {
+        joined = joined_turned side (moment_of e) (moment_of f) joined.joined;
+        near_hails = joined.far_hails;
+        far_hails = subst (λ (s : Side). Hails setup s e) back joined.near_hails;
+        near_most = subst (λ (s : Side). f.log.most ≤ (at s setup).own.window) back joined.far_most;
+        far_most = joined.near_most;
+        near_passed = joined.far_passed;
+        far_passed = joined.near_passed;
+        near_spoken = joined.far_spoken;
+        far_spoken = subst (λ (s : Side). Spoken setup s e) back joined.near_spoken;
+      }
 
   -- ---- a session starts
 

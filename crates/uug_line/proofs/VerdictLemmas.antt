@@ -26,13 +26,14 @@ use Rattle.uug_line.specs.Belongings.{Belongings, SetupValue, renewed}
 use Rattle.uug_line.specs.Fooled.{ArrivalsArePlaces, FindsNothingMore, FindsUnsent, StoppedAt, present}
 use Rattle.uug_line.specs.LineEnd.{LineEnd, Participant, does, called_with, changed_line}
 use Rattle.uug_line.specs.Report.{report_of_end}
-use Rattle.uug_line.specs.Run.{Run, end_at, participant, has_now, first_end, first_run, session_begins, flipped, with_line_to, hears_next, after_hearing, calls, hung_up, calls_again, after_event, unless_fooled, goes_through, run_of}
+use Rattle.uug_line.specs.Run.{Run, end_at, participant, has_now, first_end, first_run, session_begins, flipped, with_end_at, with_line_to, hears_next, after_hearing, calls, hung_up, calls_again, after_event, unless_fooled, goes_through, run_of}
 use Rattle.uug_line.specs.RunKeeper.{RunKeeper}
 use Rattle.uug_line.specs.Sides.{AtBoth, at, at_each}
 use Rattle.uug_line.specs.World.{report_of}
 use Rattle.uug_line.specs.Told.{EndReportValue}
 use Rattle.uug_line.proofs.FoundLemmas.{BothFound, IsUnsent, CameSo, does_found, came_piece}
 use Rattle.uug_line.proofs.PlaceLemmas.{none_left}
+use Rattle.uug_line.proofs.SideLemmas.{here_so, other_stays, with_both}
 
 -- ---- a call of an end that finds nothing more
 
@@ -127,6 +128,10 @@ near_line change h f both = record {
   far = record { packets = both.far.packets; places = both.far.places; passed = both.far.passed };
 }
 
+far_line : {C : Type 0} (change : List ℕ → List ℕ) (e : LineEnd C) (h : Buffered (LineEnd C)) → BothFound e h.end →
+    BothFound e (changed_line change h).end
+far_line change e h both = turned (changed_line change h).end e (near_line change h e (turned e h.end both))
+
 -- in a session the arrivals are places
 session_found : {C : Type 0} (e f : LineEnd C) → BothFound e f →
     ArrivalsArePlaces (record { at_caller = report_of_end e; at_called = report_of_end f })
@@ -161,94 +166,74 @@ module _ {C : Type 0} (k : RunKeeper C) (setup : SetupValue) where
   nothing_at : (run : Run C) → run.verdict ≡ Clean → IsJudged run → (side : Side) → FindsNothingMore (end_at side run)
   nothing_at run clean j = subst (λ v. JudgedBy v run) clean j.judged
 
+  -- what the end on the side and the other one have found
+  both_at : (run : Run C) → FoundSo run → (side : Side) → BothFound (end_at side run).end (end_at (other side) run).end
+  both_at run found Caller = found.both
+  both_at run found Called = turned run.ends.at_caller.end run.ends.at_called.end found.both
+
   -- its ends become these
-  become : (run : Run C) (x y : Buffered (LineEnd C)) → run.verdict ≡ Clean → IsJudged run → BothFound x.end y.end →
-      FindsNothingMore x → FindsNothingMore y →
-      IsJudged (record { past = run.past; brought = run.brought; ends = record { at_caller = x; at_called = y }; verdict = run.verdict })
-  become run x y clean j both at_x at_y =
-      let there = judged_ends run.past run.brought x y j.found.past both at_x at_y in
-      record { found = record { both = both; past = j.found.past }; judged = subst (λ v. JudgedBy v after) (sym clean) there.judged }
-    where
-      after : Run C
-      after = record { past = run.past; brought = run.brought; ends = record { at_caller = x; at_called = y }; verdict = run.verdict }
+  abbrev with_ends : Side → (x y : Buffered (LineEnd C)) → Run C → Run C
+  with_ends side x y run = with_end_at side x (with_end_at (other side) y run)
+
+  found_so : (side : Side) (run : Run C) (x y : Buffered (LineEnd C)) → All ArrivalsArePlaces run.past → BothFound x.end y.end →
+      FoundSo (with_ends side x y run)
+  found_so Caller run x y past both = record { both = both; past = past }
+  found_so Called run x y past both = record { both = turned x.end y.end both; past = past }
+
+  become : (side : Side) (run : Run C) (x y : Buffered (LineEnd C)) → run.verdict ≡ Clean → IsJudged run → BothFound x.end y.end →
+      FindsNothingMore x → FindsNothingMore y → IsJudged (with_ends side x y run)
+  become side run x y clean j both at_x at_y = record {
+    found = found_so side run x y j.found.past both;
+    judged = subst (λ v. JudgedBy v (with_ends side x y run)) (sym clean)
+        (with_both (λ (s : Side) (h far : Buffered (LineEnd C)). FindsNothingMore h) side x y run.ends at_x at_y);
+  }
+
+  -- one of them does
+  one_becomes : (side : Side) (run : Run C) (x : Buffered (LineEnd C)) → run.verdict ≡ Clean → IsJudged run →
+      BothFound x.end (end_at (other side) run).end → FindsNothingMore x → IsJudged (with_end_at side x run)
+  one_becomes side run x clean j both at_x =
+      subst (λ (ends : AtBoth (Buffered (LineEnd C))). IsJudged (record run { ends = ends })) (other_stays side x run.ends)
+      (become side run x (end_at (other side) run) clean j both at_x (nothing_at run clean j (other side)))
 
   line_judged : (side : Side) (change : List ℕ → List ℕ) (run : Run C) → run.verdict ≡ Clean → IsJudged run →
-      IsJudged (with_line_to side change run)
-  line_judged Caller change run clean j =
-      become run run.ends.at_caller (changed_line change run.ends.at_called) clean j
-      (turned (changed_line change run.ends.at_called).end run.ends.at_caller.end
-      (near_line change run.ends.at_called run.ends.at_caller.end (turned run.ends.at_caller.end run.ends.at_called.end j.found.both)))
-      (nothing_at run clean j Caller) (nothing_at run clean j Called)
-  line_judged Called change run clean j =
-      become run (changed_line change run.ends.at_caller) run.ends.at_called clean j
-      (near_line change run.ends.at_caller run.ends.at_called.end j.found.both)
-      (nothing_at run clean j Caller) (nothing_at run clean j Called)
+      IsJudged (with_end_at side (changed_line change (end_at side run)) run)
+  line_judged side change run clean j =
+      let h = end_at side run in
+      one_becomes side run (changed_line change h) clean j (near_line change h (end_at (other side) run).end (both_at run j.found side))
+      (nothing_at run clean j side)
 
   call_judged : (side : Side) (event : EndEvent) (run : Run C) → UsesNoBytes event → run.verdict ≡ Clean → IsJudged run →
       IsJudged (calls k setup side event run)
-  call_judged Caller event run uses clean j =
-      let p = participant k setup run Caller in
-      become run (called_with p event run.ends.at_caller) run.ends.at_called clean j
-      (does_found p event run.ends.at_caller.end run.ends.at_called.end j.found.both)
-      (call_finds_nothing p event run.ends.at_caller uses (nothing_at run clean j Caller)) (nothing_at run clean j Called)
-  call_judged Called event run uses clean j =
-      let p = participant k setup run Called in
-      let e = run.ends.at_caller.end in
-      let f = run.ends.at_called.end in
-      become run run.ends.at_caller (called_with p event run.ends.at_called) clean j
-      (turned (does p event f) e (does_found p event f e (turned e f j.found.both)))
-      (nothing_at run clean j Caller) (call_finds_nothing p event run.ends.at_called uses (nothing_at run clean j Called))
+  call_judged side event run uses clean j =
+      let p = participant k setup run side in
+      let h = end_at side run in
+      one_becomes side run (called_with p event h) clean j (does_found p event h.end (end_at (other side) run).end (both_at run j.found side))
+      (call_finds_nothing p event h uses (nothing_at run clean j side))
 
   -- a piece has come
-  came_to_caller : (number n : ℕ) (run : Run C) → run.verdict ≡ Clean → IsJudged run → (came : Arrival (LineEnd C)) →
-      CameSo (participant k setup run Caller) run.ends.at_called.end came →
-      IsJudged (after_hearing number Caller came (with_line_to Caller (drop n) run))
-  came_to_caller number n run clean j (all_taken h) so =
-      let there = run.ends.at_called in
-      become run h (changed_line (drop n) there) clean j
-      (turned (changed_line (drop n) there).end h.end (near_line (drop n) there h.end (turned h.end there.end so.0)))
-      so.1 (nothing_at run clean j Called)
-  came_to_caller number n run clean j (stopped h) so =
-      let there = run.ends.at_called in
+  came_judged : (number : ℕ) (side : Side) (n : ℕ) (run : Run C) → run.verdict ≡ Clean → IsJudged run → (came : Arrival (LineEnd C)) →
+      CameSo (participant k setup run side) (end_at (other side) run).end came →
+      IsJudged (after_hearing number side came (with_line_to side (drop n) run))
+  came_judged number side n run clean j (all_taken h) so =
+      let there = end_at (other side) run in
+      become side run h (changed_line (drop n) there) clean j (far_line (drop n) h.end there so.0) so.1 (nothing_at run clean j (other side))
+  came_judged number side n run clean j (stopped h) so =
+      let there = end_at (other side) run in
+      let found = found_so side run h (changed_line (drop n) there) j.found.past (far_line (drop n) h.end there so.0) in
       record {
-        found = record {
-          both = turned (changed_line (drop n) there).end h.end (near_line (drop n) there h.end (turned h.end there.end so.0));
-          past = j.found.past;
-        };
-        judged = (
+        found = record { both = found.both; past = found.past };
+        judged = here_so (λ (x y : Buffered (LineEnd C)). IsUnsent x y.end × FindsNothingMore y) side h (changed_line (drop n) there) run.ends (
           record { packet = so.1.packet; behind = so.1.behind; next = so.1.next; no_place = so.1.no_place },
-          nothing_at run clean j Called,
-        );
-      }
-
-  came_to_called : (number n : ℕ) (run : Run C) → run.verdict ≡ Clean → IsJudged run → (came : Arrival (LineEnd C)) →
-      CameSo (participant k setup run Called) run.ends.at_caller.end came →
-      IsJudged (after_hearing number Called came (with_line_to Called (drop n) run))
-  came_to_called number n run clean j (all_taken h) so =
-      let there = run.ends.at_caller in
-      become run (changed_line (drop n) there) h clean j
-      (near_line (drop n) there h.end (turned h.end there.end so.0))
-      (nothing_at run clean j Caller) so.1
-  came_to_called number n run clean j (stopped h) so =
-      let there = run.ends.at_caller in
-      record {
-        found = record { both = near_line (drop n) there h.end (turned h.end there.end so.0); past = j.found.past };
-        judged = (
-          record { packet = so.1.packet; behind = so.1.behind; next = so.1.next; no_place = so.1.no_place },
-          nothing_at run clean j Caller,
+          nothing_at run clean j (other side),
         );
       }
 
   pass_judged : (number : ℕ) (side : Side) (n : ℕ) (run : Run C) → run.verdict ≡ Clean → IsJudged run →
       IsJudged (after_event k setup number (Pass side n) run)
-  pass_judged number Caller n run clean j =
-      came_to_caller number n run clean j (hears_next k setup Caller n run)
-      (came_piece (participant k setup run Caller) run.ends.at_called.end (take n run.ends.at_called.end.line)
-      run.ends.at_caller j.found.both)
-  pass_judged number Called n run clean j =
-      came_to_called number n run clean j (hears_next k setup Called n run)
-      (came_piece (participant k setup run Called) run.ends.at_caller.end (take n run.ends.at_caller.end.line)
-      run.ends.at_called (turned run.ends.at_caller.end run.ends.at_called.end j.found.both))
+  pass_judged number side n run clean j =
+      let there = (end_at (other side) run).end in
+      came_judged number side n run clean j (hears_next k setup side n run)
+      (came_piece (participant k setup run side) there (take n there.line) (end_at side run) (both_at run j.found side))
 
   again_judged : (run : Run C) → IsJudged run → IsJudged (calls_again k setup run)
   again_judged run j =
@@ -267,9 +252,9 @@ module _ {C : Type 0} (k : RunKeeper C) (setup : SetupValue) where
   event_judged : (number : ℕ) (event : Event) (run : Run C) → run.verdict ≡ Clean → IsJudged run →
       IsJudged (after_event k setup number event run)
   event_judged number (Pass side n) run clean j = pass_judged number side n run clean j
-  event_judged number (Drop side n) run clean j = line_judged side (drop n) run clean j
-  event_judged number (Flip side mask) run clean j = line_judged side (flipped mask) run clean j
-  event_judged number (Insert side byte) run clean j = line_judged side (λ line. byte ∷ line) run clean j
+  event_judged number (Drop side n) run clean j = line_judged (other side) (drop n) run clean j
+  event_judged number (Flip side mask) run clean j = line_judged (other side) (flipped mask) run clean j
+  event_judged number (Insert side byte) run clean j = line_judged (other side) (λ line. byte ∷ line) run clean j
   event_judged number (Timeout side) run clean j = call_judged side time_ran_out run tt clean j
   event_judged number (HangUp side) run clean j = call_judged side line_lost run tt clean j
   event_judged number Call run clean j = again_judged run j
