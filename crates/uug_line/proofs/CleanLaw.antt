@@ -3,13 +3,16 @@ use Rattle.std.proofs.Common.{◌≡◌, ℕ, ◌+◌, ◌≤◌, Bool, true, fa
 use Rattle.std.proofs.lemmas.List.{take_all}
 use Rattle.uug_link.specs.Announced.{Announced}
 use Rattle.uug_link.specs.InRange.{IsAnnouncement}
+use Rattle.uug_link.specs.State.{IsPlain}
 use Rattle.uug_session.specs.declared.end.End.TheVariants as ends
 use Rattle.uug_conversation.specs.Count.{Count, count_keeper}
+use Rattle.uug_session.specs.Arriving.{Buffered}
 use Rattle.uug_session.specs.EndStep.{ended}
 use Rattle.uug_conversation.specs.Party.{Party}
 use Rattle.uug_conversation.specs.DialogueState.{DialogueState}
 use Rattle.uug_conversation.specs.View.{others_messages}
 use Rattle.uug_line.specs.declared.event.Event.{Event}
+use Rattle.uug_conversation.specs.Turns.{other}
 use Rattle.uug_conversation.specs.declared.side.Side.{Side}
 use Rattle.uug_conversation.specs.declared.side.Side.TheVariants.{Caller, Called}
 use Rattle.uug_line.specs.declared.verdict.LineVerdict.{LineVerdict}
@@ -17,7 +20,7 @@ use Rattle.uug_line.specs.declared.verdict.LineVerdict.TheVariants.{Clean}
 use Rattle.uug_line.specs.Belongings.{Belongings, SetupValue}
 use Rattle.uug_line.specs.LineEnd.{LineEnd}
 use Rattle.uug_line.specs.OfBytes.{AreOfTypes}
-use Rattle.uug_line.specs.Run.{Run, first_run, goes_through, parties}
+use Rattle.uug_line.specs.Run.{Run, end_at, first_run, goes_through, parties}
 use Rattle.uug_line.specs.RunKeeper.{by_numbers, has_after, has_by}
 use Rattle.uug_line.specs.Settle.{AreRounds, EndIsSettled, IsSettled, MaySettle, Round, Settles, SettlesFrom, events_of, late, left, passing}
 use Rattle.uug_line.specs.Sides.{AtBoth, at}
@@ -25,12 +28,13 @@ use Rattle.uug_line.specs.Told.{EndReportValue}
 use Rattle.uug_line.specs.World.{counted, counted_end, run_of_ends, world}
 use Rattle.uug_line.proofs.CleanBase.{Base, seen}
 use Rattle.uug_line.proofs.CleanCounts.{over_at}
-use Rattle.uug_line.proofs.CleanPairs.{IsPair, base_of_pairs, pair, pair_own, pair_turned, taken_first}
+use Rattle.uug_line.proofs.CleanPairs.{IsPair, base_of_pairs, pair, pair_own, taken_first}
 use Rattle.uug_line.proofs.CleanRounds.{DonePair}
 use Rattle.uug_line.proofs.CleanRuns.{run_with, settling}
 use Rattle.uug_line.proofs.CleanSteps.{taken_within}
 use Rattle.uug_line.proofs.Joining.{IsSoundSession}
 use Rattle.uug_line.proofs.PastLemmas.{goes_on}
+use Rattle.uug_line.proofs.SideLemmas.{counted_at}
 use Rattle.uug_line.proofs.Standing.{Stands, run_goes}
 
 -- ---- two ends that have settled
@@ -164,28 +168,16 @@ module _ (setup : SetupValue) where
       subst (λ (r : Run Count). SettlesFrom setup number r) same
       (settles_pair run.brought stands.sound announces plain number run.past (counted_end run.ends.at_caller.end)
       (counted_end run.ends.at_called.end)
-      (pair Caller run.ends.at_caller.end run.ends.at_called.end stands.joined)
+      (pair Caller run.ends.at_caller.end run.ends.at_called.end (stands.joined Caller))
       (subst (λ (r : Run Count). MaySettle r) (sym same) may))
     where
-      near : LineEnd Count
-      near = counted_end run.ends.at_caller.end
-
-      far : LineEnd Count
-      far = counted_end run.ends.at_called.end
-
-      joined : IsPair setup run.brought Caller near far
-      joined = pair Caller run.ends.at_caller.end run.ends.at_called.end stands.joined
-
-      turned : IsPair setup run.brought Called far near
-      turned = pair_turned setup run.brought stands.sound announces Caller near far joined
-
       plain : (side : Side) → (at side setup).own.quiet ≡ false
-      plain Caller =
-          sym (ap (λ (a : Announced). a.quiet) (pair_own setup run.brought stands.sound announces Caller near far joined))
-          ∙ (may.ends Caller).plain
-      plain Called =
-          sym (ap (λ (a : Announced). a.quiet) (pair_own setup run.brought stands.sound announces Called far near turned))
-          ∙ (may.ends Called).plain
+      plain side =
+          let here = (end_at side run).end in
+          let there = (end_at (other side) run).end in
+          sym (ap (λ (a : Announced). a.quiet) (pair_own setup run.brought stands.sound announces side (counted_end here) (counted_end there)
+          (pair side here there (stands.joined side))))
+          ∙ subst (λ (h : Buffered (LineEnd Count)). IsPlain h.end.state.link) (counted_at run side) (may.ends side).plain
 
   announcements : (events : List Event) → AreOfTypes setup events → (side : Side) → IsAnnouncement (at side setup).own
   announcements events types side =

@@ -22,7 +22,8 @@ use Rattle.uug_line.specs.Sides.{at}
 use Rattle.uug_line.specs.World.{counted, run_of_ends, world}
 use Rattle.uug_line.proofs.CleanLaw.{settles_by, settles_of, settles_from}
 use Rattle.uug_line.proofs.PastLemmas.{next_event}
-use Rattle.uug_line.proofs.RunLemmas.{counted_at, happens_clean, happens_fooled}
+use Rattle.uug_line.proofs.RunLemmas.{happens_clean, happens_fooled}
+use Rattle.uug_line.proofs.SideLemmas.{counted_at}
 use Rattle.uug_line.proofs.Standing.{run_goes}
 use Rattle.uug_line.specs.SoundSetup.{IsSoundSetup}
 

@@ -6,7 +6,7 @@ use Rattle.uug_packet.specs.Bytes.{AreBytes}
 use Rattle.uug_conversation.specs.Count.{Count}
 use Rattle.uug_conversation.specs.DialogueState.{DialogueState}
 use Rattle.uug_conversation.specs.Turns.{other}
-use Rattle.uug_session.specs.TwoEnds.{IsTold}
+use Rattle.uug_session.specs.TwoEnds.{talker}
 use Rattle.uug_conversation.specs.View.{conversation_view, own_messages}
 use Rattle.uug_line.specs.declared.event.Event.{Event}
 use Rattle.uug_conversation.specs.declared.side.Side.{Side}
@@ -27,7 +27,8 @@ use Rattle.uug_line.proofs.Joining.{IsSoundSession, Joined, Moment, link_end, mo
 use Rattle.uug_line.proofs.LinkLemmas.{links_run}
 use Rattle.uug_line.proofs.Standing.{Goes, run_goes}
 use Rattle.uug_conversation.proofs.SaidByteLemmas.{own_bytes}
-use Rattle.uug_line.proofs.LowerLemmas.{both_told}
+use Rattle.uug_line.proofs.SideLemmas.{each}
+use Rattle.uug_line.proofs.TalkLemmas.{told_at}
 
 -- the packets of both ends
 abbrev pub AllRight : {C : Type 0} → Run C → Type 0
@@ -57,47 +58,26 @@ module _ (setup : SetupValue) (of_bytes : IsSetupOfBytes setup) where
         (All-take AreBytes (length own)
         (own_messages (conversation_view me (party setup brought Caller) (party setup brought Called))) (said_bytes me)))
 
-    both_right : (near far : Moment) → IsSoundSetup setup → Joined setup brought Caller near far
-        → IsRightEnd (link_end near) × IsRightEnd (link_end far)
-    both_right near far setup_sound j =
-        run_right setup.at_caller.own setup.at_called.own (sound.window Caller) (sound.window Called)
-        (record { near = link_end near; far = link_end far }) (announces setup_sound Caller) (announces setup_sound Called)
-        (links_run setup Caller near far j.links)
-
-    told : (near far : Moment) (j : Joined setup brought Caller near far) →
-        IsTold Caller (party setup brought Caller) (party setup brought Called) j.two.caller_end j.two.called_end
-        × IsTold Called (party setup brought Caller) (party setup brought Called) j.two.called_end j.two.caller_end
-    told near far j =
-        both_told (party setup brought Caller) (party setup brought Called) (sound.party Caller) (sound.party Called)
-        j.two j.reached
-
-    near_right : (near far : Moment) → IsSoundSetup setup → Joined setup brought Caller near far → All IsRight near.packets
-    near_right near far setup_sound j =
-        right_packets (link_end near) (both_right near far setup_sound j).0
-        (front_bytes Caller j.two.caller_end.sent near.sent (told near far j).0.sent_first j.near_sent)
-
-    far_right : (near far : Moment) → IsSoundSetup setup → Joined setup brought Caller near far → All IsRight far.packets
-    far_right near far setup_sound j =
-        right_packets (link_end far) (both_right near far setup_sound j).1
-        (front_bytes Called j.two.called_end.sent far.sent (told near far j).1.sent_first j.far_sent)
+    near_right : (side : Side) (near far : Moment) → IsSoundSetup setup → Joined setup brought side near far → All IsRight near.packets
+    near_right side near far setup_sound j =
+        right_packets (link_end near)
+        (run_right (at side setup).own (at (other side) setup).own (sound.window side) (sound.window (other side))
+        (record { near = link_end near; far = link_end far }) (announces setup_sound side) (announces setup_sound (other side))
+        (links_run setup side near far j.links)).0
+        (front_bytes side (talker side j.two).sent near.sent (told_at setup brought sound side j.two j.reached).sent_first j.near_sent)
 
   module _ (sound : IsSoundSetup setup) (events : List Event) where
     goes : Goes setup (run_of_ends setup events) (world setup events)
     goes = run_goes setup sound events
 
     all_right : AllRight (run_of_ends setup events)
-    all_right Caller =
+    all_right side =
         let run : Run DialogueState = run_of_ends setup events in
-        near_right run.brought goes.stands.sound (moment_of run.ends.at_caller.end) (moment_of run.ends.at_called.end) sound
-        goes.stands.joined.joined
-    all_right Called =
-        let run : Run DialogueState = run_of_ends setup events in
-        far_right run.brought goes.stands.sound (moment_of run.ends.at_caller.end) (moment_of run.ends.at_called.end) sound
-        goes.stands.joined.joined
+        near_right run.brought goes.stands.sound side (moment_of (end_at side run).end) (moment_of (end_at (other side) run).end) sound
+        (goes.stands.joined side).joined
 
     counted_right : AllRight (counted (run_of_ends setup events))
-    counted_right Caller = all_right Caller
-    counted_right Called = all_right Called
+    counted_right = each (λ side. All IsRight (end_at side (counted (run_of_ends setup events))).end.log.packets) (all_right Caller) (all_right Called)
 
     pub ends_bytes : AreOfBytes events → (side : Side) → AreBytes (at side (came_in by_themselves setup events))
     ends_bytes are side = comes_bytes by_themselves setup names_bytes events side are (all_right (other side))

@@ -36,9 +36,9 @@ use Rattle.uug_line.specs.Spelled.{GiveAsSetUp, spelled, spelled_end, spelled_se
 use Rattle.uug_line.specs.StillHeld.{HoldWhatIsLeft}
 use Rattle.uug_line.specs.Taking.{line_taker}
 use Rattle.uug_line.specs.WholeReport.{whole_report}
-use Rattle.uug_line.specs.World.{counted, counted_hearer, report_of, report_of_ends, report_of_world, run_of_ends}
+use Rattle.uug_line.specs.World.{counted, report_of, report_of_ends, report_of_world, run_of_ends}
 use Rattle.uug_line.specs.Told.{EndNow, EndReportValue, SpelledEnd, SpelledReport}
-use Rattle.uug_line.proofs.SideLemmas.{at_each_is, each, each_are, with_both, with_here}
+use Rattle.uug_line.proofs.SideLemmas.{at_each_is, counted_at, each, each_are, with_both, with_here}
 
 -- ---- who an end is
 
@@ -208,9 +208,6 @@ clean_holds setup run r stands = record { fits = fits; all = λ clean. all }
         (all_held setup side (end_at side run) (at side r.ends) (stands.ends side)) (ready_at r stands.steady side).room
 
 -- so it is in the world
-pub counted_at : (run : Run DialogueState) (side : Side) → end_at side (counted run) ≡ counted_hearer (end_at side run)
-counted_at run side = at_each_is (λ (s : Side). counted_hearer (end_at s run)) side
-
 pub held_counted : (run : Run DialogueState) (held : AtBoth (List ℕ)) → HoldWhatIsLeft run held → HoldWhatIsLeft (counted run) held
 held_counted run held holds = record {
   fits = λ side. holds.fits side ∙ sym (ap (λ (h : Buffered (LineEnd Count)). take READER_SIZE h.held) (counted_at run side));

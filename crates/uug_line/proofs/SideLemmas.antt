@@ -3,6 +3,9 @@ use Rattle.std.proofs.Common.{◌≡◌, refl, ap₂}
 use Rattle.uug_conversation.specs.Turns.{other}
 use Rattle.uug_conversation.specs.declared.side.Side.{Side}
 use Rattle.uug_conversation.specs.declared.side.Side.TheVariants.{Caller, Called}
+use Rattle.uug_conversation.specs.DialogueState.{DialogueState}
+use Rattle.uug_line.specs.Run.{Run, end_at}
+use Rattle.uug_line.specs.World.{counted, counted_hearer}
 use Rattle.uug_line.specs.Sides.{AtBoth, at, at_each, with_at}
 
 pub each : (P : Side → Type 0) → P Caller → P Called → (side : Side) → P side
@@ -20,6 +23,9 @@ at_each_is f Called = refl
 
 pub each_are : {A : Type 0} (f g : Side → A) → ((side : Side) → f side ≡ g side) → at_each f ≡ at_each g
 each_are {A} f g same = let both : (x y : A) → AtBoth A = λ x y. record { at_caller = x; at_called = y } in ap₂ both (same Caller) (same Called)
+
+pub counted_at : (run : Run DialogueState) (side : Side) → end_at side (counted run) ≡ counted_hearer (end_at side run)
+counted_at run side = at_each_is (λ (s : Side). counted_hearer (end_at s run)) side
 
 -- ---- one becomes another
 

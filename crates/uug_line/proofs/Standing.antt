@@ -14,18 +14,19 @@ use Rattle.uug_conversation.specs.Party.{IsSound}
 use Rattle.uug_conversation.specs.DialogueState.{DialogueState}
 use Rattle.uug_line.specs.declared.event.Event.{Event}
 use Rattle.uug_line.specs.declared.event.Event.TheVariants.{Pass, Drop, Flip, Insert, Timeout, HangUp, Call}
+use Rattle.uug_conversation.specs.Turns.{other}
 use Rattle.uug_conversation.specs.declared.side.Side.{Side}
 use Rattle.uug_conversation.specs.declared.side.Side.TheVariants.{Caller, Called}
 use Rattle.uug_line.specs.declared.verdict.LineVerdict.{LineVerdict}
 use Rattle.uug_line.specs.declared.verdict.LineVerdict.TheVariants.{Clean, Fooled}
 use Rattle.uug_line.specs.Belongings.{Belongings, SetupValue, party, renewed}
 use Rattle.uug_line.specs.Headline.{TookFronts, KeptToWindows, StaysInFront}
-use Rattle.uug_line.specs.LineEnd.{LineEnd, does, called_with, changed_line}
+use Rattle.uug_line.specs.LineEnd.{LineEnd, Participant, does, called_with, changed_line}
 use Rattle.uug_line.specs.LinkRun.{LinksRan, after_all}
 use Rattle.uug_line.specs.Report.{end_now, report_of_end}
-use Rattle.uug_line.specs.Run.{Run, end_at, with_end_at, has_now, first_end, session_begins, flipped, with_line_to, after_hearing, calls, hung_up, calls_again, after_event, unless_fooled, goes_through, first_run}
+use Rattle.uug_line.specs.Run.{Run, end_at, with_end_at, has_now, first_end, session_begins, flipped, with_line_to, after_hearing, calls, hears_next, hung_up, calls_again, participant, after_event, unless_fooled, goes_through, first_run}
 use Rattle.uug_line.specs.RunKeeper.{by_themselves, by_numbers}
-use Rattle.uug_line.specs.Sides.{AtBoth, at, at_each}
+use Rattle.uug_line.specs.Sides.{AtBoth, at, at_each, with_at}
 use Rattle.uug_line.specs.SoundSetup.{IsSoundSetup}
 use Rattle.uug_line.specs.Speaking.{HaveSpoken}
 use Rattle.uug_line.specs.Taking.{line_taker}
@@ -35,6 +36,7 @@ use Rattle.uug_line.proofs.Joining.{EndsJoined, HasPassed, IsSoundSession, Links
 use Rattle.uug_line.proofs.MachineLemmas.{stands_behind, stands_first}
 use Rattle.uug_line.specs.MachineRun.{PresentRanAsMachine, RanAsMachine, SomeLinksRan, first_links, first_machine, link_end as told_end, link_ends}
 use Rattle.uug_line.specs.Told.{EndReportValue}
+use Rattle.uug_line.proofs.SideLemmas.{at_each_is, counted_at, each, each_are, other_twice, with_both, with_here}
 use Rattle.uug_line.proofs.Steps.{talk_player, count_player, IsNoPacket, Steps}
 use Rattle.uug_line.proofs.StoredSince.{OwnSince, names_now, own_of_both, own_at_first, OwnPlaces, own_places, set_up}
 use Rattle.uug_link.proofs.TwoLinksRuns.{first_reads}
@@ -50,7 +52,7 @@ pub record IsKept (setup : SetupValue) (session : AtBoth EndReportValue) : Type 
 
 pub record Stands (setup : SetupValue) (run : Run DialogueState) : Type 0 where
   pub sound : IsSoundSession setup run.brought
-  pub joined : EndsJoined setup run.brought Caller run.ends.at_caller.end run.ends.at_called.end
+  pub joined : (side : Side) → EndsJoined setup run.brought side (end_at side run).end (end_at (other side) run).end
   pub past : All (IsKept setup) run.past
   pub own : (giver : Side) → OwnSince setup run.brought giver
 
@@ -76,25 +78,7 @@ near_line setup brought side change h f j = record {
   far_spoken = j.far_spoken;
 }
 
-far_line : (setup : SetupValue) (brought : AtBoth Belongings) (side : Side) (change : List ℕ → List ℕ)
-    (e : LineEnd DialogueState) (h : Buffered (LineEnd DialogueState)) → EndsJoined setup brought side e h.end →
-    EndsJoined setup brought side e (changed_line change h).end
-far_line setup brought side change e h j = record {
-  joined = j.joined;
-  near_hails = j.near_hails;
-  far_hails = j.far_hails;
-  near_most = j.near_most;
-  far_most = j.far_most;
-  near_passed = j.near_passed;
-  far_passed = j.far_passed;
-  near_spoken = j.near_spoken;
-  far_spoken = j.far_spoken;
-}
-
 -- ---- a session's end by end
-
-both_are : {A : Type 0} (x y : AtBoth A) → x.at_caller ≡ y.at_caller → x.at_called ≡ y.at_called → x ≡ y
-both_are x y e f = ap₂ (λ a b. record { at_caller = a; at_called = b }) e f
 
 -- how the links of these ends stand
 abbrev links_at : LineEnd DialogueState → LineEnd DialogueState → AtBoth State
@@ -114,123 +98,120 @@ module _ (setup : SetupValue) where
   steps_of : (run : Run DialogueState) → Stands setup run → Steps setup run.brought
   steps_of run s = all_steps setup run.brought s.sound
 
-  turned_of : (run : Run DialogueState) → Stands setup run →
-      EndsJoined setup run.brought Called run.ends.at_called.end run.ends.at_caller.end
-  turned_of run s =
-      (steps_of run s).turned Caller run.ends.at_caller.end run.ends.at_called.end s.joined
+  -- two ends of the run, the one of which is at the side
+  abbrev AreJoined : Run DialogueState → Side → (x y : Buffered (LineEnd DialogueState)) → Type 0
+  AreJoined run side x y = EndsJoined setup run.brought side x.end y.end
 
-  -- the ends become others
-  with_ends : (run : Run DialogueState) (verdict : LineVerdict) (x y : Buffered (LineEnd DialogueState)) → Stands setup run →
-      EndsJoined setup run.brought Caller x.end y.end →
-      Stands setup (record { past = run.past; brought = run.brought; ends = record { at_caller = x; at_called = y }; verdict = verdict })
-  with_ends run verdict x y s joined = record { sound = s.sound; joined = joined; past = s.past; own = s.own }
+  turned_back : (run : Run DialogueState) → Stands setup run → (side : Side) (x y : Buffered (LineEnd DialogueState)) → AreJoined run (other side) x y →
+      AreJoined run side y x
+  turned_back run s side x y joined =
+      subst (λ (z : Side). AreJoined run z y x) (sym (other_twice side)) ((steps_of run s).turned (other side) x.end y.end joined)
+
+  -- one end becomes another
+  one_becomes : (side : Side) (run : Run DialogueState) (x : Buffered (LineEnd DialogueState)) → Stands setup run →
+      AreJoined run side x (end_at (other side) run) → Stands setup (with_end_at side x run)
+  one_becomes side run x s joined = record {
+    sound = s.sound;
+    joined = with_here (AreJoined run) side x run.ends joined ((steps_of run s).turned side x.end (end_at (other side) run).end joined);
+    past = s.past;
+    own = s.own;
+  }
+
+  counted_with : (side : Side) (x : Buffered (LineEnd DialogueState)) (run : Run DialogueState) →
+      counted (with_end_at side x run) ≡ with_end_at side (counted_hearer x) (counted run)
+  counted_with Caller x run = refl
+  counted_with Called x run = refl
+
+  player_is : (run : Run DialogueState) (side : Side) → talk_player setup side ≡ participant by_themselves setup run side
+  player_is run Caller = refl
+  player_is run Called = refl
 
   -- ---- bytes on the line
 
   line_changes : (side : Side) (change : List ℕ → List ℕ) (run : Run DialogueState) → Stands setup run →
-      Goes setup (with_line_to side change run) (with_line_to side change (counted run))
-  line_changes Caller change run s = record {
-    stands = with_ends run run.verdict run.ends.at_caller (changed_line change run.ends.at_called) s
-        (far_line setup run.brought Caller change run.ends.at_caller.end run.ends.at_called s.joined);
-    counted_is = refl;
-  }
-  line_changes Called change run s = record {
-    stands = with_ends run run.verdict (changed_line change run.ends.at_caller) run.ends.at_called s
-        (near_line setup run.brought Caller change run.ends.at_caller run.ends.at_called.end s.joined);
-    counted_is = refl;
-  }
+      Goes setup (with_end_at side (changed_line change (end_at side run)) run)
+      (with_end_at side (changed_line change (end_at side (counted run))) (counted run))
+  line_changes side change run s =
+      let h = end_at side run in
+      record {
+        stands = one_becomes side run (changed_line change h) s
+            (near_line setup run.brought side change h (end_at (other side) run).end (s.joined side));
+        counted_is = counted_with side (changed_line change h) run
+            ∙ ap (λ (z : Buffered (LineEnd Count)). with_end_at side (changed_line change z) (counted run)) (sym (counted_at run side));
+      }
 
   -- ---- an end's call
 
   calls_keep : (side : Side) (event : EndEvent) (run : Run DialogueState) → IsNoPacket event → Stands setup run →
       Goes setup (calls by_themselves setup side event run) (calls by_numbers setup side event (counted run))
-  calls_keep Caller event run no_packet s =
-      let here = run.ends.at_caller in
-      let there = run.ends.at_called in
+  calls_keep side event run no_packet s =
+      let here = end_at side run in
+      let there = (end_at (other side) run).end in
       let steps = steps_of run s in
-      record {
-        stands = with_ends run run.verdict (called_with (talk_player setup Caller) event here) there s
-            (steps.does_joined Caller event here.end there.end no_packet s.joined);
-        counted_is = ap (λ (z : LineEnd Count). with_end_at Caller (record { held = held_in z.state.stage here.held; end = z }) (counted run))
-            (steps.does_counted Caller event here.end there.end no_packet s.joined);
-      }
-  calls_keep Called event run no_packet s =
-      let here = run.ends.at_called in
-      let there = run.ends.at_caller in
-      let steps = steps_of run s in
-      let joined = turned_of run s in
-      record {
-        stands = with_ends run run.verdict there (called_with (talk_player setup Called) event here) s
-            (steps.turned Called (does (talk_player setup Called) event here.end) there.end
-            (steps.does_joined Called event here.end there.end no_packet joined));
-        counted_is = ap (λ (z : LineEnd Count). with_end_at Called (record { held = held_in z.state.stage here.held; end = z }) (counted run))
-            (steps.does_counted Called event here.end there.end no_packet joined);
-      }
+      subst (λ (p : Participant DialogueState). Goes setup (with_end_at side (called_with p event here) run) (calls by_numbers setup side event (counted run)))
+      (player_is run side) (record {
+        stands = one_becomes side run (called_with (talk_player setup side) event here) s
+            (steps.does_joined side event here.end there no_packet (s.joined side));
+        counted_is = counted_with side (called_with (talk_player setup side) event here) run
+            ∙ ap (λ (z : LineEnd Count). with_end_at side (record { held = held_in z.state.stage here.held; end = z }) (counted run))
+            (steps.does_counted side event here.end there no_packet (s.joined side))
+            ∙ ap (λ (z : Buffered (LineEnd Count)). with_end_at side (called_with (count_player setup run.brought side) event z) (counted run))
+            (sym (counted_at run side));
+      })
 
   -- ---- bytes that come
 
   -- the other end's line was changed so
-  heard_at_caller : (number : ℕ) (change : List ℕ → List ℕ) (run : Run DialogueState) → Stands setup run → (came : Arrival (LineEnd DialogueState)) →
-      EndsJoined setup run.brought Caller (end_of came) run.ends.at_called.end →
-      Goes setup (after_hearing number Caller came (with_line_to Caller change run))
-      (after_hearing number Caller (counted_came came) (with_line_to Caller change (counted run)))
-  heard_at_caller number change run s (all_taken h) joined = record {
-    stands = with_ends run run.verdict h (changed_line change run.ends.at_called) s
-        (far_line setup run.brought Caller change h.end run.ends.at_called joined);
-    counted_is = refl;
-  }
-  heard_at_caller number change run s (stopped h) joined = record {
-    stands = with_ends run (Fooled number Caller) h (changed_line change run.ends.at_called) s
-        (far_line setup run.brought Caller change h.end run.ends.at_called joined);
-    counted_is = refl;
-  }
+  heard_joined : (side : Side) (change : List ℕ → List ℕ) (run : Run DialogueState) (h : Buffered (LineEnd DialogueState)) → Stands setup run →
+      AreJoined run side h (end_at (other side) run) →
+      (let now = with_at side h (with_at (other side) (changed_line change (end_at (other side) run)) run.ends) in
+      (z : Side) → AreJoined run z (at z now) (at (other z) now))
+  heard_joined side change run h s joined =
+      let there = end_at (other side) run in
+      let far = near_line setup run.brought (other side) change there h.end ((steps_of run s).turned side h.end there.end joined) in
+      with_both (AreJoined run) side h (changed_line change there) run.ends (turned_back run s side (changed_line change there) h far) far
 
-  heard_at_called : (number : ℕ) (change : List ℕ → List ℕ) (run : Run DialogueState) → Stands setup run → (came : Arrival (LineEnd DialogueState)) →
-      EndsJoined setup run.brought Called (end_of came) run.ends.at_caller.end →
-      Goes setup (after_hearing number Called came (with_line_to Called change run))
-      (after_hearing number Called (counted_came came) (with_line_to Called change (counted run)))
-  heard_at_called number change run s (all_taken h) joined = record {
-    stands = with_ends run run.verdict (changed_line change run.ends.at_caller) h s
-        (near_line setup run.brought Caller change run.ends.at_caller h.end
-        ((steps_of run s).turned Called h.end run.ends.at_caller.end joined));
-    counted_is = refl;
-  }
-  heard_at_called number change run s (stopped h) joined = record {
-    stands = with_ends run (Fooled number Called) (changed_line change run.ends.at_caller) h s
-        (near_line setup run.brought Caller change run.ends.at_caller h.end
-        ((steps_of run s).turned Called h.end run.ends.at_caller.end joined));
-    counted_is = refl;
-  }
+  heard_stands : (number : ℕ) (side : Side) (change : List ℕ → List ℕ) (run : Run DialogueState) → Stands setup run → (came : Arrival (LineEnd DialogueState)) →
+      EndsJoined setup run.brought side (end_of came) (end_at (other side) run).end →
+      Stands setup (after_hearing number side came (with_line_to side change run))
+  heard_stands number side change run s (all_taken h) joined =
+      record { sound = s.sound; joined = heard_joined side change run h s joined; past = s.past; own = s.own }
+  heard_stands number side change run s (stopped h) joined =
+      record { sound = s.sound; joined = heard_joined side change run h s joined; past = s.past; own = s.own }
+
+  heard_counted : (number : ℕ) (side : Side) (change : List ℕ → List ℕ) (run : Run DialogueState) (came : Arrival (LineEnd DialogueState)) →
+      counted (after_hearing number side came (with_line_to side change run))
+      ≡ after_hearing number side (counted_came came) (with_line_to side change (counted run))
+  heard_counted number Caller change run (all_taken h) = refl
+  heard_counted number Caller change run (stopped h) = refl
+  heard_counted number Called change run (all_taken h) = refl
+  heard_counted number Called change run (stopped h) = refl
+
+  next_counted : (side : Side) (n : ℕ) (run : Run DialogueState) →
+      (let there = (end_at (other side) run).end in
+      takes_piece (line_taker (count_player setup run.brought side) there.log.packets) (take n there.line) (counted_hearer (end_at side run))
+      ≡ hears_next by_numbers setup side n (counted run))
+  next_counted Caller n run = refl
+  next_counted Called n run = refl
 
   goes_to : (run : Run DialogueState) (x y : Run Count) → Goes setup run x → x ≡ y → Goes setup run y
   goes_to run x y g e = record { stands = g.stands; counted_is = g.counted_is ∙ e }
 
   passes : (number : ℕ) (side : Side) (n : ℕ) (run : Run DialogueState) → Stands setup run →
       Goes setup (after_event by_themselves setup number (Pass side n) run) (after_event by_numbers setup number (Pass side n) (counted run))
-  passes number Caller n run s =
-      let here = run.ends.at_caller in
-      let there = run.ends.at_called in
-      let piece = take n there.end.line in
-      let taken = taken_piece setup run.brought s.sound Caller there.end piece here s.joined in
-      let came = takes_piece (line_taker (talk_player setup Caller) there.end.log.packets) piece here in
-      let numbers = takes_piece (line_taker (count_player setup run.brought Caller) there.end.log.packets) piece (counted_hearer here) in
-      goes_to (after_hearing number Caller came (with_line_to Caller (drop n) run))
-      (after_hearing number Caller (counted_came came) (with_line_to Caller (drop n) (counted run)))
-      (after_hearing number Caller numbers (with_line_to Caller (drop n) (counted run)))
-      (heard_at_caller number (drop n) run s came taken.joined)
-      (ap (λ z. after_hearing number Caller z (with_line_to Caller (drop n) (counted run))) taken.counted)
-  passes number Called n run s =
-      let here = run.ends.at_called in
-      let there = run.ends.at_caller in
-      let piece = take n there.end.line in
-      let taken = taken_piece setup run.brought s.sound Called there.end piece here (turned_of run s) in
-      let came = takes_piece (line_taker (talk_player setup Called) there.end.log.packets) piece here in
-      let numbers = takes_piece (line_taker (count_player setup run.brought Called) there.end.log.packets) piece (counted_hearer here) in
-      goes_to (after_hearing number Called came (with_line_to Called (drop n) run))
-      (after_hearing number Called (counted_came came) (with_line_to Called (drop n) (counted run)))
-      (after_hearing number Called numbers (with_line_to Called (drop n) (counted run)))
-      (heard_at_called number (drop n) run s came taken.joined)
-      (ap (λ z. after_hearing number Called z (with_line_to Called (drop n) (counted run))) taken.counted)
+  passes number side n run s =
+      let here = end_at side run in
+      let there = (end_at (other side) run).end in
+      let piece = take n there.line in
+      let taken = taken_piece setup run.brought s.sound side there piece here (s.joined side) in
+      let came = takes_piece (line_taker (talk_player setup side) there.log.packets) piece here in
+      subst (λ (p : Participant DialogueState). Goes setup
+      (after_hearing number side (takes_piece (line_taker p there.log.packets) piece here) (with_line_to side (drop n) run))
+      (after_event by_numbers setup number (Pass side n) (counted run))) (player_is run side) (record {
+        stands = heard_stands number side (drop n) run s came taken.joined;
+        counted_is = heard_counted number side (drop n) run came
+            ∙ ap (λ z. after_hearing number side z (with_line_to side (drop n) (counted run))) (taken.counted ∙ next_counted side n run);
+      })
 
   -- ---- a session begins
 
@@ -244,8 +225,15 @@ module _ (setup : SetupValue) where
       Goes setup (session_begins by_themselves setup past brought) (session_begins by_numbers setup past brought)
   begins_so past brought sound kept own =
       let steps = all_steps setup brought sound in
+      let run = session_begins by_themselves setup past brought in
       record {
-        stands = record { sound = sound; joined = steps.first_joined; past = kept; own = own };
+        stands = record {
+          sound = sound;
+          joined = each (λ side. EndsJoined setup brought side (end_at side run).end (end_at (other side) run).end) steps.first_joined
+              (steps.turned Caller (end_at Caller run).end (end_at Called run).end steps.first_joined);
+          past = kept;
+          own = own;
+        };
         counted_is = ap₂ (λ x y. record { past = past; brought = brought; ends = record { at_caller = x; at_called = y }; verdict = Clean })
             (begun_counted brought steps Caller) (begun_counted brought steps Called);
       }
@@ -317,7 +305,7 @@ module _ (setup : SetupValue) where
       let e = run.ends.at_caller.end in
       let f = run.ends.at_called.end in
       let e' = does (talk_player setup Caller) line_lost e in
-      let first = steps.does_joined Caller line_lost e f tt s.joined in
+      let first = steps.does_joined Caller line_lost e f tt (s.joined Caller) in
       steps.turned Called (does (talk_player setup Called) line_lost f) e'
       (steps.does_joined Called line_lost f e' tt (steps.turned Caller e' f first))
 
@@ -329,14 +317,14 @@ module _ (setup : SetupValue) where
     where
       party_sound : (side : Side) → IsSound (party setup (brings run) side)
       party_sound Caller = record {
-        names = names_now setup run.brought s.sound Caller run.ends.at_caller.end run.ends.at_called.end s.joined refl
+        names = names_now setup run.brought s.sound Caller run.ends.at_caller.end run.ends.at_called.end (s.joined Caller) refl
             (s.sound.party Caller).names;
         modes = (s.sound.party Caller).modes;
         size = (s.sound.party Caller).size;
       }
       party_sound Called = record {
         names = names_now setup run.brought s.sound Called run.ends.at_called.end run.ends.at_caller.end
-            (turned_of run s) refl (s.sound.party Called).names;
+            (s.joined Called) refl (s.sound.party Called).names;
         modes = (s.sound.party Called).modes;
         size = (s.sound.party Called).size;
       }
@@ -349,36 +337,29 @@ module _ (setup : SetupValue) where
   own_of_now : (run : Run DialogueState) → Stands setup run → (giver : Side) → OwnSince setup (at_each (has_now by_themselves setup run)) giver
   own_of_now run s giver =
       own_of_both setup run.brought s.sound giver (at_each (has_now by_themselves setup run))
-      run.ends.at_caller.end run.ends.at_called.end s.joined refl refl (s.own giver)
+      run.ends.at_caller.end run.ends.at_called.end (s.joined Caller) refl refl (s.own giver)
 
   renewed_own : (now : AtBoth Belongings) (giver : Side) → OwnSince setup now giver → OwnSince setup (at_each (λ side. renewed (at side now))) giver
-  renewed_own now Caller own = record {
-    jobs = own.jobs;
-    givers = own.givers;
-    receivers = own.receivers;
-    entries = own.entries;
-    givers_are = own.givers_are;
-    receivers_are = own.receivers_are;
-    entries_are = own.entries_are;
-    own = own.own;
-  }
-  renewed_own now Called own = record {
-    jobs = own.jobs;
-    givers = own.givers;
-    receivers = own.receivers;
-    entries = own.entries;
-    givers_are = own.givers_are;
-    receivers_are = own.receivers_are;
-    entries_are = own.entries_are;
-    own = own.own;
-  }
+  renewed_own now giver own =
+      let renews : (side : Side) → at side (at_each (λ s. renewed (at s now))) ≡ renewed (at side now) = at_each_is (λ s. renewed (at s now)) in
+      record {
+        jobs = own.jobs;
+        givers = own.givers;
+        receivers = own.receivers;
+        entries = own.entries;
+        givers_are = ap (λ (b : Belongings). b.lists.struck) (renews giver) ∙ own.givers_are;
+        receivers_are = ap (λ (b : Belongings). b.lists.struck) (renews (other giver)) ∙ own.receivers_are;
+        entries_are = ap (λ (b : Belongings). b.kept) (renews (other giver)) ∙ own.entries_are;
+        own = own.own;
+      }
 
   has_counted : (run : Run DialogueState) → Stands setup run → at_each (has_now by_themselves setup run) ≡ at_each (has_now by_numbers setup (counted run))
   has_counted run s =
       let steps = steps_of run s in
-      both_are (at_each (has_now by_themselves setup run)) (at_each (has_now by_numbers setup (counted run)))
-      (sym (steps.has_counted Caller run.ends.at_caller.end run.ends.at_called.end s.joined))
-      (sym (steps.has_counted Called run.ends.at_called.end run.ends.at_caller.end (turned_of run s)))
+      each_are (has_now by_themselves setup run) (has_now by_numbers setup (counted run))
+      (each (λ side. has_now by_themselves setup run side ≡ has_now by_numbers setup (counted run) side)
+      (sym (steps.has_counted Caller run.ends.at_caller.end run.ends.at_called.end (s.joined Caller)))
+      (sym (steps.has_counted Called run.ends.at_called.end run.ends.at_caller.end (s.joined Called))))
 
   -- what is told of the session that is over
   abbrev told_by_numbers : Run DialogueState → AtBoth EndReportValue
@@ -392,9 +373,11 @@ module _ (setup : SetupValue) where
       let steps = steps_of run s in
       let e = run.ends.at_caller.end in
       let f = run.ends.at_called.end in
-      both_are (told run) (told_by_numbers run)
-      (ap (λ (z : LineEnd Count). report_of_end z) (steps.does_counted Caller line_lost e f tt s.joined))
-      (ap (λ (z : LineEnd Count). report_of_end z) (steps.does_counted Called line_lost f e tt (turned_of run s)))
+      let lost : (side : Side) → LineEnd Count = λ side. (hung_up by_numbers setup (counted run) side).end in
+      each_are (λ side. report_of_end (hung_up by_themselves setup run side).end) (λ side. report_of_end (lost side))
+      (each (λ side. report_of_end (hung_up by_themselves setup run side).end ≡ report_of_end (lost side))
+      (ap (λ (z : LineEnd Count). report_of_end z) (steps.does_counted Caller line_lost e f tt (s.joined Caller)))
+      (ap (λ (z : LineEnd Count). report_of_end z) (steps.does_counted Called line_lost f e tt (s.joined Called))))
 
   again : (run : Run DialogueState) → Stands setup run →
       Goes setup (calls_again by_themselves setup run) (calls_again by_numbers setup (counted run))
@@ -414,9 +397,9 @@ module _ (setup : SetupValue) where
   keeps : (number : ℕ) (event : Event) (run : Run DialogueState) → Stands setup run →
       Goes setup (after_event by_themselves setup number event run) (after_event by_numbers setup number event (counted run))
   keeps number (Pass side n) run s = passes number side n run s
-  keeps number (Drop side n) run s = line_changes side (drop n) run s
-  keeps number (Flip side mask) run s = line_changes side (flipped mask) run s
-  keeps number (Insert side byte) run s = line_changes side (λ line. byte ∷ line) run s
+  keeps number (Drop side n) run s = line_changes (other side) (drop n) run s
+  keeps number (Flip side mask) run s = line_changes (other side) (flipped mask) run s
+  keeps number (Insert side byte) run s = line_changes (other side) (λ line. byte ∷ line) run s
   keeps number (Timeout side) run s = calls_keep side time_ran_out run tt s
   keeps number (HangUp side) run s = calls_keep side line_lost run tt s
   keeps number Call run s = again run s
@@ -490,11 +473,11 @@ module _ (setup : SetupValue) where
       let s = (run_goes sound events).stands in
       let run = run_of_ends setup events in
       All-push (IsKept setup) run.past (at_each (λ side. report_of_end (end_at side run).end)) s.past
-      (session_kept run.brought s.sound run.ends.at_caller.end run.ends.at_called.end s.joined)
+      (session_kept run.brought s.sound run.ends.at_caller.end run.ends.at_called.end (s.joined Caller))
 
   pub present_ran : IsSoundSetup setup → (events : List Event) → PresentRanAsMachine setup (run_of_ends setup events)
   present_ran sound events = record {
-    ran = ran_as_machine run.brought s.sound run.ends.at_caller.end run.ends.at_called.end s.joined;
+    ran = ran_as_machine run.brought s.sound run.ends.at_caller.end run.ends.at_called.end (s.joined Caller);
     passed = passed;
   }
     where
@@ -505,12 +488,11 @@ module _ (setup : SetupValue) where
       s = (run_goes sound events).stands
 
       passed : (side : Side) → HasPassed (end_at side run).end.log
-      passed Caller = s.joined.near_passed
-      passed Called = s.joined.far_passed
+      passed side = (s.joined side).near_passed
 
   pub all_spoken : IsSoundSetup setup → (events : List Event) → HaveSpoken by_themselves setup (run_of_ends setup events)
-  all_spoken sound events Caller = (run_goes sound events).stands.joined.near_spoken
-  all_spoken sound events Called = (run_goes sound events).stands.joined.far_spoken
+  all_spoken sound events Caller = ((run_goes sound events).stands.joined Caller).near_spoken
+  all_spoken sound events Called = ((run_goes sound events).stands.joined Called).near_spoken
 
   pub all_own : IsSoundSetup setup → (events : List Event) (giver : Side) →
       OwnPlaces setup (report_of_ends setup events).belongings giver

@@ -21,6 +21,7 @@ use Rattle.uug_line.specs.Run.{parties}
 use Rattle.uug_line.specs.RunKeeper.{by_themselves, has_by, view_at}
 use Rattle.uug_line.specs.Sides.{AtBoth, at, at_each}
 use Rattle.uug_line.proofs.Joining.{IsTalk, EndsJoined, IsSoundSession}
+use Rattle.uug_line.proofs.SideLemmas.{at_each_is}
 use Rattle.uug_line.proofs.Steps.{Steps}
 use Rattle.uug_conversation.proofs.StoredLemmas.{called_store, caller_store, nothing_struck_at_first, nothing_stored_at_first}
 use Rattle.uug_conversation.proofs.OwnEntryLemmas.{of_sessions, by_places}
@@ -98,26 +99,18 @@ abbrev pub set_up : SetupValue → AtBoth Belongings
 set_up setup = at_each (λ side. renewed (at side setup).belongings)
 
 pub own_at_first : (setup : SetupValue) (giver : Side) → OwnSince setup (set_up setup) giver
-own_at_first setup Caller = record {
-  jobs = [];
-  givers = [];
-  receivers = [];
-  entries = [];
-  givers_are = sym (append-nil setup.at_caller.belongings.lists.struck);
-  receivers_are = sym (append-nil setup.at_called.belongings.lists.struck);
-  entries_are = sym (append-nil setup.at_called.belongings.kept);
-  own = none;
-}
-own_at_first setup Called = record {
-  jobs = [];
-  givers = [];
-  receivers = [];
-  entries = [];
-  givers_are = sym (append-nil setup.at_called.belongings.lists.struck);
-  receivers_are = sym (append-nil setup.at_caller.belongings.lists.struck);
-  entries_are = sym (append-nil setup.at_caller.belongings.kept);
-  own = none;
-}
+own_at_first setup giver =
+    let first : (side : Side) → at side (set_up setup) ≡ renewed (at side setup).belongings = at_each_is (λ side. renewed (at side setup).belongings) in
+    record {
+      jobs = [];
+      givers = [];
+      receivers = [];
+      entries = [];
+      givers_are = ap (λ (b : Belongings). b.lists.struck) (first giver) ∙ sym (append-nil (at giver setup).belongings.lists.struck);
+      receivers_are = ap (λ (b : Belongings). b.lists.struck) (first (other giver)) ∙ sym (append-nil (at (other giver) setup).belongings.lists.struck);
+      entries_are = ap (λ (b : Belongings). b.kept) (first (other giver)) ∙ sym (append-nil (at (other giver) setup).belongings.kept);
+      own = none;
+    }
 
 more_behind : {A : Type 0} (front xs ys now before : List A) → now ≡ before ++ ys → before ≡ front ++ xs →
     now ≡ front ++ (xs ++ ys)
