@@ -89,23 +89,17 @@ module _ (setup : SetupValue) where
               ∙ take_all (length x.log.taken) (others_messages v) (omega (arith, o.taken, count));
         }
 
-    settled_caller : (past : List (AtBoth EndReportValue)) (x y : LineEnd Count) → x.state.stage ≡ ended ends.Done →
-        TakesAll Caller x → EndIsSettled by_numbers setup (run_with past brought x y) Caller
-    settled_caller past x y done t = record {
-      done = done;
-      taken = t.taken;
-      has = has_all (parties setup brought) Caller brought.at_caller x.state.number x.state.keeper
-          (length (others_messages (seen setup brought Caller))) t.opened t.number;
-    }
-
-    settled_called : (past : List (AtBoth EndReportValue)) (x y : LineEnd Count) → y.state.stage ≡ ended ends.Done →
-        TakesAll Called y → EndIsSettled by_numbers setup (run_with past brought x y) Called
-    settled_called past x y done t = record {
-      done = done;
-      taken = t.taken;
-      has = has_all (parties setup brought) Called brought.at_called y.state.number y.state.keeper
-          (length (others_messages (seen setup brought Called))) t.opened t.number;
-    }
+    settled : (side : Side) (past : List (AtBoth EndReportValue)) (x y : LineEnd Count) →
+        (let e = (end_at side (run_with past brought x y)).end in
+        e.state.stage ≡ ended ends.Done → TakesAll side e → EndIsSettled by_numbers setup (run_with past brought x y) side)
+    settled side past x y done t =
+        let e = (end_at side (run_with past brought x y)).end in
+        record {
+          done = done;
+          taken = t.taken;
+          has = has_all (parties setup brought) side (at side brought) e.state.number e.state.keeper
+              (length (others_messages (seen setup brought side))) t.opened t.number;
+        }
 
     both_settled : (past : List (AtBoth EndReportValue)) (x y : LineEnd Count) → IsPair setup brought Caller x y →
         DonePair (seen setup brought Caller) (seen setup brought Called) x y →
@@ -113,8 +107,8 @@ module _ (setup : SetupValue) where
     both_settled past x y is d = record { clean = refl; ends = ends_so }
       where
         ends_so : (side : Side) → EndIsSettled by_numbers setup (run_with past brought x y) side
-        ends_so Caller = settled_caller past x y d.x_stage (takes_all Caller x y is d.x_over)
-        ends_so Called = settled_called past x y d.y_stage (takes_all Called y x (base.turned Caller x y is) d.y_over)
+        ends_so Caller = settled Caller past x y d.x_stage (takes_all Caller x y is d.x_over)
+        ends_so Called = settled Called past x y d.y_stage (takes_all Called y x (base.turned Caller x y is) d.y_over)
 
     -- ---- from two ends that may settle
 

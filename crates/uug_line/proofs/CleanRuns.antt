@@ -1,21 +1,22 @@
 -- The rounds of two ends on a clean line as events of their run.
-use Rattle.std.proofs.Common.{◌≡◌, ℕ, zero, suc, ◌+◌, ◌<◌, ◌≤◌, List, [], ◌∷◌, length, drop, refl, ap, sym, subst, ◌∙◌, arith}
+use Rattle.std.proofs.Common.{◌≡◌, ℕ, zero, suc, ◌+◌, ◌<◌, ◌≤◌, List, [], ◌∷◌, length, take, drop, refl, ap, sym, subst, ◌∙◌, arith}
 use Rattle.std.proofs.lemmas.List.{take_all}
 use Rattle.std.proofs.Math.Seq.{drop-length}
 use Rattle.uug_packet.specs.Packet.{PacketValue}
 use Rattle.uug_session.specs.declared.end.End.TheVariants as ends
-use Rattle.uug_session.specs.Arriving.{Arrival, held_in, holds, takes_all}
+use Rattle.uug_session.specs.Arriving.{Arrival, Buffered, held_in, holds, takes_all, takes_piece}
 use Rattle.uug_conversation.specs.Count.{Count}
 use Rattle.uug_session.specs.EndStep.{EndState, Stage, ended, hailing, linked, time_ran_out}
 use Rattle.uug_conversation.specs.View.{others_messages}
 use Rattle.uug_line.specs.declared.event.Event.{Event}
 use Rattle.uug_line.specs.declared.event.Event.TheVariants.{Pass, Timeout}
+use Rattle.uug_conversation.specs.Turns.{other}
 use Rattle.uug_conversation.specs.declared.side.Side.{Side}
 use Rattle.uug_conversation.specs.declared.side.Side.TheVariants.{Caller, Called}
 use Rattle.uug_line.specs.declared.verdict.LineVerdict.TheVariants.{Clean}
 use Rattle.uug_line.specs.Belongings.{Belongings, SetupValue}
-use Rattle.uug_line.specs.LineEnd.{LineEnd, does}
-use Rattle.uug_line.specs.Run.{Run, after_event, after_hearing, goes_through}
+use Rattle.uug_line.specs.LineEnd.{LineEnd, called_with, changed_line, does}
+use Rattle.uug_line.specs.Run.{Run, after_event, after_hearing, end_at, goes_through, with_end_at, with_line_to}
 use Rattle.uug_line.specs.RunKeeper.{by_numbers}
 use Rattle.uug_line.specs.Settle.{AllBringOn, AreRounds, IsIdle, IsOver, PassesClean, Round, behind_two, events_of, late, line_from, one_if_over, passing, run_weight}
 use Rattle.uug_line.specs.Sides.{AtBoth}
@@ -38,60 +39,55 @@ run_with past brought x y = record {
   verdict = Clean;
 }
 
+-- an end that holds nothing
+abbrev alone : LineEnd Count → Buffered (LineEnd Count)
+alone e = record { held = []; end = e }
+
 -- ---- what events do
 
 module _ (setup : SetupValue) (past : List (AtBoth EndReportValue)) (brought : AtBoth Belongings)
     (B : Side → LineEnd Count → LineEnd Count → Type 0) where
-  pub passed_to_called : (number : ℕ) (x y then : LineEnd Count) → Passed setup brought B Called (with_line [] x) y then x.line →
-      after_event by_numbers setup number (Pass Called (length x.line)) (run_with past brought x y)
-      ≡ run_with past brought (with_line [] x) then
-  passed_to_called number x y then p =
-      let t = receiver setup brought Called x in
-      let run : (line : List ℕ) → Run Count = λ line. run_with past brought (with_line line x) y in
-      ap (λ (line : List ℕ). after_hearing number Called (takes_all t (holds t line y)) (run (drop (length x.line) x.line)))
-      (take_all (length x.line) x.line (omega arith))
-      ∙ ap (λ (came : Arrival (LineEnd Count)). after_hearing number Called came (run (drop (length x.line) x.line))) p.took
-      ∙ ap (λ (line : List ℕ). run_with past brought (with_line line x) then) (drop-length x.line)
+  holds_none : (side : Side) (x y : LineEnd Count) → (let run = run_with past brought x y in end_at side run ≡ alone (end_at side run).end)
+  holds_none Caller x y = refl
+  holds_none Called x y = refl
 
-  pub passed_to_caller : (number : ℕ) (x y then : LineEnd Count) → Passed setup brought B Caller (with_line [] y) x then y.line →
-      after_event by_numbers setup number (Pass Caller (length y.line)) (run_with past brought x y)
-      ≡ run_with past brought then (with_line [] y)
-  passed_to_caller number x y then p =
-      let t = receiver setup brought Caller y in
-      let run : (line : List ℕ) → Run Count = λ line. run_with past brought x (with_line line y) in
-      ap (λ (line : List ℕ). after_hearing number Caller (takes_all t (holds t line x)) (run (drop (length y.line) y.line)))
-      (take_all (length y.line) y.line (omega arith))
-      ∙ ap (λ (came : Arrival (LineEnd Count)). after_hearing number Caller came (run (drop (length y.line) y.line))) p.took
-      ∙ ap (λ (line : List ℕ). run_with past brought then (with_line line y)) (drop-length y.line)
+  -- all that is on the line passes to the side
+  pub passed_to : (side : Side) (number : ℕ) (x y then : LineEnd Count) →
+      (let run = run_with past brought x y in
+      let from = (end_at (other side) run).end in
+      Passed setup brought B side (with_line [] from) (end_at side run).end then from.line →
+      after_event by_numbers setup number (Pass side (length from.line)) run
+      ≡ with_end_at side (alone then) (with_end_at (other side) (alone (with_line [] from)) run))
+  passed_to side number x y then p =
+      let run = run_with past brought x y in
+      let from = (end_at (other side) run).end in
+      let to = (end_at side run).end in
+      let n = length from.line in
+      let t = receiver setup brought side from in
+      let now : (line : List ℕ) → Run Count = λ line. with_end_at (other side) (alone (with_line line from)) run in
+      ap (λ (h : Buffered (LineEnd Count)). after_hearing number side (takes_piece t (take n from.line) h) (with_line_to side (drop n) run))
+      (holds_none side x y)
+      ∙ ap (λ (h : Buffered (LineEnd Count)). after_hearing number side (takes_all t (holds t (take n from.line) to))
+      (with_end_at (other side) (changed_line (drop n) h) run)) (holds_none (other side) x y)
+      ∙ ap (λ (line : List ℕ). after_hearing number side (takes_all t (holds t line to)) (now (drop n from.line))) (take_all n from.line (omega arith))
+      ∙ ap (λ (came : Arrival (LineEnd Count)). after_hearing number side came (now (drop n from.line))) p.took
+      ∙ ap (λ (line : List ℕ). with_end_at side (alone then) (now line)) (drop-length from.line)
 
   holds_nothing : (stage : Stage) → held_in stage [] ≡ []
   holds_nothing (hailing greeting) = refl
   holds_nothing linked = refl
   holds_nothing (ended how) = refl
 
-  pub caller_waits : (number : ℕ) (x y : LineEnd Count) →
-      after_event by_numbers setup number (Timeout Caller) (run_with past brought x y)
-      ≡ run_with past brought (does (count_player setup brought Caller) time_ran_out x) y
-  caller_waits number x y =
-      let then = does (count_player setup brought Caller) time_ran_out x in
-      ap (λ (held : List ℕ). record {
-        past = past;
-        brought = brought;
-        ends = record { at_caller = record { held = held; end = then }; at_called = record { held = []; end = y } };
-        verdict = Clean;
-      }) (holds_nothing then.state.stage)
-
-  pub called_waits : (number : ℕ) (x y : LineEnd Count) →
-      after_event by_numbers setup number (Timeout Called) (run_with past brought x y)
-      ≡ run_with past brought x (does (count_player setup brought Called) time_ran_out y)
-  called_waits number x y =
-      let then = does (count_player setup brought Called) time_ran_out y in
-      ap (λ (held : List ℕ). record {
-        past = past;
-        brought = brought;
-        ends = record { at_caller = record { held = []; end = x }; at_called = record { held = held; end = then } };
-        verdict = Clean;
-      }) (holds_nothing then.state.stage)
+  pub waits : (side : Side) (number : ℕ) (x y : LineEnd Count) →
+      (let run = run_with past brought x y in
+      after_event by_numbers setup number (Timeout side) run
+      ≡ with_end_at side (alone (does (count_player setup brought side) time_ran_out (end_at side run).end)) run)
+  waits side number x y =
+      let run = run_with past brought x y in
+      let p = count_player setup brought side in
+      let then = does p time_ran_out (end_at side run).end in
+      ap (λ (h : Buffered (LineEnd Count)). with_end_at side (called_with p time_ran_out h) run) (holds_none side x y)
+      ∙ ap (λ (held : List ℕ). with_end_at side (record { held = held; end = then }) run) (holds_nothing then.state.stage)
 
   -- a round
   pub round_passes : (number : ℕ) (x y : LineEnd Count) (s : Stepped setup brought B x y) →
@@ -99,13 +95,13 @@ module _ (setup : SetupValue) (past : List (AtBoth EndReportValue)) (brought : A
       ≡ run_with past brought s.last (called_then s)
   round_passes number x y s =
       ap (after_event by_numbers setup (suc number) (Pass Caller (length s.middle.line)))
-      (passed_to_called number x y s.middle s.first)
-      ∙ passed_to_caller (suc number) (with_line [] x) s.middle s.last s.second
+      (passed_to Called number x y s.middle s.first)
+      ∙ passed_to Caller (suc number) (with_line [] x) s.middle s.last s.second
 
   pub round_is_clean : (number : ℕ) (x y : LineEnd Count) (s : Stepped setup brought B x y) →
       PassesClean by_numbers setup number (length x.line) (length s.middle.line) (run_with past brought x y)
   round_is_clean number x y s = (
-    ap (λ (run : Run Count). run.verdict) (passed_to_called number x y s.middle s.first),
+    ap (λ (run : Run Count). run.verdict) (passed_to Called number x y s.middle s.first),
     ap (λ (run : Run Count). run.verdict) (round_passes number x y s),
   )
 
@@ -114,8 +110,8 @@ module _ (setup : SetupValue) (past : List (AtBoth EndReportValue)) (brought : A
       ≡ run_with past brought (does (count_player setup brought Caller) time_ran_out x)
       (does (count_player setup brought Called) time_ran_out y)
   both_wait number x y =
-      ap (after_event by_numbers setup (suc number) (Timeout Called)) (caller_waits number x y)
-      ∙ called_waits (suc number) (does (count_player setup brought Caller) time_ran_out x) y
+      ap (after_event by_numbers setup (suc number) (Timeout Called)) (waits Caller number x y)
+      ∙ waits Called (suc number) (does (count_player setup brought Caller) time_ran_out x) y
 
   -- events behind them
   pub goes_behind : (number : ℕ) (first second : Event) (events : List Event) (x y a b c d : LineEnd Count) →
@@ -179,8 +175,8 @@ module _ (setup : SetupValue) (past : List (AtBoth EndReportValue)) (brought : A
   behind_passes number most x y s goes_on not_idle p =
       let n = length x.line in
       let m = length s.middle.line in
-      let one = passed_to_called setup past brought B number x y s.middle s.first in
-      let two = passed_to_caller setup past brought B (suc number) (with_line [] x) s.middle s.last s.second in
+      let one = passed_to setup past brought B Called number x y s.middle s.first in
+      let two = passed_to setup past brought B Caller (suc number) (with_line [] x) s.middle s.last s.second in
       record {
         rounds = passing n m ∷ p.rounds;
         are = (
@@ -231,7 +227,7 @@ module _ (setup : SetupValue) (past : List (AtBoth EndReportValue)) (brought : A
         last_x = p.last_x;
         last_y = p.last_y;
         leads = goes_behind setup past brought B number (Timeout Caller) (Timeout Called) (events_of p.rounds) x y a y a b
-            (caller_waits setup past brought B number x y) (called_waits setup past brought B (suc number) a y) ∙ p.leads;
+            (waits setup past brought B Caller number x y) (waits setup past brought B Called (suc number) a y) ∙ p.leads;
         base = p.base;
         done = p.done;
       }
