@@ -21,7 +21,7 @@ use Rattle.uug_line.specs.SoundSetup.{IsSoundSetup}
 use Rattle.uug_line.specs.World.{counted, run_of_ends, world}
 use Rattle.uug_line.proofs.ByteLemmas.{AllBytes, all_bytes}
 use Rattle.uug_line.proofs.CameLemmas.{comes_bytes}
-use Rattle.uug_line.proofs.CarriedLemmas.{IsRightEnd, right_packets, run_right}
+use Rattle.uug_line.proofs.CarriedLemmas.{right_packets, run_right}
 use Rattle.uug_line.proofs.EmittedByteLemmas.{IsRight}
 use Rattle.uug_line.proofs.Joining.{IsSoundSession, Joined, Moment, link_end, moment_of}
 use Rattle.uug_line.proofs.LinkLemmas.{links_run}

@@ -25,7 +25,7 @@ use Rattle.uug_line.specs.declared.verdict.LineVerdict.TheVariants.{Clean, Foole
 use Rattle.uug_line.specs.Belongings.{Belongings, SetupValue, renewed}
 use Rattle.uug_line.specs.JournalValue.{packet_in}
 use Rattle.uug_line.specs.LineEnd.{LineEnd, Participant, begins, called_with, changed_line}
-use Rattle.uug_line.specs.Live.{AreWritten, BeginsAgain, HasBegun, HasRoom, IsCalled, IsOrdered, LiveEndValue, Standing, hearer_of, line_end_of, player_of, standing_of, taker_of, told_of}
+use Rattle.uug_line.specs.Live.{AreWritten, BeginsAgain, HasBegun, IsCalled, IsOrdered, LiveEndValue, Standing, hearer_of, line_end_of, player_of, standing_of, taker_of, told_of}
 use Rattle.uug_line.specs.Report.{end_now, report_of_end}
 use Rattle.uug_line.specs.Run.{Run, flipped, after_event, after_hearing, calls, end_at, first_run, goes_through, hears_next, hung_up, participant, unless_fooled, with_end_at, with_line_to}
 use Rattle.uug_line.specs.RunKeeper.{by_themselves}
