@@ -11,7 +11,7 @@ use Rattle.uug_session.specs.Arriving.{all_taken, held_in, holds, takes_all, tak
 use Rattle.uug_conversation.specs.Count.{Count, count_keeper}
 use Rattle.uug_session.specs.EndStep.{EndState, Stage, end_step, ended, final_text, linked, message_of, packet_found_whole}
 use Rattle.uug_session.specs.Finding.{finding}
-use Rattle.uug_session.specs.Says.{written_text}
+use Rattle.uug_talk.specs.Texts.{written_text}
 use Rattle.uug_conversation.specs.View.{Seen}
 use Rattle.uug_conversation.specs.declared.side.Side.{Side}
 use Rattle.uug_line.specs.Belongings.{Belongings, SetupValue, identity}

@@ -16,7 +16,7 @@ use Rattle.uug_session.specs.Engine.{Does, EngineState, end_of, entry_of}
 use Rattle.uug_conversation.specs.Holdings.{Holdings}
 use Rattle.uug_session.specs.InRange.{CanBeWritten, IsEndInRange, MayFind}
 use Rattle.uug_conversation.specs.MemoryHoldings.{MemoryHoldings, holdings_of}
-use Rattle.uug_session.specs.Says.{written_text}
+use Rattle.uug_talk.specs.Texts.{written_text}
 use Rattle.uug_conversation.specs.DialogueState.{DialogueState}
 use Rattle.uug_conversation.specs.declared.side.Side.{Side}
 use Rattle.uug_line.specs.JournalValue.{JournalValue, if_first, log_of, messages_said, packet_in, packet_read, packets_said, saying, with_most}

@@ -5,7 +5,7 @@ use Rattle.uug_packet.specs.Spelling.{canonical}
 use Rattle.uug_session.specs.Arriving.{Buffered, held_in}
 use Rattle.uug_session.specs.EndStep.{EndState, Emitted, says_text, sends_packet, EndEffect, EndEvent, Identity, end_step}
 use Rattle.uug_conversation.specs.Keeper.{Keeper}
-use Rattle.uug_session.specs.Says.{written_text}
+use Rattle.uug_talk.specs.Texts.{written_text}
 
 -- what is written down of an end's session, whichever way a packet is kept
 pub record Notes (P : Type 0) : Type 0 where

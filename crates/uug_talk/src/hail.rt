@@ -1,6 +1,6 @@
 ghost use Rattle.std.specs.Prelude.{◌≡◌, ◌≤◌, ◌↔◌, [], ◌∷◌, ◌++◌, length, Some, None, true, false, Ok, MatchResult, IfOk, OnErr, IsTrue};
 ghost use Rattle.uug_talk.specs.HailCalls.{Hears, FindsTooLong};
-ghost use Rattle.uug_talk.specs.Texts.{Heard, Passing, Whole, IsWhole, is_whole, IsHailText, IsFirstText, waiting_of, heard_byte, hear};
+ghost use Rattle.uug_talk.specs.Texts.{Heard, Passing, Whole, IsWhole, is_whole, IsHailText, IsFirstText, waiting_of, heard_byte, hear, written_text};
 
 use arrayvec::ArrayVec;
 use std::marker::Model;
@@ -159,7 +159,7 @@ pub fn is_hail_text(text: &[u8]) -> bool
 /// A handshake text as it goes out: 0x10, the text, a zero byte. `is_hail_text` tells whether it may.
 pub fn write_hail(text: &[u8]) -> ArrayVec<u8, HAIL_WRITTEN_MAX>
     requires { IsHailText text.now }
-    ensures spelled { result.items ≡ TEXT_START ∷ text.now ++ 0 ∷ [] }
+    ensures spelled { result.items ≡ written_text text.now }
     // It is heard as the text again.
     ensures read_back { IsFirstText result.items text.now }
 {
