@@ -23,10 +23,7 @@ pub fn add_place<A: Allocator>(
 }
 
 /// Appends the words of a control packet.
-pub fn add_control<A: Allocator>(
-    lines: &mut String<A>,
-    control: Control,
-) -> Result<(), AllocError>
+pub fn add_control<A: Allocator>(lines: &mut String<A>, control: Control) -> Result<(), AllocError>
     ensures { OnOk result
         (string_bytes lines.new ≡ string_bytes lines.old ++ control_text (shown_control control)) }
 {

@@ -116,7 +116,7 @@ abbrev pub may_leave : Event → Bool
 may_leave (HangUp side) = false
 may_leave _ = true
 
--- An end whose session comes from the one phase to the other takes its leave where it is done then
+-- An end whose session comes from the one phase to the other sends its final text where it is done then
 abbrev pub takes_leave : Event → (before after : Phase) → Bool
 takes_leave event before after = may_leave event && (not (is_over before) && is_done after)
 

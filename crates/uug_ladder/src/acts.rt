@@ -160,7 +160,7 @@ fn last_text(side: Side) -> &'static [u8]
     }
 }
 
-/// An end says its last text, where it takes its leave.
+/// An end says its final text, where its session ends with all done.
 fn leave<A: Allocator + Copy>(
     alloc: A,
     ladder: &mut Ladder<A>,

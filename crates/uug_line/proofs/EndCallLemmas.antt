@@ -101,7 +101,7 @@ calls_so event old called new e is room calls journal line held = record {
 stage_after : (e : EndEffect DialogueState) (old called new : LiveEndValue) → Calls e old called new → new.node.engine.stage ≡ e.state.stage
 stage_after e old called new calls = ap (λ (x : LineEnd DialogueState). x.state.stage) calls.end
 
--- nothing has come for some time
+-- a timeout
 pub timed_out_so : (old called new : LiveEndValue) → IsOrdered old → HasRoom old
     → Does (stage_late old.node.engine.number old.node.engine.identity (dialogue_has_parted old.node.engine.dialogue) old.node.engine.stage old.node.engine.link old.node.engine.dialogue)
     (bare called.node.engine) old.node.engine called.node.engine

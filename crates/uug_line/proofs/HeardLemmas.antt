@@ -49,7 +49,7 @@ use Rattle.uug_reader.proofs.SearchLemmas.{search_finds_item, search_finds_rest}
 use Rattle.uug_session.proofs.FoundLemmas.{bytes_behind_texts, bytes_found, bytes_in_front}
 use Rattle.uug_session.proofs.TextCallLemmas.{taken_right_behind, taken_more, first_taken, taken_searched}
 
--- ---- what an end has heard, and how many packets were found or gone past
+-- ---- what an end has heard, and how many packets were found or skipped
 
 pub record HearsSo {C : Type 0} (p : Participant C) (brought : Option ℕ) (came : List ℕ) (now : EndState C) (held arrivals : List ℕ) (passed : ℕ) (emitted : List PacketValue) : Type 0 where
   pub heard : HasHeard p brought came now held arrivals emitted

@@ -83,7 +83,7 @@ pub record Joined (setup : SetupValue) (brought : AtBoth Belongings) (side : Sid
 abbrev pub Hails : SetupValue → Side → LineEnd DialogueState → Type 0
 Hails setup side e = (g : Greeting) → e.state.stage ≡ hailing g → e.state.link ≡ first_link side (at side setup).own
 
--- it has gone past no packet behind the last that it found
+-- it has skipped no packet after the last that it found
 abbrev pub HasPassed : Log → Type 0
 HasPassed log = log.passed ≡ passed_at log.arrivals 0
 

@@ -69,7 +69,7 @@ emits m es link talk = record {
   passed = m.passed;
 }
 
--- as it is told by two numbers
+-- as it is described by two numbers
 abbrev pub count : Moment → Count
 count m = record { opened = m.talk.opened; sent = length m.sent; taken = length m.taken }
 

@@ -18,7 +18,7 @@ use Rattle.uug_session.proofs.ArrivingLemmas.{in_pieces}
 
 -- ---- one item after the other
 
--- the receiver is told by what stays
+-- the receiver is described by what stays
 same_taker : (others : List (List ℕ)) (old now : LiveEndValue) → standing_of now ≡ standing_of old → taker_of others now ≡ taker_of others old
 same_taker others old now same = ap (λ (s : Standing). line_taker (record {
   identity = s.identity;

@@ -54,7 +54,7 @@ pub record Stands (setup : SetupValue) (run : Run DialogueState) : Type 0 where
   pub past : All (IsKept setup) run.past
   pub own : (giver : Side) → OwnSince setup run.brought giver
 
--- it stands so, and is told by numbers
+-- it stands so, and is described by numbers
 pub record Goes (setup : SetupValue) (run : Run DialogueState) (numbers : Run Count) : Type 0 where
   pub stands : Stands setup run
   pub counted_is : counted run ≡ numbers

@@ -23,7 +23,7 @@ journal_value j = record {
   most = j.most;
 }
 
--- of an end of which this is told, and which has found or gone past so many packets
+-- of an end of which this is told, and which has found or skipped so many packets
 abbrev pub journal_by : SpelledEnd → (passed : ℕ) → JournalValue
 journal_by told passed = record {
   sent = told.sent;

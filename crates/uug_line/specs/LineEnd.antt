@@ -15,7 +15,7 @@ pub record Notes (P : Type 0) : Type 0 where
   -- all packets that it emitted
   pub packets : List P
   -- the places of the packets that it found, among those that the other end emitted; and how many of those were found
-  -- or gone past
+  -- or skipped
   pub arrivals : List ℕ
   pub passed : ℕ
   -- the most packets that were unacknowledged after any call

@@ -13,7 +13,7 @@ use Rattle.uug_line.specs.Sides.{AtBoth}
 use Rattle.uug_line.specs.Told.{SpelledEnd, SpelledReport}
 
 -- an end as the run leaves it: its node, what is on the line from it, and how many of the other's packets it has found or
--- gone past
+-- skipped
 pub record EndLeft : Type 0 where
   pub node : NodeState
   pub line : List ℕ

@@ -19,7 +19,7 @@ pub(crate) struct Journal<A: Allocator> {
     /// As they are spelled.
     pub(crate) packets: Vec<Vec<u8, A>, A>,
     pub(crate) arrivals: Vec<usize, A>,
-    /// How many of the other end's packets were found or gone past.
+    /// How many of the other end's packets were found or skipped.
     pub(crate) passed: usize,
     pub(crate) most: usize,
 }
@@ -39,7 +39,7 @@ impl<A: Allocator + Copy> Journal<A> {
         }
     }
 
-    /// What was written down of an end that has found or gone past so many packets.
+    /// What was written down of an end that has found or skipped so many packets.
     pub(crate) fn from_report(report: EndReport<A>, passed: usize) -> Self
         ensures { journal_value result ≡ journal_by (end_shown report) passed }
     {

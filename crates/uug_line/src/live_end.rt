@@ -68,7 +68,7 @@ impl<A: Allocator + Copy> LiveEnd<A> {
         Ok(())
     }
 
-    /// Nothing has come for some time.
+    /// A timeout.
     pub(crate) fn time_out(&mut self, alloc: A) -> Result<(), AllocError>
         requires ordered { IsOrdered (live_end_value self.old) }
         requires room { HasRoom (live_end_value self.old) }

@@ -56,7 +56,7 @@ pub(crate) struct LastEnd<A: Allocator + Copy> {
     pub(crate) node: Node<MemorySpool<A>, A>,
     /// What it has emitted and what is on its way to the other end.
     pub(crate) line: Line<A>,
-    /// How many of the other end's packets were found or gone past.
+    /// How many of the other end's packets were found or skipped.
     pub(crate) passed: usize,
 }
 

@@ -84,7 +84,7 @@ passes_anew Passing rest w = refl
 passes_anew (Open text) rest w = refl
 passes_anew (Whole text) rest w = absurd cc
 
--- ---- what is passed over changes nothing
+-- ---- what is skipped changes nothing
 
 same_finding : (a b : List ℕ) (x : TextSearch) → behind_long_text Passing a ≡ behind_long_text Passing b → text_finding a x ≡ text_finding b x
 same_finding a b (text_waits rest) e = refl
@@ -109,7 +109,7 @@ shifted passed bytes (Some (used, Whole text)) e =
     let c = cut_at_text bytes text used (took_of bytes Passing (Whole text) used e).0 h in
     ap (text_stands text) (drop_passed passed bytes used (size_of_text text) c.size)
 
--- behind bytes that are passed over the same is found
+-- behind bytes that are skipped the same is found
 found_behind : (g : Greeting) (passed bytes : List ℕ) (used : ℕ) (heard : Heard) → hear Passing passed ≡ Some (used, heard) → is_whole heard ≡ false
     → hear heard bytes ≡ hear Passing bytes → behind_long_text heard bytes ≡ behind_long_text Passing bytes
     → finding (hailing g) (passed ++ bytes) ≡ finding (hailing g) bytes
@@ -140,7 +140,7 @@ hears_before passed bytes text used e = by_heard (hear Passing passed) refl wher
       let same : ◌≡◌ {A = ℕ × Heard} (n, Whole other) (used, Open text) = cc in
       absurd (let whole : true ≡ false = ap (λ (z : ℕ × Heard). is_whole z.1) same in cc)
 
--- the front of a text that is not whole: what came before it is passed over
+-- the front of a text that is not whole: what came before it is skipped
 open_more : (g : Greeting) (bytes more text : List ℕ) (used : ℕ) → hear Passing bytes ≡ Some (used, Open text)
     → finding (hailing g) (bytes ++ more) ≡ finding (hailing g) (drop (used - waiting_of (Open text)) bytes ++ more)
 open_more g bytes more text used e =

@@ -40,7 +40,7 @@ unsettled_before passed text last h =
     (same_from_push h.front (passed ++ TEXT_START ∷ text) h.last last (sym h.one_more ∙ sym (append_assoc passed (TEXT_START ∷ text) (last ∷ [])))).0 in
     unsettled_front passed (TEXT_START ∷ text) (subst IsUnsettled front h.unsettled)
 
--- ---- what was passed over
+-- ---- what was skipped
 
 nothing_heard : Holds Passing []
 nothing_heard = All-nil (λ b. b ≢ TEXT_START)
@@ -64,7 +64,7 @@ begins_anew Passing rest w = refl
 begins_anew (Open text) rest w = refl
 begins_anew (Whole text) rest w = absurd cc
 
--- ---- what a search leaves behind what was passed over
+-- ---- what a search leaves behind what was skipped
 
 pub record LeavesText (passed held text others : List ℕ) : Type 0 where
   pub more_passed : List ℕ
