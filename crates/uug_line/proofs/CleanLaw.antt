@@ -15,7 +15,7 @@ use Rattle.uug_conversation.specs.declared.side.Side.TheVariants.{Caller, Called
 use Rattle.uug_line.specs.declared.verdict.LineVerdict.{LineVerdict}
 use Rattle.uug_line.specs.declared.verdict.LineVerdict.TheVariants.{Clean}
 use Rattle.uug_line.specs.Belongings.{Belongings, SetupValue}
-use Rattle.uug_line.specs.LineEnd.{LineEnd}
+use Rattle.uug_line.specs.LineEndState.{LineEndState}
 use Rattle.uug_line.specs.OfBytes.{AreOfTypes}
 use Rattle.uug_line.specs.Run.{Run, first_run, goes_through, parties}
 use Rattle.uug_line.specs.RunKeeper.{by_numbers, has_after, has_by}
@@ -67,12 +67,12 @@ module _ (setup : SetupValue) where
     base = base_of_pairs setup brought sound announces plain
 
     -- each of the other's messages is taken
-    record TakesAll (side : Side) (x : LineEnd Count) : Type 0 where
+    record TakesAll (side : Side) (x : LineEndState Count) : Type 0 where
       opened : x.state.keeper.opened ≡ true
       number : x.state.keeper.taken ≡ length (others_messages (seen setup brought side))
       taken : x.log.taken ≡ others_messages (seen setup brought side)
 
-    takes_all : (side : Side) (x y : LineEnd Count) → IsPair setup brought side x y →
+    takes_all : (side : Side) (x y : LineEndState Count) → IsPair setup brought side x y →
         (count_keeper (seen setup brought side)).is_over x.state.keeper ≡ true → TakesAll side x
     takes_all side x y is over =
         let v = seen setup brought side in
@@ -85,7 +85,7 @@ module _ (setup : SetupValue) where
               ∙ take_all (length x.log.taken) (others_messages v) (omega (arith, o.taken, count));
         }
 
-    settled_caller : (past : List (AtBoth EndReportValue)) (x y : LineEnd Count) → x.state.stage ≡ ended ends.Done →
+    settled_caller : (past : List (AtBoth EndReportValue)) (x y : LineEndState Count) → x.state.stage ≡ ended ends.Done →
         TakesAll Caller x → EndIsSettled by_numbers setup (run_with past brought x y) Caller
     settled_caller past x y done t = record {
       done = done;
@@ -94,7 +94,7 @@ module _ (setup : SetupValue) where
           (length (others_messages (seen setup brought Caller))) t.opened t.number;
     }
 
-    settled_called : (past : List (AtBoth EndReportValue)) (x y : LineEnd Count) → y.state.stage ≡ ended ends.Done →
+    settled_called : (past : List (AtBoth EndReportValue)) (x y : LineEndState Count) → y.state.stage ≡ ended ends.Done →
         TakesAll Called y → EndIsSettled by_numbers setup (run_with past brought x y) Called
     settled_called past x y done t = record {
       done = done;
@@ -103,7 +103,7 @@ module _ (setup : SetupValue) where
           (length (others_messages (seen setup brought Called))) t.opened t.number;
     }
 
-    both_settled : (past : List (AtBoth EndReportValue)) (x y : LineEnd Count) → IsPair setup brought Caller x y →
+    both_settled : (past : List (AtBoth EndReportValue)) (x y : LineEndState Count) → IsPair setup brought Caller x y →
         DonePair (seen setup brought Caller) (seen setup brought Called) x y →
         IsSettled by_numbers setup (run_with past brought x y)
     both_settled past x y is d = record { clean = refl; ends = ends_so }
@@ -114,7 +114,7 @@ module _ (setup : SetupValue) where
 
     -- ---- from two ends that may settle
 
-    settles_pair : (number : ℕ) (past : List (AtBoth EndReportValue)) (x y : LineEnd Count) → IsPair setup brought Caller x y →
+    settles_pair : (number : ℕ) (past : List (AtBoth EndReportValue)) (x y : LineEndState Count) → IsPair setup brought Caller x y →
         MaySettle (run_with past brought x y) → SettlesFrom setup number (run_with past brought x y)
     settles_pair number past x y is may =
         let B = IsPair setup brought in
@@ -167,10 +167,10 @@ module _ (setup : SetupValue) where
       (pair Caller run.ends.at_caller.end run.ends.at_called.end stands.joined)
       (subst (λ (r : Run Count). MaySettle r) (sym same) may))
     where
-      near : LineEnd Count
+      near : LineEndState Count
       near = counted_end run.ends.at_caller.end
 
-      far : LineEnd Count
+      far : LineEndState Count
       far = counted_end run.ends.at_called.end
 
       joined : IsPair setup run.brought Caller near far

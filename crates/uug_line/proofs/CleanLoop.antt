@@ -10,8 +10,8 @@ use Rattle.uug_line.specs.declared.event.Event.TheVariants.{Pass, Timeout}
 use Rattle.uug_conversation.specs.declared.side.Side.TheVariants.{Caller, Called}
 use Rattle.uug_line.specs.declared.verdict.LineVerdict.TheVariants.{Clean, Fooled}
 use Rattle.uug_line.specs.Belongings.{SetupValue}
-use Rattle.uug_line.specs.LineEnd.{LineEnd}
-use Rattle.uug_line.specs.Live.{IsCalled}
+use Rattle.uug_line.specs.LineEndState.{LineEndState}
+use Rattle.uug_line.specs.LineEndValue.{IsCalled}
 use Rattle.uug_line.specs.Run.{Run, after_event, end_at}
 use Rattle.uug_line.specs.RunKeeper.{by_numbers, by_themselves}
 use Rattle.uug_line.specs.RunValue.{Happens, HappensAt, Passes, RunValue, StandsAs, hearing_side}
@@ -83,32 +83,32 @@ module _ (setup : SetupValue) (sound : IsSoundSetup setup) where
   caller_line : (events : List Event) (r : RunValue) → IsAt events r → line_from Caller (world setup events) ≡ r.caller.line
   caller_line events r stands =
       ap (λ (run : Run Count). line_from Caller run) (sym (is_world events))
-      ∙ ap (λ (h : Buffered (LineEnd DialogueState)). h.end.line) stands.caller
+      ∙ ap (λ (h : Buffered (LineEndState DialogueState)). h.end.line) stands.caller
 
   called_line : (events : List Event) (r : RunValue) → IsAt events r → line_from Called (world setup events) ≡ r.called.line
   called_line events r stands =
       ap (λ (run : Run Count). line_from Called run) (sym (is_world events))
-      ∙ ap (λ (h : Buffered (LineEnd DialogueState)). h.end.line) stands.called
+      ∙ ap (λ (h : Buffered (LineEndState DialogueState)). h.end.line) stands.called
 
   world_over : (events : List Event) (r : RunValue) → IsAt events r → AreOver r → IsOver (world setup events)
   world_over events r stands over = (
     ap (λ (run : Run Count). (end_at Caller run).end.state.stage) (sym (is_world events))
-        ∙ ap (λ (h : Buffered (LineEnd DialogueState)). h.end.state.stage) stands.caller ∙ over.0,
+        ∙ ap (λ (h : Buffered (LineEndState DialogueState)). h.end.state.stage) stands.caller ∙ over.0,
     ap (λ (run : Run Count). (end_at Called run).end.state.stage) (sym (is_world events))
-        ∙ ap (λ (h : Buffered (LineEnd DialogueState)). h.end.state.stage) stands.called ∙ over.1,
+        ∙ ap (λ (h : Buffered (LineEndState DialogueState)). h.end.state.stage) stands.called ∙ over.1,
   )
 
   parts_over : (events : List Event) (r : RunValue) → IsAt events r → IsOver (world setup events) → AreOver r
   parts_over events r stands over = (
     sym (ap (λ (run : Run Count). (end_at Caller run).end.state.stage) (sym (is_world events))
-        ∙ ap (λ (h : Buffered (LineEnd DialogueState)). h.end.state.stage) stands.caller) ∙ over.0,
+        ∙ ap (λ (h : Buffered (LineEndState DialogueState)). h.end.state.stage) stands.caller) ∙ over.0,
     sym (ap (λ (run : Run Count). (end_at Called run).end.state.stage) (sym (is_world events))
-        ∙ ap (λ (h : Buffered (LineEnd DialogueState)). h.end.state.stage) stands.called) ∙ over.1,
+        ∙ ap (λ (h : Buffered (LineEndState DialogueState)). h.end.state.stage) stands.called) ∙ over.1,
   )
 
   weight_is : (events : List Event) (r : RunValue) → IsAt events r → run_weight (world setup events) ≡ parts_weight r
   weight_is events r stands =
-      let weight : (a b : Buffered (LineEnd DialogueState)) → ℕ = λ a b.
+      let weight : (a b : Buffered (LineEndState DialogueState)) → ℕ = λ a b.
       (length a.end.log.taken + length b.end.log.taken) + (length a.end.log.sent + length b.end.log.sent)
       + (one_if_over a.end.state.stage + one_if_over b.end.state.stage) in
       ap (λ (run : Run Count). run_weight run) (sym (is_world events)) ∙ ap₂ weight stands.caller stands.called

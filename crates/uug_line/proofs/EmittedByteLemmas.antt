@@ -26,7 +26,7 @@ use Rattle.uug_conversation.specs.Keeper.{Keeper}
 use Rattle.uug_talk.specs.Texts.{written_text}
 use Rattle.uug_conversation.specs.declared.side.Side.{Side}
 use Rattle.uug_conversation.specs.declared.side.Side.TheVariants.{Caller, Called}
-use Rattle.uug_line.specs.LineEnd.{bytes_in, packets_in}
+use Rattle.uug_line.specs.LineEndState.{bytes_in, packets_in}
 use Rattle.uug_line.proofs.ByteLemmas.{AllBytes, CarriesBytes, IsByte, bytewise, canonical_bytes}
 
 -- ---- texts

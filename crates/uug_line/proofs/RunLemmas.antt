@@ -23,8 +23,8 @@ use Rattle.uug_line.specs.declared.verdict.LineVerdict.{LineVerdict}
 use Rattle.uug_line.specs.declared.verdict.LineVerdict.TheVariants.{Clean, Fooled}
 use Rattle.uug_line.specs.Belongings.{Belongings, SetupValue, renewed}
 use Rattle.uug_line.specs.JournalValue.{packet_in}
-use Rattle.uug_line.specs.LineEnd.{LineEnd, Participant, begins, called_with, changed_line}
-use Rattle.uug_line.specs.Live.{AreWritten, BeginsAgain, HasBegun, HasRoom, IsCalled, IsOrdered, LiveEndValue, Standing, hearer_of, line_end_of, player_of, standing_of, taker_of, told_of}
+use Rattle.uug_line.specs.LineEndState.{LineEndState, Participant, begins, called_with, changed_line}
+use Rattle.uug_line.specs.LineEndValue.{AreWritten, BeginsAgain, HasBegun, HasRoom, IsCalled, IsOrdered, LineEndValue, Standing, hearer_of, line_end_of, player_of, standing_of, taker_of, told_of}
 use Rattle.uug_line.specs.Report.{end_now, report_of_end}
 use Rattle.uug_line.specs.Run.{Run, flipped, after_event, after_hearing, calls, end_at, first_run, goes_through, hung_up, participant, unless_fooled, with_line_to}
 use Rattle.uug_line.specs.RunKeeper.{by_themselves}
@@ -98,7 +98,7 @@ at_called event Called setup run old new stands happens = called_called event se
 
 -- ---- the bytes on the line
 
-line_ordered : (change : List ℕ → List ℕ) (e : LiveEndValue) → IsOrdered e → IsOrdered (with_line change e)
+line_ordered : (change : List ℕ → List ℕ) (e : LineEndValue) → IsOrdered e → IsOrdered (with_line change e)
 line_ordered change e ordered = record {
   cleared = ordered.cleared;
   in_range = ordered.in_range;
@@ -141,13 +141,13 @@ line_changed change Caller setup run old new stands happens = record {
 -- ---- a piece comes
 
 -- what comes to an end is what comes to the end of the definitions' run
-came_to : (p : Participant DialogueState) (n : ℕ) (hearer speaker : LiveEndValue) (hearing speaking : Buffered (LineEnd DialogueState)) (came : Arrival (LineEnd DialogueState))
+came_to : (p : Participant DialogueState) (n : ℕ) (hearer speaker : LineEndValue) (hearing speaking : Buffered (LineEndState DialogueState)) (came : Arrival (LineEndState DialogueState))
     → player_of hearer ≡ p → hearing ≡ hearer_of hearer → speaking ≡ hearer_of speaker
     → takes_piece (taker_of speaker.journal.packets hearer) (take n speaker.line) (hearer_of hearer) ≡ came
     → takes_piece (line_taker p speaking.end.log.packets) (take n speaking.end.line) hearing ≡ came
 came_to p n hearer speaker hearing speaking came who hears speaks is =
-    ap (λ (h : Buffered (LineEnd DialogueState)). takes_piece (line_taker p h.end.log.packets) (take n h.end.line) hearing) speaks
-    ∙ ap (λ (h : Buffered (LineEnd DialogueState)). takes_piece (line_taker p (line_end_of speaker).log.packets) (take n speaker.line) h) hears
+    ap (λ (h : Buffered (LineEndState DialogueState)). takes_piece (line_taker p h.end.log.packets) (take n h.end.line) hearing) speaks
+    ∙ ap (λ (h : Buffered (LineEndState DialogueState)). takes_piece (line_taker p (line_end_of speaker).log.packets) (take n speaker.line) h) hears
     ∙ ap (λ (x : Participant DialogueState). takes_piece (line_taker x (line_end_of speaker).log.packets) (take n speaker.line) (hearer_of hearer)) (sym who)
     ∙ is
 
@@ -171,7 +171,7 @@ to_caller n number setup run old new stands passes =
       };
       clean = stands.clean;
     } in
-    subst (λ (c : Arrival (LineEnd DialogueState)). StandsAs setup (after_hearing number Caller c (with_line_to Caller (drop n) run)) new) (sym came) ends
+    subst (λ (c : Arrival (LineEndState DialogueState)). StandsAs setup (after_hearing number Caller c (with_line_to Caller (drop n) run)) new) (sym came) ends
 
 to_called : (n number : ℕ) (setup : SetupValue) (run : Run DialogueState) (old new : RunValue) → StandsAs setup run old
     → Passes Called n true old new → StandsAs setup (after_event by_themselves setup number (Pass Called n) run) new
@@ -193,7 +193,7 @@ to_called n number setup run old new stands passes =
       };
       clean = stands.clean;
     } in
-    subst (λ (c : Arrival (LineEnd DialogueState)). StandsAs setup (after_hearing number Called c (with_line_to Called (drop n) run)) new) (sym came) ends
+    subst (λ (c : Arrival (LineEndState DialogueState)). StandsAs setup (after_hearing number Called c (with_line_to Called (drop n) run)) new) (sym came) ends
 
 -- ---- what the ends still hold
 
@@ -202,7 +202,7 @@ all_fits bytes held is room =
     let size = ap (λ (x : List ℕ). length x) is in
     is ∙ sym (take_all READER_SIZE held (omega (arith, size, room)))
 
-caller_holds : (number n : ℕ) (stop : Buffered (LineEnd DialogueState)) (run : Run DialogueState) (new : RunValue)
+caller_holds : (number n : ℕ) (stop : Buffered (LineEndState DialogueState)) (run : Run DialogueState) (new : RunValue)
     → held_bytes new.caller.node ≡ take READER_SIZE stop.held → held_bytes new.called.node ≡ (end_at Called run).held → HasRoom new.called
     → HoldWhatIsLeft (after_hearing number Caller (stopped stop) (with_line_to Caller (drop n) run)) (held_parts new)
 caller_holds number n stop run new here there room =
@@ -213,7 +213,7 @@ caller_holds number n stop run new here there room =
     fits Caller = here
     fits Called = all_fits (held_bytes new.called.node) (end_at Called run).held there room
 
-called_holds : (number n : ℕ) (stop : Buffered (LineEnd DialogueState)) (run : Run DialogueState) (new : RunValue)
+called_holds : (number n : ℕ) (stop : Buffered (LineEndState DialogueState)) (run : Run DialogueState) (new : RunValue)
     → held_bytes new.called.node ≡ take READER_SIZE stop.held → held_bytes new.caller.node ≡ (end_at Caller run).held → HasRoom new.caller
     → HoldWhatIsLeft (after_hearing number Called (stopped stop) (with_line_to Called (drop n) run)) (held_parts new)
 called_holds number n stop run new here there room =
@@ -229,8 +229,8 @@ clean_holds : (run : Run DialogueState) (r : RunValue) → end_at Caller run ≡
 clean_holds run r caller called steady = record { fits = fits; all = λ clean. all }
   where
     all : (side : Side) → at side (held_parts r) ≡ (end_at side run).held
-    all Caller = sym (ap (λ (h : Buffered (LineEnd DialogueState)). h.held) caller)
-    all Called = sym (ap (λ (h : Buffered (LineEnd DialogueState)). h.held) called)
+    all Caller = sym (ap (λ (h : Buffered (LineEndState DialogueState)). h.held) caller)
+    all Called = sym (ap (λ (h : Buffered (LineEndState DialogueState)). h.held) called)
 
     fits : (side : Side) → at side (held_parts r) ≡ take READER_SIZE (end_at side run).held
     fits Caller = all_fits (held_bytes r.caller.node) (end_at Caller run).held (all Caller) steady.caller_room
@@ -253,42 +253,42 @@ fooled_at : (side : Side) (n number : ℕ) (setup : SetupValue) (run : Run Dialo
     → Passes side n false old new → EndsAs setup (after_event by_themselves setup number (Pass side n) run) (Fooled number side) new
 fooled_at Caller n number setup run old new stands passes =
     let is = passes.0 in
-    let stop : Buffered (LineEnd DialogueState) = record { held = is.held; end = line_end_of new.caller } in
+    let stop : Buffered (LineEndState DialogueState) = record { held = is.held; end = line_end_of new.caller } in
     let came = came_to (participant by_themselves setup run Caller) n old.caller old.called (end_at Caller run) (end_at Called run) (stopped stop)
     (caller_is setup run old stands) stands.caller stands.called is.came in
     let ends : EndsAs setup (after_hearing number Caller (stopped stop) (with_line_to Caller (drop n) run)) (Fooled number Caller) new = record {
       past = stands.past ∙ sym passes.2;
       caller = refl;
-      called = ap (λ (h : Buffered (LineEnd DialogueState)). (changed_line (drop n) h).end) stands.called ∙ ap line_end_of (sym passes.1);
+      called = ap (λ (h : Buffered (LineEndState DialogueState)). (changed_line (drop n) h).end) stands.called ∙ ap line_end_of (sym passes.1);
       caller_standing = is.standing ∙ stands.caller_standing;
       called_standing = ap standing_of passes.1 ∙ stands.called_standing;
       caller_ordered = is.ordered;
       called_ordered = subst IsOrdered (sym passes.1) (line_ordered (drop n) old.called stands.steady.called_ordered);
       verdict_is = refl;
       held = caller_holds number n stop run new is.fits
-          (ap (λ (e : LiveEndValue). held_bytes e.node) passes.1 ∙ sym (ap (λ (h : Buffered (LineEnd DialogueState)). h.held) stands.called))
+          (ap (λ (e : LineEndValue). held_bytes e.node) passes.1 ∙ sym (ap (λ (h : Buffered (LineEndState DialogueState)). h.held) stands.called))
           (subst HasRoom (sym passes.1) stands.steady.called_room);
     } in
-    subst (λ (c : Arrival (LineEnd DialogueState)). EndsAs setup (after_hearing number Caller c (with_line_to Caller (drop n) run)) (Fooled number Caller) new) (sym came) ends
+    subst (λ (c : Arrival (LineEndState DialogueState)). EndsAs setup (after_hearing number Caller c (with_line_to Caller (drop n) run)) (Fooled number Caller) new) (sym came) ends
 fooled_at Called n number setup run old new stands passes =
     let is = passes.0 in
-    let stop : Buffered (LineEnd DialogueState) = record { held = is.held; end = line_end_of new.called } in
+    let stop : Buffered (LineEndState DialogueState) = record { held = is.held; end = line_end_of new.called } in
     let came = came_to (participant by_themselves setup run Called) n old.called old.caller (end_at Called run) (end_at Caller run) (stopped stop)
     (called_is setup run old stands) stands.called stands.caller is.came in
     let ends : EndsAs setup (after_hearing number Called (stopped stop) (with_line_to Called (drop n) run)) (Fooled number Called) new = record {
       past = stands.past ∙ sym passes.2;
       called = refl;
-      caller = ap (λ (h : Buffered (LineEnd DialogueState)). (changed_line (drop n) h).end) stands.caller ∙ ap line_end_of (sym passes.1);
+      caller = ap (λ (h : Buffered (LineEndState DialogueState)). (changed_line (drop n) h).end) stands.caller ∙ ap line_end_of (sym passes.1);
       called_standing = is.standing ∙ stands.called_standing;
       caller_standing = ap standing_of passes.1 ∙ stands.caller_standing;
       called_ordered = is.ordered;
       caller_ordered = subst IsOrdered (sym passes.1) (line_ordered (drop n) old.caller stands.steady.caller_ordered);
       verdict_is = refl;
       held = called_holds number n stop run new is.fits
-          (ap (λ (e : LiveEndValue). held_bytes e.node) passes.1 ∙ sym (ap (λ (h : Buffered (LineEnd DialogueState)). h.held) stands.caller))
+          (ap (λ (e : LineEndValue). held_bytes e.node) passes.1 ∙ sym (ap (λ (h : Buffered (LineEndState DialogueState)). h.held) stands.caller))
           (subst HasRoom (sym passes.1) stands.steady.caller_room);
     } in
-    subst (λ (c : Arrival (LineEnd DialogueState)). EndsAs setup (after_hearing number Called c (with_line_to Called (drop n) run)) (Fooled number Called) new) (sym came) ends
+    subst (λ (c : Arrival (LineEndState DialogueState)). EndsAs setup (after_hearing number Called c (with_line_to Called (drop n) run)) (Fooled number Called) new) (sym came) ends
 
 -- ---- a new call
 
@@ -297,9 +297,9 @@ lost_keeper k id (hailing g) e = refl
 lost_keeper k id linked e = refl
 lost_keeper k id (ended how) e = refl
 
-kept_as_lost : (old lost : LiveEndValue) → IsCalled line_lost old lost → (line_end_of lost).state.keeper ≡ (line_end_of old).state.keeper
+kept_as_lost : (old lost : LineEndValue) → IsCalled line_lost old lost → (line_end_of lost).state.keeper ≡ (line_end_of old).state.keeper
 kept_as_lost old lost is =
-    ap (λ (h : Buffered (LineEnd DialogueState)). h.end.state.keeper) is.hearer
+    ap (λ (h : Buffered (LineEndState DialogueState)). h.end.state.keeper) is.hearer
     ∙ lost_keeper (player_of old).keeper (player_of old).identity old.node.engine.stage (line_end_of old).state
 
 lost_number : (k : Keeper DialogueState) (id : Identity) (stage : Stage) (e : EndState DialogueState) → (stage_step k id stage line_lost e).state.number ≡ e.number
@@ -307,30 +307,30 @@ lost_number k id (hailing g) e = refl
 lost_number k id linked e = refl
 lost_number k id (ended how) e = refl
 
-number_as_lost : (old lost : LiveEndValue) → IsCalled line_lost old lost → (line_end_of lost).state.number ≡ (line_end_of old).state.number
+number_as_lost : (old lost : LineEndValue) → IsCalled line_lost old lost → (line_end_of lost).state.number ≡ (line_end_of old).state.number
 number_as_lost old lost is =
-    ap (λ (h : Buffered (LineEnd DialogueState)). h.end.state.number) is.hearer
+    ap (λ (h : Buffered (LineEndState DialogueState)). h.end.state.number) is.hearer
     ∙ lost_number (player_of old).keeper (player_of old).identity old.node.engine.stage (line_end_of old).state
 
 owned_by_talk : (number : Option ℕ) → DialogueState → Belongings
 owned_by_talk number talk = record { lists = talk.machine.lists; kept = talk.kept; number = number }
 
 -- at an end that has begun again
-began_so : (setup : SetupValue) (side : Side) (old lost new : LiveEndValue) (now : Buffered (LineEnd DialogueState)) → standing_of old ≡ standing_at setup side
+began_so : (setup : SetupValue) (side : Side) (old lost new : LineEndValue) (now : Buffered (LineEndState DialogueState)) → standing_of old ≡ standing_at setup side
     → now ≡ hearer_of old → IsCalled line_lost old lost → BeginsAgain lost new
     → begins (begins_session (standing_at setup side).identity (standing_at setup side).own now.end.state.number
     (by_themselves.first (renewed (owned_by_talk now.end.state.number now.end.state.keeper)))) ≡ hearer_of new
 unfolding owned_by_talk
 began_so setup side old lost new now standing is lost_is begun =
-    let first : Standing → Option ℕ → DialogueState → Buffered (LineEnd DialogueState) =
+    let first : Standing → Option ℕ → DialogueState → Buffered (LineEndState DialogueState) =
     λ s number talk. begins (begins_session s.identity s.own number (by_themselves.first (renewed (owned_by_talk number talk)))) in
-    ap (λ (h : Buffered (LineEnd DialogueState)). first (standing_at setup side) h.end.state.number h.end.state.keeper) is
+    ap (λ (h : Buffered (LineEndState DialogueState)). first (standing_at setup side) h.end.state.number h.end.state.keeper) is
     ∙ ap (λ (n : Option ℕ). first (standing_at setup side) n (line_end_of old).state.keeper) (sym (number_as_lost old lost lost_is))
     ∙ ap (first (standing_at setup side) (line_end_of lost).state.number) (sym (kept_as_lost old lost lost_is))
     ∙ ap (λ (s : Standing). first s (line_end_of lost).state.number (line_end_of lost).state.keeper) (sym (lost_is.standing ∙ standing))
     ∙ sym begun.hearer
 
-began_standing : (setup : SetupValue) (side : Side) (old lost new : LiveEndValue) → standing_of old ≡ standing_at setup side
+began_standing : (setup : SetupValue) (side : Side) (old lost new : LineEndValue) → standing_of old ≡ standing_at setup side
     → IsCalled line_lost old lost → BeginsAgain lost new → standing_of new ≡ standing_at setup side
 began_standing setup side old lost new standing lost_is begun = begun.standing ∙ lost_is.standing ∙ standing
 
@@ -341,19 +341,19 @@ spelled_back (b ∷ bs) written =
     ap (λ (x : List ℕ). x ∷ map canonical (map packet_in bs)) (sym written.0.0)
     ∙ ap (λ (xs : List (List ℕ)). b ∷ xs) (spelled_back bs written.1)
 
-told_so : (e : LiveEndValue) → AreWritten e.journal.packets → spelled_end (report_of_end (line_end_of e)) ≡ told_of e
+told_so : (e : LineEndValue) → AreWritten e.journal.packets → spelled_end (report_of_end (line_end_of e)) ≡ told_of e
 told_so e written = ap (λ (ps : List (List ℕ)). record (told_of e) { packets = ps }) (spelled_back e.journal.packets written)
 
 -- both of them
-both_told : (run_caller run_called : LineEnd DialogueState) (caller called : LiveEndValue) → run_caller ≡ line_end_of caller → run_called ≡ line_end_of called
+both_told : (run_caller run_called : LineEndState DialogueState) (caller called : LineEndValue) → run_caller ≡ line_end_of caller → run_called ≡ line_end_of called
     → AreWritten caller.journal.packets → AreWritten called.journal.packets
     → spelled_session (record { at_caller = report_of_end run_caller; at_called = report_of_end run_called })
     ≡ record { at_caller = told_of caller; at_called = told_of called }
 both_told run_caller run_called caller called a b caller_written called_written =
     let by_caller : SpelledEnd → AtBoth SpelledEnd = λ x. record { at_caller = x; at_called = spelled_end (report_of_end run_called) } in
     let by_called : SpelledEnd → AtBoth SpelledEnd = λ x. record { at_caller = told_of caller; at_called = x } in
-    ap by_caller (ap (λ (e : LineEnd DialogueState). spelled_end (report_of_end e)) a ∙ told_so caller caller_written)
-    ∙ ap by_called (ap (λ (e : LineEnd DialogueState). spelled_end (report_of_end e)) b ∙ told_so called called_written)
+    ap by_caller (ap (λ (e : LineEndState DialogueState). spelled_end (report_of_end e)) a ∙ told_so caller caller_written)
+    ∙ ap by_called (ap (λ (e : LineEndState DialogueState). spelled_end (report_of_end e)) b ∙ told_so called called_written)
 
 one_more_session : (past : List (AtBoth EndReportValue)) (last : AtBoth EndReportValue) (told : List (AtBoth SpelledEnd)) (last_told : AtBoth SpelledEnd)
     → map spelled_session past ≡ told → spelled_session last ≡ last_told
@@ -369,12 +369,12 @@ unfolding owned_by_talk
 called_again setup run old new stands again =
     let lost_at : (hung_up by_themselves setup run Caller).end ≡ line_end_of again.lost_caller =
     ap (λ (p : Participant DialogueState). (called_with p line_lost (end_at Caller run)).end) (sym (caller_is setup run old stands))
-    ∙ ap (λ (h : Buffered (LineEnd DialogueState)). (called_with (player_of old.caller) line_lost h).end) stands.caller
-    ∙ ap (λ (h : Buffered (LineEnd DialogueState)). h.end) (sym again.caller_lost.hearer) in
+    ∙ ap (λ (h : Buffered (LineEndState DialogueState)). (called_with (player_of old.caller) line_lost h).end) stands.caller
+    ∙ ap (λ (h : Buffered (LineEndState DialogueState)). h.end) (sym again.caller_lost.hearer) in
     let lost_too : (hung_up by_themselves setup run Called).end ≡ line_end_of again.lost_called =
     ap (λ (p : Participant DialogueState). (called_with p line_lost (end_at Called run)).end) (sym (called_is setup run old stands))
-    ∙ ap (λ (h : Buffered (LineEnd DialogueState)). (called_with (player_of old.called) line_lost h).end) stands.called
-    ∙ ap (λ (h : Buffered (LineEnd DialogueState)). h.end) (sym again.called_lost.hearer) in
+    ∙ ap (λ (h : Buffered (LineEndState DialogueState)). (called_with (player_of old.called) line_lost h).end) stands.called
+    ∙ ap (λ (h : Buffered (LineEndState DialogueState)). h.end) (sym again.called_lost.hearer) in
     record {
       past = one_more_session run.past (record {
         at_caller = report_of_end (hung_up by_themselves setup run Caller).end;
@@ -499,8 +499,8 @@ pub record StillRuns (events : List Event) (number : ℕ) (setup : SetupValue) (
 pub ends_clean : (run : Run DialogueState) (setup : SetupValue) (r : RunValue) → StandsAs setup run r → EndsAs setup run Clean r
 ends_clean run setup r stands = record {
   past = stands.past;
-  caller = ap (λ (h : Buffered (LineEnd DialogueState)). h.end) stands.caller;
-  called = ap (λ (h : Buffered (LineEnd DialogueState)). h.end) stands.called;
+  caller = ap (λ (h : Buffered (LineEndState DialogueState)). h.end) stands.caller;
+  called = ap (λ (h : Buffered (LineEndState DialogueState)). h.end) stands.called;
   caller_standing = stands.caller_standing;
   called_standing = stands.called_standing;
   caller_ordered = stands.steady.caller_ordered;
@@ -565,7 +565,7 @@ told_as setup run verdict r ends =
       verdict = run.verdict;
     } in
     let told = r.past ++ record { at_caller = told_of r.caller; at_called = told_of r.called } ∷ [] in
-    let by_caller : LineEnd DialogueState → SpelledReport = λ x. record {
+    let by_caller : LineEndState DialogueState → SpelledReport = λ x. record {
       sessions = told;
       ends = record { at_caller = end_now x; at_called = end_now (end_at Called run).end };
       belongings = record {
@@ -574,7 +574,7 @@ told_as setup run verdict r ends =
       };
       verdict = run.verdict;
     } in
-    let by_called : LineEnd DialogueState → SpelledReport = λ x. record {
+    let by_called : LineEndState DialogueState → SpelledReport = λ x. record {
       sessions = told;
       ends = record { at_caller = parts_now r.caller; at_called = end_now x };
       belongings = record { at_caller = owned_parts r.caller; at_called = owned_by_talk x.state.number x.state.keeper };
@@ -614,7 +614,7 @@ pub starts_as : (setup : SetupValue) (caller_spool called_spool : MemoryHoldings
     → HasBegun (standing_at setup Called).identity (standing_at setup Called).own setup.at_called.belongings.number (renewed setup.at_called.belongings).lists called_spool r.called
     → StandsAs setup (first_run by_themselves setup) r
 starts_as setup caller_spool called_spool r none caller_holdings called_holdings caller_kept called_kept caller called =
-    let first : Side → Lists → List Kept → Buffered (LineEnd DialogueState) =
+    let first : Side → Lists → List Kept → Buffered (LineEndState DialogueState) =
     λ side l kept. begins (begins_session (standing_at setup side).identity (standing_at setup side).own
     (at side setup).belongings.number (unopened l kept)) in
     let caller_lists = (renewed setup.at_caller.belongings).lists in
@@ -684,7 +684,7 @@ none_left events number past = drop_all number events past
 -- ---- the ends as they are set up
 
 pub begun_as : (side : Side) (me peer my_name other_name : List ℕ) (own announced_so : Announced) (number set_up : Option ℕ)
-    (l : Lists) (spool : MemoryHoldings) (new : LiveEndValue)
+    (l : Lists) (spool : MemoryHoldings) (new : LineEndValue)
     → me ≡ my_name → peer ≡ other_name → own ≡ announced_so → number ≡ set_up
     → HasBegun (record { side = side; me = me; peer = peer }) own number l spool new
     → HasBegun (record { side = side; me = my_name; peer = other_name }) announced_so set_up l spool new

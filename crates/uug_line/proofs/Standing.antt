@@ -20,7 +20,7 @@ use Rattle.uug_line.specs.declared.verdict.LineVerdict.{LineVerdict}
 use Rattle.uug_line.specs.declared.verdict.LineVerdict.TheVariants.{Clean, Fooled}
 use Rattle.uug_line.specs.Belongings.{Belongings, SetupValue, party, renewed}
 use Rattle.uug_line.specs.Headline.{TookFronts, KeptToWindows, StaysInFront}
-use Rattle.uug_line.specs.LineEnd.{LineEnd, does, called_with, changed_line}
+use Rattle.uug_line.specs.LineEndState.{LineEndState, does, called_with, changed_line}
 use Rattle.uug_line.specs.LinkRun.{LinksRan, after_all}
 use Rattle.uug_line.specs.Report.{end_now, report_of_end}
 use Rattle.uug_line.specs.Run.{Run, end_at, with_end_at, has_now, first_end, session_begins, flipped, with_line_to, after_hearing, calls, hung_up, calls_again, after_event, unless_fooled, goes_through, first_run}
@@ -62,7 +62,7 @@ pub record Goes (setup : SetupValue) (run : Run DialogueState) (numbers : Run Co
 -- ---- the bytes on a line join and part nothing
 
 near_line : (setup : SetupValue) (brought : AtBoth Belongings) (side : Side) (change : List ℕ → List ℕ)
-    (h : Buffered (LineEnd DialogueState)) (f : LineEnd DialogueState) → EndsJoined setup brought side h.end f →
+    (h : Buffered (LineEndState DialogueState)) (f : LineEndState DialogueState) → EndsJoined setup brought side h.end f →
     EndsJoined setup brought side (changed_line change h).end f
 near_line setup brought side change h f j = record {
   joined = j.joined;
@@ -77,7 +77,7 @@ near_line setup brought side change h f j = record {
 }
 
 far_line : (setup : SetupValue) (brought : AtBoth Belongings) (side : Side) (change : List ℕ → List ℕ)
-    (e : LineEnd DialogueState) (h : Buffered (LineEnd DialogueState)) → EndsJoined setup brought side e h.end →
+    (e : LineEndState DialogueState) (h : Buffered (LineEndState DialogueState)) → EndsJoined setup brought side e h.end →
     EndsJoined setup brought side e (changed_line change h).end
 far_line setup brought side change e h j = record {
   joined = j.joined;
@@ -97,11 +97,11 @@ both_are : {A : Type 0} (x y : AtBoth A) → x.at_caller ≡ y.at_caller → x.a
 both_are x y e f = ap₂ (λ a b. record { at_caller = a; at_called = b }) e f
 
 -- how the links of these ends stand
-abbrev links_at : LineEnd DialogueState → LineEnd DialogueState → AtBoth State
+abbrev links_at : LineEndState DialogueState → LineEndState DialogueState → AtBoth State
 links_at e f = record { at_caller = e.state.link; at_called = f.state.link }
 
 -- an end's link with what is told of the end
-as_told : (e : LineEnd DialogueState) → HasPassed e.log → link_end (moment_of e) ≡ told_end (report_of_end e) e.state.link
+as_told : (e : LineEndState DialogueState) → HasPassed e.log → link_end (moment_of e) ≡ told_end (report_of_end e) e.state.link
 as_told e passed = ap (λ (n : ℕ). record {
   link = e.state.link;
   sent = e.log.sent;
@@ -120,7 +120,7 @@ module _ (setup : SetupValue) where
       (steps_of run s).turned Caller run.ends.at_caller.end run.ends.at_called.end s.joined
 
   -- the ends become others
-  with_ends : (run : Run DialogueState) (verdict : LineVerdict) (x y : Buffered (LineEnd DialogueState)) → Stands setup run →
+  with_ends : (run : Run DialogueState) (verdict : LineVerdict) (x y : Buffered (LineEndState DialogueState)) → Stands setup run →
       EndsJoined setup run.brought Caller x.end y.end →
       Stands setup (record { past = run.past; brought = run.brought; ends = record { at_caller = x; at_called = y }; verdict = verdict })
   with_ends run verdict x y s joined = record { sound = s.sound; joined = joined; past = s.past; own = s.own }
@@ -151,7 +151,7 @@ module _ (setup : SetupValue) where
       record {
         stands = with_ends run run.verdict (called_with (talk_player setup Caller) event here) there s
             (steps.does_joined Caller event here.end there.end no_packet s.joined);
-        counted_is = ap (λ (z : LineEnd Count). with_end_at Caller (record { held = held_in z.state.stage here.held; end = z }) (counted run))
+        counted_is = ap (λ (z : LineEndState Count). with_end_at Caller (record { held = held_in z.state.stage here.held; end = z }) (counted run))
             (steps.does_counted Caller event here.end there.end no_packet s.joined);
       }
   calls_keep Called event run no_packet s =
@@ -163,14 +163,14 @@ module _ (setup : SetupValue) where
         stands = with_ends run run.verdict there (called_with (talk_player setup Called) event here) s
             (steps.turned Called (does (talk_player setup Called) event here.end) there.end
             (steps.does_joined Called event here.end there.end no_packet joined));
-        counted_is = ap (λ (z : LineEnd Count). with_end_at Called (record { held = held_in z.state.stage here.held; end = z }) (counted run))
+        counted_is = ap (λ (z : LineEndState Count). with_end_at Called (record { held = held_in z.state.stage here.held; end = z }) (counted run))
             (steps.does_counted Called event here.end there.end no_packet joined);
       }
 
   -- ---- bytes that come
 
   -- the other end's line was changed so
-  heard_at_caller : (number : ℕ) (change : List ℕ → List ℕ) (run : Run DialogueState) → Stands setup run → (came : Arrival (LineEnd DialogueState)) →
+  heard_at_caller : (number : ℕ) (change : List ℕ → List ℕ) (run : Run DialogueState) → Stands setup run → (came : Arrival (LineEndState DialogueState)) →
       EndsJoined setup run.brought Caller (end_of came) run.ends.at_called.end →
       Goes setup (after_hearing number Caller came (with_line_to Caller change run))
       (after_hearing number Caller (counted_came came) (with_line_to Caller change (counted run)))
@@ -185,7 +185,7 @@ module _ (setup : SetupValue) where
     counted_is = refl;
   }
 
-  heard_at_called : (number : ℕ) (change : List ℕ → List ℕ) (run : Run DialogueState) → Stands setup run → (came : Arrival (LineEnd DialogueState)) →
+  heard_at_called : (number : ℕ) (change : List ℕ → List ℕ) (run : Run DialogueState) → Stands setup run → (came : Arrival (LineEndState DialogueState)) →
       EndsJoined setup run.brought Called (end_of came) run.ends.at_caller.end →
       Goes setup (after_hearing number Called came (with_line_to Called change run))
       (after_hearing number Called (counted_came came) (with_line_to Called change (counted run)))
@@ -237,7 +237,7 @@ module _ (setup : SetupValue) where
   begun_counted : (brought : AtBoth Belongings) → Steps setup brought → (side : Side) →
       counted_hearer (first_end by_themselves setup brought side) ≡ first_end by_numbers setup brought side
   begun_counted brought steps side =
-      ap (λ (z : LineEnd Count). record { held = held_in z.state.stage []; end = z }) (steps.first_counted side)
+      ap (λ (z : LineEndState Count). record { held = held_in z.state.stage []; end = z }) (steps.first_counted side)
 
   begins_so : (past : List (AtBoth EndReportValue)) (brought : AtBoth Belongings) → IsSoundSession setup brought →
       All (IsKept setup) past → ((giver : Side) → OwnSince setup brought giver) →
@@ -253,7 +253,7 @@ module _ (setup : SetupValue) where
   -- ---- a call
 
   -- the run of the two links, as it is told
-  links_told : (e f : LineEnd DialogueState) → HasPassed e.log → HasPassed f.log → LinksOf setup Caller (moment_of e) (moment_of f) →
+  links_told : (e f : LineEndState DialogueState) → HasPassed e.log → HasPassed f.log → LinksOf setup Caller (moment_of e) (moment_of f) →
       LinksRan (first_links setup)
       (link_ends (record { at_caller = report_of_end e; at_called = report_of_end f }) (links_at e f)) e.log.arrivals f.log.arrivals
   links_told e f near far ran =
@@ -262,7 +262,7 @@ module _ (setup : SetupValue) where
       (subst (λ (b : End). LinksRan (first_links setup)
       (record { near = link_end (moment_of e); far = b }) e.log.arrivals f.log.arrivals) (as_told f far) ran)
 
-  ran_as_machine : (brought : AtBoth Belongings) → IsSoundSession setup brought → (e f : LineEnd DialogueState) →
+  ran_as_machine : (brought : AtBoth Belongings) → IsSoundSession setup brought → (e f : LineEndState DialogueState) →
       EndsJoined setup brought Caller e f →
       RanAsMachine setup (record { at_caller = report_of_end e; at_called = report_of_end f }) (links_at e f)
   ran_as_machine brought sound e f joined =
@@ -291,7 +291,7 @@ module _ (setup : SetupValue) where
       }
 
   -- a session whose ends are joined is as the headline says
-  session_kept : (brought : AtBoth Belongings) → IsSoundSession setup brought → (e f : LineEnd DialogueState) →
+  session_kept : (brought : AtBoth Belongings) → IsSoundSession setup brought → (e f : LineEndState DialogueState) →
       EndsJoined setup brought Caller e f →
       IsKept setup (record { at_caller = report_of_end e; at_called = report_of_end f })
   session_kept brought sound e f joined =
@@ -393,8 +393,8 @@ module _ (setup : SetupValue) where
       let e = run.ends.at_caller.end in
       let f = run.ends.at_called.end in
       both_are (told run) (told_by_numbers run)
-      (ap (λ (z : LineEnd Count). report_of_end z) (steps.does_counted Caller line_lost e f tt s.joined))
-      (ap (λ (z : LineEnd Count). report_of_end z) (steps.does_counted Called line_lost f e tt (turned_of run s)))
+      (ap (λ (z : LineEndState Count). report_of_end z) (steps.does_counted Caller line_lost e f tt s.joined))
+      (ap (λ (z : LineEndState Count). report_of_end z) (steps.does_counted Called line_lost f e tt (turned_of run s)))
 
   again : (run : Run DialogueState) → Stands setup run →
       Goes setup (calls_again by_themselves setup run) (calls_again by_numbers setup (counted run))

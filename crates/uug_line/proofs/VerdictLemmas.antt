@@ -24,7 +24,7 @@ use Rattle.uug_line.specs.declared.verdict.LineVerdict.{LineVerdict}
 use Rattle.uug_line.specs.declared.verdict.LineVerdict.TheVariants.{Clean, Fooled}
 use Rattle.uug_line.specs.Belongings.{Belongings, SetupValue, renewed}
 use Rattle.uug_line.specs.Fooled.{ArrivalsArePlaces, FindsNothingMore, FindsUnsent, StoppedAt, present}
-use Rattle.uug_line.specs.LineEnd.{LineEnd, Participant, does, called_with, changed_line}
+use Rattle.uug_line.specs.LineEndState.{LineEndState, Participant, does, called_with, changed_line}
 use Rattle.uug_line.specs.Report.{report_of_end}
 use Rattle.uug_line.specs.Run.{Run, end_at, participant, has_now, first_end, first_run, session_begins, flipped, with_line_to, hears_next, after_hearing, calls, hung_up, calls_again, after_event, unless_fooled, goes_through, run_of}
 use Rattle.uug_line.specs.RunKeeper.{RunKeeper}
@@ -92,7 +92,7 @@ nothing_then linked (hailing h) bytes stays none = absurd stays
 nothing_then (ended how) (hailing h) bytes stays none = absurd stays
 nothing_then (ended how) linked bytes stays none = absurd stays
 
-call_finds_nothing : {C : Type 0} (p : Participant C) (event : EndEvent) (h : Buffered (LineEnd C)) → UsesNoBytes event →
+call_finds_nothing : {C : Type 0} (p : Participant C) (event : EndEvent) (h : Buffered (LineEndState C)) → UsesNoBytes event →
     FindsNothingMore h → FindsNothingMore (called_with p event h)
 call_finds_nothing p event h uses none =
     let s = h.end.state.stage in
@@ -116,11 +116,11 @@ pub record IsJudged {C : Type 0} (run : Run C) : Type 0 where
   pub found : FoundSo run
   pub judged : JudgedBy run.verdict run
 
-turned : {C : Type 0} (e f : LineEnd C) → BothFound e f → BothFound f e
+turned : {C : Type 0} (e f : LineEndState C) → BothFound e f → BothFound f e
 turned e f both = record { near = both.far; far = both.near }
 
 -- the bytes on a line don't matter
-near_line : {C : Type 0} (change : List ℕ → List ℕ) (h : Buffered (LineEnd C)) (f : LineEnd C) → BothFound h.end f →
+near_line : {C : Type 0} (change : List ℕ → List ℕ) (h : Buffered (LineEndState C)) (f : LineEndState C) → BothFound h.end f →
     BothFound (changed_line change h).end f
 near_line change h f both = record {
   near = record { packets = both.near.packets; places = both.near.places; passed = both.near.passed };
@@ -128,14 +128,14 @@ near_line change h f both = record {
 }
 
 -- in a session the arrivals are places
-session_found : {C : Type 0} (e f : LineEnd C) → BothFound e f →
+session_found : {C : Type 0} (e f : LineEndState C) → BothFound e f →
     ArrivalsArePlaces (record { at_caller = report_of_end e; at_called = report_of_end f })
 session_found e f both Caller = (both.near.packets, both.near.places)
 session_found e f both Called = (both.far.packets, both.far.places)
 
 module _ {C : Type 0} (k : RunKeeper C) (setup : SetupValue) where
   -- both ends, told in one
-  judged_ends : (past : List (AtBoth EndReportValue)) (brought : AtBoth Belongings) (x y : Buffered (LineEnd C)) →
+  judged_ends : (past : List (AtBoth EndReportValue)) (brought : AtBoth Belongings) (x y : Buffered (LineEndState C)) →
       All ArrivalsArePlaces past → BothFound x.end y.end → FindsNothingMore x → FindsNothingMore y →
       IsJudged (record { past = past; brought = brought; ends = record { at_caller = x; at_called = y }; verdict = Clean })
   judged_ends past brought x y were both at_x at_y =
@@ -162,7 +162,7 @@ module _ {C : Type 0} (k : RunKeeper C) (setup : SetupValue) where
   nothing_at run clean j = subst (λ v. JudgedBy v run) clean j.judged
 
   -- its ends become these
-  become : (run : Run C) (x y : Buffered (LineEnd C)) → run.verdict ≡ Clean → IsJudged run → BothFound x.end y.end →
+  become : (run : Run C) (x y : Buffered (LineEndState C)) → run.verdict ≡ Clean → IsJudged run → BothFound x.end y.end →
       FindsNothingMore x → FindsNothingMore y →
       IsJudged (record { past = run.past; brought = run.brought; ends = record { at_caller = x; at_called = y }; verdict = run.verdict })
   become run x y clean j both at_x at_y =
@@ -200,7 +200,7 @@ module _ {C : Type 0} (k : RunKeeper C) (setup : SetupValue) where
       (nothing_at run clean j Caller) (call_finds_nothing p event run.ends.at_called uses (nothing_at run clean j Called))
 
   -- a piece has come
-  came_to_caller : (number n : ℕ) (run : Run C) → run.verdict ≡ Clean → IsJudged run → (came : Arrival (LineEnd C)) →
+  came_to_caller : (number n : ℕ) (run : Run C) → run.verdict ≡ Clean → IsJudged run → (came : Arrival (LineEndState C)) →
       CameSo (participant k setup run Caller) run.ends.at_called.end came →
       IsJudged (after_hearing number Caller came (with_line_to Caller (drop n) run))
   came_to_caller number n run clean j (all_taken h) so =
@@ -221,7 +221,7 @@ module _ {C : Type 0} (k : RunKeeper C) (setup : SetupValue) where
         );
       }
 
-  came_to_called : (number n : ℕ) (run : Run C) → run.verdict ≡ Clean → IsJudged run → (came : Arrival (LineEnd C)) →
+  came_to_called : (number n : ℕ) (run : Run C) → run.verdict ≡ Clean → IsJudged run → (came : Arrival (LineEndState C)) →
       CameSo (participant k setup run Called) run.ends.at_caller.end came →
       IsJudged (after_hearing number Called came (with_line_to Called (drop n) run))
   came_to_called number n run clean j (all_taken h) so =
@@ -335,7 +335,7 @@ module _ {C : Type 0} (k : RunKeeper C) (setup : SetupValue) where
       finds_unsent (run_of k setup events) side j.found.both (subst (λ v. JudgedBy v (run_of k setup events)) is j.judged).0
 
   -- nothing is found where a packet is
-  both_found : (h : Buffered (LineEnd C)) (p : PacketValue) (behind : List ℕ) → FindsNothingMore h →
+  both_found : (h : Buffered (LineEndState C)) (p : PacketValue) (behind : List ℕ) → FindsNothingMore h →
       finding h.end.state.stage h.held ≡ finds_packet p h.held behind → ⊥
   both_found h p behind none some =
       let e : finds_nothing h.held ≡ finds_packet p h.held behind = sym none ∙ some in cc
@@ -380,7 +380,7 @@ module _ {C : Type 0} (k : RunKeeper C) (setup : SetupValue) where
     event_is : event ≡ Pass side bytes
     number_is : number ≡ at_number
 
-  came_stopped : (number : ℕ) (s : Side) (n : ℕ) (came : Arrival (LineEnd C)) (run : Run C) (at_number : ℕ) (side : Side) →
+  came_stopped : (number : ℕ) (s : Side) (n : ℕ) (came : Arrival (LineEndState C)) (run : Run C) (at_number : ℕ) (side : Side) →
       run.verdict ≡ Clean → (after_hearing number s came run).verdict ≡ Fooled at_number side →
       StoppedBy number (Pass s n) at_number side
   came_stopped number s n (all_taken h) run at_number side clean fooled =

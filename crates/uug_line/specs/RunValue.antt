@@ -11,7 +11,7 @@ use Rattle.uug_conversation.specs.declared.side.Side.TheVariants.{Caller, Called
 use Rattle.uug_line.specs.declared.verdict.LineVerdict.{LineVerdict}
 use Rattle.uug_line.specs.declared.verdict.LineVerdict.TheVariants.{Clean}
 use Rattle.uug_line.specs.Belongings.{Belongings, SetupValue, identity}
-use Rattle.uug_line.specs.Live.{BeginsAgain, HasRoom, HearsPiece, IsCalled, IsOrdered, LiveEndValue, Standing, hearer_of, line_end_of, live_end_value, standing_of, told_of}
+use Rattle.uug_line.specs.LineEndValue.{BeginsAgain, HasRoom, HearsPiece, IsCalled, IsOrdered, LineEndValue, Standing, hearer_of, line_end_of, live_end_value, standing_of, told_of}
 use Rattle.uug_line.specs.Told.{EndNow, SpelledEnd, SpelledReport}
 use Rattle.uug_line.specs.Run.{Run, end_at, flipped}
 use Rattle.uug_line.specs.Shown.{session_shown}
@@ -23,8 +23,8 @@ use Rattle.uug_conversation.specs.DialogueState.{DialogueState}
 pub record RunValue : Type 0 where
   -- what is told of the sessions that are over
   pub past : List (AtBoth SpelledEnd)
-  pub caller : LiveEndValue
-  pub called : LiveEndValue
+  pub caller : LineEndValue
+  pub called : LineEndValue
 
 abbrev pub run_value : {A : Type 0} → RunSoFar A → RunValue
 run_value r = record { past = map session_shown r.past.items; caller = live_end_value r.caller; called = live_end_value r.called }
@@ -39,15 +39,15 @@ pub record IsSteady (r : RunValue) : Type 0 where
 -- ---- what happens
 
 -- this happens at the side, and nothing else
-abbrev pub HappensAt : Side → (LiveEndValue → LiveEndValue → Type 0) → (old new : RunValue) → Type 0
+abbrev pub HappensAt : Side → (LineEndValue → LineEndValue → Type 0) → (old new : RunValue) → Type 0
 HappensAt Caller what old new = what old.caller new.caller × (new.called ≡ old.called) × (new.past ≡ old.past)
 HappensAt Called what old new = what old.called new.called × (new.caller ≡ old.caller) × (new.past ≡ old.past)
 
 -- the bytes that the end has emitted become others
-abbrev pub with_line : (List ℕ → List ℕ) → LiveEndValue → LiveEndValue
+abbrev pub with_line : (List ℕ → List ℕ) → LineEndValue → LineEndValue
 with_line change e = record e { line = change e.line }
 
-abbrev pub ChangesLine : (List ℕ → List ℕ) → (old new : LiveEndValue) → Type 0
+abbrev pub ChangesLine : (List ℕ → List ℕ) → (old new : LineEndValue) → Type 0
 ChangesLine change old new = new ≡ with_line change old
 
 -- the next bytes come to the side
@@ -61,8 +61,8 @@ Passes Called n all_sent old new =
 
 -- both ends hang up, and a new session begins
 pub record CallsAgain (old new : RunValue) : Type 0 where
-  pub lost_caller : LiveEndValue
-  pub lost_called : LiveEndValue
+  pub lost_caller : LineEndValue
+  pub lost_called : LineEndValue
   pub caller_lost : IsCalled line_lost old.caller lost_caller
   pub called_lost : IsCalled line_lost old.called lost_called
   pub caller : BeginsAgain lost_caller new.caller
@@ -123,11 +123,11 @@ pub record EndsAs (setup : SetupValue) (run : Run DialogueState) (verdict : Line
 
 -- ---- what is told of it
 
-abbrev pub owned_parts : LiveEndValue → Belongings
+abbrev pub owned_parts : LineEndValue → Belongings
 owned_parts e =
     record { lists = e.node.engine.dialogue.machine.lists; kept = e.spool.stored; number = e.node.engine.number }
 
-abbrev pub parts_now : LiveEndValue → EndNow
+abbrev pub parts_now : LineEndValue → EndNow
 parts_now e = record { stage = e.node.engine.stage; link = e.node.engine.link }
 
 abbrev pub told_in_all : RunValue → LineVerdict → SpelledReport

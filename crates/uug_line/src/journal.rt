@@ -1,7 +1,7 @@
 ghost use Rattle.std.specs.Prelude.{◌≡◌, ◌<◌, [], ◌∷◌, ◌++◌, length, MatchOption, OnOk, None, Some};
 ghost use Rattle.uug_line.specs.JournalValue.{journal_value, journal_by, packet_noted, saying, taking_from, sending_from, with_most};
 ghost use Rattle.uug_line.specs.Shown.{end_shown, lists_in};
-ghost use Rattle.uug_line.specs.LineEnd.{found_at, nothing_done};
+ghost use Rattle.uug_line.specs.LineEndState.{found_at, nothing_done};
 ghost use Rattle.uug_line.specs.Report.{told_by};
 ghost use Rattle.uug_link.specs.Entries.{shown_entry};
 

@@ -6,7 +6,7 @@ mod fault;
 mod journal;
 pub mod laws;
 mod line;
-mod live_end;
+mod line_end;
 mod report;
 mod running;
 pub mod settle_laws;

@@ -1,4 +1,4 @@
-use Rattle.uug_line.specs.Live.{live_end_value, told_of}
+use Rattle.uug_line.specs.LineEndValue.{live_end_value, told_of}
 use Rattle.uug_line.proofs.RunLemmas.{one_more_shown}
 use Rattle.uug_line.proofs.running.RunSoFar.call_again.Goals as goal
 
