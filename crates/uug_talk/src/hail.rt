@@ -12,7 +12,8 @@ pub const HAIL_MAX: usize = 256;
 /// The room for a handshake text with its 0x10 and its zero byte.
 pub const HAIL_WRITTEN_MAX: usize = HAIL_MAX + 2;
 
-const TEXT_START: u8 = 0x10;
+/// The byte with which a handshake text begins. Inside a text it restarts it.
+pub const TEXT_START: u8 = 0x10;
 
 /// More bytes than a handshake text may have came behind a 0x10.
 #[derive(Clone, Copy, Debug, PartialEq, Eq, Error)]
