@@ -25,7 +25,7 @@ use uug_tool::{Output, ToolFault};
 /// An end stays at its line until its session is over, and reads so many bytes at most. Then its pending jobs are written
 /// to their file, its number to its own, if it keeps one, and the report to the output. The answer is the program's status: 0 where the session is done, even if
 /// the line has failed behind it, and 1 where it is not. Of several faults the first is answered, and none of them keeps
-/// what comes behind it from being done, but want of memory before the first write.
+/// what comes behind it from being done, except running out of memory before the first write.
 pub fn call_over<S, L, J, N, W, O, A>(
     alloc: A,
     side: Side,

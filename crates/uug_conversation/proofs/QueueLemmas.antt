@@ -1,4 +1,4 @@
--- A queue keeps its pending jobs in one list, and how many of them were passed over.
+-- A queue keeps its pending jobs in one list, and how many of them were skipped.
 use Rattle.std.proofs.Common.{◌≡◌, ℕ, zero, suc, ◌+◌, ◌<◌, List, [], ◌∷◌, ◌++◌, length, take, drop, refl, sym, ap, ◌∙◌, add-one, arith}
 use Rattle.uug_conversation.specs.declared.job.Job.{Job}
 use Rattle.uug_conversation.specs.Jobs.{Lists, pass, move_first, moved_once}

@@ -1,5 +1,5 @@
 -- How far an end has come in a conversation that is known as a whole: how many messages it has sent and taken. So the two
--- ends of a session are told by somebody who knows both parties, and spools whose device never fails (this project's
+-- ends of a session are described by somebody who knows both parties, and spools whose device never fails (this project's
 -- profile).
 use Rattle.std.specs.Prelude.{ℕ, suc, Bool, true, false, ◌&&◌, ◌||◌, nat_lt, nat_le, List, length, slice_get, Option, None, if◌then◌else◌}
 use Rattle.uug_conversation.specs.Keeper.{Keeper}

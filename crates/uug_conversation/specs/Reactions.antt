@@ -25,7 +25,7 @@ abbrev pub bytes_given : Option File → List ℕ
 bytes_given None = []
 bytes_given (Some file) = file.bytes
 
--- a file is told by its name
+-- a file is known by its name
 abbrev pub said_by : Holdings → Saying → Said
 said_by h (saying.Order order) = the_order order
 said_by h (saying.Answer answer) = the_answer answer

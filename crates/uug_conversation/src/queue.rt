@@ -24,11 +24,11 @@ pub enum QueueFault {
 }
 
 /// The jobs of an end: those that are pending, those that were done, and those that were given up for ever. A clause
-/// sees them as lists, and of the pending ones, which were passed over in this session and which are still ahead.
+/// sees them as lists, and of the pending ones, which were skipped in this session and which are still ahead.
 #[derive(Drop)]
 pub struct Queue<A: Allocator> {
     pending: Backlog<A>,
-    /// So many of the pending ones, from the front, were passed over in this session.
+    /// So many of the pending ones, from the front, were skipped in this session.
     passed: usize,
     /// These two have room for every pending job.
     struck: Vec<Job, A>,
@@ -89,7 +89,7 @@ impl<A: Allocator> Queue<A> {
         Ok(())
     }
 
-    /// The jobs that are pending, those that were passed over in this session first. Their names are names.
+    /// The jobs that are pending, those that were skipped in this session first. Their names are names.
     pub fn pending(&self) -> &[Job]
         ensures jobs { result.now ≡ pending self.now }
         ensures most { length result.now ≤ JOBS_MAX }

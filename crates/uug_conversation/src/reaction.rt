@@ -5,7 +5,7 @@ ghost use Rattle.uug_conversation.specs.Reactions.{says_nothing, fits_no_turn, g
 use crate::awaits::Awaits;
 use uug_talk::{Answer, Name, Order};
 
-/// What is said in one turn. A file is told by the name under which the spool gives it.
+/// What is said in one turn. A file is known by the name under which the spool gives it.
 #[derive(Clone, Copy)]
 pub(crate) enum Saying {
     Order(Order),

@@ -10,12 +10,12 @@ use Rattle.uug_detail.specs.Told.{What, of_packet, bad_checksum, bad_length, con
 abbrev pub is_plain : ℕ → Bool
 is_plain b = (is_ascii_graphic b || b == 32) && not (b == 92)
 
-abbrev pub escaped_byte : ℕ → List ℕ
-escaped_byte b = if is_plain b then b ∷ [] else codes "\\x" ++ (digit_char (b / 16) ∷ digit_char (b % 16) ∷ [])
+abbrev pub byte_words : (plain : Bool) → ℕ → List ℕ
+byte_words plain b = if plain then b ∷ [] else codes "\\x" ++ (digit_char (b / 16) ∷ digit_char (b % 16) ∷ [])
 
 abbrev pub escaped : List ℕ → List ℕ
 escaped [] = []
-escaped (b ∷ bs) = escaped_byte b ++ escaped bs
+escaped (b ∷ bs) = byte_words (is_plain b) b ++ escaped bs
 
 -- the words that the plain listing has, where it has a line
 abbrev pub plain_words : What → (size : ℕ) → Option (List ℕ)

@@ -10,3 +10,4 @@ mod noise;
 mod parts;
 
 pub use detailed::{scan_detailed, scan_detailed_within};
+pub use lines::{add_byte, add_control};

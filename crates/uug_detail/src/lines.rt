@@ -1,10 +1,10 @@
 //! The lines of a detailed listing.
-ghost use Rattle.std.specs.Prelude.{◌≡◌, ◌+◌, ◌<◌, ◌++◌, ◌∷◌, [], OnOk, string_bytes};
+ghost use Rattle.std.specs.Prelude.{◌≡◌, ◌+◌, ◌<◌, ◌++◌, ◌∷◌, [], OnOk, string_bytes, true};
 ghost use Rattle.std.specs.Char.{digit_char};
 ghost use Rattle.uug_packet.specs.Packet.{shown, shown_control};
 ghost use Rattle.uug_reader.specs.Cut.{found};
 ghost use Rattle.uug_tool.specs.Listing.{HasSize, control_text, data_text, ended, packet_text};
-ghost use Rattle.uug_detail.specs.Detailed.{entry_line, entry_lines, escaped, escaped_byte, is_plain, place_words};
+ghost use Rattle.uug_detail.specs.Detailed.{byte_words, entry_line, entry_lines, escaped, is_plain, place_words};
 ghost use Rattle.uug_detail.specs.Told.{noise_entries, of_noise, of_packet, of_text, text_size};
 
 use std::alloc::{AllocError, Allocator};
@@ -22,7 +22,8 @@ pub fn add_place<A: Allocator>(
     write!(lines, " AT {at} LENGTH {size}\n")
 }
 
-fn add_control<A: Allocator>(lines: &mut String<A>, control: Control) -> Result<(), AllocError>
+/// Appends the words of a control packet.
+pub fn add_control<A: Allocator>(lines: &mut String<A>, control: Control) -> Result<(), AllocError>
     ensures { OnOk result
         (string_bytes lines.new ≡ string_bytes lines.old ++ control_text (shown_control control)) }
 {
@@ -117,11 +118,17 @@ fn add_char<A: Allocator>(lines: &mut String<A>, ch: char) -> Result<(), AllocEr
     lines.push(ch)
 }
 
-/// Appends a byte of a text, in hex where it can't be seen.
-fn add_byte<A: Allocator>(lines: &mut String<A>, byte: u8) -> Result<(), AllocError>
-    ensures { OnOk result (string_bytes lines.new ≡ string_bytes lines.old ++ escaped_byte byte) }
+/// Appends a byte of a text: as it is where it is plain, which only an ASCII character may be, else in hex.
+pub fn add_byte<A: Allocator>(
+    lines: &mut String<A>,
+    byte: u8,
+    plain: bool,
+) -> Result<(), AllocError>
+    requires { plain ≡ true → byte < 128 }
+    ensures { OnOk result
+        (string_bytes lines.new ≡ string_bytes lines.old ++ byte_words plain byte) }
 {
-    if is_plain(byte) {
+    if plain {
         return add_char(lines, char::from(byte));
     }
     lines.push_str("\\x")?;
@@ -134,7 +141,7 @@ fn add_escaped<A: Allocator>(lines: &mut String<A>, text: &[u8]) -> Result<(), A
     ensures { OnOk result (string_bytes lines.new ≡ string_bytes lines.old ++ escaped text.now) }
 {
     for byte in text {
-        add_byte(lines, *byte)?;
+        add_byte(lines, *byte, is_plain(*byte))?;
     }
     Ok(())
 }

@@ -9,12 +9,10 @@ use Rattle.uug_packet.specs.Decoded.{decoded}
 use Rattle.uug_packet.specs.Packet.{PacketValue, control, carry}
 use Rattle.uug_packet.specs.declared.decoding.NoPacket.{NoPacket}
 use Rattle.uug_script.specs.ReportText.{phase_word}
-use Rattle.uug_session.specs.declared.end.End.{End}
-use Rattle.uug_session.specs.declared.end.End.TheVariants.{Done}
 use Rattle.uug_session.specs.declared.phase.Phase.{Phase}
-use Rattle.uug_session.specs.declared.phase.Phase.TheVariants.{Hail, Starting, Talking, Closing, Ended}
 use Rattle.uug_session.specs.EndStep.{final_text}
-use Rattle.uug_session.specs.Says.{written_text}
+use Rattle.uug_session.specs.Phases.{is_done, is_over}
+use Rattle.uug_talk.specs.Texts.{written_text}
 use Rattle.uug_ladder.specs.declared.end.DrawnEnd.{DrawnEnd}
 use Rattle.uug_ladder.specs.declared.moment.Mark.{Mark}
 use Rattle.uug_ladder.specs.declared.way.WayByte.{WayByte}
@@ -113,27 +111,12 @@ sends_packets event side (bytes ∷ more) d = sends_packets event side more (sen
 
 -- ---- its last text
 
-abbrev pub is_over : Phase → Bool
-is_over Hail = false
-is_over Starting = false
-is_over Talking = false
-is_over Closing = false
-is_over (Ended how) = true
-
-abbrev pub is_done_end : End → Bool
-is_done_end Done = true
-is_done_end _ = false
-
-abbrev pub is_done : Phase → Bool
-is_done (Ended how) = is_done_end how
-is_done _ = false
-
 -- by a hang-up a session ends without it
 abbrev pub may_leave : Event → Bool
 may_leave (HangUp side) = false
 may_leave _ = true
 
--- An end whose session comes from the one phase to the other takes its leave where it is done then
+-- An end whose session comes from the one phase to the other sends its final text where it is done then
 abbrev pub takes_leave : Event → (before after : Phase) → Bool
 takes_leave event before after = may_leave event && (not (is_over before) && is_done after)
 

@@ -1,12 +1,13 @@
 -- What occurs at an end, in words (this project's profile).
-use Rattle.std.specs.Prelude.{ℕ, ◌-◌, ◌/◌, ◌%◌, ◌==◌, ◌&&◌, ◌||◌, not, Bool, true, false, List, [], ◌∷◌, ◌++◌, codes, drop, length, take, Result, Ok, Err, if◌then◌else◌}
-use Rattle.std.specs.Char.{digit_char, is_ascii_graphic}
+use Rattle.std.specs.Prelude.{ℕ, ◌-◌, ◌==◌, ◌&&◌, ◌||◌, not, Bool, true, false, List, [], ◌∷◌, ◌++◌, codes, drop, length, take, Result, Ok, Err, if◌then◌else◌}
+use Rattle.std.specs.Char.{is_ascii_graphic}
 use Rattle.std.specs.Fmt.{decimal}
 use Rattle.uug_packet.specs.Decoded.{decoded}
 use Rattle.uug_packet.specs.Packet.{PacketValue, control, carry}
 use Rattle.uug_packet.specs.declared.decoding.NoPacket.{NoPacket}
 use Rattle.uug_script.specs.ReportText.{phase_word}
 use Rattle.uug_tool.specs.Listing.{control_text}
+use Rattle.uug_detail.specs.Detailed.{byte_words}
 use Rattle.uug_ladder.specs.Rungs.{WhatValue, begins, says, sends, times_out, hangs_up, takes, stores, strikes, fails, comes}
 
 -- ---- a packet: its number, its acknowledgement, and how many bytes its message has
@@ -32,12 +33,9 @@ is_markup b = (b == 92) || ((b == 60) || ((b == 62) || (b == 38)))
 abbrev pub is_plain : ℕ → Bool
 is_plain b = (is_ascii_graphic b || b == 32) && not (is_markup b)
 
-abbrev pub escaped_byte : ℕ → List ℕ
-escaped_byte b = if is_plain b then b ∷ [] else codes "\\x" ++ (digit_char (b / 16) ∷ digit_char (b % 16) ∷ [])
-
 abbrev pub escaped : List ℕ → List ℕ
 escaped [] = []
-escaped (b ∷ bs) = escaped_byte b ++ escaped bs
+escaped (b ∷ bs) = byte_words (is_plain b) b ++ escaped bs
 
 -- a text without its frame, the first byte and the last
 abbrev pub inside : List ℕ → List ℕ

@@ -3,8 +3,8 @@ ghost use Rattle.std.specs.Prelude.{◌≡◌, drop, OnOk, Some};
 ghost use Rattle.uug_link.specs.Entries.{shown_entry};
 ghost use Rattle.uug_line.specs.Shown.{lists_in};
 ghost use Rattle.uug_session.specs.EndStep.{final_text};
-ghost use Rattle.uug_session.specs.Says.{written_text};
-ghost use Rattle.uug_ladder.specs.Acts.{acts, acts_whole, added_if, comes_to, end_kept, greets, is_done, is_other, is_over, leaves_by, may_leave, notes, puts, says_all, says_one, sends_packet, sends_packets, takes_leave};
+ghost use Rattle.uug_talk.specs.Texts.{written_text};
+ghost use Rattle.uug_ladder.specs.Acts.{acts, acts_whole, added_if, comes_to, end_kept, greets, is_other, leaves_by, may_leave, notes, puts, says_all, says_one, sends_packet, sends_packets, takes_leave};
 ghost use Rattle.uug_ladder.specs.Rungs.{ladder_shown, what_shown};
 
 use crate::end::{DrawnEnd, is_repeat, next_behind};
@@ -16,7 +16,7 @@ use std::alloc::{AllocError, Allocator};
 use uug_line::{Event, Side};
 use uug_link::{Entry, Outbox};
 use uug_script::phase_word;
-use uug_session::{End, Phase};
+use uug_session::Phase;
 
 /// An end sends something, which these are the bytes of.
 fn put<A: Allocator>(
@@ -134,18 +134,6 @@ fn send_all<A: Allocator + Copy>(
     Ok(())
 }
 
-fn is_over(phase: Phase) -> bool
-    ensures { result ≡ is_over phase }
-{
-    matches!(phase, Phase::Ended(_))
-}
-
-fn is_done(phase: Phase) -> bool
-    ensures { result ≡ is_done phase }
-{
-    matches!(phase, Phase::Ended(End::Done))
-}
-
 fn may_leave(event: Event) -> bool
     ensures { result ≡ may_leave event }
 {
@@ -159,7 +147,7 @@ fn may_leave(event: Event) -> bool
 fn takes_leave(event: Event, before: Phase, after: Phase) -> bool
     ensures { result ≡ takes_leave event before after }
 {
-    may_leave(event) && !is_over(before) && is_done(after)
+    may_leave(event) && !before.is_over() && after.is_done()
 }
 
 /// The last text of an end, in its frame.
@@ -172,7 +160,7 @@ fn last_text(side: Side) -> &'static [u8]
     }
 }
 
-/// An end says its last text, where it takes its leave.
+/// An end says its final text, where its session ends with all done.
 fn leave<A: Allocator + Copy>(
     alloc: A,
     ladder: &mut Ladder<A>,

@@ -1,31 +1,14 @@
 //! What occurs at an end, in words.
-ghost use Rattle.std.specs.Prelude.{◌≡◌, ◌<◌, ◌++◌, ◌∷◌, [], OnOk, IfOk, string_bytes};
-ghost use Rattle.std.specs.Char.{digit_char};
+ghost use Rattle.std.specs.Prelude.{◌≡◌, ◌++◌, OnOk, IfOk, string_bytes};
 ghost use Rattle.uug_packet.specs.Decoded.{decoded};
-ghost use Rattle.uug_packet.specs.Packet.{shown_control};
-ghost use Rattle.uug_tool.specs.Listing.{control_text};
-ghost use Rattle.uug_ladder.specs.Labels.{again_word, data_words, escaped, escaped_byte, inside, is_markup, is_plain, label, packet_words};
+ghost use Rattle.uug_ladder.specs.Labels.{again_word, data_words, escaped, inside, is_markup, is_plain, label, packet_words};
 ghost use Rattle.uug_ladder.specs.Rungs.{what_shown};
 
 use crate::rung::What;
 use std::alloc::{AllocError, Allocator};
-use uug_packet::{Control, Packet, decode, field_size};
+use uug_detail::{add_byte, add_control};
+use uug_packet::{Packet, decode};
 use uug_script::phase_word;
-
-fn add_control<A: Allocator>(text: &mut String<A>, control: Control) -> Result<(), AllocError>
-    ensures { OnOk result
-        (string_bytes text.new ≡ string_bytes text.old ++ control_text (shown_control control)) }
-{
-    match control {
-        Control::Close => text.push_str("CLOSE"),
-        Control::Rj(y) => write!(text, "RJ {}", y.value()),
-        Control::Srj(y) => write!(text, "SRJ {}", y.value()),
-        Control::Rr(y) => write!(text, "RR {}", y.value()),
-        Control::InitC(y) => write!(text, "INITC {}", y.value()),
-        Control::InitB(y) => write!(text, "INITB {}", field_size(y.value() + 1)),
-        Control::InitA(y) => write!(text, "INITA {}", y.value()),
-    }
-}
 
 fn add_data<A: Allocator>(
     text: &mut String<A>,
@@ -73,44 +56,12 @@ fn is_plain(byte: u8) -> bool
     (byte.is_ascii_graphic() || byte == b' ') && !is_markup(byte)
 }
 
-/// The character that writes a digit below 16.
-fn hex_digit(digit: u8) -> char
-    requires { digit < 16 }
-    ensures { result ≡ digit_char digit }
-{
-    char::from(if digit < 10 {
-        b'0' + digit
-    } else {
-        b'a' - 10 + digit
-    })
-}
-
-/// Appends an ASCII character.
-fn add_char<A: Allocator>(text: &mut String<A>, ch: char) -> Result<(), AllocError>
-    requires { ch < 128 }
-    ensures { OnOk result (string_bytes text.new ≡ string_bytes text.old ++ (ch ∷ [])) }
-{
-    text.push(ch)
-}
-
-/// Appends a byte of a text, in hex where it is not plain.
-fn add_byte<A: Allocator>(text: &mut String<A>, byte: u8) -> Result<(), AllocError>
-    ensures { OnOk result (string_bytes text.new ≡ string_bytes text.old ++ escaped_byte byte) }
-{
-    if is_plain(byte) {
-        return add_char(text, char::from(byte));
-    }
-    text.push_str("\\x")?;
-    add_char(text, hex_digit(byte / 16))?;
-    add_char(text, hex_digit(byte % 16))
-}
-
 /// Appends the bytes of a text.
 fn add_escaped<A: Allocator>(text: &mut String<A>, bytes: &[u8]) -> Result<(), AllocError>
     ensures { OnOk result (string_bytes text.new ≡ string_bytes text.old ++ escaped bytes.now) }
 {
     for byte in bytes {
-        add_byte(text, *byte)?;
+        add_byte(text, *byte, is_plain(*byte))?;
     }
     Ok(())
 }

@@ -17,7 +17,7 @@ use Rattle.uug_line.specs.declared.verdict.LineVerdict.{LineVerdict}
 use Rattle.uug_line.specs.declared.verdict.LineVerdict.TheVariants.{Clean, Fooled}
 use Rattle.uug_line.specs.Belongings.{Belongings, SetupValue, identity}
 use Rattle.uug_line.specs.Delivered.{came_in, comes, comes_with, nothing_came, while_clean}
-use Rattle.uug_line.specs.LineEnd.{LineEnd, Log, Participant, after_call, called_with, changed_line, does, found_at, nothing_done, packets_in, took}
+use Rattle.uug_line.specs.LineEndState.{LineEndState, JournalState, Participant, after_call, called_with, changed_line, does, found_at, nothing_done, packets_in, took}
 use Rattle.uug_line.specs.OfBytes.{AreOfBytes, IsOfBytes}
 use Rattle.uug_line.specs.Told.{EndReportValue}
 use Rattle.uug_line.specs.Run.{Run, after_event, after_hearing, calls, calls_again, end_at, first_end, first_run, flipped, goes_through, hears_next, participant, run_of, session_begins, unless_fooled, with_end_at, with_line_to}
@@ -35,12 +35,12 @@ pub record GivesBytes (packets : List PacketValue) (line came : List ℕ) : Type
   pub line_is : All IsRight packets → AllBytes line
   pub came_is : All IsRight packets → AllBytes came
 
-abbrev pub Gives : {C : Type 0} → LineEnd C → (came : List ℕ) → Type 0
+abbrev pub Gives : {C : Type 0} → LineEndState C → (came : List ℕ) → Type 0
 Gives e came = GivesBytes e.log.packets e.line came
 
 -- ---- what an end does
 
-call_gives : {C : Type 0} (log : Log) (line came : List ℕ) (effect : EndEffect C) → SaysBytes effect.emitted
+call_gives : {C : Type 0} (log : JournalState) (line came : List ℕ) (effect : EndEffect C) → SaysBytes effect.emitted
     → GivesBytes log.packets line came → Gives (after_call log line effect) came
 call_gives log line came effect says gives = record {
   line_is = λ right. All-append IsByte line _ (gives.line_is (all_in_front IsRight log.packets (packets_in effect.emitted) right))
@@ -49,12 +49,12 @@ call_gives log line came effect says gives = record {
 }
 
 module _ {C : Type 0} (p : Participant C) (me : AllBytes p.identity.me) where
-  does_gives : (event : EndEvent) (e : LineEnd C) (came : List ℕ) → Gives e came → Gives (does p event e) came
+  does_gives : (event : EndEvent) (e : LineEndState C) (came : List ℕ) → Gives e came → Gives (does p event e) came
   does_gives event e came gives =
       call_gives e.log e.line came (end_step p.keeper p.identity event e.state)
       (step_says p.keeper p.identity e.state.stage event e.state me) gives
 
-  packet_gives : (q : PacketValue) (place : ℕ) (e : LineEnd C) (came : List ℕ) → Gives e came
+  packet_gives : (q : PacketValue) (place : ℕ) (e : LineEndState C) (came : List ℕ) → Gives e came
       → Gives (packet_taken_up p q place e) came
   packet_gives q place e came gives =
       let event : EndEvent = packet_found_whole false q in
@@ -64,22 +64,22 @@ module _ {C : Type 0} (p : Participant C) (me : AllBytes p.identity.me) where
       (subst (λ ps. GivesBytes ps e.line came) (sym (took_packets effect.took (message_of q) (found_at place e.log)))
       (record { line_is = gives.line_is; came_is = gives.came_is }))
 
-  abbrev CameGives : (came : List ℕ) → Arrival (LineEnd C) → Type 0
+  abbrev CameGives : (came : List ℕ) → Arrival (LineEndState C) → Type 0
   CameGives came (all_taken h) = Gives h.end came
   CameGives came (stopped h) = Gives h.end came
 
   module _ (came : List ℕ) (others : List PacketValue) where
-    abbrev MoreGives : (Buffered (LineEnd C) → Arrival (LineEnd C)) → Type 0
-    MoreGives more = (h : Buffered (LineEnd C)) → Gives h.end came → CameGives came (more h)
+    abbrev MoreGives : (Buffered (LineEndState C) → Arrival (LineEndState C)) → Type 0
+    MoreGives more = (h : Buffered (LineEndState C)) → Gives h.end came → CameGives came (more h)
 
-    sent_gives : (more : Buffered (LineEnd C) → Arrival (LineEnd C)) (place : Option ℕ) (q : PacketValue) (from behind : List ℕ)
-        (e : LineEnd C) → MoreGives more → Gives e came
+    sent_gives : (more : Buffered (LineEndState C) → Arrival (LineEndState C)) (place : Option ℕ) (q : PacketValue) (from behind : List ℕ)
+        (e : LineEndState C) → MoreGives more → Gives e came
         → CameGives came (takes_if more (line_taker p others) (takes_sent p q place e) from behind e)
     sent_gives more None q from behind e then_so gives = gives
     sent_gives more (Some place) q from behind e then_so gives =
         then_so (holds (line_taker p others) behind (packet_taken_up p q place e)) (packet_gives q place e came gives)
 
-    taken_gives : (more : Buffered (LineEnd C) → Arrival (LineEnd C)) (x : Finding) (e : LineEnd C) → MoreGives more → Gives e came
+    taken_gives : (more : Buffered (LineEndState C) → Arrival (LineEndState C)) (x : Finding) (e : LineEndState C) → MoreGives more → Gives e came
         → CameGives came (takes_up more (line_taker p others) x e)
     taken_gives more (finds_nothing rest) e then_so gives = gives
     taken_gives more (finds event behind) e then_so gives =
@@ -87,12 +87,12 @@ module _ {C : Type 0} (p : Participant C) (me : AllBytes p.identity.me) where
     taken_gives more (finds_packet q from behind) e then_so gives =
         sent_gives more (place_of q others e.log.passed) q from behind e then_so gives
 
-    takes_gives : (n : ℕ) (h : Buffered (LineEnd C)) → Gives h.end came → CameGives came (takes_up_to n (line_taker p others) h)
+    takes_gives : (n : ℕ) (h : Buffered (LineEndState C)) → Gives h.end came → CameGives came (takes_up_to n (line_taker p others) h)
     takes_gives zero h gives = gives
     takes_gives (suc n) h gives =
         taken_gives (takes_up_to n (line_taker p others)) (finding h.end.state.stage h.held) h.end (takes_gives n) gives
 
-    piece_gives : (piece : List ℕ) (h : Buffered (LineEnd C)) → Gives h.end came
+    piece_gives : (piece : List ℕ) (h : Buffered (LineEndState C)) → Gives h.end came
         → CameGives came (takes_piece (line_taker p others) piece h)
     piece_gives piece h gives =
         takes_gives (suc (length (holds (line_taker p others) (h.held ++ piece) h.end).held))
@@ -104,10 +104,10 @@ module _ {C : Type 0} (p : Participant C) (me : AllBytes p.identity.me) where
 abbrev pub RunGives : {C : Type 0} → Run C → (came : AtBoth (List ℕ)) → Type 0
 RunGives run came = (side : Side) → Gives (end_at side run).end (at (other side) came)
 
-with_gives : {C : Type 0} (side : Side) (h : Buffered (LineEnd C)) (run : Run C) (came : AtBoth (List ℕ))
+with_gives : {C : Type 0} (side : Side) (h : Buffered (LineEndState C)) (run : Run C) (came : AtBoth (List ℕ))
     → Gives h.end (at (other side) came) → RunGives run came → RunGives (with_end_at side h run) came
 with_gives {C} side h run came gives all =
-    with_here (λ (s : Side) (x far : Buffered (LineEnd C)). Gives x.end (at (other s) came)) side h run.ends gives (all (other side))
+    with_here (λ (s : Side) (x far : Buffered (LineEndState C)). Gives x.end (at (other s) came)) side h run.ends gives (all (other side))
 
 -- the bytes from the side become others that are bytes, too
 line_gives : {C : Type 0} (side : Side) (change : List ℕ → List ℕ) (run : Run C) (came : AtBoth (List ℕ))
@@ -141,7 +141,7 @@ flip_stays mask is (b ∷ bytes) all =
     All-cons IsByte (bit_xor b mask) bytes (xor_of_8 b mask (All-head IsByte b bytes all) is) (All-tail IsByte b bytes all)
 
 module _ {C : Type 0} (k : RunKeeper C) (setup : SetupValue) (names : (side : Side) → AllBytes (at side setup).name) where
-  heard_gives : (number : ℕ) (side : Side) (x : Arrival (LineEnd C)) (run : Run C) (came : AtBoth (List ℕ))
+  heard_gives : (number : ℕ) (side : Side) (x : Arrival (LineEndState C)) (run : Run C) (came : AtBoth (List ℕ))
       → CameGives (participant k setup run side) (names side) (at (other side) came) x → RunGives run came
       → RunGives (after_hearing number side x run) came
   heard_gives number side (all_taken h) run came gives all = with_gives side h run came gives all

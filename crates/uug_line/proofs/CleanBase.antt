@@ -20,7 +20,7 @@ use Rattle.uug_session.specs.Finding.{Finding, finding}
 use Rattle.uug_conversation.specs.View.{Seen, floor}
 use Rattle.uug_conversation.specs.declared.side.Side.{Side}
 use Rattle.uug_line.specs.Belongings.{Belongings, SetupValue}
-use Rattle.uug_line.specs.LineEnd.{LineEnd, Log, Participant, bytes_in, does, found_at, messages_sent, packets_in, took}
+use Rattle.uug_line.specs.LineEndState.{LineEndState, JournalState, Participant, bytes_in, does, found_at, messages_sent, packets_in, took}
 use Rattle.uug_line.specs.Run.{parties}
 use Rattle.uug_line.specs.RunKeeper.{view_at}
 use Rattle.uug_line.specs.Sides.{AtBoth, at}
@@ -57,7 +57,7 @@ with_close es = packets_of-append es (only close)
 -- ---- the two ends
 
 -- an end on the line as an end of two links
-abbrev pub as_end : LineEnd Count → End
+abbrev pub as_end : LineEndState Count → End
 as_end e = record {
   link = e.state.link;
   sent = e.log.sent;
@@ -66,37 +66,37 @@ as_end e = record {
   passed = e.log.passed;
 }
 
-abbrev pub with_line : List ℕ → LineEnd Count → LineEnd Count
+abbrev pub with_line : List ℕ → LineEndState Count → LineEndState Count
 with_line line e = record { state = e.state; log = e.log; line = line }
 
 -- how the end on the side sees the conversation, and what takes up what comes to it from the other end
 abbrev pub seen : SetupValue → AtBoth Belongings → Side → List Seen
 seen setup brought side = view_at (parties setup brought) side
 
-abbrev pub receiver : SetupValue → AtBoth Belongings → Side → (others : LineEnd Count) → Receiver (LineEnd Count)
+abbrev pub receiver : SetupValue → AtBoth Belongings → Side → (others : LineEndState Count) → Receiver (LineEndState Count)
 receiver setup brought side others = line_taker (count_player setup brought side) others.log.packets
 
 -- What is known of the end on the side and of the other one, and that it stays so: B holds of them.
-pub record Base (setup : SetupValue) (brought : AtBoth Belongings) (B : Side → LineEnd Count → LineEnd Count → Type 0) : Type 0 where
-  pub turned : (side : Side) (x y : LineEnd Count) → B side x y → B (other side) y x
-  pub turned_back : (side : Side) (x y : LineEnd Count) → B (other side) x y → B side y x
-  pub relined : (side : Side) (line : List ℕ) (x y : LineEnd Count) → B side x y → B side (with_line line x) y
-  pub hears : (side : Side) (p : PacketValue) (place : ℕ) (x y : LineEnd Count) → x.state.stage ≡ linked →
+pub record Base (setup : SetupValue) (brought : AtBoth Belongings) (B : Side → LineEndState Count → LineEndState Count → Type 0) : Type 0 where
+  pub turned : (side : Side) (x y : LineEndState Count) → B side x y → B (other side) y x
+  pub turned_back : (side : Side) (x y : LineEndState Count) → B (other side) x y → B side y x
+  pub relined : (side : Side) (line : List ℕ) (x y : LineEndState Count) → B side x y → B side (with_line line x) y
+  pub hears : (side : Side) (p : PacketValue) (place : ℕ) (x y : LineEndState Count) → x.state.stage ≡ linked →
       place_of p y.log.packets x.log.passed ≡ Some place → B side x y →
       B side (packet_taken_up (count_player setup brought side) p place x) y
-  pub waits : (side : Side) (x y : LineEnd Count) → B side x y →
+  pub waits : (side : Side) (x y : LineEndState Count) → B side x y →
       B side (does (count_player setup brought side) time_ran_out x) y
   pub window : (side : Side) → IsWindow (at side setup).own.window
-  pub plain : (side : Side) (x y : LineEnd Count) → B side x y → IsPlain x.state.link
-  pub run : (side : Side) (x y : LineEnd Count) → B side x y →
+  pub plain : (side : Side) (x y : LineEndState Count) → B side x y → IsPlain x.state.link
+  pub run : (side : Side) (x y : LineEndState Count) → B side x y →
       IsRun (at side setup).own (at (other side) setup).own (record { near = as_end x; far = as_end y })
-  pub formed : (side : Side) (x y : LineEnd Count) → B side x y → All IsWellFormed x.log.packets
-  pub opened : (side : Side) (x y : LineEnd Count) → B side x y → IsUp x.state.link → x.state.keeper.opened ≡ true
-  pub sent : (side : Side) (x y : LineEnd Count) → B side x y → x.state.keeper.sent ≡ length x.log.sent
-  pub taken : (side : Side) (x y : LineEnd Count) → B side x y → x.state.keeper.taken ≡ length x.log.taken
-  pub to_floor : (side : Side) (x y : LineEnd Count) → B side x y →
+  pub formed : (side : Side) (x y : LineEndState Count) → B side x y → All IsWellFormed x.log.packets
+  pub opened : (side : Side) (x y : LineEndState Count) → B side x y → IsUp x.state.link → x.state.keeper.opened ≡ true
+  pub sent : (side : Side) (x y : LineEndState Count) → B side x y → x.state.keeper.sent ≡ length x.log.sent
+  pub taken : (side : Side) (x y : LineEndState Count) → B side x y → x.state.keeper.taken ≡ length x.log.taken
+  pub to_floor : (side : Side) (x y : LineEndState Count) → B side x y →
       length x.log.sent ≤ floor (length x.log.taken) (seen setup brought side)
-  pub spoken : (side : Side) (x y : LineEnd Count) → B side x y → HasSpoken (count_keeper (seen setup brought side)) x.state
+  pub spoken : (side : Side) (x y : LineEndState Count) → B side x y → HasSpoken (count_keeper (seen setup brought side)) x.state
 
 -- ---- packets that come
 
@@ -158,19 +158,19 @@ more_coming from then to ps more is coming = record {
 
 -- ---- what is written down with a packet
 
-pub took_packets : (b : Bool) (message : List ℕ) (place : ℕ) (log : Log) → (took b message (found_at place log)).packets ≡ log.packets
+pub took_packets : (b : Bool) (message : List ℕ) (place : ℕ) (log : JournalState) → (took b message (found_at place log)).packets ≡ log.packets
 took_packets true message place log = refl
 took_packets false message place log = refl
 
-pub took_passed : (b : Bool) (message : List ℕ) (place : ℕ) (log : Log) → (took b message (found_at place log)).passed ≡ suc place
+pub took_passed : (b : Bool) (message : List ℕ) (place : ℕ) (log : JournalState) → (took b message (found_at place log)).passed ≡ suc place
 took_passed true message place log = refl
 took_passed false message place log = refl
 
-pub took_sent : (b : Bool) (message : List ℕ) (place : ℕ) (log : Log) → (took b message (found_at place log)).sent ≡ log.sent
+pub took_sent : (b : Bool) (message : List ℕ) (place : ℕ) (log : JournalState) → (took b message (found_at place log)).sent ≡ log.sent
 took_sent true message place log = refl
 took_sent false message place log = refl
 
-pub took_more : (b : Bool) (message : List ℕ) (place : ℕ) (log : Log) →
+pub took_more : (b : Bool) (message : List ℕ) (place : ℕ) (log : JournalState) →
     length log.taken ≤ length (took b message (found_at place log)).taken
 took_more true message place log = omega (arith, length-append log.taken (message ∷ []))
 took_more false message place log = omega arith
@@ -178,16 +178,16 @@ took_more false message place log = omega arith
 -- ---- what comes to an end is taken up
 
 -- These bytes have come to the end on the side, which then stands so.
-pub record Came (setup : SetupValue) (brought : AtBoth Belongings) (B : Side → LineEnd Count → LineEnd Count → Type 0)
-    (side : Side) (x y then : LineEnd Count) (bytes : List ℕ) : Type 0 where
+pub record Came (setup : SetupValue) (brought : AtBoth Belongings) (B : Side → LineEndState Count → LineEndState Count → Type 0)
+    (side : Side) (x y then : LineEndState Count) (bytes : List ℕ) : Type 0 where
   pub base : B side then x
   pub same : (tail : List ℕ) → takes_all (receiver setup brought side x) (holds (receiver setup brought side x) (bytes ++ tail) y)
       ≡ takes_all (receiver setup brought side x) (holds (receiver setup brought side x) tail then)
   pub sent : length y.log.sent ≤ length then.log.sent
   pub taken : length y.log.taken ≤ length then.log.taken
 
-pub came_on : (setup : SetupValue) (brought : AtBoth Belongings) (B : Side → LineEnd Count → LineEnd Count → Type 0)
-    (side : Side) (x a b c : LineEnd Count) (first later : List ℕ) → Came setup brought B side x a b first →
+pub came_on : (setup : SetupValue) (brought : AtBoth Belongings) (B : Side → LineEndState Count → LineEndState Count → Type 0)
+    (side : Side) (x a b c : LineEndState Count) (first later : List ℕ) → Came setup brought B side x a b first →
     Came setup brought B side x b c later → Came setup brought B side x a c (first ++ later)
 came_on setup brought B side x a b c first later one two =
     let t = receiver setup brought side x in
@@ -199,8 +199,8 @@ came_on setup brought B side x a b c first later one two =
       taken = omega (arith, one.taken, two.taken);
     }
 
-pub nothing_came : (setup : SetupValue) (brought : AtBoth Belongings) (B : Side → LineEnd Count → LineEnd Count → Type 0)
-    (side : Side) (x y : LineEnd Count) → B side y x → Came setup brought B side x y y []
+pub nothing_came : (setup : SetupValue) (brought : AtBoth Belongings) (B : Side → LineEndState Count → LineEndState Count → Type 0)
+    (side : Side) (x y : LineEndState Count) → B side y x → Came setup brought B side x y y []
 nothing_came setup brought B side x y base = record {
   base = base;
   same = λ tail. refl;
@@ -209,8 +209,8 @@ nothing_came setup brought B side x y base = record {
 }
 
 -- a packet was found at its place
-pub came_so : (setup : SetupValue) (brought : AtBoth Belongings) (B : Side → LineEnd Count → LineEnd Count → Type 0) →
-    Base setup brought B → (side : Side) (x y : LineEnd Count) (p : PacketValue) (place : ℕ) → y.state.stage ≡ linked →
+pub came_so : (setup : SetupValue) (brought : AtBoth Belongings) (B : Side → LineEndState Count → LineEndState Count → Type 0) →
+    Base setup brought B → (side : Side) (x y : LineEndState Count) (p : PacketValue) (place : ℕ) → y.state.stage ≡ linked →
     IsWellFormed p → place_of p x.log.packets y.log.passed ≡ Some place → B side y x →
     Came setup brought B side x y (packet_taken_up (count_player setup brought side) p place y) (canonical p)
 came_so setup brought B base side x y p place on formed there is =
@@ -222,7 +222,7 @@ came_so setup brought B base side x y p place on formed there is =
       base = base.hears side p place y x on there is;
       same = λ tail.
           let bytes = canonical p ++ tail in
-          takes_next (LineEnd Count) t bytes y
+          takes_next (LineEndState Count) t bytes y
           ∙ ap (λ (f : Finding). takes_up (takes_all t) t f y)
           (ap (λ (stage : Stage). finding stage bytes) on ∙ found_first p tail formed)
           ∙ ap (λ (o : Option ℕ). takes_if (takes_all t) t (takes_sent participant p o y) bytes tail y) there;
@@ -230,7 +230,7 @@ came_so setup brought B base side x y p place on formed there is =
       taken = took_more eff.took (message_of p) place y.log;
     }
   where
-    with_effect : Participant Count → PacketValue → LineEnd Count → EndEffect Count
+    with_effect : Participant Count → PacketValue → LineEndState Count → EndEffect Count
     with_effect participant p y = end_step participant.keeper participant.identity (packet_found_whole false p) y.state
 
     sent_more : (eff : EndEffect Count) →

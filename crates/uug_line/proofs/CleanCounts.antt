@@ -18,7 +18,7 @@ use Rattle.uug_conversation.specs.View.{Seen, floor, others_messages, own_messag
 use Rattle.uug_conversation.specs.declared.side.Side.{Side}
 use Rattle.uug_conversation.specs.declared.side.Side.TheVariants.{Caller, Called}
 use Rattle.uug_line.specs.Belongings.{Belongings, SetupValue, party}
-use Rattle.uug_line.specs.LineEnd.{LineEnd}
+use Rattle.uug_line.specs.LineEndState.{LineEndState}
 use Rattle.uug_line.specs.Sides.{AtBoth, at}
 use Rattle.uug_line.proofs.CleanBase.{Base, as_end, seen}
 use Rattle.uug_line.proofs.CleanItems.{Talks}
@@ -141,44 +141,44 @@ room_with s is below =
 
 -- ---- two ends
 
-module _ (setup : SetupValue) (brought : AtBoth Belongings) (B : Side → LineEnd Count → LineEnd Count → Type 0)
+module _ (setup : SetupValue) (brought : AtBoth Belongings) (B : Side → LineEndState Count → LineEndState Count → Type 0)
     (base : Base setup brought B) where
-  abbrev CountedTo : (side : Side) (x y : LineEnd Count) → Type 0
+  abbrev CountedTo : (side : Side) (x y : LineEndState Count) → Type 0
   CountedTo side x y = AreCounted (as_end x) (as_end y) (at (other side) setup).own.window
 
-  pub counted_to : (side : Side) (x y : LineEnd Count) → B side x y → CountedTo side x y
+  pub counted_to : (side : Side) (x y : LineEndState Count) → B side x y → CountedTo side x y
   counted_to side x y is =
       (links_counted (at side setup).own (at (other side) setup).own (record { near = as_end x; far = as_end y })
       (base.window side) (base.window (other side)) (base.run side x y is)).0
 
-  pub counted_back : (side : Side) (x y : LineEnd Count) → B side x y →
+  pub counted_back : (side : Side) (x y : LineEndState Count) → B side x y →
       AreCounted (as_end y) (as_end x) (at side setup).own.window
   counted_back side x y is =
       (links_counted (at side setup).own (at (other side) setup).own (record { near = as_end x; far = as_end y })
       (base.window side) (base.window (other side)) (base.run side x y is)).1
 
-  pub few : (side : Side) (x y : LineEnd Count) → B side x y → length x.state.link.unacked ≤ 7
+  pub few : (side : Side) (x y : LineEndState Count) → B side x y → length x.state.link.unacked ≤ 7
   few side x y is =
       let within = (links_unacked (at side setup).own (at (other side) setup).own (record { near = as_end x; far = as_end y })
       (base.window side) (base.window (other side)) (base.run side x y is)).0 in
       omega (arith, within, (base.window (other side)).1)
 
   -- where nothing is on the way any more all is taken
-  pub all_came : (side : Side) (x y : LineEnd Count) → B side x y → BringAll x.state.link y.state.link [] →
+  pub all_came : (side : Side) (x y : LineEndState Count) → B side x y → BringAll x.state.link y.state.link [] →
       length y.log.taken ≡ length x.log.sent
   all_came side x y is brings =
       let c = counted_to side x y is in
       omega (arith, brings, c.next, c.expected, c.were_taken, c.were_sent, c.few, (base.window (other side)).1)
 
   -- and where that is told nothing is outstanding
-  pub none_outstanding : (side : Side) (x y : LineEnd Count) → B side x y → length y.log.taken ≡ length x.log.sent →
+  pub none_outstanding : (side : Side) (x y : LineEndState Count) → B side x y → length y.log.taken ≡ length x.log.sent →
       TellAll y.state.link x.state.link [] → length x.state.link.unacked ≡ 0
   none_outstanding side x y is all told =
       let c = counted_to side x y is in
       omega (arith, all, told, c.next, c.expected, c.oldest, few side x y is)
 
   -- an end that talks and has nothing outstanding has said what it may
-  said_to_floor : (side : Side) (x y : LineEnd Count) → B side x y → Talks x → length x.state.link.unacked ≡ 0 →
+  said_to_floor : (side : Side) (x y : LineEndState Count) → B side x y → Talks x → length x.state.link.unacked ≡ 0 →
       floor (length x.log.taken) (seen setup brought side) ≤ length x.log.sent
   said_to_floor side x y is talks none =
       by (subst (λ (stage : Stage). SaidAt k stage x.state.link x.state.keeper) talks.stage (base.spoken side x y is).said)
@@ -203,7 +203,7 @@ module _ (setup : SetupValue) (brought : AtBoth Belongings) (B : Side → LineEn
           (nothing_next (seen setup brought side) x.state.keeper (base.opened side x y is talks.is_up) nothing))
 
   -- an end that talks isn't over
-  pub goes_on : (side : Side) (x y : LineEnd Count) → B side x y → Talks x →
+  pub goes_on : (side : Side) (x y : LineEndState Count) → B side x y → Talks x →
       length (own_messages (seen setup brought side)) ≤ length x.log.sent →
       length (others_messages (seen setup brought side)) ≤ length x.log.taken → ⊥
   goes_on side x y is talks sent took =
@@ -216,7 +216,7 @@ module _ (setup : SetupValue) (brought : AtBoth Belongings) (B : Side → LineEn
       (subst (λ (n : ℕ). length (others_messages v) ≤ n) (sym (base.taken side x y is)) took)) ∙ open_still)
 
   -- So two ends that talk are not both without anything outstanding, all being taken.
-  pub stuck : (side : Side) (x y : LineEnd Count) → B side x y → Talks x → Talks y →
+  pub stuck : (side : Side) (x y : LineEndState Count) → B side x y → Talks x → Talks y →
       length y.log.taken ≡ length x.log.sent → length x.log.taken ≡ length y.log.sent →
       length x.state.link.unacked ≡ 0 → length y.state.link.unacked ≡ 0 → ⊥
   stuck side x y is x_talks y_talks there back x_none y_none =
@@ -231,7 +231,7 @@ module _ (setup : SetupValue) (brought : AtBoth Belongings) (B : Side → LineEn
       (subst (λ (n : ℕ). n ≤ length x.log.taken) (sym (others_is_own setup brought side)) said.1)
 
   -- where the one has closed, all being said and taken, and the other has taken all, that is over too
-  pub over_too : (side : Side) (x y : LineEnd Count) → B side x y → (count_keeper (seen setup brought side)).is_over x.state.keeper ≡ true →
+  pub over_too : (side : Side) (x y : LineEndState Count) → B side x y → (count_keeper (seen setup brought side)).is_over x.state.keeper ≡ true →
       length y.log.taken ≡ length x.log.sent → Talks y → ⊥
   over_too side x y is over there talks =
       let o = over_at (seen setup brought side) x.state.keeper over in

@@ -172,7 +172,7 @@ closing_ends number v id before c over =
       took = false;
     }) (over_has_parted c.opened (all_sent v c) (all_taken v c) over)
 
--- ---- nothing has come for some time
+-- ---- a timeout
 
 -- what is outstanding goes out again, and the end talks on
 pub record WaitsOn (s : State) (c : Count) (x : EndEffect Count) : Type 0 where

@@ -18,7 +18,7 @@ use Rattle.uug_session.specs.EndStep.{EndEffect, EndState, Emitted, end_step, li
 use Rattle.uug_conversation.specs.View.{Seen}
 use Rattle.uug_conversation.specs.declared.side.Side.{Side}
 use Rattle.uug_line.specs.Belongings.{Belongings, SetupValue}
-use Rattle.uug_line.specs.LineEnd.{LineEnd, bytes_in, found_at, packets_in, took}
+use Rattle.uug_line.specs.LineEndState.{LineEndState, bytes_in, found_at, packets_in, took}
 use Rattle.uug_line.specs.Sides.{AtBoth, at}
 use Rattle.uug_line.specs.Taking.{packet_taken_up, with_packet}
 use Rattle.uug_line.proofs.CleanBase.{Base, Came, as_end, bytes_written, came_so, more_coming, next_found, packets_written, seen, still_coming, took_packets, took_passed, with_close, written, written-append}
@@ -30,24 +30,24 @@ use Rattle.uug_link.proofs.CountsRuns.{counted as links_counted}
 -- ---- an end that talks, while packets come to it from the other end x and others behind them
 
 -- on a link that is up
-pub record Talks (y : LineEnd Count) : Type 0 where
+pub record Talks (y : LineEndState Count) : Type 0 where
   pub stage : y.state.stage ≡ linked
   pub is_up : IsUp y.state.link
 
 -- they bring all that was sent
-pub record There (x y : LineEnd Count) (ps behind : List PacketValue) : Type 0 where
+pub record There (x y : LineEndState Count) (ps behind : List PacketValue) : Type 0 where
   pub coming : AreComing (as_end x) (as_end y) (ps ++ behind)
   pub talk : All IsTalk ps
   pub brings : BringAll x.state.link y.state.link ps
 
 -- just these stand on the way back
-pub record Back (x y : LineEnd Count) (qs : List PacketValue) : Type 0 where
+pub record Back (x y : LineEndState Count) (qs : List PacketValue) : Type 0 where
   pub line : y.line ≡ written qs
   pub coming : AreComing (as_end y) (as_end x) qs
   pub talk : All IsTalk qs
 
 -- and what else is known of its link and of both ways
-pub record Open (K : State → List PacketValue → List PacketValue → Type 0) (x y : LineEnd Count)
+pub record Open (K : State → List PacketValue → List PacketValue → Type 0) (x y : LineEndState Count)
     (ps behind qs : List PacketValue) : Type 0 where
   pub talks : Talks y
   pub there : There x y ps behind
@@ -61,7 +61,7 @@ StaysKnown K = (p : PacketValue) (a b : State) (ps qs answer : List PacketValue)
 
 -- ---- an end that has closed where all is said and taken: CLOSE is its last packet
 
-pub record Shutting (v : List Seen) (x y : LineEnd Count) : Type 0 where
+pub record Shutting (v : List Seen) (x y : LineEndState Count) : Type 0 where
   pub before : State
   pub count : Count
   pub number : Option ℕ
@@ -73,7 +73,7 @@ pub record Shutting (v : List Seen) (x y : LineEnd Count) : Type 0 where
   pub talk : All IsTalk last
 
 -- what was known when it closed
-pub record ShutsWith (v : List Seen) (K : State → List PacketValue → List PacketValue → Type 0) (x y : LineEnd Count) :
+pub record ShutsWith (v : List Seen) (K : State → List PacketValue → List PacketValue → Type 0) (x y : LineEndState Count) :
     Type 0 where
   pub shutting : Shutting v x y
   pub ps : List PacketValue
@@ -81,10 +81,10 @@ pub record ShutsWith (v : List Seen) (K : State → List PacketValue → List Pa
 
 -- ---- what follows of one packet
 
-pub record Heard (setup : SetupValue) (brought : AtBoth Belongings) (B : Side → LineEnd Count → LineEnd Count → Type 0)
-    (side : Side) (K : State → List PacketValue → List PacketValue → Type 0) (x y : LineEnd Count) (p : PacketValue)
+pub record Heard (setup : SetupValue) (brought : AtBoth Belongings) (B : Side → LineEndState Count → LineEndState Count → Type 0)
+    (side : Side) (K : State → List PacketValue → List PacketValue → Type 0) (x y : LineEndState Count) (p : PacketValue)
     (ps behind qs : List PacketValue) : Type 0 where
-  pub then : LineEnd Count
+  pub then : LineEndState Count
   pub came : Came setup brought B side x y then (canonical p)
   pub coming : AreComing (as_end x) (as_end then) (ps ++ behind)
   pub how : ((answer : List PacketValue) × Open K x then ps behind (qs ++ answer))
@@ -99,16 +99,16 @@ same_state : (e : EndState Count) (before : State) → e.stage ≡ linked → e.
     e ≡ closing_end e.number before e.keeper
 same_state e before on is = ap₂ (λ stage link. record { stage = stage; link = link; keeper = e.keeper; number = e.number }) on is
 
-module _ (setup : SetupValue) (brought : AtBoth Belongings) (B : Side → LineEnd Count → LineEnd Count → Type 0)
+module _ (setup : SetupValue) (brought : AtBoth Belongings) (B : Side → LineEndState Count → LineEndState Count → Type 0)
     (base : Base setup brought B) (side : Side) where
-  pub formed_there : (x y : LineEnd Count) (p : PacketValue) (ps : List PacketValue) → B side y x →
+  pub formed_there : (x y : LineEndState Count) (p : PacketValue) (ps : List PacketValue) → B side y x →
       AreComing (as_end x) (as_end y) (p ∷ ps) → IsWellFormed p
   formed_there x y p ps is coming =
       all_there IsWellFormed coming.before p ps
       (subst (λ (l : List PacketValue). All IsWellFormed l) coming.emitted
       (base.formed (other side) x y (base.turned side y x is)))
 
-  expected_low : (x y : LineEnd Count) → B side y x → y.state.link.expected < 8
+  expected_low : (x y : LineEndState Count) → B side y x → y.state.link.expected < 8
   expected_low x y is =
       let counted = (links_counted (at side setup).own (at (other side) setup).own (record { near = as_end y; far = as_end x })
       (base.window side) (base.window (other side)) (base.run side y x is)).1 in
@@ -117,19 +117,19 @@ module _ (setup : SetupValue) (brought : AtBoth Belongings) (B : Side → LineEn
   -- ---- an end that talks
 
   -- what it emitted stands behind what was on its line
-  line_then : (y : LineEnd Count) (qs more : List PacketValue) (emitted : List Emitted) → y.line ≡ written qs →
+  line_then : (y : LineEndState Count) (qs more : List PacketValue) (emitted : List Emitted) → y.line ≡ written qs →
       bytes_in emitted ≡ written more → y.line ++ bytes_in emitted ≡ written (qs ++ more)
   line_then y qs more emitted line is =
       ap₂ (λ (a b : List ℕ). a ++ b) line is ∙ sym (written-append qs more)
 
-  packets_then : (y : LineEnd Count) (place : ℕ) (took_it : Bool) (message : List ℕ) (more : List PacketValue)
+  packets_then : (y : LineEndState Count) (place : ℕ) (took_it : Bool) (message : List ℕ) (more : List PacketValue)
       (emitted : List Emitted) → packets_in emitted ≡ more →
       (took took_it message (found_at place y.log)).packets ++ packets_in emitted ≡ y.log.packets ++ more
   packets_then y place took_it message more emitted is =
       ap₂ (λ (a b : List PacketValue). a ++ b) (took_packets took_it message place y.log) is
 
   open_then : (K : State → List PacketValue → List PacketValue → Type 0) → StaysKnown K →
-      (x y : LineEnd Count) (p : PacketValue) (ps behind qs : List PacketValue) (place : ℕ) (eff : EndEffect Count) →
+      (x y : LineEndState Count) (p : PacketValue) (ps behind qs : List PacketValue) (place : ℕ) (eff : EndEffect Count) →
       IsPlain y.state.link → Open K x y (p ∷ ps) behind qs →
       AreComing (as_end x) (as_end (with_packet p place y eff)) (ps ++ behind) → TalksOn p y.state.link eff →
       (answer : List PacketValue) × Open K x (with_packet p place y eff) ps behind (qs ++ answer)
@@ -156,7 +156,7 @@ module _ (setup : SetupValue) (brought : AtBoth Belongings) (B : Side → LineEn
       )
 
   shut_then : (K : State → List PacketValue → List PacketValue → Type 0) → StaysKnown K →
-      (x y : LineEnd Count) (p : PacketValue) (ps behind qs : List PacketValue) (place : ℕ) (eff : EndEffect Count) →
+      (x y : LineEndState Count) (p : PacketValue) (ps behind qs : List PacketValue) (place : ℕ) (eff : EndEffect Count) →
       IsPlain y.state.link → Open K x y (p ∷ ps) behind qs → ClosesThen (seen setup brought side) p y.state.link eff →
       ShutsWith (seen setup brought side) K x (with_packet p place y eff)
   shut_then K stays x y p ps behind qs place eff plain o shut =
@@ -187,7 +187,7 @@ module _ (setup : SetupValue) (brought : AtBoth Belongings) (B : Side → LineEn
       }
 
   how_then : (K : State → List PacketValue → List PacketValue → Type 0) → StaysKnown K →
-      (x y : LineEnd Count) (p : PacketValue) (ps behind qs : List PacketValue) (place : ℕ) (eff : EndEffect Count) →
+      (x y : LineEndState Count) (p : PacketValue) (ps behind qs : List PacketValue) (place : ℕ) (eff : EndEffect Count) →
       IsPlain y.state.link → Open K x y (p ∷ ps) behind qs →
       AreComing (as_end x) (as_end (with_packet p place y eff)) (ps ++ behind) →
       TalksOrCloses (seen setup brought side) p y.state.link eff →
@@ -199,7 +199,7 @@ module _ (setup : SetupValue) (brought : AtBoth Belongings) (B : Side → LineEn
       inr (shut_then K stays x y p ps behind qs place eff plain o shut)
 
   pub heard : (K : State → List PacketValue → List PacketValue → Type 0) → StaysKnown K →
-      (x y : LineEnd Count) (p : PacketValue) (ps behind qs : List PacketValue) → B side y x → Open K x y (p ∷ ps) behind qs →
+      (x y : LineEndState Count) (p : PacketValue) (ps behind qs : List PacketValue) → B side y x → Open K x y (p ∷ ps) behind qs →
       Heard setup brought B side K x y p ps behind qs
   heard K stays x y p ps behind qs is o =
       let at_place = next_found (as_end x) (as_end y) p (ps ++ behind) o.there.coming in

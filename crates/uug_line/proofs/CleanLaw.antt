@@ -18,7 +18,7 @@ use Rattle.uug_conversation.specs.declared.side.Side.TheVariants.{Caller, Called
 use Rattle.uug_line.specs.declared.verdict.LineVerdict.{LineVerdict}
 use Rattle.uug_line.specs.declared.verdict.LineVerdict.TheVariants.{Clean}
 use Rattle.uug_line.specs.Belongings.{Belongings, SetupValue}
-use Rattle.uug_line.specs.LineEnd.{LineEnd}
+use Rattle.uug_line.specs.LineEndState.{LineEndState}
 use Rattle.uug_line.specs.OfBytes.{AreOfTypes}
 use Rattle.uug_line.specs.Run.{Run, end_at, first_run, goes_through, parties}
 use Rattle.uug_line.specs.RunKeeper.{by_numbers, has_after, has_by}
@@ -71,12 +71,12 @@ module _ (setup : SetupValue) where
     base = base_of_pairs setup brought sound announces plain
 
     -- each of the other's messages is taken
-    record TakesAll (side : Side) (x : LineEnd Count) : Type 0 where
+    record TakesAll (side : Side) (x : LineEndState Count) : Type 0 where
       opened : x.state.keeper.opened ≡ true
       number : x.state.keeper.taken ≡ length (others_messages (seen setup brought side))
       taken : x.log.taken ≡ others_messages (seen setup brought side)
 
-    takes_all : (side : Side) (x y : LineEnd Count) → IsPair setup brought side x y →
+    takes_all : (side : Side) (x y : LineEndState Count) → IsPair setup brought side x y →
         (count_keeper (seen setup brought side)).is_over x.state.keeper ≡ true → TakesAll side x
     takes_all side x y is over =
         let v = seen setup brought side in
@@ -89,7 +89,7 @@ module _ (setup : SetupValue) where
               ∙ take_all (length x.log.taken) (others_messages v) (omega (arith, o.taken, count));
         }
 
-    settled : (side : Side) (past : List (AtBoth EndReportValue)) (x y : LineEnd Count) →
+    settled : (side : Side) (past : List (AtBoth EndReportValue)) (x y : LineEndState Count) →
         (let e = (end_at side (run_with past brought x y)).end in
         e.state.stage ≡ ended ends.Done → TakesAll side e → EndIsSettled by_numbers setup (run_with past brought x y) side)
     settled side past x y done t =
@@ -101,7 +101,7 @@ module _ (setup : SetupValue) where
               (length (others_messages (seen setup brought side))) t.opened t.number;
         }
 
-    both_settled : (past : List (AtBoth EndReportValue)) (x y : LineEnd Count) → IsPair setup brought Caller x y →
+    both_settled : (past : List (AtBoth EndReportValue)) (x y : LineEndState Count) → IsPair setup brought Caller x y →
         DonePair (seen setup brought Caller) (seen setup brought Called) x y →
         IsSettled by_numbers setup (run_with past brought x y)
     both_settled past x y is d = record { clean = refl; ends = ends_so }
@@ -112,7 +112,7 @@ module _ (setup : SetupValue) where
 
     -- ---- from two ends that may settle
 
-    settles_pair : (number : ℕ) (past : List (AtBoth EndReportValue)) (x y : LineEnd Count) → IsPair setup brought Caller x y →
+    settles_pair : (number : ℕ) (past : List (AtBoth EndReportValue)) (x y : LineEndState Count) → IsPair setup brought Caller x y →
         MaySettle (run_with past brought x y) → SettlesFrom setup number (run_with past brought x y)
     settles_pair number past x y is may =
         let B = IsPair setup brought in
@@ -171,7 +171,7 @@ module _ (setup : SetupValue) where
           let there = (end_at (other side) run).end in
           sym (ap (λ (a : Announced). a.quiet) (pair_own setup run.brought stands.sound announces side (counted_end here) (counted_end there)
           (pair side here there (stands.joined side))))
-          ∙ subst (λ (h : Buffered (LineEnd Count)). IsPlain h.end.state.link) (counted_at run side) (may.ends side).plain
+          ∙ subst (λ (h : Buffered (LineEndState Count)). IsPlain h.end.state.link) (counted_at run side) (may.ends side).plain
 
   announcements : (events : List Event) → AreOfTypes setup events → (side : Side) → IsAnnouncement (at side setup).own
   announcements events types side =

@@ -8,7 +8,7 @@ use Rattle.uug_packet.specs.Packet.{close, rr, init_c, init_b, init_a, control, 
 use Rattle.uug_session.specs.declared.end.End.TheVariants.{Done}
 use Rattle.uug_conversation.specs.MemoryHoldings.{no_holdings}
 use Rattle.uug_line.specs.declared.verdict.LineVerdict.TheVariants.{Clean}
-use Rattle.uug_line.specs.LineEnd.{Log}
+use Rattle.uug_line.specs.LineEndState.{JournalState}
 use Rattle.uug_session.specs.declared.phase.Phase.TheVariants.{Ended}
 use Rattle.uug_line.proofs.FactSetups.{cannot_place_y, denies_y, end_of_size, file, flow, gives, puts_y_off, q, request, send, sends_to, text, trickle, two_ends, x, y}
 use Rattle.uug_line.proofs.Summaries.{InSession, Has, Summary, ComeTo, Logs, at_ends, talks, owns}
@@ -91,7 +91,7 @@ size_is_the_others = record { themselves = refl; numbers = refl; same = refl }
 abbrev the_send : List ℕ
 the_send = text (codes "S x y u - D.0 0644")
 
-abbrev caller_log : Log
+abbrev caller_log : JournalState
 caller_log = record {
   sent = the_send ∷ [] ∷ text (codes "H") ∷ text (codes "HY") ∷ [];
   taken = text (codes "SY") ∷ text (codes "CY") ∷ text (codes "HY") ∷ [];
@@ -105,7 +105,7 @@ caller_log = record {
   most = 1;
 }
 
-abbrev called_log : Log
+abbrev called_log : JournalState
 called_log = record {
   sent = text (codes "SY") ∷ text (codes "CY") ∷ text (codes "HY") ∷ [];
   taken = the_send ∷ [] ∷ text (codes "H") ∷ text (codes "HY") ∷ [];

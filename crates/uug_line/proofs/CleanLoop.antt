@@ -11,8 +11,8 @@ use Rattle.uug_conversation.specs.declared.side.Side.{Side}
 use Rattle.uug_conversation.specs.declared.side.Side.TheVariants.{Caller, Called}
 use Rattle.uug_line.specs.declared.verdict.LineVerdict.TheVariants.{Clean, Fooled}
 use Rattle.uug_line.specs.Belongings.{SetupValue}
-use Rattle.uug_line.specs.LineEnd.{LineEnd}
-use Rattle.uug_line.specs.Live.{IsCalled}
+use Rattle.uug_line.specs.LineEndState.{LineEndState}
+use Rattle.uug_line.specs.LineEndValue.{IsCalled}
 use Rattle.uug_line.specs.Run.{Run, after_event, end_at}
 use Rattle.uug_line.specs.RunKeeper.{by_numbers, by_themselves}
 use Rattle.uug_line.specs.RunValue.{Happens, HappensAt, Passes, RunValue, StandsAs, hearing_side}
@@ -86,15 +86,15 @@ module _ (setup : SetupValue) (sound : IsSoundSetup setup) where
   line_is : (side : Side) (events : List Event) (r : RunValue) → IsAt events r → line_from side (world setup events) ≡ (at side r.ends).line
   line_is side events r stands =
       ap (λ (run : Run Count). line_from side run) (sym (is_world events))
-      ∙ ap (λ (h : Buffered (LineEnd Count)). h.end.line) (counted_at (run_of_ends setup events) side)
-      ∙ ap (λ (h : Buffered (LineEnd DialogueState)). h.end.line) (stands.ends side).hearer
+      ∙ ap (λ (h : Buffered (LineEndState Count)). h.end.line) (counted_at (run_of_ends setup events) side)
+      ∙ ap (λ (h : Buffered (LineEndState DialogueState)). h.end.line) (stands.ends side).hearer
 
   stage_is : (side : Side) (events : List Event) (r : RunValue) → IsAt events r →
       (end_at side (world setup events)).end.state.stage ≡ (at side r.ends).node.engine.stage
   stage_is side events r stands =
       ap (λ (run : Run Count). (end_at side run).end.state.stage) (sym (is_world events))
-      ∙ ap (λ (h : Buffered (LineEnd Count)). h.end.state.stage) (counted_at (run_of_ends setup events) side)
-      ∙ ap (λ (h : Buffered (LineEnd DialogueState)). h.end.state.stage) (stands.ends side).hearer
+      ∙ ap (λ (h : Buffered (LineEndState Count)). h.end.state.stage) (counted_at (run_of_ends setup events) side)
+      ∙ ap (λ (h : Buffered (LineEndState DialogueState)). h.end.state.stage) (stands.ends side).hearer
 
   world_over : (events : List Event) (r : RunValue) → IsAt events r → AreOver r → IsOver (world setup events)
   world_over events r stands over = (stage_is Caller events r stands ∙ over.0, stage_is Called events r stands ∙ over.1)
@@ -104,7 +104,7 @@ module _ (setup : SetupValue) (sound : IsSoundSetup setup) where
 
   weight_is : (events : List Event) (r : RunValue) → IsAt events r → run_weight (world setup events) ≡ parts_weight r
   weight_is events r stands =
-      let weight : (a b : Buffered (LineEnd DialogueState)) → ℕ = λ a b.
+      let weight : (a b : Buffered (LineEndState DialogueState)) → ℕ = λ a b.
       (length a.end.log.taken + length b.end.log.taken) + (length a.end.log.sent + length b.end.log.sent)
       + (one_if_over a.end.state.stage + one_if_over b.end.state.stage) in
       ap (λ (run : Run Count). run_weight run) (sym (is_world events)) ∙ ap₂ weight (stands.ends Caller).hearer (stands.ends Called).hearer

@@ -17,7 +17,7 @@ use Rattle.uug_conversation.specs.View.{floor, others_messages}
 use Rattle.uug_conversation.specs.declared.side.Side.{Side}
 use Rattle.uug_conversation.specs.declared.side.Side.TheVariants.{Caller, Called}
 use Rattle.uug_line.specs.Belongings.{Belongings, SetupValue}
-use Rattle.uug_line.specs.LineEnd.{LineEnd, does}
+use Rattle.uug_line.specs.LineEndState.{LineEndState, does}
 use Rattle.uug_line.specs.Sides.{AtBoth, at}
 use Rattle.uug_line.specs.Speaking.{HasSpoken}
 use Rattle.uug_line.specs.Taking.{packet_taken_up}
@@ -33,8 +33,8 @@ use Rattle.uug_link.proofs.TwoLinksRuns.{owns}
 use Rattle.uug_link.proofs.WrittenRuns.{always_written}
 
 -- the ends themselves are joined
-pub data IsPair (setup : SetupValue) (brought : AtBoth Belongings) : Side → LineEnd Count → LineEnd Count → Type 0 where
-  pair : (side : Side) (e f : LineEnd DialogueState) → EndsJoined setup brought side e f →
+pub data IsPair (setup : SetupValue) (brought : AtBoth Belongings) : Side → LineEndState Count → LineEndState Count → Type 0 where
+  pair : (side : Side) (e f : LineEndState DialogueState) → EndsJoined setup brought side e f →
       IsPair setup brought side (counted_end e) (counted_end f)
 
 -- ---- what is said of the ends themselves is said by numbers
@@ -59,7 +59,7 @@ goes_on_by_numbers side setup brought linked s talk count same goes = λ live. s
 goes_on_by_numbers side setup brought (ended how) s talk count same goes = goes
 
 -- the bytes on a line join and part nothing
-relined_joined : (setup : SetupValue) (brought : AtBoth Belongings) (side : Side) (line : List ℕ) (e f : LineEnd DialogueState) →
+relined_joined : (setup : SetupValue) (brought : AtBoth Belongings) (side : Side) (line : List ℕ) (e f : LineEndState DialogueState) →
     EndsJoined setup brought side e f →
     EndsJoined setup brought side (record { state = e.state; log = e.log; line = line }) f
 relined_joined setup brought side line e f j = record {
@@ -76,59 +76,59 @@ relined_joined setup brought side line e f j = record {
 
 module _ (setup : SetupValue) (brought : AtBoth Belongings) (sound : IsSoundSession setup brought)
     (announces : (side : Side) → IsAnnouncement (at side setup).own) where
-  abbrev Pair : Side → LineEnd Count → LineEnd Count → Type 0
+  abbrev Pair : Side → LineEndState Count → LineEndState Count → Type 0
   Pair = IsPair setup brought
 
   all_steps : Steps setup brought
   all_steps = steps setup brought sound
 
-  pub pair_turned : (side : Side) (x y : LineEnd Count) → Pair side x y → Pair (other side) y x
+  pub pair_turned : (side : Side) (x y : LineEndState Count) → Pair side x y → Pair (other side) y x
   pair_turned side x y (pair s e f joined) = pair (other s) f e (all_steps.turned s e f joined)
 
-  pair_turned_back : (side : Side) (x y : LineEnd Count) → Pair (other side) x y → Pair side y x
+  pair_turned_back : (side : Side) (x y : LineEndState Count) → Pair (other side) x y → Pair side y x
   pair_turned_back Caller x y is = pair_turned Called x y is
   pair_turned_back Called x y is = pair_turned Caller x y is
 
-  pair_relined : (side : Side) (line : List ℕ) (x y : LineEnd Count) → Pair side x y → Pair side (with_line line x) y
+  pair_relined : (side : Side) (line : List ℕ) (x y : LineEndState Count) → Pair side x y → Pair side (with_line line x) y
   pair_relined side line x y (pair s e f joined) =
       pair s (record { state = e.state; log = e.log; line = line }) f (relined_joined setup brought s line e f joined)
 
-  pair_hears : (side : Side) (p : PacketValue) (place : ℕ) (x y : LineEnd Count) → x.state.stage ≡ linked →
+  pair_hears : (side : Side) (p : PacketValue) (place : ℕ) (x y : LineEndState Count) → x.state.stage ≡ linked →
       place_of p y.log.packets x.log.passed ≡ Some place → Pair side x y →
       Pair side (packet_taken_up (count_player setup brought side) p place x) y
   pair_hears side p place x y on there (pair s e f joined) =
-      subst (λ (z : LineEnd Count). Pair s z (counted_end f)) (all_steps.packet_counted s p place e f on there joined)
+      subst (λ (z : LineEndState Count). Pair s z (counted_end f)) (all_steps.packet_counted s p place e f on there joined)
       (pair s (packet_taken_up (talk_player setup s) p place e) f (all_steps.packet_joined s p place e f on there joined))
 
-  pair_waits : (side : Side) (x y : LineEnd Count) → Pair side x y →
+  pair_waits : (side : Side) (x y : LineEndState Count) → Pair side x y →
       Pair side (does (count_player setup brought side) time_ran_out x) y
   pair_waits side x y (pair s e f joined) =
-      subst (λ (z : LineEnd Count). Pair s z (counted_end f)) (all_steps.does_counted s time_ran_out e f tt joined)
+      subst (λ (z : LineEndState Count). Pair s z (counted_end f)) (all_steps.does_counted s time_ran_out e f tt joined)
       (pair s (does (talk_player setup s) time_ran_out e) f (all_steps.does_joined s time_ran_out e f tt joined))
 
-  pair_run : (side : Side) (x y : LineEnd Count) → Pair side x y →
+  pair_run : (side : Side) (x y : LineEndState Count) → Pair side x y →
       IsRun (at side setup).own (at (other side) setup).own (record { near = as_end x; far = as_end y })
   pair_run side x y (pair s e f joined) = links_run setup s (moment_of e) (moment_of f) joined.joined.links
 
-  pair_formed : (side : Side) (x y : LineEnd Count) → Pair side x y → All IsWellFormed x.log.packets
+  pair_formed : (side : Side) (x y : LineEndState Count) → Pair side x y → All IsWellFormed x.log.packets
   pair_formed side x y is =
       (always_written (at side setup).own (at (other side) setup).own (record { near = as_end x; far = as_end y })
       (announces side) (announces (other side)) (pair_run side x y is)).0
 
-  pair_opened : (side : Side) (x y : LineEnd Count) → Pair side x y → IsUp x.state.link → x.state.keeper.opened ≡ true
+  pair_opened : (side : Side) (x y : LineEndState Count) → Pair side x y → IsUp x.state.link → x.state.keeper.opened ≡ true
   pair_opened side x y (pair s e f joined) live = joined.joined.near_opened.up live
 
-  pair_sent : (side : Side) (x y : LineEnd Count) → Pair side x y → x.state.keeper.sent ≡ length x.log.sent
+  pair_sent : (side : Side) (x y : LineEndState Count) → Pair side x y → x.state.keeper.sent ≡ length x.log.sent
   pair_sent side x y (pair s e f joined) = refl
 
-  pair_taken : (side : Side) (x y : LineEnd Count) → Pair side x y → x.state.keeper.taken ≡ length x.log.taken
+  pair_taken : (side : Side) (x y : LineEndState Count) → Pair side x y → x.state.keeper.taken ≡ length x.log.taken
   pair_taken side x y (pair s e f joined) = refl
 
-  pair_to_floor : (side : Side) (x y : LineEnd Count) → Pair side x y →
+  pair_to_floor : (side : Side) (x y : LineEndState Count) → Pair side x y →
       length x.log.sent ≤ floor (length x.log.taken) (seen setup brought side)
   pair_to_floor side x y (pair s e f joined) = all_steps.to_floor s e f joined
 
-  pair_spoken : (side : Side) (x y : LineEnd Count) → Pair side x y → HasSpoken (count_keeper (seen setup brought side)) x.state
+  pair_spoken : (side : Side) (x y : LineEndState Count) → Pair side x y → HasSpoken (count_keeper (seen setup brought side)) x.state
   pair_spoken side x y (pair s e f joined) =
       let same = is_invariant setup brought sound s (moment_of f) in
       record {
@@ -139,7 +139,7 @@ module _ (setup : SetupValue) (brought : AtBoth Belongings) (sound : IsSoundSess
       }
 
   -- an end is set to what it was set up with
-  pub pair_own : (side : Side) (x y : LineEnd Count) → Pair side x y → x.state.link.own ≡ (at side setup).own
+  pub pair_own : (side : Side) (x y : LineEndState Count) → Pair side x y → x.state.link.own ≡ (at side setup).own
   pair_own side x y is =
       (owns (at side setup).own (at (other side) setup).own (record { near = as_end x; far = as_end y })
       (sound.window side) (sound.window (other side)) (pair_run side x y is)).1
@@ -169,7 +169,7 @@ module _ (setup : SetupValue) (brought : AtBoth Belongings) (sound : IsSoundSess
   taken_told side two told taken is =
       subst (λ (l : List (List ℕ)). l ≡ take (length l) (others_messages (seen setup brought side))) is told.taken_first
 
-  pub taken_first : (side : Side) (x y : LineEnd Count) → Pair side x y →
+  pub taken_first : (side : Side) (x y : LineEndState Count) → Pair side x y →
       x.log.taken ≡ take (length x.log.taken) (others_messages (seen setup brought side))
   taken_first side x y (pair s e f joined) =
       let j = joined.joined in

@@ -15,7 +15,7 @@ use Rattle.uug_session.specs.EndStep.{EndState, ended, linked}
 use Rattle.uug_conversation.specs.View.{Seen}
 use Rattle.uug_conversation.specs.declared.side.Side.{Side}
 use Rattle.uug_line.specs.Belongings.{Belongings, SetupValue}
-use Rattle.uug_line.specs.LineEnd.{LineEnd}
+use Rattle.uug_line.specs.LineEndState.{LineEndState}
 use Rattle.uug_line.specs.Sides.{AtBoth}
 use Rattle.uug_line.proofs.CleanBase.{Base, as_end, came_on, seen, with_line, written, written-append}
 use Rattle.uug_line.proofs.CleanCounts.{all_came, none_outstanding, over_too, stuck}
@@ -26,7 +26,7 @@ use Rattle.uug_line.proofs.CleanWays.{Certainty, IsTold, Knows, knows_on, sure, 
 -- ---- two ends and their lines
 
 -- both talk; ps stand on the line from x, and qs on the other
-pub record OpenPair (there back : Certainty) (x y : LineEnd Count) (ps qs : List PacketValue) : Type 0 where
+pub record OpenPair (there back : Certainty) (x y : LineEndState Count) (ps qs : List PacketValue) : Type 0 where
   pub x_talks : Talks x
   pub y_talks : Talks y
   pub out : Back y x ps
@@ -36,7 +36,7 @@ pub record OpenPair (there back : Certainty) (x y : LineEnd Count) (ps qs : List
   pub brings_back : BringAll y.state.link x.state.link qs
   pub tells_back : IsTold back y.state.link x.state.link qs ps
 
-pub turned_open : (there back : Certainty) (x y : LineEnd Count) (ps qs : List PacketValue) → OpenPair there back x y ps qs →
+pub turned_open : (there back : Certainty) (x y : LineEndState Count) (ps qs : List PacketValue) → OpenPair there back x y ps qs →
     OpenPair back there y x qs ps
 turned_open there back x y ps qs o = record {
   x_talks = o.y_talks;
@@ -50,7 +50,7 @@ turned_open there back x y ps qs o = record {
 }
 
 -- x has closed, and nothing is on its way to it
-pub record ShutPair (v : List Seen) (x y : LineEnd Count) : Type 0 where
+pub record ShutPair (v : List Seen) (x y : LineEndState Count) : Type 0 where
   pub shutting : Shutting v y x
   pub talks : Talks y
   pub brings : BringAll x.state.link y.state.link shutting.last
@@ -58,7 +58,7 @@ pub record ShutPair (v : List Seen) (x y : LineEnd Count) : Type 0 where
   pub none_coming : AreComing (as_end y) (as_end x) []
 
 -- the session of x is done, and its CLOSE is on the way to y, which has closed
-pub record LeftPair (v w : List Seen) (x y : LineEnd Count) : Type 0 where
+pub record LeftPair (v w : List Seen) (x y : LineEndState Count) : Type 0 where
   pub stage : x.state.stage ≡ ended ends.Done
   pub over : (count_keeper v).is_over x.state.keeper ≡ true
   pub last : List PacketValue
@@ -70,13 +70,13 @@ pub record LeftPair (v w : List Seen) (x y : LineEnd Count) : Type 0 where
   pub empty : y.line ≡ []
 
 -- both sessions are done
-pub record DonePair (v w : List Seen) (x y : LineEnd Count) : Type 0 where
+pub record DonePair (v w : List Seen) (x y : LineEndState Count) : Type 0 where
   pub x_stage : x.state.stage ≡ ended ends.Done
   pub y_stage : y.state.stage ≡ ended ends.Done
   pub x_over : (count_keeper v).is_over x.state.keeper ≡ true
   pub y_over : (count_keeper w).is_over y.state.keeper ≡ true
 
-pub turned_done : (v w : List Seen) (x y : LineEnd Count) → DonePair v w x y → DonePair w v y x
+pub turned_done : (v w : List Seen) (x y : LineEndState Count) → DonePair v w x y → DonePair w v y x
 turned_done v w x y d = record { x_stage = d.y_stage; y_stage = d.x_stage; x_over = d.y_over; y_over = d.x_over }
 
 -- ---- a line without bytes
@@ -106,9 +106,9 @@ some_closing_line last is =
 -- ---- a pass
 
 -- All bytes of the line from x have come to y on the side.
-pub record PassedTo (setup : SetupValue) (brought : AtBoth Belongings) (B : Side → LineEnd Count → LineEnd Count → Type 0)
-    (side : Side) (x y : LineEnd Count) (P : LineEnd Count → Type 0) : Type 0 where
-  pub then : LineEnd Count
+pub record PassedTo (setup : SetupValue) (brought : AtBoth Belongings) (B : Side → LineEndState Count → LineEndState Count → Type 0)
+    (side : Side) (x y : LineEndState Count) (P : LineEndState Count → Type 0) : Type 0 where
+  pub then : LineEndState Count
   pub passed : Passed setup brought B side (with_line [] x) y then x.line
   pub holds : P then
 
@@ -116,10 +116,10 @@ closed_line : (last : List PacketValue) → written (last ++ control close ∷ [
 closed_line last =
     written-append last (control close ∷ []) ∙ ap (λ (l : List ℕ). written last ++ l) (append-nil (canonical (control close)))
 
-module _ (setup : SetupValue) (brought : AtBoth Belongings) (B : Side → LineEnd Count → LineEnd Count → Type 0)
+module _ (setup : SetupValue) (brought : AtBoth Belongings) (B : Side → LineEndState Count → LineEndState Count → Type 0)
     (base : Base setup brought B) (side : Side) where
   -- the line of the other end becomes empty
-  pub far_empty : (x y : LineEnd Count) → B side y x → B side y (with_line [] x)
+  pub far_empty : (x y : LineEndState Count) → B side y x → B side y (with_line [] x)
   far_empty x y is =
       base.turned_back side (with_line [] x) y (base.relined (other side) [] x y (base.turned side y x is))
 
@@ -128,12 +128,12 @@ module _ (setup : SetupValue) (brought : AtBoth Belongings) (B : Side → LineEn
   stays_known : (there back : Certainty) (far : State) → StaysKnown (Knows there back far)
   stays_known there back far p a b ps qs answer plain h k = knows_on there back far a b p ps qs answer plain h k
 
-  abbrev pub PassesOpen : (there : Certainty) (x y z : LineEnd Count) → Type 0
+  abbrev pub PassesOpen : (there : Certainty) (x y z : LineEndState Count) → Type 0
   PassesOpen there x y z =
       ((qs : List PacketValue) × OpenPair there sure (with_line [] x) z [] qs)
       ⊎ ShutPair (seen setup brought side) z (with_line [] x)
 
-  open_so : (there back : Certainty) (x z : LineEnd Count) (qs : List PacketValue) → Talks x →
+  open_so : (there back : Certainty) (x z : LineEndState Count) (qs : List PacketValue) → Talks x →
       Open (Knows there back x.state.link) (with_line [] x) z [] [] qs → OpenPair there sure (with_line [] x) z [] qs
   open_so there back x z qs talks o = record {
     x_talks = record { stage = talks.stage; is_up = talks.is_up };
@@ -146,7 +146,7 @@ module _ (setup : SetupValue) (brought : AtBoth Belongings) (B : Side → LineEn
     tells_back = then_sure back z.state.link x.state.link qs o.knows.tells_back;
   }
 
-  shut_so : (there back : Certainty) (x z : LineEnd Count) → Talks x → AreComing (as_end x) (as_end z) [] →
+  shut_so : (there back : Certainty) (x z : LineEndState Count) → Talks x → AreComing (as_end x) (as_end z) [] →
       ShutsWith (seen setup brought side) (Knows there back x.state.link) (with_line [] x) z →
       ShutPair (seen setup brought side) z (with_line [] x)
   shut_so there back x z talks coming shut =
@@ -159,11 +159,11 @@ module _ (setup : SetupValue) (brought : AtBoth Belongings) (B : Side → LineEn
         none_coming = coming;
       }
 
-  pub open_passes : (there back : Certainty) (x y : LineEnd Count) (ps qs : List PacketValue) → B side y x →
+  pub open_passes : (there back : Certainty) (x y : LineEndState Count) (ps qs : List PacketValue) → B side y x →
       OpenPair there back x y ps qs → PassedTo setup brought B side x y (PassesOpen there x y)
   open_passes there back x y ps qs is o = by h.how
     where
-      far : LineEnd Count
+      far : LineEndState Count
       far = with_line [] x
 
       K : State → List PacketValue → List PacketValue → Type 0
@@ -203,17 +203,17 @@ module _ (setup : SetupValue) (brought : AtBoth Belongings) (B : Side → LineEn
 
   -- ---- where the other end has closed
 
-  abbrev pub LeavesPair : (x z : LineEnd Count) → Type 0
+  abbrev pub LeavesPair : (x z : LineEndState Count) → Type 0
   LeavesPair x z = LeftPair (seen setup brought side) (seen setup brought (other side)) z (with_line [] x)
 
   abbrev Anything : State → List PacketValue → List PacketValue → Type 0
   Anything s ps qs = ⊤
 
-  pub shut_passes : (x y : LineEnd Count) → B side y x → ShutPair (seen setup brought (other side)) x y →
+  pub shut_passes : (x y : LineEndState Count) → B side y x → ShutPair (seen setup brought (other side)) x y →
       PassedTo setup brought B side x y (LeavesPair x)
   shut_passes x y is s = by h.how
     where
-      far : LineEnd Count
+      far : LineEndState Count
       far = with_line [] x
 
       last : List PacketValue
@@ -279,10 +279,10 @@ module _ (setup : SetupValue) (brought : AtBoth Belongings) (B : Side → LineEn
 
   -- ---- where the session of the other end is done
 
-  abbrev pub EndsPair : (x z : LineEnd Count) → Type 0
+  abbrev pub EndsPair : (x z : LineEndState Count) → Type 0
   EndsPair x z = DonePair (seen setup brought (other side)) (seen setup brought side) (with_line [] x) z
 
-  pub left_passes : (x y : LineEnd Count) → B side y x →
+  pub left_passes : (x y : LineEndState Count) → B side y x →
       LeftPair (seen setup brought (other side)) (seen setup brought side) x y → PassedTo setup brought B side x y (EndsPair x)
   left_passes x y is l =
       let far = with_line [] x in
@@ -297,7 +297,7 @@ module _ (setup : SetupValue) (brought : AtBoth Belongings) (B : Side → LineEn
       }
 
   -- an end whose session is done stays so
-  pub done_passes : (x y : LineEnd Count) → B side y x →
+  pub done_passes : (x y : LineEndState Count) → B side y x →
       DonePair (seen setup brought (other side)) (seen setup brought side) x y → PassedTo setup brought B side x y (EndsPair x)
   done_passes x y is d = record {
     then = y;
@@ -312,7 +312,7 @@ module _ (setup : SetupValue) (brought : AtBoth Belongings) (B : Side → LineEn
 
   -- ---- something is on the way
 
-  pub open_is_not_idle : (there back : Certainty) (x y : LineEnd Count) → B side x y → OpenPair there back x y [] [] → ⊥
+  pub open_is_not_idle : (there back : Certainty) (x y : LineEndState Count) → B side x y → OpenPair there back x y [] [] → ⊥
   open_is_not_idle there back x y is o =
       let far = base.turned side x y is in
       let all = all_came setup brought B base side x y is o.brings in

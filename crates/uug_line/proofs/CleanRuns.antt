@@ -15,7 +15,7 @@ use Rattle.uug_conversation.specs.declared.side.Side.{Side}
 use Rattle.uug_conversation.specs.declared.side.Side.TheVariants.{Caller, Called}
 use Rattle.uug_line.specs.declared.verdict.LineVerdict.TheVariants.{Clean}
 use Rattle.uug_line.specs.Belongings.{Belongings, SetupValue}
-use Rattle.uug_line.specs.LineEnd.{LineEnd, called_with, changed_line, does}
+use Rattle.uug_line.specs.LineEndState.{LineEndState, called_with, changed_line, does}
 use Rattle.uug_line.specs.Run.{Run, after_event, after_hearing, end_at, goes_through, with_end_at, with_line_to}
 use Rattle.uug_line.specs.RunKeeper.{by_numbers}
 use Rattle.uug_line.specs.Settle.{AllBringOn, AreRounds, IsIdle, IsOver, PassesClean, Round, behind_two, events_of, late, line_from, one_if_over, passing, run_weight}
@@ -31,7 +31,7 @@ use Rattle.uug_line.proofs.CleanWays.{Certainty, sure, unsure}
 use Rattle.uug_line.proofs.Steps.{count_player}
 
 -- a run of these two ends, which hold nothing
-abbrev pub run_with : List (AtBoth EndReportValue) → AtBoth Belongings → (x y : LineEnd Count) → Run Count
+abbrev pub run_with : List (AtBoth EndReportValue) → AtBoth Belongings → (x y : LineEndState Count) → Run Count
 run_with past brought x y = record {
   past = past;
   brought = brought;
@@ -40,19 +40,19 @@ run_with past brought x y = record {
 }
 
 -- an end that holds nothing
-abbrev alone : LineEnd Count → Buffered (LineEnd Count)
+abbrev alone : LineEndState Count → Buffered (LineEndState Count)
 alone e = record { held = []; end = e }
 
 -- ---- what events do
 
 module _ (setup : SetupValue) (past : List (AtBoth EndReportValue)) (brought : AtBoth Belongings)
-    (B : Side → LineEnd Count → LineEnd Count → Type 0) where
-  holds_none : (side : Side) (x y : LineEnd Count) → (let run = run_with past brought x y in end_at side run ≡ alone (end_at side run).end)
+    (B : Side → LineEndState Count → LineEndState Count → Type 0) where
+  holds_none : (side : Side) (x y : LineEndState Count) → (let run = run_with past brought x y in end_at side run ≡ alone (end_at side run).end)
   holds_none Caller x y = refl
   holds_none Called x y = refl
 
   -- all that is on the line passes to the side
-  pub passed_to : (side : Side) (number : ℕ) (x y then : LineEnd Count) →
+  pub passed_to : (side : Side) (number : ℕ) (x y then : LineEndState Count) →
       (let run = run_with past brought x y in
       let from = (end_at (other side) run).end in
       Passed setup brought B side (with_line [] from) (end_at side run).end then from.line →
@@ -65,12 +65,12 @@ module _ (setup : SetupValue) (past : List (AtBoth EndReportValue)) (brought : A
       let n = length from.line in
       let t = receiver setup brought side from in
       let now : (line : List ℕ) → Run Count = λ line. with_end_at (other side) (alone (with_line line from)) run in
-      ap (λ (h : Buffered (LineEnd Count)). after_hearing number side (takes_piece t (take n from.line) h) (with_line_to side (drop n) run))
+      ap (λ (h : Buffered (LineEndState Count)). after_hearing number side (takes_piece t (take n from.line) h) (with_line_to side (drop n) run))
       (holds_none side x y)
-      ∙ ap (λ (h : Buffered (LineEnd Count)). after_hearing number side (takes_all t (holds t (take n from.line) to))
+      ∙ ap (λ (h : Buffered (LineEndState Count)). after_hearing number side (takes_all t (holds t (take n from.line) to))
       (with_end_at (other side) (changed_line (drop n) h) run)) (holds_none (other side) x y)
       ∙ ap (λ (line : List ℕ). after_hearing number side (takes_all t (holds t line to)) (now (drop n from.line))) (take_all n from.line (omega arith))
-      ∙ ap (λ (came : Arrival (LineEnd Count)). after_hearing number side came (now (drop n from.line))) p.took
+      ∙ ap (λ (came : Arrival (LineEndState Count)). after_hearing number side came (now (drop n from.line))) p.took
       ∙ ap (λ (line : List ℕ). with_end_at side (alone then) (now line)) (drop-length from.line)
 
   holds_nothing : (stage : Stage) → held_in stage [] ≡ []
@@ -78,7 +78,7 @@ module _ (setup : SetupValue) (past : List (AtBoth EndReportValue)) (brought : A
   holds_nothing linked = refl
   holds_nothing (ended how) = refl
 
-  pub waits : (side : Side) (number : ℕ) (x y : LineEnd Count) →
+  pub waits : (side : Side) (number : ℕ) (x y : LineEndState Count) →
       (let run = run_with past brought x y in
       after_event by_numbers setup number (Timeout side) run
       ≡ with_end_at side (alone (does (count_player setup brought side) time_ran_out (end_at side run).end)) run)
@@ -86,11 +86,11 @@ module _ (setup : SetupValue) (past : List (AtBoth EndReportValue)) (brought : A
       let run = run_with past brought x y in
       let p = count_player setup brought side in
       let then = does p time_ran_out (end_at side run).end in
-      ap (λ (h : Buffered (LineEnd Count)). with_end_at side (called_with p time_ran_out h) run) (holds_none side x y)
+      ap (λ (h : Buffered (LineEndState Count)). with_end_at side (called_with p time_ran_out h) run) (holds_none side x y)
       ∙ ap (λ (held : List ℕ). with_end_at side (record { held = held; end = then }) run) (holds_nothing then.state.stage)
 
   -- a round
-  pub round_passes : (number : ℕ) (x y : LineEnd Count) (s : Stepped setup brought B x y) →
+  pub round_passes : (number : ℕ) (x y : LineEndState Count) (s : Stepped setup brought B x y) →
       behind_two by_numbers setup number (Pass Called (length x.line)) (Pass Caller (length s.middle.line)) (run_with past brought x y)
       ≡ run_with past brought s.last (called_then s)
   round_passes number x y s =
@@ -98,14 +98,14 @@ module _ (setup : SetupValue) (past : List (AtBoth EndReportValue)) (brought : A
       (passed_to Called number x y s.middle s.first)
       ∙ passed_to Caller (suc number) (with_line [] x) s.middle s.last s.second
 
-  pub round_is_clean : (number : ℕ) (x y : LineEnd Count) (s : Stepped setup brought B x y) →
+  pub round_is_clean : (number : ℕ) (x y : LineEndState Count) (s : Stepped setup brought B x y) →
       PassesClean by_numbers setup number (length x.line) (length s.middle.line) (run_with past brought x y)
   round_is_clean number x y s = (
     ap (λ (run : Run Count). run.verdict) (passed_to Called number x y s.middle s.first),
     ap (λ (run : Run Count). run.verdict) (round_passes number x y s),
   )
 
-  pub both_wait : (number : ℕ) (x y : LineEnd Count) →
+  pub both_wait : (number : ℕ) (x y : LineEndState Count) →
       behind_two by_numbers setup number (Timeout Caller) (Timeout Called) (run_with past brought x y)
       ≡ run_with past brought (does (count_player setup brought Caller) time_ran_out x)
       (does (count_player setup brought Called) time_ran_out y)
@@ -114,7 +114,7 @@ module _ (setup : SetupValue) (past : List (AtBoth EndReportValue)) (brought : A
       ∙ waits Called (suc number) (does (count_player setup brought Caller) time_ran_out x) y
 
   -- events behind them
-  pub goes_behind : (number : ℕ) (first second : Event) (events : List Event) (x y a b c d : LineEnd Count) →
+  pub goes_behind : (number : ℕ) (first second : Event) (events : List Event) (x y a b c d : LineEndState Count) →
       after_event by_numbers setup number first (run_with past brought x y) ≡ run_with past brought a b →
       after_event by_numbers setup (suc number) second (run_with past brought a b) ≡ run_with past brought c d →
       goes_through by_numbers setup number (first ∷ second ∷ events) (run_with past brought x y)
@@ -127,12 +127,12 @@ module _ (setup : SetupValue) (past : List (AtBoth EndReportValue)) (brought : A
 
 -- Rounds lead two ends to the end of both sessions, at most so many.
 pub record Path (setup : SetupValue) (past : List (AtBoth EndReportValue)) (brought : AtBoth Belongings)
-    (B : Side → LineEnd Count → LineEnd Count → Type 0) (number : ℕ) (x y : LineEnd Count) (most : ℕ) : Type 0 where
+    (B : Side → LineEndState Count → LineEndState Count → Type 0) (number : ℕ) (x y : LineEndState Count) (most : ℕ) : Type 0 where
   pub rounds : List Round
   pub are : AreRounds by_numbers setup number rounds (run_with past brought x y)
   pub few : length rounds ≤ most
-  pub last_x : LineEnd Count
-  pub last_y : LineEnd Count
+  pub last_x : LineEndState Count
+  pub last_y : LineEndState Count
   pub leads : goes_through by_numbers setup number (events_of rounds) (run_with past brought x y)
       ≡ run_with past brought last_x last_y
   pub base : B Caller last_x last_y
@@ -140,37 +140,37 @@ pub record Path (setup : SetupValue) (past : List (AtBoth EndReportValue)) (brou
 
 -- each of which brings the run on
 pub record PathOn (setup : SetupValue) (past : List (AtBoth EndReportValue)) (brought : AtBoth Belongings)
-    (B : Side → LineEnd Count → LineEnd Count → Type 0) (number : ℕ) (x y : LineEnd Count) (most : ℕ) : Type 0 where
+    (B : Side → LineEndState Count → LineEndState Count → Type 0) (number : ℕ) (x y : LineEndState Count) (most : ℕ) : Type 0 where
   pub path : Path setup past brought B number x y most
   pub all_bring_on : AllBringOn by_numbers setup number path.rounds (run_with past brought x y)
 
-talks_on : (x : LineEnd Count) → x.state.stage ≡ linked → x.state.stage ≡ ended ends.Done → ⊥
+talks_on : (x : LineEndState Count) → x.state.stage ≡ linked → x.state.stage ≡ ended ends.Done → ⊥
 talks_on x on done = absurd (let never : linked ≡ ended ends.Done = sym on ∙ done in cc)
 
 -- how far two ends have come
-abbrev pub pair_weight : (x y : LineEnd Count) → ℕ
+abbrev pub pair_weight : (x y : LineEndState Count) → ℕ
 pair_weight x y = both_taken x y + both_sent x y + (one_if_over x.state.stage + one_if_over y.state.stage)
 
-not_over : (x : LineEnd Count) → x.state.stage ≡ linked → one_if_over x.state.stage ≡ 0
+not_over : (x : LineEndState Count) → x.state.stage ≡ linked → one_if_over x.state.stage ≡ 0
 not_over x on = ap one_if_over on
 
-is_over : (x : LineEnd Count) → x.state.stage ≡ ended ends.Done → one_if_over x.state.stage ≡ 1
+is_over : (x : LineEndState Count) → x.state.stage ≡ ended ends.Done → one_if_over x.state.stage ≡ 1
 is_over x done = ap one_if_over done
 
 module _ (setup : SetupValue) (past : List (AtBoth EndReportValue)) (brought : AtBoth Belongings)
-    (B : Side → LineEnd Count → LineEnd Count → Type 0) (base : Base setup brought B) where
-  abbrev run_at : (x y : LineEnd Count) → Run Count
+    (B : Side → LineEndState Count → LineEndState Count → Type 0) (base : Base setup brought B) where
+  abbrev run_at : (x y : LineEndState Count) → Run Count
   run_at x y = run_with past brought x y
 
-  abbrev IsPath : (number : ℕ) (x y : LineEnd Count) (most : ℕ) → Type 0
+  abbrev IsPath : (number : ℕ) (x y : LineEndState Count) (most : ℕ) → Type 0
   IsPath number x y most = Path setup past brought B number x y most
 
-  abbrev IsPathOn : (number : ℕ) (x y : LineEnd Count) (most : ℕ) → Type 0
+  abbrev IsPathOn : (number : ℕ) (x y : LineEndState Count) (most : ℕ) → Type 0
   IsPathOn number x y most = PathOn setup past brought B number x y most
 
   -- ---- one round more in front
 
-  pub behind_passes : (number most : ℕ) (x y : LineEnd Count) (s : Stepped setup brought B x y) → (IsOver (run_at x y) → ⊥) →
+  pub behind_passes : (number most : ℕ) (x y : LineEndState Count) (s : Stepped setup brought B x y) → (IsOver (run_at x y) → ⊥) →
       (IsIdle (run_at x y) → ⊥) → IsPath (suc (suc number)) s.last (called_then s) most → IsPath number x y (suc most)
   behind_passes number most x y s goes_on not_idle p =
       let n = length x.line in
@@ -195,7 +195,7 @@ module _ (setup : SetupValue) (past : List (AtBoth EndReportValue)) (brought : A
         done = p.done;
       }
 
-  pub behind_passes_on : (number most : ℕ) (x y : LineEnd Count) (s : Stepped setup brought B x y) → (IsOver (run_at x y) → ⊥) →
+  pub behind_passes_on : (number most : ℕ) (x y : LineEndState Count) (s : Stepped setup brought B x y) → (IsOver (run_at x y) → ⊥) →
       (IsIdle (run_at x y) → ⊥) → pair_weight x y < pair_weight s.last (called_then s) →
       IsPathOn (suc (suc number)) s.last (called_then s) most → IsPathOn number x y (suc most)
   unfolding behind_passes
@@ -210,7 +210,7 @@ module _ (setup : SetupValue) (past : List (AtBoth EndReportValue)) (brought : A
         );
       }
 
-  pub behind_timeouts : (number most : ℕ) (x y : LineEnd Count) → (IsOver (run_at x y) → ⊥) → IsIdle (run_at x y) →
+  pub behind_timeouts : (number most : ℕ) (x y : LineEndState Count) → (IsOver (run_at x y) → ⊥) → IsIdle (run_at x y) →
       IsPath (suc (suc number)) (does (count_player setup brought Caller) time_ran_out x)
       (does (count_player setup brought Called) time_ran_out y) most → IsPath number x y (suc most)
   behind_timeouts number most x y goes_on idle p =
@@ -234,7 +234,7 @@ module _ (setup : SetupValue) (past : List (AtBoth EndReportValue)) (brought : A
 
   -- ---- the path from where both are done, one has left, or one has closed
 
-  path_done : (number : ℕ) (x y : LineEnd Count) → B Caller x y →
+  path_done : (number : ℕ) (x y : LineEndState Count) → B Caller x y →
       DonePair (seen setup brought Caller) (seen setup brought Called) x y → IsPathOn number x y 0
   path_done number x y is d = record {
     path = record {
@@ -250,7 +250,7 @@ module _ (setup : SetupValue) (past : List (AtBoth EndReportValue)) (brought : A
     all_bring_on = tt;
   }
 
-  path_last : (number : ℕ) (x y : LineEnd Count) (s : LeftStep setup brought B x y) → y.state.stage ≡ linked →
+  path_last : (number : ℕ) (x y : LineEndState Count) (s : LeftStep setup brought B x y) → y.state.stage ≡ linked →
       (IsIdle (run_at x y) → ⊥) → one_if_over x.state.stage ≤ 1 → IsPathOn number x y 1
   path_last number x y s on not_idle one =
       let step_then = s.stepped in
@@ -272,20 +272,20 @@ module _ (setup : SetupValue) (past : List (AtBoth EndReportValue)) (brought : A
   at_most_one linked = omega arith
   at_most_one (ended how) = omega arith
 
-  path_left : (number : ℕ) (x y : LineEnd Count) → B Caller x y →
+  path_left : (number : ℕ) (x y : LineEndState Count) → B Caller x y →
       LeftPair (seen setup brought Caller) (seen setup brought Called) x y → IsPathOn number x y 1
   path_left number x y is l =
       path_last number x y (round_left setup brought B base x y is l) (ap (λ (e : EndState Count). e.stage) l.closed.state)
       (λ idle. some_closing l.last l.behind (sym l.line ∙ idle.0)) (at_most_one x.state.stage)
 
-  path_shut : (number : ℕ) (x y : LineEnd Count) → B Caller x y → ShutPair (seen setup brought Caller) x y → IsPathOn number x y 1
+  path_shut : (number : ℕ) (x y : LineEndState Count) → B Caller x y → ShutPair (seen setup brought Caller) x y → IsPathOn number x y 1
   path_shut number x y is s =
       path_last number x y (round_shut setup brought B base x y is s) s.talks.stage
       (λ idle. some_closing_line s.shutting.last (sym s.shutting.line ∙ idle.0)) (at_most_one x.state.stage)
 
   -- ---- the path from where both talk
 
-  open_not_idle : (there back : Certainty) (x y : LineEnd Count) (ps qs : List PacketValue) → B Caller x y →
+  open_not_idle : (there back : Certainty) (x y : LineEndState Count) (ps qs : List PacketValue) → B Caller x y →
       OpenPair there back x y ps qs → IsIdle (run_at x y) → ⊥
   open_not_idle there back x y ps qs is o idle =
       let out = none_written ps (sym o.out.line ∙ idle.0) in
@@ -298,7 +298,7 @@ module _ (setup : SetupValue) (past : List (AtBoth EndReportValue)) (brought : A
   abbrev all_of_both : ℕ
   all_of_both = length (others_messages (seen setup brought Caller)) + length (others_messages (seen setup brought Called))
 
-  both_within : (x y : LineEnd Count) → B Caller x y → both_taken x y ≤ all_of_both
+  both_within : (x y : LineEndState Count) → B Caller x y → both_taken x y ≤ all_of_both
   both_within x y is =
       omega (
         arith,
@@ -307,7 +307,7 @@ module _ (setup : SetupValue) (past : List (AtBoth EndReportValue)) (brought : A
       )
 
   -- the next round, where fewer are left behind it if both talk on
-  path_step : (fuel number : ℕ) (x y : LineEnd Count) (ps : List PacketValue) → B Caller x y → OpenPair sure sure x y ps [] →
+  path_step : (fuel number : ℕ) (x y : LineEndState Count) (ps : List PacketValue) → B Caller x y → OpenPair sure sure x y ps [] →
       (s : OpenStep setup brought B sure x y) →
       ((ps : List PacketValue) → OpenPair sure sure s.stepped.last (called_then s.stepped) ps [] →
       both_taken x y < both_taken s.stepped.last (called_then s.stepped) →
@@ -317,10 +317,10 @@ module _ (setup : SetupValue) (past : List (AtBoth EndReportValue)) (brought : A
       step_then : Stepped setup brought B x y
       step_then = s.stepped
 
-      a : LineEnd Count
+      a : LineEndState Count
       a = step_then.last
 
-      b : LineEnd Count
+      b : LineEndState Count
       b = called_then step_then
 
       more : (both_taken x y ≤ both_taken a b) × (both_sent x y ≤ both_sent a b)
@@ -365,7 +365,7 @@ module _ (setup : SetupValue) (past : List (AtBoth EndReportValue)) (brought : A
           in_front 1 (omega arith) (omega (arith, more.0, more.1, x_goes, y_goes, is_over a left.stage))
           (path_left (suc (suc number)) a b step_then.second.base left)
 
-  pub path_open : (fuel number : ℕ) (x y : LineEnd Count) (ps : List PacketValue) → B Caller x y → OpenPair sure sure x y ps [] →
+  pub path_open : (fuel number : ℕ) (x y : LineEndState Count) (ps : List PacketValue) → B Caller x y → OpenPair sure sure x y ps [] →
       all_of_both ≤ both_taken x y + fuel → IsPathOn number x y (fuel + 2)
   path_open zero number x y ps is o enough =
       let s = round_open setup brought B base sure sure x y ps [] is o in
@@ -386,7 +386,7 @@ module _ (setup : SetupValue) (past : List (AtBoth EndReportValue)) (brought : A
   -- ---- from where nothing is on the line
 
   -- the first two rounds: both ends wait too long, and then what they repeat passes
-  pub record Settling (number : ℕ) (x y : LineEnd Count) (most : ℕ) : Type 0 where
+  pub record Settling (number : ℕ) (x y : LineEndState Count) (most : ℕ) : Type 0 where
     pub path : IsPath number x y most
     pub n : ℕ
     pub m : ℕ
@@ -398,7 +398,7 @@ module _ (setup : SetupValue) (past : List (AtBoth EndReportValue)) (brought : A
         (behind_two by_numbers setup (suc (suc number)) (Pass Called n) (Pass Caller m)
         (behind_two by_numbers setup number (Timeout Caller) (Timeout Called) (run_at x y)))
 
-  wider_path : (number most wide : ℕ) (x y : LineEnd Count) → most ≤ wide → IsPathOn number x y most → IsPathOn number x y wide
+  wider_path : (number most wide : ℕ) (x y : LineEndState Count) → most ≤ wide → IsPathOn number x y most → IsPathOn number x y wide
   wider_path number most wide x y within p = record {
     path = record {
       rounds = p.path.rounds;
@@ -414,15 +414,15 @@ module _ (setup : SetupValue) (past : List (AtBoth EndReportValue)) (brought : A
   }
 
   -- behind the round that passes what was repeated
-  path_then : (fuel number : ℕ) (a b : LineEnd Count) (s : OpenStep setup brought B unsure a b) →
+  path_then : (fuel number : ℕ) (a b : LineEndState Count) (s : OpenStep setup brought B unsure a b) →
       all_of_both ≤ both_taken a b + fuel →
       IsPathOn number s.stepped.last (called_then s.stepped) (fuel + 2)
   path_then fuel number a b s enough = by s.then
     where
-      c : LineEnd Count
+      c : LineEndState Count
       c = s.stepped.last
 
-      d : LineEnd Count
+      d : LineEndState Count
       d = called_then s.stepped
 
       by : OpenThen setup brought unsure a s.stepped.middle c d → IsPathOn number c d (fuel + 2)
@@ -434,7 +434,7 @@ module _ (setup : SetupValue) (past : List (AtBoth EndReportValue)) (brought : A
       by (caller_left left) =
           wider_path number 1 (fuel + 2) c d (omega arith) (path_left number c d s.stepped.second.base left)
 
-  pub settling : (fuel number : ℕ) (x y : LineEnd Count) → B Caller x y → Talks x → Talks y → x.state.link.timeouts ≤ 6 →
+  pub settling : (fuel number : ℕ) (x y : LineEndState Count) → B Caller x y → Talks x → Talks y → x.state.link.timeouts ≤ 6 →
       y.state.link.timeouts ≤ 6 → x.line ≡ [] → y.line ≡ [] → all_of_both ≤ both_taken x y + fuel →
       Settling number x y (fuel + 4)
   unfolding behind_timeouts behind_passes

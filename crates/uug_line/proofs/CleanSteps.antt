@@ -9,7 +9,7 @@ use Rattle.uug_packet.specs.Packet.{PacketValue}
 use Rattle.uug_conversation.specs.declared.side.Side.{Side}
 use Rattle.uug_conversation.specs.declared.side.Side.TheVariants.{Caller, Called}
 use Rattle.uug_line.specs.Belongings.{Belongings, SetupValue}
-use Rattle.uug_line.specs.LineEnd.{LineEnd}
+use Rattle.uug_line.specs.LineEndState.{LineEndState}
 use Rattle.uug_line.specs.Sides.{AtBoth}
 use Rattle.uug_line.proofs.CleanBase.{Base, seen, with_line}
 use Rattle.uug_line.proofs.CleanCounts.{OverAt, all_came, counted_back, floor_within, goes_on, none_outstanding, others_is_own, over_at, stuck}
@@ -20,34 +20,34 @@ use Rattle.uug_line.proofs.CleanWays.{Certainty, sure}
 
 -- ---- a round: the line from the caller x, then that from the called end y
 
-pub record Stepped (setup : SetupValue) (brought : AtBoth Belongings) (B : Side → LineEnd Count → LineEnd Count → Type 0)
-    (x y : LineEnd Count) : Type 0 where
-  pub middle : LineEnd Count
+pub record Stepped (setup : SetupValue) (brought : AtBoth Belongings) (B : Side → LineEndState Count → LineEndState Count → Type 0)
+    (x y : LineEndState Count) : Type 0 where
+  pub middle : LineEndState Count
   pub first : Passed setup brought B Called (with_line [] x) y middle x.line
-  pub last : LineEnd Count
+  pub last : LineEndState Count
   pub second : Passed setup brought B Caller (with_line [] middle) (with_line [] x) last middle.line
 
 -- the two ends then
-abbrev pub called_then : {setup : SetupValue} {brought : AtBoth Belongings} {B : Side → LineEnd Count → LineEnd Count → Type 0}
-    {x y : LineEnd Count} → Stepped setup brought B x y → LineEnd Count
+abbrev pub called_then : {setup : SetupValue} {brought : AtBoth Belongings} {B : Side → LineEndState Count → LineEndState Count → Type 0}
+    {x y : LineEndState Count} → Stepped setup brought B x y → LineEndState Count
 called_then s = with_line [] s.middle
 
 -- how many messages both have taken
-abbrev pub both_taken : (x y : LineEnd Count) → ℕ
+abbrev pub both_taken : (x y : LineEndState Count) → ℕ
 both_taken x y = length x.log.taken + length y.log.taken
 
-abbrev pub both_sent : (x y : LineEnd Count) → ℕ
+abbrev pub both_sent : (x y : LineEndState Count) → ℕ
 both_sent x y = length x.log.sent + length y.log.sent
 
 -- nothing of it is lost
-pub takes_no_less : (setup : SetupValue) (brought : AtBoth Belongings) (B : Side → LineEnd Count → LineEnd Count → Type 0)
-    (x y : LineEnd Count) (s : Stepped setup brought B x y) →
+pub takes_no_less : (setup : SetupValue) (brought : AtBoth Belongings) (B : Side → LineEndState Count → LineEndState Count → Type 0)
+    (x y : LineEndState Count) (s : Stepped setup brought B x y) →
     (both_taken x y ≤ both_taken s.last (called_then s)) × (both_sent x y ≤ both_sent s.last (called_then s))
 takes_no_less setup brought B x y s =
     (omega (arith, s.first.taken, s.second.taken), omega (arith, s.first.sent, s.second.sent))
 
 -- Both talk on, in the middle too; or one has closed.
-pub data OpenThen (setup : SetupValue) (brought : AtBoth Belongings) (there : Certainty) (x middle last then : LineEnd Count) :
+pub data OpenThen (setup : SetupValue) (brought : AtBoth Belongings) (there : Certainty) (x middle last then : LineEndState Count) :
     Type 0 where
   still_open : (qs : List PacketValue) → OpenPair there sure (with_line [] x) middle [] qs → (ps : List PacketValue) →
       OpenPair sure sure last then ps [] → OpenThen setup brought there x middle last then
@@ -55,17 +55,17 @@ pub data OpenThen (setup : SetupValue) (brought : AtBoth Belongings) (there : Ce
   caller_left : LeftPair (seen setup brought Caller) (seen setup brought Called) last then →
       OpenThen setup brought there x middle last then
 
-pub record OpenStep (setup : SetupValue) (brought : AtBoth Belongings) (B : Side → LineEnd Count → LineEnd Count → Type 0)
-    (there : Certainty) (x y : LineEnd Count) : Type 0 where
+pub record OpenStep (setup : SetupValue) (brought : AtBoth Belongings) (B : Side → LineEndState Count → LineEndState Count → Type 0)
+    (there : Certainty) (x y : LineEndState Count) : Type 0 where
   pub stepped : Stepped setup brought B x y
   pub then : OpenThen setup brought there x stepped.middle stepped.last (called_then stepped)
 
-pub record LeftStep (setup : SetupValue) (brought : AtBoth Belongings) (B : Side → LineEnd Count → LineEnd Count → Type 0)
-    (x y : LineEnd Count) : Type 0 where
+pub record LeftStep (setup : SetupValue) (brought : AtBoth Belongings) (B : Side → LineEndState Count → LineEndState Count → Type 0)
+    (x y : LineEndState Count) : Type 0 where
   pub stepped : Stepped setup brought B x y
   pub then : DonePair (seen setup brought Caller) (seen setup brought Called) stepped.last (called_then stepped)
 
-module _ (setup : SetupValue) (brought : AtBoth Belongings) (B : Side → LineEnd Count → LineEnd Count → Type 0)
+module _ (setup : SetupValue) (brought : AtBoth Belongings) (B : Side → LineEndState Count → LineEndState Count → Type 0)
     (base : Base setup brought B) where
   abbrev v : List Seen
   v = seen setup brought Caller
@@ -75,7 +75,7 @@ module _ (setup : SetupValue) (brought : AtBoth Belongings) (B : Side → LineEn
 
   -- ---- where both talk
 
-  open_then_open : (there back : Certainty) (x y : LineEnd Count) (ps : List PacketValue)
+  open_then_open : (there back : Certainty) (x y : LineEndState Count) (ps : List PacketValue)
       (p : PassedTo setup brought B Called x y (PassesOpen setup brought B base Called there x y)) (qs : List PacketValue) →
       OpenPair there sure (with_line [] x) p.then [] qs → OpenStep setup brought B there x y
   open_then_open there back x y ps p qs o = by (q.holds)
@@ -95,7 +95,7 @@ module _ (setup : SetupValue) (brought : AtBoth Belongings) (B : Side → LineEn
       }
       by (inr shut) = record { stepped = stepped; then = caller_shut shut }
 
-  open_then_left : (there : Certainty) (x y : LineEnd Count)
+  open_then_left : (there : Certainty) (x y : LineEndState Count)
       (p : PassedTo setup brought B Called x y (PassesOpen setup brought B base Called there x y)) →
       ShutPair w p.then (with_line [] x) → OpenStep setup brought B there x y
   open_then_left there x y p shut =
@@ -106,7 +106,7 @@ module _ (setup : SetupValue) (brought : AtBoth Belongings) (B : Side → LineEn
         then = caller_left q.holds;
       }
 
-  pub round_open : (there back : Certainty) (x y : LineEnd Count) (ps qs : List PacketValue) → B Caller x y →
+  pub round_open : (there back : Certainty) (x y : LineEndState Count) (ps qs : List PacketValue) → B Caller x y →
       OpenPair there back x y ps qs → OpenStep setup brought B there x y
   round_open there back x y ps qs is o = by p.holds
     where
@@ -119,7 +119,7 @@ module _ (setup : SetupValue) (brought : AtBoth Belongings) (B : Side → LineEn
 
   -- ---- where the caller has closed, and then where its session is done
 
-  pub round_shut : (x y : LineEnd Count) → B Caller x y → ShutPair v x y → LeftStep setup brought B x y
+  pub round_shut : (x y : LineEndState Count) → B Caller x y → ShutPair v x y → LeftStep setup brought B x y
   round_shut x y is s =
       let p = shut_passes setup brought B base Called x y (base.turned Caller x y is) s in
       let q = left_passes setup brought B base Caller p.then (with_line [] x)
@@ -129,7 +129,7 @@ module _ (setup : SetupValue) (brought : AtBoth Belongings) (B : Side → LineEn
         then = turned_done w v (with_line [] p.then) q.then q.holds;
       }
 
-  pub round_left : (x y : LineEnd Count) → B Caller x y → LeftPair v w x y → LeftStep setup brought B x y
+  pub round_left : (x y : LineEndState Count) → B Caller x y → LeftPair v w x y → LeftStep setup brought B x y
   round_left x y is l =
       let p = left_passes setup brought B base Called x y (base.turned Caller x y is) l in
       let q = done_passes setup brought B base Caller p.then (with_line [] x)
@@ -141,15 +141,15 @@ module _ (setup : SetupValue) (brought : AtBoth Belongings) (B : Side → LineEn
 
   -- ---- where all is sure, and nothing stands on the line to the caller, a message is taken
 
-  pub grows : (x y : LineEnd Count) (ps qs more : List PacketValue) (s : Stepped setup brought B x y) → B Caller x y →
+  pub grows : (x y : LineEndState Count) (ps qs more : List PacketValue) (s : Stepped setup brought B x y) → B Caller x y →
       OpenPair sure sure x y ps [] → OpenPair sure sure (with_line [] x) s.middle [] qs →
       OpenPair sure sure s.last (called_then s) more [] → both_taken x y < both_taken s.last (called_then s)
   grows x y ps qs more s is o mid then = by (cases_lt (both_taken x y) (both_taken s.last (called_then s)))
     where
-      x0 : LineEnd Count
+      x0 : LineEndState Count
       x0 = with_line [] x
 
-      y1 : LineEnd Count
+      y1 : LineEndState Count
       y1 = s.middle
 
       middle_base : B Caller x0 y1
@@ -175,7 +175,7 @@ module _ (setup : SetupValue) (brought : AtBoth Belongings) (B : Side → LineEn
 
   -- ---- an end that closes has sent or taken a message since it talked
 
-  pub shut_grows : (x y : LineEnd Count) (s : Stepped setup brought B x y) → B Caller x y → Talks x →
+  pub shut_grows : (x y : LineEndState Count) (s : Stepped setup brought B x y) → B Caller x y → Talks x →
       ShutPair v s.last (called_then s) →
       both_taken x y + both_sent x y < both_taken s.last (called_then s) + both_sent s.last (called_then s)
   shut_grows x y s is talks shut =
@@ -207,7 +207,7 @@ module _ (setup : SetupValue) (brought : AtBoth Belongings) (B : Side → LineEn
 
   -- ---- no more is taken than the conversation has
 
-  pub taken_within : (side : Side) (x y : LineEnd Count) → B side x y →
+  pub taken_within : (side : Side) (x y : LineEndState Count) → B side x y →
       length x.log.taken ≤ length (others_messages (seen setup brought side))
   taken_within side x y is =
       let back = counted_back setup brought B base side x y is in

@@ -10,7 +10,7 @@ use Rattle.uug_conversation.specs.Count.{Count}
 use Rattle.uug_session.specs.EndStep.{end_step, time_ran_out}
 use Rattle.uug_conversation.specs.declared.side.Side.{Side}
 use Rattle.uug_line.specs.Belongings.{Belongings, SetupValue}
-use Rattle.uug_line.specs.LineEnd.{LineEnd, bytes_in, does, packets_in}
+use Rattle.uug_line.specs.LineEndState.{LineEndState, bytes_in, does, packets_in}
 use Rattle.uug_line.specs.Sides.{AtBoth, at}
 use Rattle.uug_line.proofs.CleanBase.{Base, as_end, bytes_written, packets_written, seen, written}
 use Rattle.uug_line.proofs.CleanCounts.{counted_back, counted_to, few}
@@ -36,7 +36,7 @@ data_or_none (control c ∷ ps) = by (data_or_none ps)
 
 -- ---- one end has waited
 
-pub record Waited (x then : LineEnd Count) : Type 0 where
+pub record Waited (x then : LineEndState Count) : Type 0 where
   pub talks : Talks then
   pub ps : List PacketValue
   pub line : then.line ≡ written ps
@@ -45,9 +45,9 @@ pub record Waited (x then : LineEnd Count) : Type 0 where
   pub taken : then.log.taken ≡ x.log.taken
   pub repeats : Repeats x.state.link then.state.link ps
 
-module _ (setup : SetupValue) (brought : AtBoth Belongings) (B : Side → LineEnd Count → LineEnd Count → Type 0)
+module _ (setup : SetupValue) (brought : AtBoth Belongings) (B : Side → LineEndState Count → LineEndState Count → Type 0)
     (base : Base setup brought B) where
-  pub waited : (side : Side) (x y : LineEnd Count) → B side x y → Talks x → x.state.link.timeouts ≤ 6 → x.line ≡ [] →
+  pub waited : (side : Side) (x y : LineEndState Count) → B side x y → Talks x → x.state.link.timeouts ≤ 6 → x.line ≡ [] →
       Waited x (does (count_player setup brought side) time_ran_out x)
   waited side x y is talks lasts empty =
       let participant = count_player setup brought side in
@@ -70,7 +70,7 @@ module _ (setup : SetupValue) (brought : AtBoth Belongings) (B : Side → LineEn
   -- ---- both have waited
 
   -- the packets that stand on the line from x bring all
-  brings_again : (side : Side) (x y a b : LineEnd Count) → B side x y → (u : Waited x a) → Waited y b →
+  brings_again : (side : Side) (x y a b : LineEndState Count) → B side x y → (u : Waited x a) → Waited y b →
       BringAll a.state.link b.state.link u.ps
   brings_again side x y a b is u z =
       let c = counted_to setup brought B base side x y is in
@@ -90,7 +90,7 @@ module _ (setup : SetupValue) (brought : AtBoth Belongings) (B : Side → LineEn
       omega (arith, z.repeats.expected, c.expected, c.oldest, c.were_taken) in
       ap (expected_behind u.ps) here ∙ u.repeats.brings count within
 
-  coming_again : (side : Side) (x y a b : LineEnd Count) → B side x y → (u : Waited x a) → Waited y b →
+  coming_again : (side : Side) (x y a b : LineEndState Count) → B side x y → (u : Waited x a) → Waited y b →
       AreComing (as_end a) (as_end b) u.ps
   coming_again side x y a b is u z =
       let passed = (always_passed (at side setup).own (at (other side) setup).own (record { near = as_end x; far = as_end y })
@@ -102,7 +102,7 @@ module _ (setup : SetupValue) (brought : AtBoth Belongings) (B : Side → LineEn
       }
 
   -- what is outstanding at y stands on its line, if it isn't all known
-  all_known : (side : Side) (x y a b : LineEnd Count) → B side x y → (u : Waited x a) → (z : Waited y b) → u.ps ≡ [] →
+  all_known : (side : Side) (x y a b : LineEndState Count) → B side x y → (u : Waited x a) → (z : Waited y b) → u.ps ≡ [] →
       ((e : ℕ) → expected_behind z.ps e ≡ e) → TellAll a.state.link b.state.link u.ps
   all_known side x y a b is u z none no_data =
       let c = counted_back setup brought B base side x y is in
@@ -125,7 +125,7 @@ module _ (setup : SetupValue) (brought : AtBoth Belongings) (B : Side → LineEn
         u.repeats.expected,
       )
 
-  tells_again : (side : Side) (x y a b : LineEnd Count) → B side x y → (u : Waited x a) → (z : Waited y b) →
+  tells_again : (side : Side) (x y a b : LineEndState Count) → B side x y → (u : Waited x a) → (z : Waited y b) →
       IsTold unsure a.state.link b.state.link u.ps z.ps
   tells_again side x y a b is u z = by u.repeats.tells (data_or_none z.ps)
     where
@@ -135,7 +135,7 @@ module _ (setup : SetupValue) (brought : AtBoth Belongings) (B : Side → LineEn
       by (inr none) (inl has) = inr has
       by (inr none) (inr no_data) = inl (all_known side x y a b is u z none.0 no_data)
 
-  pub both_waited : (side : Side) (x y a b : LineEnd Count) → B side x y → (u : Waited x a) → (z : Waited y b) →
+  pub both_waited : (side : Side) (x y a b : LineEndState Count) → B side x y → (u : Waited x a) → (z : Waited y b) →
       OpenPair unsure unsure a b u.ps z.ps
   both_waited side x y a b is u z =
       let far = base.turned side x y is in

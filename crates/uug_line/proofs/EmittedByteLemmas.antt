@@ -23,10 +23,10 @@ use Rattle.uug_session.specs.declared.greeting.Greeting.{Greeting}
 use Rattle.uug_session.specs.EndStep.{EndEvent, EndState, Emitted, Identity, Stage, behind_link, begins_link, broken_found, ended, first_words, goes_on as link_goes_on, greeted_so, hailing, hailing_step, is_up, late_link, leave, line_lost, linked, linked_step, long_text_found, message_of, packet_found_whole, packets, says_text, sends_packet, speaks_by, stage_step, takes_by, talks_by, text_found, then_closes, time_ran_out}
 use Rattle.uug_session.specs.Greeting.{GreetingStep, begins_with, called_text, came_for, fails, goes_on, begins, is_expected, lets_in, name_in_caller_text, number_by, number_came, offers_g, passes_over, text_came, timed_out as greeting_timed_out}
 use Rattle.uug_conversation.specs.Keeper.{Keeper}
-use Rattle.uug_session.specs.Says.{written_text}
+use Rattle.uug_talk.specs.Texts.{written_text}
 use Rattle.uug_conversation.specs.declared.side.Side.{Side}
 use Rattle.uug_conversation.specs.declared.side.Side.TheVariants.{Caller, Called}
-use Rattle.uug_line.specs.LineEnd.{bytes_in, packets_in}
+use Rattle.uug_line.specs.LineEndState.{bytes_in, packets_in}
 use Rattle.uug_line.proofs.ByteLemmas.{AllBytes, CarriesBytes, IsByte, bytewise, canonical_bytes}
 
 -- ---- texts

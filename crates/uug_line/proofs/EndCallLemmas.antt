@@ -28,8 +28,8 @@ use Rattle.uug_conversation.specs.DialogueState.{DialogueState, unopened}
 use Rattle.uug_session.specs.TextsHeld.{TextsHeld}
 use Rattle.uug_conversation.specs.DialogueValue.{dialogue_has_parted}
 use Rattle.uug_line.specs.JournalValue.{JournalValue, log_of}
-use Rattle.uug_line.specs.LineEnd.{LineEnd, after_call, called_with, holding, nothing_done}
-use Rattle.uug_line.specs.Live.{AreWritten, BeginsAgain, HasBegun, HasRoom, HoldsOn, IsCalled, IsNoted, IsOrdered, LiveEndValue, hearer_of, line_end_of, player_of, state_of}
+use Rattle.uug_line.specs.LineEndState.{LineEndState, after_call, called_with, holding, nothing_done}
+use Rattle.uug_line.specs.LineEndValue.{AreWritten, BeginsAgain, HasBegun, HasRoom, HoldsOn, IsCalled, IsNoted, IsOrdered, LineEndValue, hearer_of, line_end_of, player_of, state_of}
 use Rattle.uug_line.proofs.SpokenLemmas.{Calls, does_so, steps_so}
 use Rattle.uug_session.proofs.CallLemmas.{late_beside, lost_beside, begun_with}
 use Rattle.uug_session.proofs.InRangeLemmas.{end_begins, first_words_can}
@@ -66,18 +66,18 @@ held_late number k id (ended how) s c n = refl
 -- ---- a call that uses no bytes
 
 -- it forgets them where it has ended
-pub called_is : (event : EndEvent) (e : EndEffect DialogueState) (old called new : LiveEndValue)
+pub called_is : (event : EndEvent) (e : EndEffect DialogueState) (old called new : LineEndValue)
     → e ≡ end_step (player_of old).keeper (player_of old).identity event (state_of old)
     → Calls e old called new → called.journal ≡ old.journal → called.line ≡ old.line
     → held_bytes new.node ≡ held_in e.state.stage (held_bytes old.node)
     → hearer_of new ≡ called_with (player_of old) event (hearer_of old)
 called_is event e old called new is calls journal line held =
-    let by_held : List ℕ → Buffered (LineEnd DialogueState) = λ x. record { held = x; end = line_end_of new } in
-    let by_end : LineEnd DialogueState → Buffered (LineEnd DialogueState) = λ x. record { held = held_in e.state.stage (held_bytes old.node); end = x } in
-    let by_journal : JournalValue → Buffered (LineEnd DialogueState) =
+    let by_held : List ℕ → Buffered (LineEndState DialogueState) = λ x. record { held = x; end = line_end_of new } in
+    let by_end : LineEndState DialogueState → Buffered (LineEndState DialogueState) = λ x. record { held = held_in e.state.stage (held_bytes old.node); end = x } in
+    let by_journal : JournalValue → Buffered (LineEndState DialogueState) =
     λ x. holding (held_bytes old.node) (after_call (log_of x) called.line e) in
-    let by_line : List ℕ → Buffered (LineEnd DialogueState) = λ x. holding (held_bytes old.node) (after_call (log_of old.journal) x e) in
-    let by_effect : EndEffect DialogueState → Buffered (LineEnd DialogueState) =
+    let by_line : List ℕ → Buffered (LineEndState DialogueState) = λ x. holding (held_bytes old.node) (after_call (log_of old.journal) x e) in
+    let by_effect : EndEffect DialogueState → Buffered (LineEndState DialogueState) =
     λ x. holding (held_bytes old.node) (after_call (log_of old.journal) old.line x) in
     ap by_held held ∙ ap by_end calls.end ∙ ap by_journal journal ∙ ap by_line line ∙ ap by_effect is
 
@@ -86,7 +86,7 @@ room_kept (hailing g) bytes room = room
 room_kept linked bytes room = room
 room_kept (ended how) bytes room = omega arith
 
-calls_so : (event : EndEvent) (old called new : LiveEndValue) (e : EndEffect DialogueState)
+calls_so : (event : EndEvent) (old called new : LineEndValue) (e : EndEffect DialogueState)
     → e ≡ end_step (player_of old).keeper (player_of old).identity event (state_of old)
     → HasRoom old → Calls e old called new → called.journal ≡ old.journal → called.line ≡ old.line
     → held_bytes new.node ≡ held_in e.state.stage (held_bytes old.node)
@@ -98,11 +98,11 @@ calls_so event old called new e is room calls journal line held = record {
   standing = calls.standing;
 }
 
-stage_after : (e : EndEffect DialogueState) (old called new : LiveEndValue) → Calls e old called new → new.node.engine.stage ≡ e.state.stage
-stage_after e old called new calls = ap (λ (x : LineEnd DialogueState). x.state.stage) calls.end
+stage_after : (e : EndEffect DialogueState) (old called new : LineEndValue) → Calls e old called new → new.node.engine.stage ≡ e.state.stage
+stage_after e old called new calls = ap (λ (x : LineEndState DialogueState). x.state.stage) calls.end
 
--- nothing has come for some time
-pub timed_out_so : (old called new : LiveEndValue) → IsOrdered old → HasRoom old
+-- a timeout
+pub timed_out_so : (old called new : LineEndValue) → IsOrdered old → HasRoom old
     → Does (stage_late old.node.engine.number old.node.engine.identity (dialogue_has_parted old.node.engine.dialogue) old.node.engine.stage old.node.engine.link old.node.engine.dialogue)
     (bare called.node.engine) old.node.engine called.node.engine
     → called.node.texts ≡ old.node.texts → called.node.packets ≡ old.node.packets → called.spool ≡ old.spool
@@ -139,7 +139,7 @@ held_lost parted (hailing g) n bytes = refl
 held_lost parted linked n bytes = refl
 held_lost parted (ended how) n bytes = refl
 
-pub hung_up_so : (old called new : LiveEndValue) → IsOrdered old → HasRoom old
+pub hung_up_so : (old called new : LineEndValue) → IsOrdered old → HasRoom old
     → called.node.engine ≡ with_stage (hung_up (dialogue_has_parted old.node.engine.dialogue) old.node.engine.stage) old.node.engine
     → called.spool ≡ old.spool → called.journal ≡ old.journal → called.line ≡ old.line → IsNoted called new
     → IsCalled line_lost old new
@@ -163,7 +163,7 @@ hung_up_so old called new ordered room engine spool journal line noted_so =
 -- ---- a session begins
 
 -- an end beside whom nothing has happened
-with_nothing_said : Identity → Announced → LiveEndValue → LiveEndValue
+with_nothing_said : Identity → Announced → LineEndValue → LineEndValue
 with_nothing_said id own p = record p {
   node = record p.node {
     engine = record p.node.engine {
@@ -184,7 +184,7 @@ none_held (hailing g) = refl
 none_held linked = refl
 none_held (ended how) = refl
 
-pub begun_so : (id : Identity) (own : Announced) (number : Option ℕ) (l : Lists) (called new : LiveEndValue) → IsAnnouncement own
+pub begun_so : (id : Identity) (own : Announced) (number : Option ℕ) (l : Lists) (called new : LineEndValue) → IsAnnouncement own
     → BeginsSession id own number l [] called.node.engine → HoldsNothing called.node
     → called.journal ≡ nothing_done → called.line ≡ [] → IsNoted called new
     → HasBegun id own number l called.spool new
@@ -205,10 +205,10 @@ begun_so id own number l called new announces session nothing_held journal line 
     let bytes : held_bytes new.node ≡ [] =
     same_bytes new.node.engine.stage new.node called.node noted_so.texts noted_so.packets
     ∙ nothing_at new.node.engine.stage called.node nothing_held in
-    let by_held : List ℕ → Buffered (LineEnd DialogueState) = λ x. record { held = x; end = line_end_of new } in
-    let by_end : LineEnd DialogueState → Buffered (LineEnd DialogueState) = λ x. record { held = held_in e.state.stage []; end = x } in
-    let by_journal : JournalValue → LineEnd DialogueState = λ x. after_call (log_of x) called.line e in
-    let by_line : List ℕ → LineEnd DialogueState = λ x. after_call (log_of nothing_done) x e in
+    let by_held : List ℕ → Buffered (LineEndState DialogueState) = λ x. record { held = x; end = line_end_of new } in
+    let by_end : LineEndState DialogueState → Buffered (LineEndState DialogueState) = λ x. record { held = held_in e.state.stage []; end = x } in
+    let by_journal : JournalValue → LineEndState DialogueState = λ x. after_call (log_of x) called.line e in
+    let by_line : List ℕ → LineEndState DialogueState = λ x. after_call (log_of nothing_done) x e in
     record {
       hearer = ap by_held (bytes ∙ none_held e.state.stage)
           ∙ ap by_end (calls.end ∙ ap by_journal journal ∙ ap by_line line);
@@ -218,7 +218,7 @@ begun_so id own number l called new announces session nothing_held journal line 
     }
 
 -- the next one begins
-pub begun_again : (old called new : LiveEndValue) → IsOrdered old
+pub begun_again : (old called new : LineEndValue) → IsOrdered old
     → BeginsSession old.node.engine.identity old.node.engine.own old.node.engine.number (all_ahead old.node.engine.dialogue.machine.lists) old.node.engine.outbox.entries
     called.node.engine → HoldsNothing called.node → called.spool ≡ old.spool
     → called.journal ≡ nothing_done → called.line ≡ [] → IsNoted called new → BeginsAgain old new

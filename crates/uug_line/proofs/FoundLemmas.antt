@@ -15,7 +15,7 @@ use Rattle.uug_session.specs.EndStep.{EndEffect, EndEvent, packet_found_whole, S
 use Rattle.uug_session.specs.Finding.{Finding, finds_nothing, finds, finds_packet, text_finding, item_finding, finding, found_with, LeavesFewer}
 use Rattle.uug_session.specs.TextsHeld.{TextSearch, text_waits, text_stands, text_too_long, search_text}
 use Rattle.uug_line.specs.Fooled.{FindsNothingMore}
-use Rattle.uug_line.specs.LineEnd.{Log, LineEnd, Participant, after_call, does, found_at, packets_in, took}
+use Rattle.uug_line.specs.LineEndState.{JournalState, LineEndState, Participant, after_call, does, found_at, packets_in, took}
 use Rattle.uug_line.specs.Taking.{takes_sent, line_taker, packet_taken_up, with_packet}
 use Rattle.uug_line.specs.WereSent.{HavePlaces, passed_at}
 use Rattle.uug_line.proofs.PlaceLemmas.{later_places, next_place}
@@ -107,12 +107,12 @@ held_fewer (ended how) bytes = omega arith
 -- ---- places
 
 -- the end has found packets that have its places among those that were emitted to it
-pub record HasFound {C : Type 0} (e : LineEnd C) (emitted : List PacketValue) : Type 0 where
+pub record HasFound {C : Type 0} (e : LineEndState C) (emitted : List PacketValue) : Type 0 where
   pub packets : List PacketValue
   pub places : HavePlaces packets e.log.arrivals emitted 0
   pub passed : e.log.passed ≡ passed_at e.log.arrivals 0
 
-pub record BothFound {C : Type 0} (e f : LineEnd C) : Type 0 where
+pub record BothFound {C : Type 0} (e f : LineEndState C) : Type 0 where
   pub near : HasFound e f.log.packets
   pub far : HasFound f e.log.packets
 
@@ -121,7 +121,7 @@ passed_behind [] i from = refl
 passed_behind (j ∷ js) i from = passed_behind js i (suc j)
 
 -- a call finds no packet, and may emit some
-pub does_found : {C : Type 0} (p : Participant C) (event : EndEvent) (e f : LineEnd C) → BothFound e f → BothFound (does p event e) f
+pub does_found : {C : Type 0} (p : Participant C) (event : EndEvent) (e f : LineEndState C) → BothFound e f → BothFound (does p event e) f
 does_found p event e f both = record {
   near = record { packets = both.near.packets; places = both.near.places; passed = both.near.passed };
   far = record {
@@ -132,7 +132,7 @@ does_found p event e f both = record {
   };
 }
 
-take_found : {C : Type 0} (packet : PacketValue) (place : ℕ) (e : LineEnd C) (emitted : List PacketValue) (took_it : Bool)
+take_found : {C : Type 0} (packet : PacketValue) (place : ℕ) (e : LineEndState C) (emitted : List PacketValue) (took_it : Bool)
     (effect : EndEffect C) → IsPlace packet emitted e.log.passed place → HasFound e emitted →
     HasFound (after_call (took took_it (message_of packet) (found_at place e.log)) e.line effect) emitted
 take_found packet place e emitted false effect at has = record {
@@ -148,11 +148,11 @@ take_found packet place e emitted true effect at has = record {
   passed = sym (passed_behind e.log.arrivals place 0);
 }
 
-pub took_packets : (t : Bool) (message : List ℕ) (log : Log) → (took t message log).packets ≡ log.packets
+pub took_packets : (t : Bool) (message : List ℕ) (log : JournalState) → (took t message log).packets ≡ log.packets
 took_packets false message log = refl
 took_packets true message log = refl
 
-with_packet_found : {C : Type 0} (packet : PacketValue) (place : ℕ) (e f : LineEnd C) (effect : EndEffect C) →
+with_packet_found : {C : Type 0} (packet : PacketValue) (place : ℕ) (e f : LineEndState C) (effect : EndEffect C) →
     IsPlace packet f.log.packets e.log.passed place → BothFound e f → BothFound (with_packet packet place e effect) f
 with_packet_found packet place e f effect at both = record {
   near = take_found packet place e f.log.packets effect.took effect at both.near;
@@ -174,25 +174,25 @@ place_is_there p emitted passed place e =
 -- ---- a piece
 
 -- the packet that stands next has no place
-pub record IsUnsent {C : Type 0} (h : Buffered (LineEnd C)) (f : LineEnd C) : Type 0 where
+pub record IsUnsent {C : Type 0} (h : Buffered (LineEndState C)) (f : LineEndState C) : Type 0 where
   pub packet : PacketValue
   pub behind : List ℕ
   pub next : finding h.end.state.stage h.held ≡ finds_packet packet h.held behind
   pub no_place : place_of packet f.log.packets h.end.log.passed ≡ None
 
-module _ {C : Type 0} (p : Participant C) (f : LineEnd C) where
-  abbrev receiver : Receiver (LineEnd C)
+module _ {C : Type 0} (p : Participant C) (f : LineEndState C) where
+  abbrev receiver : Receiver (LineEndState C)
   receiver = line_taker p f.log.packets
 
-  abbrev pub CameSo : Arrival (LineEnd C) → Type 0
+  abbrev pub CameSo : Arrival (LineEndState C) → Type 0
   CameSo (all_taken h) = BothFound h.end f × FindsNothingMore h
   CameSo (stopped h) = BothFound h.end f × IsUnsent h f
 
   -- at most so many, where fewer bytes are held
   abbrev AllCameSo : ℕ → Type 0
-  AllCameSo n = (h : Buffered (LineEnd C)) → length h.held < n → BothFound h.end f → CameSo (takes_up_to n receiver h)
+  AllCameSo n = (h : Buffered (LineEndState C)) → length h.held < n → BothFound h.end f → CameSo (takes_up_to n receiver h)
 
-  came_if : (n : ℕ) → AllCameSo n → (q : PacketValue) (bytes from behind : List ℕ) (place : Option ℕ) (e : LineEnd C) →
+  came_if : (n : ℕ) → AllCameSo n → (q : PacketValue) (bytes from behind : List ℕ) (place : Option ℕ) (e : LineEndState C) →
       finding e.state.stage bytes ≡ finds_packet q from behind → length bytes ≤ n → BothFound e f →
       place_of q f.log.packets e.log.passed ≡ place →
       CameSo (takes_if (takes_up_to n receiver) receiver (takes_sent p q place e) from behind e)
@@ -205,7 +205,7 @@ module _ {C : Type 0} (p : Participant C) (f : LineEnd C) where
       (with_packet_found q place e f (end_step p.keeper p.identity (packet_found_whole false q) e.state)
       (place_is_there q f.log.packets e.log.passed place at) both)
 
-  came_so : (n : ℕ) → AllCameSo n → (what : Finding) (bytes : List ℕ) (e : LineEnd C) →
+  came_so : (n : ℕ) → AllCameSo n → (what : Finding) (bytes : List ℕ) (e : LineEndState C) →
       finding e.state.stage bytes ≡ what → length bytes ≤ n → BothFound e f →
       CameSo (takes_up (takes_up_to n receiver) receiver what e)
   came_so n more (finds_nothing rest) bytes e found_it enough both =
@@ -223,7 +223,7 @@ module _ {C : Type 0} (p : Participant C) (f : LineEnd C) where
   came_up_to (suc n) h enough both =
       came_so n (came_up_to n) (finding h.end.state.stage h.held) h.held h.end refl (omega arith) both
 
-  pub came_piece : (piece : List ℕ) (h : Buffered (LineEnd C)) → BothFound h.end f → CameSo (takes_piece receiver piece h)
+  pub came_piece : (piece : List ℕ) (h : Buffered (LineEndState C)) → BothFound h.end f → CameSo (takes_piece receiver piece h)
   came_piece piece h both =
       let held = holds receiver (h.held ++ piece) h.end in
       came_up_to (suc (length held.held)) held (omega arith) both

@@ -38,7 +38,7 @@ same_if : (b : Bool) (x y z w : GreetingStep) → SameGreeted x.greeted z.greete
 same_if true x y z w first next = first
 same_if false x y z w first next = next
 
--- where a text leads only by tests, or is passed over
+-- where a text leads only by tests, or is skipped
 by_tests : (b c : Bool) (x y : GreetingStep) (g h : Greeting) → g.awaited ≡ h.awaited
     → SameGreeted (if b then x else (if c then y else passes_over g)).greeted (if b then x else (if c then y else passes_over h)).greeted
 by_tests b c x y g h same =

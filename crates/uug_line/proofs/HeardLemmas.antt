@@ -37,7 +37,7 @@ use Rattle.uug_line.specs.Report.{report_of_end}
 use Rattle.uug_line.specs.Run.{Run, end_at, participant, has_now, first_run, session_begins, flipped, with_end_at, with_line_to, hears_next, after_hearing, calls, hung_up, after_event, unless_fooled, goes_through, run_of}
 use Rattle.uug_line.specs.RunKeeper.{RunKeeper}
 use Rattle.uug_line.specs.Sides.{AtBoth, at, at_each}
-use Rattle.uug_line.specs.LineEnd.{LineEnd, Participant, does, called_with, changed_line, found_at, packets_in, took}
+use Rattle.uug_line.specs.LineEndState.{LineEndState, Participant, does, called_with, changed_line, found_at, packets_in, took}
 use Rattle.uug_line.specs.Taking.{takes_sent, line_taker, packet_taken_up, with_packet}
 use Rattle.uug_line.specs.WereSent.{HavePlaces, passed_at}
 use Rattle.uug_line.specs.Told.{EndReportValue}
@@ -51,13 +51,13 @@ use Rattle.uug_reader.proofs.SearchLemmas.{search_finds_item, search_finds_rest}
 use Rattle.uug_session.proofs.FoundLemmas.{bytes_behind_texts, bytes_found, bytes_in_front}
 use Rattle.uug_session.proofs.TextCallLemmas.{taken_right_behind, taken_more, first_taken, taken_searched}
 
--- ---- what an end has heard, and how many packets were found or gone past
+-- ---- what an end has heard, and how many packets were found or skipped
 
 pub record HearsSo {C : Type 0} (p : Participant C) (brought : Option ℕ) (came : List ℕ) (now : EndState C) (held arrivals : List ℕ) (passed : ℕ) (emitted : List PacketValue) : Type 0 where
   pub heard : HasHeard p brought came now held arrivals emitted
   pub past : passed ≡ passed_at arrivals 0
 
-abbrev pub Hears : {C : Type 0} → Participant C → (brought : Option ℕ) → (came : List ℕ) → Buffered (LineEnd C) → (emitted : List PacketValue) → Type 0
+abbrev pub Hears : {C : Type 0} → Participant C → (brought : Option ℕ) → (came : List ℕ) → Buffered (LineEndState C) → (emitted : List PacketValue) → Type 0
 Hears p brought came h emitted = HearsSo p brought came h.end.state h.held h.end.log.arrivals h.end.log.passed emitted
 
 packets_joined : (items more : List Item) → packets_among (items ++ more) ≡ packets_among items ++ packets_among more
@@ -136,7 +136,7 @@ left_then p brought event e linked (hailing h) texts items others came held uses
 left_then p brought event e (ended how) (hailing h) texts items others came held uses is stays left = absurd stays
 left_then p brought event e (ended how) linked texts items others came held uses is stays left = absurd stays
 
-pub called_hears : {C : Type 0} (p : Participant C) (brought : Option ℕ) (event : EndEvent) (h : Buffered (LineEnd C)) (came : List ℕ) (emitted : List PacketValue)
+pub called_hears : {C : Type 0} (p : Participant C) (brought : Option ℕ) (event : EndEvent) (h : Buffered (LineEndState C)) (came : List ℕ) (emitted : List PacketValue)
     → UsesNoBytes event → Hears p brought came h emitted → Hears p brought came (called_with p event h) emitted
 called_hears p brought event h came emitted uses x = record {
   heard = record {
@@ -196,25 +196,25 @@ hearer_of (stopped h) = h
 
 module _ {C : Type 0} (p : Participant C) (others : List PacketValue) (Far : List PacketValue → Type 0)
     (later : (emitted more : List PacketValue) → Far emitted → Far (emitted ++ more)) where
-  abbrev far_taker : Receiver (LineEnd C)
+  abbrev far_taker : Receiver (LineEndState C)
   far_taker = line_taker p others
 
   -- a fact on what an end has emitted stays while it takes up bytes
   abbrev FarUpTo : ℕ → Type 0
-  FarUpTo n = (h : Buffered (LineEnd C)) → Far h.end.log.packets → Far (hearer_of (takes_up_to n far_taker h)).end.log.packets
+  FarUpTo n = (h : Buffered (LineEndState C)) → Far h.end.log.packets → Far (hearer_of (takes_up_to n far_taker h)).end.log.packets
 
-  far_packet : (q : PacketValue) (place : ℕ) (e : LineEnd C) → Far e.log.packets → Far (packet_taken_up p q place e).log.packets
+  far_packet : (q : PacketValue) (place : ℕ) (e : LineEndState C) → Far e.log.packets → Far (packet_taken_up p q place e).log.packets
   far_packet q place e far =
       let effect = end_step p.keeper p.identity (packet_found_whole false q) e.state in
       subst (λ (ps : List PacketValue). Far (ps ++ packets_in effect.emitted)) (sym (took_packets effect.took (message_of q) _))
       (later e.log.packets (packets_in effect.emitted) far)
 
-  far_if : (n : ℕ) → FarUpTo n → (q : PacketValue) (from behind : List ℕ) (e : LineEnd C) (place : Option ℕ) → Far e.log.packets
+  far_if : (n : ℕ) → FarUpTo n → (q : PacketValue) (from behind : List ℕ) (e : LineEndState C) (place : Option ℕ) → Far e.log.packets
       → Far (hearer_of (takes_if (takes_up_to n far_taker) far_taker (takes_sent p q place e) from behind e)).end.log.packets
   far_if n more q from behind e None far = far
   far_if n more q from behind e (Some place) far = more (holds far_taker behind (packet_taken_up p q place e)) (far_packet q place e far)
 
-  far_by : (n : ℕ) → FarUpTo n → (what : Finding) (e : LineEnd C) → Far e.log.packets
+  far_by : (n : ℕ) → FarUpTo n → (what : Finding) (e : LineEndState C) → Far e.log.packets
       → Far (hearer_of (takes_up (takes_up_to n far_taker) far_taker what e)).end.log.packets
   far_by n more (finds_nothing rest) e far = far
   far_by n more (finds event behind) e far =
@@ -226,18 +226,18 @@ module _ {C : Type 0} (p : Participant C) (others : List PacketValue) (Far : Lis
   far_up_to zero h far = far
   far_up_to (suc n) h far = far_by n (far_up_to n) (finding h.end.state.stage h.held) h.end far
 
-  pub far_piece : (piece : List ℕ) (h : Buffered (LineEnd C)) → Far h.end.log.packets → Far (hearer_of (takes_piece far_taker piece h)).end.log.packets
+  pub far_piece : (piece : List ℕ) (h : Buffered (LineEndState C)) → Far h.end.log.packets → Far (hearer_of (takes_piece far_taker piece h)).end.log.packets
   far_piece piece h far =
       let held = holds far_taker (h.held ++ piece) h.end in
       far_up_to (suc (length held.held)) held far
 
 module _ {C : Type 0} (p : Participant C) (brought : Option ℕ) (emitted : List PacketValue)
     (came : List ℕ) (all : AreBytes came) where
-  abbrev receiver : Receiver (LineEnd C)
+  abbrev receiver : Receiver (LineEndState C)
   receiver = line_taker p emitted
 
   abbrev HearsUpTo : ℕ → Type 0
-  HearsUpTo n = (h : Buffered (LineEnd C)) → length h.held < n → Hears p brought came h emitted → Hears p brought came (hearer_of (takes_up_to n receiver h)) emitted
+  HearsUpTo n = (h : Buffered (LineEndState C)) → length h.held < n → Hears p brought came h emitted → Hears p brought came (hearer_of (takes_up_to n receiver h)) emitted
 
   -- so the end stands with these bytes, told by its stage
   held_at : (now : EndState C) (s : Stage) (texts : List (List ℕ)) (items : List Item) (others bytes : List ℕ) → now.stage ≡ s
@@ -256,7 +256,7 @@ module _ {C : Type 0} (p : Participant C) (brought : Option ℕ) (emitted : List
   left_behind_text linked now texts behind stand stands = (refl, stands)
   left_behind_text (ended how) now texts behind stand stands = inl (refl, inr stands)
 
-  by_text : (n : ℕ) → HearsUpTo n → (h : Buffered (LineEnd C)) (g : Greeting) → h.end.state.stage ≡ hailing g → length h.held < suc n
+  by_text : (n : ℕ) → HearsUpTo n → (h : Buffered (LineEndState C)) (g : Greeting) → h.end.state.stage ≡ hailing g → length h.held < suc n
       → (x : Hears p brought came h emitted) → (x.heard.items ≡ []) × Taken x.heard.texts came h.held × GreetsOn p.identity brought x.heard.texts g.awaited h.end.state.number
       → (search : TextSearch) → search_text h.held ≡ search
       → Hears p brought came (hearer_of (takes_up (takes_up_to n receiver) receiver (text_finding h.held search) h.end)) emitted
@@ -334,7 +334,7 @@ module _ {C : Type 0} (p : Participant C) (brought : Option ℕ) (emitted : List
 
   -- ---- on the link
 
-  bytes_held : (h : Buffered (LineEnd C)) (x : Hears p brought came h emitted) → x.heard.others ≡ h.held → AreBytes h.held
+  bytes_held : (h : Buffered (LineEndState C)) (x : Hears p brought came h emitted) → x.heard.others ≡ h.held → AreBytes h.held
   bytes_held h x same =
       subst AreBytes same
       (bytes_found x.heard.begins x.heard.others x.heard.items x.heard.link
@@ -348,9 +348,9 @@ module _ {C : Type 0} (p : Participant C) (brought : Option ℕ) (emitted : List
   left_behind_item (ended how) now texts items behind stays began over = inr (began, over)
 
   -- an item is taken up, and the end stands behind it
-  behind_item : (n : ℕ) → HearsUpTo n → (h : Buffered (LineEnd C)) → h.end.state.stage ≡ linked → length h.held < suc n → (x : Hears p brought came h emitted)
+  behind_item : (n : ℕ) → HearsUpTo n → (h : Buffered (LineEndState C)) → h.end.state.stage ≡ linked → length h.held < suc n → (x : Hears p brought came h emitted)
       → x.heard.others ≡ h.held → LinkBeganWith p.identity brought x.heard.texts h.end.state.number → (item : Item) (size : ℕ) (from : List ℕ) → search_of h.held ≡ standing item size from
-      → length (drop size from) < length h.held → (y : LineEnd C) → StaysOrEnds linked y.state.stage
+      → length (drop size from) < length h.held → (y : LineEndState C) → StaysOrEnds linked y.state.stage
       → (end_step p.keeper p.identity (event_of item) h.end.state).state ≡ y.state
       → HavePlaces (packets_among (x.heard.items ++ item ∷ [])) y.log.arrivals emitted 0 → y.log.passed ≡ passed_at y.log.arrivals 0
       → Hears p brought came (hearer_of (takes_up_to n receiver (holds receiver (drop size from) y))) emitted
@@ -382,7 +382,7 @@ module _ {C : Type 0} (p : Participant C) (brought : Option ℕ) (emitted : List
       })
 
   -- a packet has its place
-  packet_placed : (q : PacketValue) (place : ℕ) (h : Buffered (LineEnd C)) (x : Hears p brought came h emitted)
+  packet_placed : (q : PacketValue) (place : ℕ) (h : Buffered (LineEndState C)) (x : Hears p brought came h emitted)
       → place_of q emitted h.end.log.passed ≡ Some place
       → HavePlaces (packets_among (x.heard.items ++ found q ∷ [])) (h.end.log.arrivals ++ place ∷ []) emitted 0
   packet_placed q place h x at =
@@ -390,7 +390,7 @@ module _ {C : Type 0} (p : Participant C) (brought : Option ℕ) (emitted : List
       (next_place (packets_among x.heard.items) emitted h.end.log.arrivals q place 0 x.heard.places
       (subst (λ n. IsPlace q emitted n place) x.past (place_is_there q emitted h.end.log.passed place at)))
 
-  took_arrivals : (t : Bool) (q : PacketValue) (place : ℕ) (h : Buffered (LineEnd C)) → (x : Hears p brought came h emitted)
+  took_arrivals : (t : Bool) (q : PacketValue) (place : ℕ) (h : Buffered (LineEndState C)) → (x : Hears p brought came h emitted)
       → place_of q emitted h.end.log.passed ≡ Some place → (effect : EndEffect C) → effect.took ≡ t
       → HavePlaces (packets_among (x.heard.items ++ found q ∷ [])) (with_packet q place h.end effect).log.arrivals emitted 0
       × ((with_packet q place h.end effect).log.passed ≡ passed_at (with_packet q place h.end effect).log.arrivals 0)
@@ -408,7 +408,7 @@ module _ {C : Type 0} (p : Participant C) (brought : Option ℕ) (emitted : List
       same_passed true = refl
       same_passed false = refl
 
-  by_place : (n : ℕ) → HearsUpTo n → (h : Buffered (LineEnd C)) → h.end.state.stage ≡ linked → length h.held < suc n → (x : Hears p brought came h emitted)
+  by_place : (n : ℕ) → HearsUpTo n → (h : Buffered (LineEndState C)) → h.end.state.stage ≡ linked → length h.held < suc n → (x : Hears p brought came h emitted)
       → x.heard.others ≡ h.held → LinkBeganWith p.identity brought x.heard.texts h.end.state.number → (q : PacketValue) (size : ℕ) (from : List ℕ) → search_of h.held ≡ standing (found q) size from
       → (place : Option ℕ) → place_of q emitted h.end.log.passed ≡ place
       → Hears p brought came (hearer_of (takes_if (takes_up_to n receiver) receiver (takes_sent p q place h.end) from (drop size from) h.end)) emitted
@@ -435,7 +435,7 @@ module _ {C : Type 0} (p : Participant C) (brought : Option ℕ) (emitted : List
       (packet_takes linked h.held from (drop size from) q (ap item_finding e))
       (packet_taken_up p q place h.end) (packet_stays p.keeper p.identity q h.end.state on) refl placed.0 placed.1
 
-  by_item : (n : ℕ) → HearsUpTo n → (h : Buffered (LineEnd C)) → h.end.state.stage ≡ linked → length h.held < suc n → (x : Hears p brought came h emitted)
+  by_item : (n : ℕ) → HearsUpTo n → (h : Buffered (LineEndState C)) → h.end.state.stage ≡ linked → length h.held < suc n → (x : Hears p brought came h emitted)
       → x.heard.others ≡ h.held → LinkBeganWith p.identity brought x.heard.texts h.end.state.number → (search : Search) → search_of h.held ≡ search
       → Hears p brought came (hearer_of (takes_up (takes_up_to n receiver) receiver (item_finding search) h.end)) emitted
   by_item n more h on enough x same began (waiting rest) e =
@@ -465,7 +465,7 @@ module _ {C : Type 0} (p : Participant C) (brought : Option ℕ) (emitted : List
 
   -- ---- by how far the end has come
 
-  by_stage : (n : ℕ) → HearsUpTo n → (h : Buffered (LineEnd C)) → length h.held < suc n → (x : Hears p brought came h emitted) → (s : Stage)
+  by_stage : (n : ℕ) → HearsUpTo n → (h : Buffered (LineEndState C)) → length h.held < suc n → (x : Hears p brought came h emitted) → (s : Stage)
       → h.end.state.stage ≡ s → Hears p brought came (hearer_of (takes_up (takes_up_to n receiver) receiver (finding s h.held) h.end)) emitted
   by_stage n more h enough x (hailing g) is =
       by_text n more h g is enough x (subst (λ s. IsLeft p brought s h.end.state x.heard.texts x.heard.items x.heard.others came h.held) is x.heard.left)
@@ -553,7 +553,7 @@ with_piece p brought before piece now (ended how) held arrivals passed emitted i
 }
 
 pub hears_piece : {C : Type 0} (p : Participant C) (brought : Option ℕ) (emitted : List PacketValue)
-    (before piece : List ℕ) (h : Buffered (LineEnd C)) → AreBytes (before ++ piece) → Hears p brought before h emitted
+    (before piece : List ℕ) (h : Buffered (LineEndState C)) → AreBytes (before ++ piece) → Hears p brought before h emitted
     → Hears p brought (before ++ piece) (hearer_of (takes_piece (line_taker p emitted) piece h)) emitted
 hears_piece p brought emitted before piece h all x =
     let held = holds (line_taker p emitted) (h.held ++ piece) h.end in
@@ -563,7 +563,7 @@ hears_piece p brought emitted before piece h all x =
 -- ---- a run
 
 -- what an end has heard, where bytes came to it
-abbrev pub EndHears : {C : Type 0} → RunKeeper C → SetupValue → (came : AtBoth (List ℕ)) → Run C → Side → (x y : Buffered (LineEnd C)) → Type 0
+abbrev pub EndHears : {C : Type 0} → RunKeeper C → SetupValue → (came : AtBoth (List ℕ)) → Run C → Side → (x y : Buffered (LineEndState C)) → Type 0
 EndHears k setup came run side x y =
     AreBytes (at side came) → Hears (participant k setup run side) (at side run.brought).number (at side came) x y.end.log.packets
 
@@ -619,7 +619,7 @@ module _ {C : Type 0} (k : RunKeeper C) (setup : SetupValue) where
       y.end.log.arrivals y.end.log.passed x.end.log.packets (packets_in (end_step p.keeper p.identity event x.end.state).emitted)
       (from_other P run.ends hear side all))
 
-  after_heard : (number : ℕ) (side : Side) (n : ℕ) (came : AtBoth (List ℕ)) (run : Run C) (c : Arrival (LineEnd C))
+  after_heard : (number : ℕ) (side : Side) (n : ℕ) (came : AtBoth (List ℕ)) (run : Run C) (c : Arrival (LineEndState C))
       → EndHears k setup came run side (hearer_of c) (end_at (other side) run)
       → EndHears k setup came run (other side) (end_at (other side) run) (hearer_of c)
       → RunHears k setup came (after_hearing number side c (with_line_to side (drop n) run))
@@ -685,7 +685,7 @@ module _ {C : Type 0} (k : RunKeeper C) (setup : SetupValue) where
       → HasHeardAt k setup (at side (came_in k setup events)) (run_of k setup events) side
   heard_at events side all = (run_heard events side all).heard
 
-  nothing_waits : (h : Buffered (LineEnd C)) → h.end.state.stage ≡ linked → FindsNothingMore h → search_of h.held ≡ waiting h.held
+  nothing_waits : (h : Buffered (LineEndState C)) → h.end.state.stage ≡ linked → FindsNothingMore h → search_of h.held ≡ waiting h.held
   nothing_waits h on none =
       by_search (search_of h.held) refl (subst (λ s. finding s h.held ≡ finds_nothing h.held) on none)
     where

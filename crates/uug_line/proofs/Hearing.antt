@@ -13,7 +13,7 @@ use Rattle.uug_conversation.specs.DialogueState.{DialogueState}
 use Rattle.uug_session.specs.TextsHeld.{TextSearch, text_waits, text_stands, text_too_long, search_text}
 use Rattle.uug_conversation.specs.declared.side.Side.{Side}
 use Rattle.uug_line.specs.Belongings.{Belongings, SetupValue}
-use Rattle.uug_line.specs.LineEnd.{LineEnd, does}
+use Rattle.uug_line.specs.LineEndState.{LineEndState, does}
 use Rattle.uug_line.specs.Sides.{AtBoth}
 use Rattle.uug_line.specs.Taking.{takes_sent, line_taker, packet_taken_up}
 use Rattle.uug_line.specs.World.{counted_end, counted_hearer}
@@ -45,34 +45,34 @@ found_so_at (ended how) bytes = tt
 
 -- ---- what came, by numbers
 
-abbrev pub counted_came : Arrival (LineEnd DialogueState) → Arrival (LineEnd Count)
+abbrev pub counted_came : Arrival (LineEndState DialogueState) → Arrival (LineEndState Count)
 counted_came (all_taken h) = all_taken (counted_hearer h)
 counted_came (stopped h) = stopped (counted_hearer h)
 
-abbrev pub end_of : Arrival (LineEnd DialogueState) → LineEnd DialogueState
+abbrev pub end_of : Arrival (LineEndState DialogueState) → LineEndState DialogueState
 end_of (all_taken h) = h.end
 end_of (stopped h) = h.end
 
-module _ (setup : SetupValue) (brought : AtBoth Belongings) (sound : IsSoundSession setup brought) (side : Side) (f : LineEnd DialogueState) where
+module _ (setup : SetupValue) (brought : AtBoth Belongings) (sound : IsSoundSession setup brought) (side : Side) (f : LineEndState DialogueState) where
   all_steps : Steps setup brought
   all_steps = steps setup brought sound
 
-  abbrev talks : Receiver (LineEnd DialogueState)
+  abbrev talks : Receiver (LineEndState DialogueState)
   talks = line_taker (talk_player setup side) f.log.packets
 
-  abbrev counts : Receiver (LineEnd Count)
+  abbrev counts : Receiver (LineEndState Count)
   counts = line_taker (count_player setup brought side) f.log.packets
 
-  pub record IsTaken (came : Arrival (LineEnd DialogueState)) (numbers : Arrival (LineEnd Count)) : Type 0 where
+  pub record IsTaken (came : Arrival (LineEndState DialogueState)) (numbers : Arrival (LineEndState Count)) : Type 0 where
     pub joined : EndsJoined setup brought side (end_of came) f
     pub counted : counted_came came ≡ numbers
 
   -- at most so many are taken so
   abbrev AreTaken : ℕ → Type 0
-  AreTaken n = (h : Buffered (LineEnd DialogueState)) → EndsJoined setup brought side h.end f →
+  AreTaken n = (h : Buffered (LineEndState DialogueState)) → EndsJoined setup brought side h.end f →
       IsTaken (takes_up_to n talks h) (takes_up_to n counts (counted_hearer h))
 
-  taken_behind : (n : ℕ) → AreTaken n → (behind : List ℕ) (e : LineEnd DialogueState) (c : LineEnd Count) →
+  taken_behind : (n : ℕ) → AreTaken n → (behind : List ℕ) (e : LineEndState DialogueState) (c : LineEndState Count) →
       EndsJoined setup brought side e f → counted_end e ≡ c →
       IsTaken (takes_up_to n talks (holds talks behind e)) (takes_up_to n counts (holds counts behind c))
   taken_behind n more behind e c joined counted =
@@ -82,7 +82,7 @@ module _ (setup : SetupValue) (brought : AtBoth Belongings) (sound : IsSoundSess
         counted = rest.counted ∙ ap (λ z. takes_up_to n counts (holds counts behind z)) counted;
       }
 
-  taken_if : (n : ℕ) → AreTaken n → (p : PacketValue) (place : Option ℕ) (from behind : List ℕ) (e : LineEnd DialogueState) →
+  taken_if : (n : ℕ) → AreTaken n → (p : PacketValue) (place : Option ℕ) (from behind : List ℕ) (e : LineEndState DialogueState) →
       e.state.stage ≡ linked → place_of p f.log.packets e.log.passed ≡ place → EndsJoined setup brought side e f →
       IsTaken (takes_if (takes_up_to n talks) talks (takes_sent (talk_player setup side) p place e) from behind e)
       (takes_if (takes_up_to n counts) counts (takes_sent (count_player setup brought side) p place (counted_end e)) from behind
@@ -93,7 +93,7 @@ module _ (setup : SetupValue) (brought : AtBoth Belongings) (sound : IsSoundSess
       (packet_taken_up (count_player setup brought side) p place (counted_end e))
       (all_steps.packet_joined side p place e f on_link is joined) (all_steps.packet_counted side p place e f on_link is joined)
 
-  taken_so : (n : ℕ) → AreTaken n → (what : Finding) (e : LineEnd DialogueState) → FindsAt e.state.stage what →
+  taken_so : (n : ℕ) → AreTaken n → (what : Finding) (e : LineEndState DialogueState) → FindsAt e.state.stage what →
       EndsJoined setup brought side e f →
       IsTaken (takes_up (takes_up_to n talks) talks what e) (takes_up (takes_up_to n counts) counts what (counted_end e))
   taken_so n more (finds_nothing rest) e found_at joined = record { joined = joined; counted = refl }
@@ -109,7 +109,7 @@ module _ (setup : SetupValue) (brought : AtBoth Belongings) (sound : IsSoundSess
   taken_up_to (suc n) h joined =
       taken_so n (taken_up_to n) (finding h.end.state.stage h.held) h.end (found_so_at h.end.state.stage h.held) joined
 
-  pub taken_piece : (piece : List ℕ) (h : Buffered (LineEnd DialogueState)) → EndsJoined setup brought side h.end f →
+  pub taken_piece : (piece : List ℕ) (h : Buffered (LineEndState DialogueState)) → EndsJoined setup brought side h.end f →
       IsTaken (takes_piece talks piece h) (takes_piece counts piece (counted_hearer h))
   taken_piece piece h joined =
       let held = holds talks (h.held ++ piece) h.end in

@@ -1,4 +1,4 @@
--- What a fact on an end's moments has to keep to, so that it holds after every step, and the end is told by two numbers.
+-- What a fact on an end's moments has to keep to, so that it holds after every step, and the end is described by two numbers.
 use Rattle.std.specs.Prelude.{◌≡◌, ℕ, suc, true, false, List, [], ◌∷◌, ◌++◌, Some}
 use Rattle.uug_link.specs.State.{State, IsFresh, IsUp}
 use Rattle.uug_link.specs.Step.{Event, bad_found, timed_out, to_begin, to_close, to_send, packet_found, OutcomeValue, nothing, up, taken, closed, gave_up, halted, step}

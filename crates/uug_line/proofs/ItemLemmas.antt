@@ -27,8 +27,8 @@ use Rattle.uug_conversation.specs.DialogueState.{DialogueState}
 use Rattle.uug_session.specs.TextsHeld.{TextsHeld}
 use Rattle.uug_line.specs.declared.sighting.Sighting.TheVariants.{Other, At, Unsent}
 use Rattle.uug_line.specs.JournalValue.{JournalValue, log_of, packet_in, packet_noted}
-use Rattle.uug_line.specs.LineEnd.{LineEnd, Log, after_call, took}
-use Rattle.uug_line.specs.Live.{AreWritten, HasRoom, IsOrdered, IsStopped, IsTakenUp, LiveEndValue, TakesAll, TakesOne, hearer_of, line_end_of, player_of, standing_of, state_of, taker_of}
+use Rattle.uug_line.specs.LineEndState.{LineEndState, JournalState, after_call, took}
+use Rattle.uug_line.specs.LineEndValue.{AreWritten, HasRoom, IsOrdered, IsStopped, IsTakenUp, LineEndValue, TakesAll, TakesOne, hearer_of, line_end_of, player_of, standing_of, state_of, taker_of}
 use Rattle.uug_line.specs.Shown.{lists_in}
 use Rattle.uug_line.specs.Code.Sightings.{Sights, SightsShown, StandsAt, StandsNowhere}
 use Rattle.uug_line.specs.Taking.{takes_sent}
@@ -117,7 +117,7 @@ left_at (ended how) next texts packets bad_item before called after t p shows ma
 
 -- ---- an item is taken up
 
-abbrev pub sought : LiveEndValue → LiveEndValue
+abbrev pub sought : LineEndValue → LineEndValue
 sought e = record e { node = searched e.node }
 
 not_failed : (b : Bool) → CountsFaults faults_max 0 0 b → b ≡ false
@@ -135,7 +135,7 @@ may_find linked texts packets (packet_item p) shows = IsWellFormed-spelled p (ta
 may_find (hailing g) texts packets (packet_item p) shows = absurd shows
 may_find (ended how) texts packets (packet_item p) shows = absurd shows
 
-pub ordered_with : (e : LiveEndValue) (n : NodeState) → n.engine ≡ e.node.engine → IsOrdered e → IsOrdered (record e { node = n })
+pub ordered_with : (e : LineEndValue) (n : NodeState) → n.engine ≡ e.node.engine → IsOrdered e → IsOrdered (record e { node = n })
 ordered_with e n same ordered = record {
   cleared = ap (λ (x : EngineState). x.outbox.entries) same ∙ ordered.cleared;
   in_range = subst (λ (x : EngineState). IsEndInRange x.identity.side (end_of (holdings_of e.spool) e.spool.stored x)) (sym same) ordered.in_range;
@@ -144,11 +144,11 @@ ordered_with e n same ordered = record {
   most = subst (λ (x : EngineState). length x.link.unacked ≤ e.journal.most) (sym same) ordered.most;
 }
 
-abbrev effect_at : EndEvent → LiveEndValue → EndEffect DialogueState
+abbrev effect_at : EndEvent → LineEndValue → EndEffect DialogueState
 effect_at event e = end_step (player_of e).keeper (player_of e).identity event (state_of e)
 
 -- the item was taken up, and this had been written down of it
-record IsTaken (item : ItemValue) (behind : List ℕ) (log : Log) (old new : LiveEndValue) : Type 0 where
+record IsTaken (item : ItemValue) (behind : List ℕ) (log : JournalState) (old new : LineEndValue) : Type 0 where
   end : line_end_of new ≡ after_call log old.line (effect_at (event_of false item) old)
   held : held_bytes new.node ≡ held_in (effect_at (event_of false item) old).state.stage behind
   ordered : IsOrdered new
@@ -159,7 +159,7 @@ of_item : (h : Holdings) (kept kept_after : List Kept) (counts : Bool → Type 0
 of_item h kept kept_after counts item other before after took same takes =
     subst (λ (x : ItemValue). TakesItem h kept kept_after counts x before after took) same takes
 
-item_taken : (old new : LiveEndValue) (item : ItemValue) (found : Bool → JournalValue) → IsOrdered old
+item_taken : (old new : LineEndValue) (item : ItemValue) (found : Bool → JournalValue) → IsOrdered old
     → ShowsItem (searched old.node).engine.stage (searched old.node).texts (searched old.node).packets item
     → ((b : Bool) → (found b).packets ≡ old.journal.packets) → IsTakenUp found (sought old) new
     → IsTaken item (drop (item_size (searched old.node)) (held_bytes (searched old.node)))
@@ -189,11 +189,11 @@ item_taken old new item found ordered shows keeps taken_up =
     let same : effect ≡ effect_at (event_of false item) old = ap of_engine f.engine in
     let took_is : taken_up.took ≡ (effect_at (event_of false item) old).took =
     takes.answer ∙ ap (λ (b : Bool). (of_failed b).took) well ∙ ap (λ (x : EndEffect DialogueState). x.took) same in
-    let stage : new.node.engine.stage ≡ effect.state.stage = ap (λ (x : LineEnd DialogueState). x.state.stage) calls.end in
-    let by_journal : JournalValue → LineEnd DialogueState = λ j. after_call (log_of j) taken_up.called.line effect in
-    let by_line : List ℕ → LineEnd DialogueState = λ x. after_call (log_of (found taken_up.took)) x effect in
-    let by_took : Bool → LineEnd DialogueState = λ b. after_call (log_of (found b)) old.line effect in
-    let by_effect : EndEffect DialogueState → LineEnd DialogueState = λ x. after_call (log_of (found (effect_at (event_of false item) old).took)) old.line x in
+    let stage : new.node.engine.stage ≡ effect.state.stage = ap (λ (x : LineEndState DialogueState). x.state.stage) calls.end in
+    let by_journal : JournalValue → LineEndState DialogueState = λ j. after_call (log_of j) taken_up.called.line effect in
+    let by_line : List ℕ → LineEndState DialogueState = λ x. after_call (log_of (found taken_up.took)) x effect in
+    let by_took : Bool → LineEndState DialogueState = λ b. after_call (log_of (found b)) old.line effect in
+    let by_effect : EndEffect DialogueState → LineEndState DialogueState = λ x. after_call (log_of (found (effect_at (event_of false item) old).took)) old.line x in
     let behind = drop (item_size n) (held_bytes n) in
     record {
       end = calls.end ∙ ap by_journal taken_up.journal ∙ ap by_line taken_up.line ∙ ap by_took took_is ∙ ap by_effect same;
@@ -219,13 +219,13 @@ behind_item (packet_item p) from behind bytes fewer = fewer.1
 behind_item bad_item from behind bytes fewer = fewer
 
 -- so the receiver takes it
-abbrev TakesIt : (others : List (List ℕ)) → ItemValue → (from behind : List ℕ) → Log → LiveEndValue → Type 0
+abbrev TakesIt : (others : List (List ℕ)) → ItemValue → (from behind : List ℕ) → JournalState → LineEndValue → Type 0
 TakesIt others item from behind log old =
     let t = taker_of others old in
     takes_up (takes_all t) t (finding_of item from behind) (line_end_of old)
     ≡ takes_all t (holds t behind (after_call log old.line (effect_at (event_of false item) old)))
 
-one_so : (others : List (List ℕ)) (item : ItemValue) (log : Log) (old new : LiveEndValue)
+one_so : (others : List (List ℕ)) (item : ItemValue) (log : JournalState) (old new : LineEndValue)
     → ShowsItem (searched old.node).engine.stage (searched old.node).texts (searched old.node).packets item
     → IsTaken item (drop (item_size (searched old.node)) (held_bytes (searched old.node))) log old new
     → TakesIt others item (held_bytes (searched old.node)) (drop (item_size (searched old.node)) (held_bytes (searched old.node))) log old
@@ -237,16 +237,16 @@ one_so others item log old new shows taken_so takes =
     let behind = drop (item_size n) (held_bytes n) in
     let f : ItemFound item old.node n = item_found old.node item shows in
     let e = effect_at (event_of false item) old in
-    let by_held : List ℕ → Buffered (LineEnd DialogueState) = λ x. record { held = x; end = line_end_of old } in
-    let by_held_after : List ℕ → Buffered (LineEnd DialogueState) = λ x. record { held = x; end = line_end_of new } in
-    let by_end : LineEnd DialogueState → Buffered (LineEnd DialogueState) = λ x. record { held = held_in e.state.stage behind; end = x } in
+    let by_held : List ℕ → Buffered (LineEndState DialogueState) = λ x. record { held = x; end = line_end_of old } in
+    let by_held_after : List ℕ → Buffered (LineEndState DialogueState) = λ x. record { held = x; end = line_end_of new } in
+    let by_end : LineEndState DialogueState → Buffered (LineEndState DialogueState) = λ x. record { held = held_in e.state.stage behind; end = x } in
     let after : hearer_of new ≡ holds t behind (after_call log old.line e) = ap by_held_after taken_so.held ∙ ap by_end taken_so.end in
     let less : length behind < length (held_bytes old.node) =
     behind_item item from behind (held_bytes old.node)
     (subst (λ (x : Finding). LeavesFewer x (held_bytes old.node)) f.finding (found_fewer old.node.engine.stage (held_bytes old.node))) in
     record {
-      same = ap (λ (x : Buffered (LineEnd DialogueState)). takes_all t x) (ap by_held (holds_itself old.node.engine.stage old.node))
-          ∙ takes_next (LineEnd DialogueState) t (held_bytes old.node) (line_end_of old)
+      same = ap (λ (x : Buffered (LineEndState DialogueState)). takes_all t x) (ap by_held (holds_itself old.node.engine.stage old.node))
+          ∙ takes_next (LineEndState DialogueState) t (held_bytes old.node) (line_end_of old)
           ∙ ap (λ (x : Finding). takes_up (takes_all t) t x (line_end_of old)) f.finding
           ∙ takes ∙ ap (takes_all t) (sym after);
       ordered = taken_so.ordered;
@@ -266,13 +266,13 @@ is_other (text_item text) others passed sights = tt
 is_other bad_item others passed sights = tt
 is_other (packet_item p) others passed sights = absurd sights
 
-takes_other : (others : List (List ℕ)) (item : ItemValue) (from behind : List ℕ) (old : LiveEndValue) → IsOther item
+takes_other : (others : List (List ℕ)) (item : ItemValue) (from behind : List ℕ) (old : LineEndValue) → IsOther item
     → TakesIt others item from behind (log_of old.journal) old
 takes_other others (text_item text) from behind old is = refl
 takes_other others bad_item from behind old is = refl
 takes_other others (packet_item p) from behind old is = absurd is
 
-pub other_taken : (others : List (List ℕ)) (old new : LiveEndValue) → IsOrdered old
+pub other_taken : (others : List (List ℕ)) (old new : LineEndValue) → IsOrdered old
     → SightsShown (searched old.node) others old.journal.passed Other
     → IsTakenUp (λ (b : Bool). old.journal) (sought old) new → TakesOne others old new
 other_taken others old new ordered sights taken_up =
@@ -284,16 +284,16 @@ other_taken others old new ordered sights taken_up =
 
 -- ---- a packet
 
-takes_packet : (others : List (List ℕ)) (p : PacketValue) (from behind bytes : List ℕ) (place : ℕ) (old : LiveEndValue)
+takes_packet : (others : List (List ℕ)) (p : PacketValue) (from behind bytes : List ℕ) (place : ℕ) (old : LineEndValue)
     → IsWellFormed p → AreWritten others → StandsAt (canonical p) others old.journal.passed place → bytes ≡ canonical p
     → TakesIt others (packet_item p) from behind
     (log_of (packet_noted bytes place old.journal (effect_at (packet_found_whole false p) old).took)) old
 takes_packet others p from behind bytes place old well written stands is =
     let t = taker_of others old in
     let e = effect_at (packet_found_whole false p) old in
-    let by_place : Option ℕ → Arrival (LineEnd DialogueState) =
+    let by_place : Option ℕ → Arrival (LineEndState DialogueState) =
     λ o. takes_if (takes_all t) t (takes_sent (player_of old) p o (line_end_of old)) from behind (line_end_of old) in
-    let by_log : Log → Arrival (LineEnd DialogueState) = λ log. takes_all t (holds t behind (after_call log old.line e)) in
+    let by_log : JournalState → Arrival (LineEndState DialogueState) = λ log. takes_all t (holds t behind (after_call log old.line e)) in
     ap by_place (place_found p others old.journal.passed place well written stands)
     ∙ ap by_log (sym (packet_logged p bytes place old.journal e.took well is))
 
@@ -314,7 +314,7 @@ journal_packets bytes place j true = refl
 some_same : (x y : List ℕ) → ◌≡◌ {A = Option (List ℕ)} (Some x) (Some y) → x ≡ y
 some_same x y e = cc
 
-pub packet_taken : (others : List (List ℕ)) (place : ℕ) (bytes : List ℕ) (old new : LiveEndValue) → IsOrdered old → AreWritten others
+pub packet_taken : (others : List (List ℕ)) (place : ℕ) (bytes : List ℕ) (old new : LineEndValue) → IsOrdered old → AreWritten others
     → SightsShown (searched old.node) others old.journal.passed (At place) → slice_get others place ≡ Some bytes
     → IsTakenUp (packet_noted bytes place old.journal) (sought old) new → TakesOne others old new
 packet_taken others place bytes old new ordered written sights there taken_so =
@@ -338,18 +338,18 @@ unsent_packet (text_item text) others passed sights = absurd sights
 unsent_packet bad_item others passed sights = absurd sights
 
 -- the end, with the bytes that it holds
-abbrev with_bytes : List ℕ → LiveEndValue → Buffered (LineEnd DialogueState)
+abbrev with_bytes : List ℕ → LineEndValue → Buffered (LineEndState DialogueState)
 with_bytes bytes e = record { held = bytes; end = line_end_of e }
 
-first_of_all : (others : List (List ℕ)) (old : LiveEndValue)
+first_of_all : (others : List (List ℕ)) (old : LineEndValue)
     → takes_all (taker_of others old) (hearer_of old)
     ≡ takes_up (takes_all (taker_of others old)) (taker_of others old) (finding old.node.engine.stage (held_bytes old.node)) (line_end_of old)
 first_of_all others old =
     let t = taker_of others old in
     ap (λ (x : List ℕ). takes_all t (with_bytes x old)) (holds_itself old.node.engine.stage old.node)
-    ∙ takes_next (LineEnd DialogueState) t (held_bytes old.node) (line_end_of old)
+    ∙ takes_next (LineEndState DialogueState) t (held_bytes old.node) (line_end_of old)
 
-sought_held : (old : LiveEndValue) → (searched old.node).engine ≡ old.node.engine
+sought_held : (old : LineEndValue) → (searched old.node).engine ≡ old.node.engine
     → hearer_of (sought old) ≡ record { held = held_in old.node.engine.stage (held_bytes (searched old.node)); end = line_end_of old }
 sought_held old same =
     let n = searched old.node in
@@ -359,7 +359,7 @@ sought_held old same =
       end = line_end_of (record old { node = record old.node { engine = x } });
     }) same
 
-pub stopped_so : (others : List (List ℕ)) (old : LiveEndValue) → IsOrdered old → AreWritten others
+pub stopped_so : (others : List (List ℕ)) (old : LineEndValue) → IsOrdered old → AreWritten others
     → SightsShown (searched old.node) others old.journal.passed Unsent → IsStopped others old (sought old)
 stopped_so others old ordered written sights =
     let n = searched old.node in
@@ -369,13 +369,13 @@ stopped_so others old ordered written sights =
     let f : ItemFound (packet_item p) old.node n = item_found old.node (packet_item p) (shown_packet n sights.0 p none.1 sights.1) in
     let from = held_bytes n in
     let behind = drop (item_size n) (held_bytes n) in
-    let by_place : Option ℕ → Arrival (LineEnd DialogueState) =
+    let by_place : Option ℕ → Arrival (LineEndState DialogueState) =
     λ o. takes_if (takes_all t) t (takes_sent (player_of old) p o (line_end_of old)) from behind (line_end_of old) in
     record {
       stopped = first_of_all others old
           ∙ ap (λ (x : Finding). takes_up (takes_all t) t x (line_end_of old)) f.finding
           ∙ ap by_place (no_place_found p others old.journal.passed written none.2)
-          ∙ ap (λ (x : Buffered (LineEnd DialogueState)). stopped x) (sym (sought_held old f.engine));
+          ∙ ap (λ (x : Buffered (LineEndState DialogueState)). stopped x) (sym (sought_held old f.engine));
       ordered = ordered_with old n f.engine ordered;
       standing = ap (λ (x : EngineState). standing_of (record old { node = record n { engine = x } })) f.engine;
       no_more = (subst (λ (x : Finding). LeavesFewer x (held_bytes old.node)) f.finding
@@ -388,14 +388,14 @@ greatest : (most n : ℕ) → n ≤ most → max most n ≡ most
 greatest most n below = omega arith
 
 -- the session has ended at a text that is too long
-too_long_after : (old : LiveEndValue) (g : Greeting) → old.node.engine.stage ≡ hailing g → IsOrdered old
+too_long_after : (old : LineEndValue) (g : Greeting) → old.node.engine.stage ≡ hailing g → IsOrdered old
     → after_call (log_of old.journal) old.line (effect_at long_text_found old)
     ≡ record (line_end_of old) { state = record (state_of old) { stage = ended ends.BadTalk } }
 too_long_after old g at ordered =
     let j = old.journal in
-    let by_stage : Stage → LineEnd DialogueState = λ x. after_call (log_of j) old.line
+    let by_stage : Stage → LineEndState DialogueState = λ x. after_call (log_of j) old.line
     (stage_step (player_of old).keeper (player_of old).identity x long_text_found (state_of old)) in
-    let by_sent : List (List ℕ) → LineEnd DialogueState = λ x. record {
+    let by_sent : List (List ℕ) → LineEndState DialogueState = λ x. record {
       state = record (state_of old) { stage = ended ends.BadTalk };
       log = record {
         sent = x;
@@ -407,7 +407,7 @@ too_long_after old g at ordered =
       };
       line = old.line ++ [];
     } in
-    let by_packets : List PacketValue → LineEnd DialogueState = λ x. record {
+    let by_packets : List PacketValue → LineEndState DialogueState = λ x. record {
       state = record (state_of old) { stage = ended ends.BadTalk };
       log = record {
         sent = j.sent;
@@ -419,7 +419,7 @@ too_long_after old g at ordered =
       };
       line = old.line ++ [];
     } in
-    let by_most : ℕ → LineEnd DialogueState = λ x. record {
+    let by_most : ℕ → LineEndState DialogueState = λ x. record {
       state = record (state_of old) { stage = ended ends.BadTalk };
       log = record {
         sent = j.sent;
@@ -431,7 +431,7 @@ too_long_after old g at ordered =
       };
       line = old.line ++ [];
     } in
-    let by_line : List ℕ → LineEnd DialogueState = λ x. record {
+    let by_line : List ℕ → LineEndState DialogueState = λ x. record {
       state = record (state_of old) { stage = ended ends.BadTalk };
       log = log_of j;
       line = x;
@@ -439,7 +439,7 @@ too_long_after old g at ordered =
     ap by_stage at ∙ ap by_sent (append-nil j.sent) ∙ ap by_packets (append-nil (map packet_in j.packets))
     ∙ ap by_most (greatest j.most (length old.node.engine.link.unacked) ordered.most) ∙ ap by_line (append-nil old.line)
 
-nothing_so_by : (others : List (List ℕ)) (old : LiveEndValue) → IsOrdered old → HasRoom (sought old)
+nothing_so_by : (others : List (List ℕ)) (old : LineEndValue) → IsOrdered old → HasRoom (sought old)
     → NothingFound old.node (searched old.node) → TakesAll others old (sought old)
 nothing_so_by others old ordered room (waits engine found_so) =
     let n = searched old.node in
@@ -447,7 +447,7 @@ nothing_so_by others old ordered room (waits engine found_so) =
     record {
       all = first_of_all others old
           ∙ ap (λ (x : Finding). takes_up (takes_all t) t x (line_end_of old)) found_so
-          ∙ ap (λ (x : Buffered (LineEnd DialogueState)). all_taken x) (sym (sought_held old engine));
+          ∙ ap (λ (x : Buffered (LineEndState DialogueState)). all_taken x) (sym (sought_held old engine));
       ordered = ordered_with old n engine ordered;
       standing = ap (λ (x : EngineState). standing_of (record old { node = record n { engine = x } })) engine;
       room = room;
@@ -458,7 +458,7 @@ nothing_so_by others old ordered room (is_too_long g behind at found_so engine) 
     let after = too_long_after old g at ordered in
     let id = old.node.engine.identity in
     let state : state_of (sought old) ≡ (effect_at long_text_found old).state =
-    ap (λ (x : EngineState). end_of (holdings_of old.spool) old.spool.stored x) engine ∙ ap (λ (x : LineEnd DialogueState). x.state) (sym after) in
+    ap (λ (x : EngineState). end_of (holdings_of old.spool) old.spool.stored x) engine ∙ ap (λ (x : LineEndState DialogueState). x.state) (sym after) in
     let hearer : hearer_of (sought old)
     ≡ record { held = []; end = record (line_end_of old) { state = record (state_of old) { stage = ended ends.BadTalk } } } =
     ap (λ (x : EngineState). record {
@@ -468,8 +468,8 @@ nothing_so_by others old ordered room (is_too_long g behind at found_so engine) 
     record {
       all = first_of_all others old
           ∙ ap (λ (x : Finding). takes_up (takes_all t) t x (line_end_of old)) found_so
-          ∙ ap (λ (x : LineEnd DialogueState). takes_all t (holds t behind x)) after
-          ∙ ap (λ (x : Buffered (LineEnd DialogueState)). all_taken x) (sym hearer);
+          ∙ ap (λ (x : LineEndState DialogueState). takes_all t (holds t behind x)) after
+          ∙ ap (λ (x : Buffered (LineEndState DialogueState)). all_taken x) (sym hearer);
       ordered = record {
         cleared = ap (λ (x : EngineState). x.outbox.entries) engine ∙ ordered.cleared;
         in_range = subst (λ (x : EngineState). IsEndInRange x.identity.side (state_of (sought old))) (sym engine)
@@ -483,40 +483,40 @@ nothing_so_by others old ordered room (is_too_long g behind at found_so engine) 
       room = room;
     }
 
-pub nothing_so : (others : List (List ℕ)) (old : LiveEndValue) → IsOrdered old → item_size (searched old.node) ≡ 0 → HasRoom (sought old)
+pub nothing_so : (others : List (List ℕ)) (old : LineEndValue) → IsOrdered old → item_size (searched old.node) ≡ 0 → HasRoom (sought old)
     → TakesAll others old (sought old)
 nothing_so others old ordered none room = nothing_so_by others old ordered room (nothing_found old.node none)
 
 -- ---- the parts behind a search
 
-pub sought_is : (old mid : LiveEndValue) → mid.node ≡ searched old.node → mid.spool ≡ old.spool → mid.journal ≡ old.journal → mid.line ≡ old.line
+pub sought_is : (old mid : LineEndValue) → mid.node ≡ searched old.node → mid.spool ≡ old.spool → mid.journal ≡ old.journal → mid.line ≡ old.line
     → mid ≡ sought old
 sought_is old mid node spool journal line =
-    let by_node : NodeState → LiveEndValue = λ x. record { node = x; spool = mid.spool; journal = mid.journal; line = mid.line } in
-    let by_spool : MemoryHoldings → LiveEndValue = λ x. record { node = searched old.node; spool = x; journal = mid.journal; line = mid.line } in
-    let by_journal : JournalValue → LiveEndValue = λ x. record { node = searched old.node; spool = old.spool; journal = x; line = mid.line } in
-    let by_line : List ℕ → LiveEndValue = λ x. record { node = searched old.node; spool = old.spool; journal = old.journal; line = x } in
+    let by_node : NodeState → LineEndValue = λ x. record { node = x; spool = mid.spool; journal = mid.journal; line = mid.line } in
+    let by_spool : MemoryHoldings → LineEndValue = λ x. record { node = searched old.node; spool = x; journal = mid.journal; line = mid.line } in
+    let by_journal : JournalValue → LineEndValue = λ x. record { node = searched old.node; spool = old.spool; journal = x; line = mid.line } in
+    let by_line : List ℕ → LineEndValue = λ x. record { node = searched old.node; spool = old.spool; journal = old.journal; line = x } in
     ap by_node node ∙ ap by_spool spool ∙ ap by_journal journal ∙ ap by_line line
 
-pub sees_nothing : (others : List (List ℕ)) (old mid : LiveEndValue) → IsOrdered old → mid ≡ sought old
+pub sees_nothing : (others : List (List ℕ)) (old mid : LineEndValue) → IsOrdered old → mid ≡ sought old
     → item_size mid.node ≡ 0 → (item_size mid.node ≡ 0 → HasRoom mid) → TakesAll others old mid
 sees_nothing others old mid ordered is none room =
-    subst (λ (m : LiveEndValue). TakesAll others old m) (sym is)
-    (nothing_so others old ordered (subst (λ (m : LiveEndValue). item_size m.node ≡ 0) is none) (subst HasRoom is (room none)))
+    subst (λ (m : LineEndValue). TakesAll others old m) (sym is)
+    (nothing_so others old ordered (subst (λ (m : LineEndValue). item_size m.node ≡ 0) is none) (subst HasRoom is (room none)))
 
-pub sees_unsent : (others : List (List ℕ)) (old mid : LiveEndValue) → IsOrdered old → AreWritten others → mid ≡ sought old
+pub sees_unsent : (others : List (List ℕ)) (old mid : LineEndValue) → IsOrdered old → AreWritten others → mid ≡ sought old
     → SightsShown mid.node others old.journal.passed Unsent → IsStopped others old mid
 sees_unsent others old mid ordered written is sights =
-    subst (λ (m : LiveEndValue). IsStopped others old m) (sym is)
-    (stopped_so others old ordered written (subst (λ (m : LiveEndValue). SightsShown m.node others old.journal.passed Unsent) is sights))
+    subst (λ (m : LineEndValue). IsStopped others old m) (sym is)
+    (stopped_so others old ordered written (subst (λ (m : LineEndValue). SightsShown m.node others old.journal.passed Unsent) is sights))
 
-pub sees_other : (others : List (List ℕ)) (old mid new : LiveEndValue) → IsOrdered old → mid ≡ sought old
+pub sees_other : (others : List (List ℕ)) (old mid new : LineEndValue) → IsOrdered old → mid ≡ sought old
     → SightsShown mid.node others old.journal.passed Other → IsTakenUp (λ (b : Bool). old.journal) mid new → TakesOne others old new
 sees_other others old mid new ordered is sights taken_so =
-    other_taken others old new ordered (subst (λ (m : LiveEndValue). SightsShown m.node others old.journal.passed Other) is sights)
-    (subst (λ (m : LiveEndValue). IsTakenUp (λ (b : Bool). old.journal) m new) is taken_so)
+    other_taken others old new ordered (subst (λ (m : LineEndValue). SightsShown m.node others old.journal.passed Other) is sights)
+    (subst (λ (m : LineEndValue). IsTakenUp (λ (b : Bool). old.journal) m new) is taken_so)
 
-pub sees_packet : {A : Type 0} → (others : List (Vec ℕ A)) (place : ℕ) (v : Vec ℕ A) (bytes : List ℕ) (old mid new : LiveEndValue)
+pub sees_packet : {A : Type 0} → (others : List (Vec ℕ A)) (place : ℕ) (v : Vec ℕ A) (bytes : List ℕ) (old mid new : LineEndValue)
     → IsOrdered old → AreWritten (lists_in others) → mid ≡ sought old
     → SightsShown mid.node (lists_in others) old.journal.passed (At place) → v ≡ get_or others place v → bytes ≡ v.items
     → IsTakenUp (packet_noted bytes place old.journal) mid new → TakesOne (lists_in others) old new
@@ -530,5 +530,5 @@ sees_packet {A} others place v bytes old mid new ordered written is sights there
     ∙ ap (option_map items) (slice_get_read others (length others) place v refl (omega (arith, within, count)) there)
     ∙ ap Some (sym same) in
     packet_taken (lists_in others) place bytes old new ordered written
-    (subst (λ (m : LiveEndValue). SightsShown m.node (lists_in others) old.journal.passed (At place)) is sights) stands
-    (subst (λ (m : LiveEndValue). IsTakenUp (packet_noted bytes place old.journal) m new) is taken_so)
+    (subst (λ (m : LineEndValue). SightsShown m.node (lists_in others) old.journal.passed (At place)) is sights) stands
+    (subst (λ (m : LineEndValue). IsTakenUp (packet_noted bytes place old.journal) m new) is taken_so)

@@ -10,7 +10,7 @@ use Rattle.uug_session.specs.EndStep.{EndEffect, EndEvent, packet_found_whole, e
 use Rattle.uug_conversation.specs.DialogueState.{DialogueState, end_keeper}
 use Rattle.uug_conversation.specs.declared.side.Side.{Side}
 use Rattle.uug_line.specs.Belongings.{Belongings, SetupValue, identity}
-use Rattle.uug_line.specs.LineEnd.{LineEnd, Log, after_call, does, found_at, took}
+use Rattle.uug_line.specs.LineEndState.{LineEndState, JournalState, after_call, does, found_at, took}
 use Rattle.uug_line.specs.Sides.{AtBoth, at}
 use Rattle.uug_line.specs.Taking.{packet_taken_up}
 use Rattle.uug_line.specs.World.{counted_end}
@@ -32,7 +32,7 @@ use Rattle.uug_link.proofs.ArrivalLemmas.{place_is}
 -- ---- a call
 
 -- an end whose link and talk are so and that has written this down
-abbrev moment_with : Log → State → DialogueState → Moment
+abbrev moment_with : JournalState → State → DialogueState → Moment
 moment_with log link talk = record {
   link = link;
   talk = talk;
@@ -43,7 +43,7 @@ moment_with log link talk = record {
   passed = log.passed;
 }
 
-counted_call : (log : Log) (line : List ℕ) (link : State) (talk : DialogueState) (x : EndEffect DialogueState) (y : EndEffect Count) →
+counted_call : (log : JournalState) (line : List ℕ) (link : State) (talk : DialogueState) (x : EndEffect DialogueState) (y : EndEffect Count) →
     y ≡ counted_effect (done_all (moment_with log link talk) x) x →
     counted_end (after_call log line x) ≡ after_call log line y
 counted_call log line link talk x y same = ap (λ (z : EndEffect Count). after_call log line z) (sym same)
@@ -52,17 +52,17 @@ most_within : (before unacked window : ℕ) → before ≤ window → unacked �
 most_within before unacked window h k = omega (arith, h, k)
 
 -- a packet is found at a place, and its message taken or not
-moment_found : (b : Bool) (message : List ℕ) (place : ℕ) (log : Log) (link : State) (talk : DialogueState) →
+moment_found : (b : Bool) (message : List ℕ) (place : ℕ) (log : JournalState) (link : State) (talk : DialogueState) →
     found (moment_with log link talk) place (taken_if b message log.taken)
     ≡ moment_with (took b message (found_at place log)) link talk
 moment_found true message place log link talk = refl
 moment_found false message place log link talk = refl
 
-most_found : (b : Bool) (message : List ℕ) (place : ℕ) (log : Log) → (took b message (found_at place log)).most ≡ log.most
+most_found : (b : Bool) (message : List ℕ) (place : ℕ) (log : JournalState) → (took b message (found_at place log)).most ≡ log.most
 most_found true message place log = refl
 most_found false message place log = refl
 
-passed_found : (b : Bool) (message : List ℕ) (place : ℕ) (log : Log) → HasPassed (took b message (found_at place log))
+passed_found : (b : Bool) (message : List ℕ) (place : ℕ) (log : JournalState) → HasPassed (took b message (found_at place log))
 passed_found true message place log = sym (passed_behind log.arrivals place 0)
 passed_found false message place log = sym (passed_behind log.arrivals place 0)
 
@@ -73,7 +73,7 @@ place_found p packets passed place there =
     (λ i. IsPlace p packets passed i)) there (place_is p packets passed)
 
 -- the ends after it, and the same told by numbers
-pub record DoneSo (setup : SetupValue) (brought : AtBoth Belongings) (side : Side) (f e : LineEnd DialogueState) (c : LineEnd Count) :
+pub record DoneSo (setup : SetupValue) (brought : AtBoth Belongings) (side : Side) (f e : LineEndState DialogueState) (c : LineEndState Count) :
     Type 0 where
   pub joined : EndsJoined setup brought side e f
   pub same : counted_end e ≡ c
@@ -93,7 +93,7 @@ module _ (setup : SetupValue) (brought : AtBoth Belongings) (sound : IsSoundSess
       (subst KnowsWindow (sym is) tt) in
       omega (arith, same, (sound.window (other side)).1)
 
-  call_done : (e f : LineEnd DialogueState) (log : Log) (x : EndEffect DialogueState) (y : EndEffect Count) → EndsJoined setup brought side e f →
+  call_done : (e f : LineEndState DialogueState) (log : JournalState) (x : EndEffect DialogueState) (y : EndEffect Count) → EndsJoined setup brought side e f →
       log.most ≡ e.log.most → HasPassed log →
       ((IsUp x.state.link → x.state.link.window ≤ WINDOW_MAX) → HasSpoken (end_keeper side (at side setup).holdings) x.state) →
       DoesAlike (λ m. Joined setup brought side m (moment_of f)) (first_link side (at side setup).own)
@@ -118,7 +118,7 @@ module _ (setup : SetupValue) (brought : AtBoth Belongings) (sound : IsSoundSess
 
   -- ---- every event but a packet
 
-  pub does_joined : (e f : LineEnd DialogueState) (event : EndEvent) → IsNoPacket event → EndsJoined setup brought side e f →
+  pub does_joined : (e f : LineEndState DialogueState) (event : EndEvent) → IsNoPacket event → EndsJoined setup brought side e f →
       DoneSo setup brought side f (does (talk_player setup side) event e)
       (does (count_player setup brought side) event (counted_end e))
   does_joined e f event none joined =
@@ -132,7 +132,7 @@ module _ (setup : SetupValue) (brought : AtBoth Belongings) (sound : IsSoundSess
 
   -- ---- a packet of the other end
 
-  packet_done : (e f : LineEnd DialogueState) (p : PacketValue) (place : ℕ) (x : EndEffect DialogueState) (y : EndEffect Count) →
+  packet_done : (e f : LineEndState DialogueState) (p : PacketValue) (place : ℕ) (x : EndEffect DialogueState) (y : EndEffect Count) →
       EndsJoined setup brought side e f → x.took ≡ y.took →
       ((IsUp x.state.link → x.state.link.window ≤ WINDOW_MAX) → HasSpoken (end_keeper side (at side setup).holdings) x.state) →
       DoesAlike (λ m. Joined setup brought side m (moment_of f)) (first_link side (at side setup).own)
@@ -140,7 +140,7 @@ module _ (setup : SetupValue) (brought : AtBoth Belongings) (sound : IsSoundSess
       DoneSo setup brought side f (after_call (took x.took (message_of p) (found_at place e.log)) e.line x)
       (after_call (took y.took (message_of p) (found_at place e.log)) e.line y)
   packet_done e f p place x y joined tooks spoken alike =
-      let taken_so : Bool → Log = λ b. took b (message_of p) (found_at place e.log) in
+      let taken_so : Bool → JournalState = λ b. took b (message_of p) (found_at place e.log) in
       let log = taken_so x.took in
       subst (λ (b : Bool). DoneSo setup brought side f (after_call log e.line x) (after_call (taken_so b) e.line y)) tooks
       (call_done e f log x y joined (most_found x.took (message_of p) place e.log)
@@ -149,7 +149,7 @@ module _ (setup : SetupValue) (brought : AtBoth Belongings) (sound : IsSoundSess
       (first_link side (at side setup).own) m x y)
       (moment_found x.took (message_of p) place e.log e.state.link e.state.keeper) alike))
 
-  pub packet_joined : (e f : LineEnd DialogueState) (p : PacketValue) (place : ℕ) → e.state.stage ≡ linked →
+  pub packet_joined : (e f : LineEndState DialogueState) (p : PacketValue) (place : ℕ) → e.state.stage ≡ linked →
       place_of p f.log.packets e.log.passed ≡ Some place →
       EndsJoined setup brought side e f →
       DoneSo setup brought side f (packet_taken_up (talk_player setup side) p place e)

@@ -15,7 +15,7 @@ use Rattle.uug_session.specs.TwoEnds.{Talker, Two, Reached, first_talker, talker
 use Rattle.uug_conversation.specs.declared.side.Side.{Side}
 use Rattle.uug_conversation.specs.declared.side.Side.TheVariants.{Caller, Called}
 use Rattle.uug_line.specs.Belongings.{Belongings, SetupValue, party}
-use Rattle.uug_line.specs.LineEnd.{Log, LineEnd}
+use Rattle.uug_line.specs.LineEndState.{JournalState, LineEndState}
 use Rattle.uug_line.specs.LinkRun.{LinksRan}
 use Rattle.uug_line.specs.Sides.{AtBoth, at}
 use Rattle.uug_line.specs.Speaking.{HasSpoken}
@@ -32,7 +32,7 @@ pub record Moment : Type 0 where
   pub arrivals : List ℕ
   pub passed : ℕ
 
-abbrev pub moment_of : LineEnd DialogueState → Moment
+abbrev pub moment_of : LineEndState DialogueState → Moment
 moment_of e = record {
   link = e.state.link;
   talk = e.state.keeper;
@@ -80,18 +80,18 @@ pub record Joined (setup : SetupValue) (brought : AtBoth Belongings) (side : Sid
   pub far_opened : IsOpened far
 
 -- nothing has come to its link yet
-abbrev pub Hails : SetupValue → Side → LineEnd DialogueState → Type 0
+abbrev pub Hails : SetupValue → Side → LineEndState DialogueState → Type 0
 Hails setup side e = (g : Greeting) → e.state.stage ≡ hailing g → e.state.link ≡ first_link side (at side setup).own
 
--- it has gone past no packet behind the last that it found
-abbrev pub HasPassed : Log → Type 0
+-- it has skipped no packet after the last that it found
+abbrev pub HasPassed : JournalState → Type 0
 HasPassed log = log.passed ≡ passed_at log.arrivals 0
 
 -- it has said what it can
-abbrev pub Spoken : SetupValue → Side → LineEnd DialogueState → Type 0
+abbrev pub Spoken : SetupValue → Side → LineEndState DialogueState → Type 0
 Spoken setup side e = HasSpoken (end_keeper side (at side setup).holdings) e.state
 
-pub record EndsJoined (setup : SetupValue) (brought : AtBoth Belongings) (side : Side) (e f : LineEnd DialogueState) : Type 0 where
+pub record EndsJoined (setup : SetupValue) (brought : AtBoth Belongings) (side : Side) (e f : LineEndState DialogueState) : Type 0 where
   pub joined : Joined setup brought side (moment_of e) (moment_of f)
   pub near_hails : Hails setup side e
   pub far_hails : Hails setup (other side) f

@@ -15,7 +15,7 @@ use Rattle.uug_session.specs.EndStep.{is_up, packets}
 use Rattle.uug_conversation.specs.DialogueState.{DialogueState}
 use Rattle.uug_conversation.specs.declared.side.Side.{Side}
 use Rattle.uug_line.specs.Belongings.{SetupValue}
-use Rattle.uug_line.specs.LineEnd.{messages_sent, packets_in}
+use Rattle.uug_line.specs.LineEndState.{messages_sent, packets_in}
 use Rattle.uug_line.specs.LinkRun.{LinksRan, places_heard}
 use Rattle.uug_line.specs.Sides.{at}
 use Rattle.uug_line.proofs.Invariant.{answer_to, heard_with, moved}

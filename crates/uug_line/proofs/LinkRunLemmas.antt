@@ -61,7 +61,7 @@ far_append (at_far h ∷ os) more = ap (λ (l : List Happening). h ∷ l) (far_a
 
 -- ---- the places
 
--- how many are then heard or gone past
+-- how many are then heard or skipped
 abbrev passed_with : ℕ → List Happening → ℕ
 passed_with passed [] = passed
 passed_with passed (moves event ∷ hs) = passed_with passed hs

@@ -10,7 +10,7 @@ use Rattle.uug_conversation.specs.Count.{Count}
 use Rattle.uug_session.specs.EndStep.{Emitted, says_text, sends_packet, leave, packets}
 use Rattle.uug_conversation.specs.DialogueState.{DialogueState}
 use Rattle.uug_conversation.specs.declared.side.Side.{Side}
-use Rattle.uug_line.specs.LineEnd.{messages_sent, packets_in, sent_by}
+use Rattle.uug_line.specs.LineEndState.{messages_sent, packets_in, sent_by}
 use Rattle.uug_line.proofs.Joining.{Moment}
 
 -- ---- what is emitted
@@ -69,7 +69,7 @@ emits m es link talk = record {
   passed = m.passed;
 }
 
--- as it is told by two numbers
+-- as it is described by two numbers
 abbrev pub count : Moment → Count
 count m = record { opened = m.talk.opened; sent = length m.sent; taken = length m.taken }
 

@@ -9,7 +9,7 @@ use Rattle.uug_packet.specs.Spelling.{canonical}
 use Rattle.uug_session.specs.declared.end.End.TheVariants.{Done, BadTalk, GaveUp, HungUp}
 use Rattle.uug_session.specs.declared.greeting.AwaitedText.TheVariants.{Admission}
 use Rattle.uug_conversation.specs.MemoryHoldings.{no_holdings}
-use Rattle.uug_session.specs.Says.{written_text}
+use Rattle.uug_talk.specs.Texts.{written_text}
 use Rattle.uug_line.specs.declared.event.Event.{Event}
 use Rattle.uug_line.specs.declared.event.Event.TheVariants.{Pass, Drop, Flip, Timeout, HangUp, Call}
 use Rattle.uug_conversation.specs.declared.side.Side.TheVariants.{Caller, Called}

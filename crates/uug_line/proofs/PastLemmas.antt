@@ -16,7 +16,7 @@ use Rattle.uug_line.specs.declared.verdict.LineVerdict.{LineVerdict}
 use Rattle.uug_line.specs.declared.verdict.LineVerdict.TheVariants.{Clean, Fooled}
 use Rattle.uug_line.specs.Belongings.{SetupValue}
 use Rattle.uug_line.specs.Fooled.{present}
-use Rattle.uug_line.specs.LineEnd.{LineEnd, Participant, does, messages_sent, packets_in}
+use Rattle.uug_line.specs.LineEndState.{LineEndState, Participant, does, messages_sent, packets_in}
 use Rattle.uug_line.specs.PastSessions.{DidTheSame, WasPresent}
 use Rattle.uug_line.specs.Report.{report_of_end}
 use Rattle.uug_line.specs.Run.{Run, end_at, participant, first_run, flipped, with_line_to, hears_next, after_hearing, hung_up, after_event, unless_fooled, goes_through, run_of}
@@ -66,7 +66,7 @@ module _ {C : Type 0} (k : RunKeeper C) (setup : SetupValue) where
 
   -- ---- what is over stays
 
-  past_heard : (number : ℕ) (side : Side) (came : Arrival (LineEnd C)) (run : Run C) → (after_hearing number side came run).past ≡ run.past
+  past_heard : (number : ℕ) (side : Side) (came : Arrival (LineEndState C)) (run : Run C) → (after_hearing number side came run).past ≡ run.past
   past_heard number side (all_taken h) run = refl
   past_heard number side (stopped h) run = refl
 
@@ -127,7 +127,7 @@ lost_emits k id (hailing g) e = refl
 lost_emits k id linked e = refl
 lost_emits k id (ended how) e = refl
 
-lost_did : {C : Type 0} (p : Participant C) (e : LineEnd C) → DidTheSame (report_of_end (does p line_lost e)) (report_of_end e)
+lost_did : {C : Type 0} (p : Participant C) (e : LineEndState C) → DidTheSame (report_of_end (does p line_lost e)) (report_of_end e)
 lost_did p e =
     let none = lost_emits p.keeper p.identity e.state.stage e.state in
     record {

@@ -18,8 +18,8 @@ use Rattle.uug_conversation.specs.declared.side.Side.TheVariants.{Caller, Called
 use Rattle.uug_line.specs.declared.verdict.LineVerdict.{LineVerdict}
 use Rattle.uug_line.specs.declared.verdict.LineVerdict.TheVariants.{Clean}
 use Rattle.uug_line.specs.Belongings.{SetupValue}
-use Rattle.uug_line.specs.LineEnd.{LineEnd}
-use Rattle.uug_line.specs.Live.{LiveEndValue, told_of}
+use Rattle.uug_line.specs.LineEndState.{LineEndState}
+use Rattle.uug_line.specs.LineEndValue.{LineEndValue, told_of}
 use Rattle.uug_line.specs.OfBytes.{AreOfTypes, IsOfBytes}
 use Rattle.uug_line.specs.OfSomeRun.{IsRunOf}
 use Rattle.uug_line.specs.Report.{end_now}
@@ -44,9 +44,9 @@ lines_are : (setup : SetupValue) (events : List Event) (verdict : LineVerdict) (
     EndsAs setup (run_of_ends setup events) verdict r → counted (run_of_ends setup events) ≡ world setup events →
     (side : Side) → (at side (whole_report r verdict).left).line ≡ line_from side (world setup events)
 lines_are setup events verdict r ends is_world Caller =
-    sym (ap (λ (e : LineEnd DialogueState). e.line) (ends.ends Caller).end_is) ∙ ap (λ (run : Run Count). line_from Caller run) is_world
+    sym (ap (λ (e : LineEndState DialogueState). e.line) (ends.ends Caller).end_is) ∙ ap (λ (run : Run Count). line_from Caller run) is_world
 lines_are setup events verdict r ends is_world Called =
-    sym (ap (λ (e : LineEnd DialogueState). e.line) (ends.ends Called).end_is) ∙ ap (λ (run : Run Count). line_from Called run) is_world
+    sym (ap (λ (e : LineEndState DialogueState). e.line) (ends.ends Called).end_is) ∙ ap (λ (run : Run Count). line_from Called run) is_world
 
 pub is_run_of : (setup : SetupValue) (events : List Event) (verdict : LineVerdict) (r : RunValue) → AreOfTypes setup events →
     EndsAs setup (run_of_ends setup events) verdict r → IsRunOf setup events (whole_report r verdict)
@@ -170,7 +170,7 @@ stands_again : (setup : SetupValue) (events : List Event) (report : WholeReport)
 stands_again setup events report r shown can ends =
     let run = run_of_ends setup events in
     let clean : run.verdict ≡ Clean = ends.verdict_is ∙ can.clean in
-    let hearer : List ℕ → LineEnd DialogueState → Buffered (LineEnd DialogueState) = λ held end. record { held = held; end = end } in
+    let hearer : List ℕ → LineEndState DialogueState → Buffered (LineEndState DialogueState) = λ held end. record { held = held; end = end } in
     record {
       past = ends.past;
       ends = λ side. record {
@@ -248,14 +248,14 @@ one_less {A} sessions front last is =
 -- ---- the run that a report goes on as
 
 pub goes_on_as : {A : Type 0} (sessions front : List (SessionReport A)) (last : SessionReport A) (kept_caller kept_called : LastEnd A)
-    (verdict : LineVerdict) (report : WholeReport) (caller called : LiveEndValue) →
+    (verdict : LineVerdict) (report : WholeReport) (caller called : LineEndValue) →
     report_shown sessions kept_caller kept_called verdict ≡ report → sessions ≡ front ++ last ∷ [] →
     caller ≡ part_from (end_shown last.caller) (left_of kept_caller) (held_by kept_caller.node.spool) →
     called ≡ part_from (end_shown last.called) (left_of kept_called) (held_by kept_called.node.spool) →
     (parts : RunValue) → whole_report parts report.told.verdict ≡ report →
     record { past = map session_shown front; ends = record { at_caller = caller; at_called = called } } ≡ parts
 goes_on_as {A} sessions front last kept_caller kept_called verdict report caller called view_is one_more caller_is called_is parts shown =
-    let made : LiveEndValue → LiveEndValue → RunValue =
+    let made : LineEndValue → LineEndValue → RunValue =
     λ a b. record { past = map session_shown front; ends = record { at_caller = a; at_called = b } } in
     let from_report : WholeReport → RunValue = λ w. record {
       past = map session_shown front;

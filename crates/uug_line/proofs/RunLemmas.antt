@@ -24,8 +24,8 @@ use Rattle.uug_line.specs.declared.verdict.LineVerdict.{LineVerdict}
 use Rattle.uug_line.specs.declared.verdict.LineVerdict.TheVariants.{Clean, Fooled}
 use Rattle.uug_line.specs.Belongings.{Belongings, SetupValue, renewed}
 use Rattle.uug_line.specs.JournalValue.{packet_in}
-use Rattle.uug_line.specs.LineEnd.{LineEnd, Participant, begins, called_with, changed_line}
-use Rattle.uug_line.specs.Live.{AreWritten, BeginsAgain, HasBegun, IsCalled, IsOrdered, LiveEndValue, Standing, hearer_of, line_end_of, player_of, standing_of, taker_of, told_of}
+use Rattle.uug_line.specs.LineEndState.{LineEndState, Participant, begins, called_with, changed_line}
+use Rattle.uug_line.specs.LineEndValue.{AreWritten, BeginsAgain, HasBegun, IsCalled, IsOrdered, LineEndValue, Standing, hearer_of, line_end_of, player_of, standing_of, taker_of, told_of}
 use Rattle.uug_line.specs.Report.{end_now, report_of_end}
 use Rattle.uug_line.specs.Run.{Run, flipped, after_event, after_hearing, calls, end_at, first_run, goes_through, hears_next, hung_up, participant, unless_fooled, with_end_at, with_line_to}
 use Rattle.uug_line.specs.RunKeeper.{by_themselves}
@@ -45,7 +45,7 @@ use Rattle.uug_line.proofs.SideLemmas.{at_each_is, counted_at, each, each_are, w
 player_by : Standing → Participant DialogueState
 player_by s = record { identity = s.identity; keeper = end_keeper s.identity.side s.holdings }
 
-who_is : (setup : SetupValue) (run : Run DialogueState) (side : Side) (e : LiveEndValue) → standing_of e ≡ standing_at setup side
+who_is : (setup : SetupValue) (run : Run DialogueState) (side : Side) (e : LineEndValue) → standing_of e ≡ standing_at setup side
     → player_of e ≡ participant by_themselves setup run side
 unfolding player_by
 who_is setup run Caller e standing = ap player_by standing
@@ -60,7 +60,7 @@ both_ready : (side : Side) (r : RunValue) → IsReady (at side r.ends) → IsRea
 both_ready Caller r here there = record { at_caller = here; at_called = there }
 both_ready Called r here there = record { at_caller = there; at_called = here }
 
-line_ready : (change : List ℕ → List ℕ) (old new : LiveEndValue) → new ≡ with_line change old → IsReady old → IsReady new
+line_ready : (change : List ℕ → List ℕ) (old new : LineEndValue) → new ≡ with_line change old → IsReady old → IsReady new
 line_ready change old new is ready =
     let ordered = ready.ordered in
     subst IsReady (sym is) (record {
@@ -103,19 +103,19 @@ happens_steady Call old new steady happens =
 
 -- ---- one end becomes another
 
-changes_end : (side : Side) (setup : SetupValue) (run : Run DialogueState) (old new : RunValue) (here : Buffered (LineEnd DialogueState))
+changes_end : (side : Side) (setup : SetupValue) (run : Run DialogueState) (old new : RunValue) (here : Buffered (LineEndState DialogueState))
     → StandsAs setup run old → IsSteady new → IsEnd setup side here (at side new.ends)
     → (at (other side) new.ends ≡ at (other side) old.ends) × (new.past ≡ old.past) → StandsAs setup (with_end_at side here run) new
 changes_end side setup run old new here stands steady is same = record {
   past = stands.past ∙ sym same.1;
-  ends = with_here (λ (s : Side) (h far : Buffered (LineEnd DialogueState)). IsEnd setup s h (at s new.ends)) side here run.ends is
-      (subst (λ (e : LiveEndValue). IsEnd setup (other side) (end_at (other side) run) e) (sym same.0) (stands.ends (other side)));
+  ends = with_here (λ (s : Side) (h far : Buffered (LineEndState DialogueState)). IsEnd setup s h (at s new.ends)) side here run.ends is
+      (subst (λ (e : LineEndValue). IsEnd setup (other side) (end_at (other side) run) e) (sym same.0) (stands.ends (other side)));
   steady = steady;
   clean = stands.clean;
 }
 
 -- by a call
-end_called : (event : EndEvent) (side : Side) (setup : SetupValue) (run : Run DialogueState) (old new : LiveEndValue)
+end_called : (event : EndEvent) (side : Side) (setup : SetupValue) (run : Run DialogueState) (old new : LineEndValue)
     → IsEnd setup side (end_at side run) old → IsCalled event old new
     → IsEnd setup side (called_with (participant by_themselves setup run side) event (end_at side run)) new
 end_called event side setup run old new was is = record {
@@ -131,7 +131,7 @@ at_called event side setup run old new stands steady happens =
     (end_called event side setup run (at side old.ends) (at side new.ends) (stands.ends side) happens.0) (happens.1, happens.2)
 
 -- by what becomes of the bytes on the line
-end_changed : (change : List ℕ → List ℕ) (side : Side) (setup : SetupValue) (h : Buffered (LineEnd DialogueState)) (old new : LiveEndValue)
+end_changed : (change : List ℕ → List ℕ) (side : Side) (setup : SetupValue) (h : Buffered (LineEndState DialogueState)) (old new : LineEndValue)
     → IsEnd setup side h old → new ≡ with_line change old → IsEnd setup side (changed_line change h) new
 end_changed change side setup h old new was is = record {
   hearer = ap (changed_line change) was.hearer ∙ ap hearer_of (sym is);
@@ -147,14 +147,14 @@ line_changed change side setup run old new stands steady happens =
 -- ---- a piece comes
 
 -- what comes to an end is what comes to the end of the definitions' run
-came_to : (side : Side) (n : ℕ) (setup : SetupValue) (run : Run DialogueState) (old : RunValue) (came : Arrival (LineEnd DialogueState)) → StandsAs setup run old
+came_to : (side : Side) (n : ℕ) (setup : SetupValue) (run : Run DialogueState) (old : RunValue) (came : Arrival (LineEndState DialogueState)) → StandsAs setup run old
     → takes_piece (taker_of (at (other side) old.ends).journal.packets (at side old.ends)) (take n (at (other side) old.ends).line) (hearer_of (at side old.ends)) ≡ came
     → hears_next by_themselves setup side n run ≡ came
 came_to side n setup run old came stands is =
     let p = participant by_themselves setup run side in
     let here = at side old.ends in
     let there = at (other side) old.ends in
-    ap (λ (h : Buffered (LineEnd DialogueState)). takes_piece (line_taker p h.end.log.packets) (take n h.end.line) (end_at side run)) (stands.ends (other side)).hearer
+    ap (λ (h : Buffered (LineEndState DialogueState)). takes_piece (line_taker p h.end.log.packets) (take n h.end.line) (end_at side run)) (stands.ends (other side)).hearer
     ∙ ap (takes_piece (line_taker p (line_end_of there).log.packets) (take n there.line)) (stands.ends side).hearer
     ∙ ap (λ (x : Participant DialogueState). takes_piece (line_taker x (line_end_of there).log.packets) (take n there.line) (hearer_of here))
     (sym (who_is setup run side here (stands.ends side).standing))
@@ -168,25 +168,25 @@ passed_on side n number setup run old new stands steady passes =
     let there = end_at (other side) run in
     let after : StandsAs setup (after_hearing number side (all_taken heard) (with_line_to side (drop n) run)) new = record {
       past = stands.past ∙ sym passes.2;
-      ends = with_both (λ (s : Side) (h far : Buffered (LineEnd DialogueState)). IsEnd setup s h (at s new.ends)) side heard (changed_line (drop n) there) run.ends
+      ends = with_both (λ (s : Side) (h far : Buffered (LineEndState DialogueState)). IsEnd setup s h (at s new.ends)) side heard (changed_line (drop n) there) run.ends
           (record { hearer = refl; standing = is.standing ∙ (stands.ends side).standing })
           (end_changed (drop n) (other side) setup there (at (other side) old.ends) (at (other side) new.ends) (stands.ends (other side)) passes.1);
       steady = steady;
       clean = stands.clean;
     } in
-    subst (λ (c : Arrival (LineEnd DialogueState)). StandsAs setup (after_hearing number side c (with_line_to side (drop n) run)) new)
+    subst (λ (c : Arrival (LineEndState DialogueState)). StandsAs setup (after_hearing number side c (with_line_to side (drop n) run)) new)
     (sym (came_to side n setup run old (all_taken heard) stands is.came)) after
 
 -- ---- what the ends still hold
 
 -- as they stop
-last_end : (setup : SetupValue) (side : Side) (h : Buffered (LineEnd DialogueState)) (e : LiveEndValue) → IsEnd setup side h e → IsOrdered e
+last_end : (setup : SetupValue) (side : Side) (h : Buffered (LineEndState DialogueState)) (e : LineEndValue) → IsEnd setup side h e → IsOrdered e
     → IsLastEnd setup side h.end e
 last_end setup side h e is ordered =
-    record { end_is = ap (λ (x : Buffered (LineEnd DialogueState)). x.end) is.hearer; standing = is.standing; ordered = ordered }
+    record { end_is = ap (λ (x : Buffered (LineEndState DialogueState)). x.end) is.hearer; standing = is.standing; ordered = ordered }
 
-all_held : (setup : SetupValue) (side : Side) (h : Buffered (LineEnd DialogueState)) (e : LiveEndValue) → IsEnd setup side h e → held_bytes e.node ≡ h.held
-all_held setup side h e is = sym (ap (λ (x : Buffered (LineEnd DialogueState)). x.held) is.hearer)
+all_held : (setup : SetupValue) (side : Side) (h : Buffered (LineEndState DialogueState)) (e : LineEndValue) → IsEnd setup side h e → held_bytes e.node ≡ h.held
+all_held setup side h e is = sym (ap (λ (x : Buffered (LineEndState DialogueState)). x.held) is.hearer)
 
 all_fits : (bytes held : List ℕ) → bytes ≡ held → length bytes < READER_SIZE → bytes ≡ take READER_SIZE held
 all_fits bytes held is room =
@@ -210,8 +210,8 @@ clean_holds setup run r stands = record { fits = fits; all = λ clean. all }
 -- so it is in the world
 pub held_counted : (run : Run DialogueState) (held : AtBoth (List ℕ)) → HoldWhatIsLeft run held → HoldWhatIsLeft (counted run) held
 held_counted run held holds = record {
-  fits = λ side. holds.fits side ∙ sym (ap (λ (h : Buffered (LineEnd Count)). take READER_SIZE h.held) (counted_at run side));
-  all = λ clean side. holds.all clean side ∙ sym (ap (λ (h : Buffered (LineEnd Count)). h.held) (counted_at run side));
+  fits = λ side. holds.fits side ∙ sym (ap (λ (h : Buffered (LineEndState Count)). take READER_SIZE h.held) (counted_at run side));
+  all = λ clean side. holds.all clean side ∙ sym (ap (λ (h : Buffered (LineEndState Count)). h.held) (counted_at run side));
 }
 
 -- the run is fooled
@@ -219,17 +219,17 @@ fooled_at : (side : Side) (n number : ℕ) (setup : SetupValue) (run : Run Dialo
     → Passes side n false old new → EndsAs setup (after_event by_themselves setup number (Pass side n) run) (Fooled number side) new
 fooled_at side n number setup run old new stands passes =
     let is = passes.0 in
-    let stop : Buffered (LineEnd DialogueState) = record { held = is.held; end = line_end_of (at side new.ends) } in
+    let stop : Buffered (LineEndState DialogueState) = record { held = is.held; end = line_end_of (at side new.ends) } in
     let there = changed_line (drop n) (end_at (other side) run) in
     let far = at (other side) new.ends in
     let changed : IsEnd setup (other side) there far =
     end_changed (drop n) (other side) setup (end_at (other side) run) (at (other side) old.ends) far (stands.ends (other side)) passes.1 in
     let ready = line_ready (drop n) (at (other side) old.ends) far passes.1 (ready_at old stands.steady (other side)) in
-    let fits = with_both (λ (s : Side) (h far : Buffered (LineEnd DialogueState)). held_bytes (at s new.ends).node ≡ take READER_SIZE h.held) side stop there run.ends is.fits
+    let fits = with_both (λ (s : Side) (h far : Buffered (LineEndState DialogueState)). held_bytes (at s new.ends).node ≡ take READER_SIZE h.held) side stop there run.ends is.fits
     (all_fits (held_bytes far.node) there.held (all_held setup (other side) there far changed) ready.room) in
     let after : EndsAs setup (after_hearing number side (stopped stop) (with_line_to side (drop n) run)) (Fooled number side) new = record {
       past = stands.past ∙ sym passes.2;
-      ends = with_both (λ (s : Side) (h far : Buffered (LineEnd DialogueState)). IsLastEnd setup s h.end (at s new.ends)) side stop there run.ends
+      ends = with_both (λ (s : Side) (h far : Buffered (LineEndState DialogueState)). IsLastEnd setup s h.end (at s new.ends)) side stop there run.ends
           (record { end_is = refl; standing = is.standing ∙ (stands.ends side).standing; ordered = is.ordered })
           (last_end setup (other side) there far changed ready.ordered);
       verdict_is = refl;
@@ -238,7 +238,7 @@ fooled_at side n number setup run old new stands passes =
         all = λ clean. absurd (let e : Fooled number side ≡ Clean = clean in cc);
       };
     } in
-    subst (λ (c : Arrival (LineEnd DialogueState)). EndsAs setup (after_hearing number side c (with_line_to side (drop n) run)) (Fooled number side) new)
+    subst (λ (c : Arrival (LineEndState DialogueState)). EndsAs setup (after_hearing number side c (with_line_to side (drop n) run)) (Fooled number side) new)
     (sym (came_to side n setup run old (stopped stop) stands is.came)) after
 
 -- ---- a new call
@@ -248,9 +248,9 @@ lost_keeper k id (hailing g) e = refl
 lost_keeper k id linked e = refl
 lost_keeper k id (ended how) e = refl
 
-kept_as_lost : (old lost : LiveEndValue) → IsCalled line_lost old lost → (line_end_of lost).state.keeper ≡ (line_end_of old).state.keeper
+kept_as_lost : (old lost : LineEndValue) → IsCalled line_lost old lost → (line_end_of lost).state.keeper ≡ (line_end_of old).state.keeper
 kept_as_lost old lost is =
-    ap (λ (h : Buffered (LineEnd DialogueState)). h.end.state.keeper) is.hearer
+    ap (λ (h : Buffered (LineEndState DialogueState)). h.end.state.keeper) is.hearer
     ∙ lost_keeper (player_of old).keeper (player_of old).identity old.node.engine.stage (line_end_of old).state
 
 lost_number : (k : Keeper DialogueState) (id : Identity) (stage : Stage) (e : EndState DialogueState) → (stage_step k id stage line_lost e).state.number ≡ e.number
@@ -258,26 +258,26 @@ lost_number k id (hailing g) e = refl
 lost_number k id linked e = refl
 lost_number k id (ended how) e = refl
 
-number_as_lost : (old lost : LiveEndValue) → IsCalled line_lost old lost → (line_end_of lost).state.number ≡ (line_end_of old).state.number
+number_as_lost : (old lost : LineEndValue) → IsCalled line_lost old lost → (line_end_of lost).state.number ≡ (line_end_of old).state.number
 number_as_lost old lost is =
-    ap (λ (h : Buffered (LineEnd DialogueState)). h.end.state.number) is.hearer
+    ap (λ (h : Buffered (LineEndState DialogueState)). h.end.state.number) is.hearer
     ∙ lost_number (player_of old).keeper (player_of old).identity old.node.engine.stage (line_end_of old).state
 
 owned_by_talk : (number : Option ℕ) → DialogueState → Belongings
 owned_by_talk number talk = record { lists = talk.machine.lists; kept = talk.kept; number = number }
 
 -- at an end that has begun again
-end_begun : (setup : SetupValue) (side : Side) (old lost new : LiveEndValue) (now : Buffered (LineEnd DialogueState)) → IsEnd setup side now old
+end_begun : (setup : SetupValue) (side : Side) (old lost new : LineEndValue) (now : Buffered (LineEndState DialogueState)) → IsEnd setup side now old
     → IsCalled line_lost old lost → BeginsAgain lost new
     → IsEnd setup side (begins (begins_session (standing_at setup side).identity (standing_at setup side).own now.end.state.number
     (by_themselves.first (renewed (owned_by_talk now.end.state.number now.end.state.keeper))))) new
 unfolding owned_by_talk
 end_begun setup side old lost new now was lost_is begun =
-    let first : Standing → Option ℕ → DialogueState → Buffered (LineEnd DialogueState) =
+    let first : Standing → Option ℕ → DialogueState → Buffered (LineEndState DialogueState) =
     λ s number talk. begins (begins_session s.identity s.own number (by_themselves.first (renewed (owned_by_talk number talk)))) in
     let standing = lost_is.standing ∙ was.standing in
     record {
-      hearer = ap (λ (h : Buffered (LineEnd DialogueState)). first (standing_at setup side) h.end.state.number h.end.state.keeper) was.hearer
+      hearer = ap (λ (h : Buffered (LineEndState DialogueState)). first (standing_at setup side) h.end.state.number h.end.state.keeper) was.hearer
           ∙ ap (λ (n : Option ℕ). first (standing_at setup side) n (line_end_of old).state.keeper) (sym (number_as_lost old lost lost_is))
           ∙ ap (first (standing_at setup side) (line_end_of lost).state.number) (sym (kept_as_lost old lost lost_is))
           ∙ ap (λ (s : Standing). first s (line_end_of lost).state.number (line_end_of lost).state.keeper) (sym standing)
@@ -292,16 +292,16 @@ spelled_back (b ∷ bs) written =
     ap (λ (x : List ℕ). x ∷ map canonical (map packet_in bs)) (sym written.0.0)
     ∙ ap (λ (xs : List (List ℕ)). b ∷ xs) (spelled_back bs written.1)
 
-told_so : (e : LiveEndValue) → AreWritten e.journal.packets → spelled_end (report_of_end (line_end_of e)) ≡ told_of e
+told_so : (e : LineEndValue) → AreWritten e.journal.packets → spelled_end (report_of_end (line_end_of e)) ≡ told_of e
 told_so e written = ap (λ (ps : List (List ℕ)). record (told_of e) { packets = ps }) (spelled_back e.journal.packets written)
 
 -- both of them
-both_told : (now : Side → LineEnd DialogueState) (ends : AtBoth LiveEndValue) → ((side : Side) → now side ≡ line_end_of (at side ends))
+both_told : (now : Side → LineEndState DialogueState) (ends : AtBoth LineEndValue) → ((side : Side) → now side ≡ line_end_of (at side ends))
     → ((side : Side) → IsOrdered (at side ends))
     → spelled_session (at_each (λ side. report_of_end (now side))) ≡ at_each (λ side. told_of (at side ends))
 both_told now ends same ordered =
     each_are (λ side. spelled_end (report_of_end (now side))) (λ side. told_of (at side ends))
-    (λ side. ap (λ (e : LineEnd DialogueState). spelled_end (report_of_end e)) (same side) ∙ told_so (at side ends) (ordered side).written)
+    (λ side. ap (λ (e : LineEndState DialogueState). spelled_end (report_of_end e)) (same side) ∙ told_so (at side ends) (ordered side).written)
 
 one_more_session : (past : List (AtBoth EndReportValue)) (last : AtBoth EndReportValue) (told : List (AtBoth SpelledEnd)) (last_told : AtBoth SpelledEnd)
     → map spelled_session past ≡ told → spelled_session last ≡ last_told
@@ -323,7 +323,7 @@ called_again setup run old new stands steady again =
       past = one_more_session run.past (at_each (λ side. report_of_end (hung_up by_themselves setup run side).end)) old.past
           (at_each (λ side. told_of (at side again.lost))) stands.past
           (both_told (λ side. (hung_up by_themselves setup run side).end) again.lost
-          (λ side. ap (λ (h : Buffered (LineEnd DialogueState)). h.end) (hung side).hearer) (λ side. (again.hangs_up side).ordered))
+          (λ side. ap (λ (h : Buffered (LineEndState DialogueState)). h.end) (hung side).hearer) (λ side. (again.hangs_up side).ordered))
           ∙ sym again.past;
       ends = each (λ side. IsEnd setup side (end_at side (after_event by_themselves setup 0 Call run)) (at side new.ends)) (begun Caller) (begun Called);
       steady = steady;
@@ -426,16 +426,16 @@ pub told_as : (setup : SetupValue) (run : Run DialogueState) (verdict : LineVerd
     → spelled (report_of by_themselves setup run) ≡ told_in_all r verdict
 unfolding owned_by_talk
 told_as setup run verdict r ends =
-    let now : Side → LineEnd DialogueState = λ side. (end_at side run).end in
+    let now : Side → LineEndState DialogueState = λ side. (end_at side run).end in
     let told : Side → SpelledEnd = λ side. told_of (at side r.ends) in
     let stand : Side → EndNow = λ side. parts_now (at side r.ends) in
-    let own : LineEnd DialogueState → Belongings = λ e. owned_by_talk e.state.number e.state.keeper in
+    let own : LineEndState DialogueState → Belongings = λ e. owned_by_talk e.state.number e.state.keeper in
     let tells : List (AtBoth SpelledEnd) → AtBoth EndNow → AtBoth Belongings → LineVerdict → SpelledReport =
     λ sessions at_ends belongings says. record { sessions = sessions; ends = at_ends; belongings = belongings; verdict = says } in
     ap₂ (λ sessions at_ends. tells sessions at_ends (at_each (λ side. own (now side))) run.verdict)
     (one_more_session run.past (at_each (λ side. report_of_end (now side))) r.past (at_each told) ends.past
     (both_told now r.ends (λ side. (ends.ends side).end_is) (λ side. (ends.ends side).ordered)))
-    (each_are (λ side. end_now (now side)) stand (λ side. ap (λ (e : LineEnd DialogueState). end_now e) (ends.ends side).end_is))
+    (each_are (λ side. end_now (now side)) stand (λ side. ap (λ (e : LineEndState DialogueState). end_now e) (ends.ends side).end_is))
     ∙ ap₂ (tells (r.past ++ at_each told ∷ []) (at_each stand))
     (each_are (λ side. own (now side)) (λ side. owned_parts (at side r.ends)) (λ side. ap own (ends.ends side).end_is))
     ends.verdict_is
@@ -459,7 +459,7 @@ give_as_set_up setup run verdict r ends side =
 -- ---- the first session
 
 -- of an end that is set up so
-end_starts : (setup : SetupValue) (side : Side) (spool : MemoryHoldings) (e : LiveEndValue) → (at side setup).holdings ≡ holdings_of spool
+end_starts : (setup : SetupValue) (side : Side) (spool : MemoryHoldings) (e : LineEndValue) → (at side setup).holdings ≡ holdings_of spool
     → (at side setup).belongings.kept ≡ spool.stored
     → HasBegun (standing_at setup side).identity (standing_at setup side).own (at side setup).belongings.number (renewed (at side setup).belongings).lists spool e
     → IsEnd setup side (begins (begins_session (standing_at setup side).identity (standing_at setup side).own (at side setup).belongings.number
@@ -534,7 +534,7 @@ none_left events number past = drop_all number events past
 -- ---- the ends as they are set up
 
 pub begun_as : (side : Side) (me peer my_name other_name : List ℕ) (own announced_so : Announced) (number set_up : Option ℕ)
-    (l : Lists) (spool : MemoryHoldings) (new : LiveEndValue)
+    (l : Lists) (spool : MemoryHoldings) (new : LineEndValue)
     → me ≡ my_name → peer ≡ other_name → own ≡ announced_so → number ≡ set_up
     → HasBegun (record { side = side; me = me; peer = peer }) own number l spool new
     → HasBegun (record { side = side; me = my_name; peer = other_name }) announced_so set_up l spool new

@@ -13,7 +13,7 @@ use Rattle.uug_conversation.specs.View.{floor, kept_after, lists_after}
 use Rattle.uug_conversation.specs.declared.side.Side.{Side}
 use Rattle.uug_conversation.specs.declared.side.Side.TheVariants.{Caller, Called}
 use Rattle.uug_line.specs.Belongings.{Belongings, SetupValue, identity, party}
-use Rattle.uug_line.specs.LineEnd.{LineEnd}
+use Rattle.uug_line.specs.LineEndState.{LineEndState}
 use Rattle.uug_line.specs.Run.{first_end, parties}
 use Rattle.uug_line.specs.RunKeeper.{by_numbers, by_themselves, has_by, view_at}
 use Rattle.uug_line.specs.Sides.{AtBoth, at}
@@ -50,7 +50,7 @@ module _ (setup : SetupValue) (brought : AtBoth Belongings) where
         far_opened = j.near_opened;
       }
 
-  pub turned : (side : Side) (e f : LineEnd DialogueState) → EndsJoined setup brought side e f → EndsJoined setup brought (other side) f e
+  pub turned : (side : Side) (e f : LineEndState DialogueState) → EndsJoined setup brought side e f → EndsJoined setup brought (other side) f e
   turned side e f joined =
       let back = other_twice side in
       record {
@@ -127,7 +127,7 @@ module _ (setup : SetupValue) (brought : AtBoth Belongings) (sound : IsSoundSess
       ∙ ap (λ (l : Lists). having l (kept_after (length t.taken) (seen_at setup brought side))) (sym lists)
       ∙ ap (λ (k : List Kept). having t.state.lists k) (sym kept)
 
-  pub has_joined : (side : Side) (e f : LineEnd DialogueState) → EndsJoined setup brought side e f →
+  pub has_joined : (side : Side) (e f : LineEndState DialogueState) → EndsJoined setup brought side e f →
       by_numbers.has (parties setup brought) side (at side brought) e.state.number (count_of e)
       ≡ by_themselves.has (parties setup brought) side (at side brought) e.state.number e.state.keeper
   has_joined side e f joined = by joined.joined.near_talk
@@ -147,7 +147,7 @@ module _ (setup : SetupValue) (brought : AtBoth Belongings) (sound : IsSoundSess
   -- ---- how far the ends have come
 
   -- what it has taken is a front of what the other has sent
-  pub front : (side : Side) (e f : LineEnd DialogueState) → EndsJoined setup brought side e f → IsFrontOf e.log.taken f.log.sent
+  pub front : (side : Side) (e f : LineEndState DialogueState) → EndsJoined setup brought side e f → IsFrontOf e.log.taken f.log.sent
   front side e f joined =
       (fronts (at side setup).own (at (other side) setup).own
       (record { near = link_end (moment_of e); far = link_end (moment_of f) })
@@ -155,7 +155,7 @@ module _ (setup : SetupValue) (brought : AtBoth Belongings) (sound : IsSoundSess
       (links_run setup side (moment_of e) (moment_of f) joined.joined.links)).0
 
   -- and it has sent no more than it may
-  pub to_floor : (side : Side) (e f : LineEnd DialogueState) → EndsJoined setup brought side e f →
+  pub to_floor : (side : Side) (e f : LineEndState DialogueState) → EndsJoined setup brought side e f →
       length e.log.sent ≤ floor (length e.log.taken) (view_at (parties setup brought) side)
   to_floor side e f joined =
       let j = joined.joined in

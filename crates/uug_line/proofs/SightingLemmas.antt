@@ -6,7 +6,7 @@ use Rattle.std.proofs.lemmas.Option.{slice_get-map, slice_get_read, slice_get_wi
 use Rattle.std.specs.Option.{option_map}
 use Rattle.uug_packet.specs.WellFormed.{IsWritten}
 use Rattle.uug_line.specs.JournalValue.{packet_in}
-use Rattle.uug_line.specs.Live.{AreWritten}
+use Rattle.uug_line.specs.LineEndValue.{AreWritten}
 use Rattle.uug_line.specs.Shown.{lists_in}
 use Rattle.uug_line.specs.Code.Sightings.{StandsNowhere}
 

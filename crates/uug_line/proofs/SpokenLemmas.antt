@@ -16,12 +16,12 @@ use Rattle.uug_session.specs.Engine.{Does, EngineState, end_of, entry_of}
 use Rattle.uug_conversation.specs.Holdings.{Holdings}
 use Rattle.uug_session.specs.InRange.{CanBeWritten, IsEndInRange, MayFind}
 use Rattle.uug_conversation.specs.MemoryHoldings.{MemoryHoldings, holdings_of}
-use Rattle.uug_session.specs.Says.{written_text}
+use Rattle.uug_talk.specs.Texts.{written_text}
 use Rattle.uug_conversation.specs.DialogueState.{DialogueState}
 use Rattle.uug_conversation.specs.declared.side.Side.{Side}
 use Rattle.uug_line.specs.JournalValue.{JournalValue, if_first, log_of, messages_said, packet_in, packet_read, packets_said, saying, with_most}
-use Rattle.uug_line.specs.LineEnd.{LineEnd, Log, after_call, bytes_in, emitting, messages_sent, packets_in, sent_by}
-use Rattle.uug_line.specs.Live.{AreWritten, IsNoted, IsOrdered, LiveEndValue, Standing, line_end_of, player_of, standing_of, state_of}
+use Rattle.uug_line.specs.LineEndState.{LineEndState, JournalState, after_call, bytes_in, emitting, messages_sent, packets_in, sent_by}
+use Rattle.uug_line.specs.LineEndValue.{AreWritten, IsNoted, IsOrdered, LineEndValue, Standing, line_end_of, player_of, standing_of, state_of}
 use Rattle.uug_packet.proofs.WellFormedLemmas.{decoded-well_formed}
 use Rattle.uug_packet.proofs.WrittenLemmas.{message_in-written}
 use Rattle.uug_session.proofs.InRangeLemmas.{end_stays, end_emits}
@@ -85,7 +85,7 @@ pub noted : (es : List Emitted) (entries : List EntryValue) (unacked : ℕ) (bef
     → AllByRecursion CanBeWritten es → entries ≡ map entry_of es → after ≡ with_most unacked (saying entries before)
     → log_of after ≡ emitting es unacked (log_of before)
 noted es entries unacked before after well are noted_so =
-    let with_sent : List (List ℕ) → Log = λ sent. record {
+    let with_sent : List (List ℕ) → JournalState = λ sent. record {
       sent = before.sent ++ sent;
       taken = before.taken;
       packets = map packet_in (before.packets ++ packets_said (map entry_of es));
@@ -93,7 +93,7 @@ noted es entries unacked before after well are noted_so =
       passed = before.passed;
       most = max before.most unacked;
     } in
-    let with_packets : List PacketValue → Log = λ packets. record {
+    let with_packets : List PacketValue → JournalState = λ packets. record {
       sent = before.sent ++ messages_sent es;
       taken = before.taken;
       packets = packets;
@@ -117,12 +117,12 @@ noted_well es entries unacked before after well are noted_so written =
     (all_written before.packets (map canonical (packets_in es)) written (written_packets es well))
 
 -- the call did this to the end, of which was noted already what was found
-pub record Calls (effect : EndEffect DialogueState) (old called new : LiveEndValue) : Type 0 where
+pub record Calls (effect : EndEffect DialogueState) (old called new : LineEndValue) : Type 0 where
   pub end : line_end_of new ≡ after_call (log_of called.journal) called.line effect
   pub standing : standing_of new ≡ standing_of old
   pub ordered : IsOrdered new
 
-pub does_so : (e : EndEffect DialogueState) (old called new : LiveEndValue)
+pub does_so : (e : EndEffect DialogueState) (old called new : LineEndValue)
     → old.node.engine.outbox.entries ≡ [] → AllByRecursion CanBeWritten e.emitted
     → Does e (state_of called) old.node.engine called.node.engine → IsNoted called new
     → IsEndInRange old.node.engine.identity.side e.state → IsAnnouncement old.node.engine.own
@@ -145,9 +145,9 @@ does_so e old called new cleared writable does noted_so in_range own written hol
     ∙ ap (λ (n : ℕ). emitting e.emitted n (log_of called.journal)) unacked in
     let line : new.line ≡ called.line ++ bytes_in e.emitted =
     noted_so.line ∙ ap (λ (x : List EntryValue). called.line ++ joined x) entries ∙ ap (λ (x : List ℕ). called.line ++ x) (bytes_joined e.emitted) in
-    let by_state : EndState DialogueState → LineEnd DialogueState = λ x. record { state = x; log = log_of new.journal; line = new.line } in
-    let by_log : Log → LineEnd DialogueState = λ x. record { state = e.state; log = x; line = new.line } in
-    let by_line : List ℕ → LineEnd DialogueState =
+    let by_state : EndState DialogueState → LineEndState DialogueState = λ x. record { state = x; log = log_of new.journal; line = new.line } in
+    let by_log : JournalState → LineEndState DialogueState = λ x. record { state = e.state; log = x; line = new.line } in
+    let by_line : List ℕ → LineEndState DialogueState =
     λ x. record { state = e.state; log = emitting e.emitted (length e.state.link.unacked) (log_of called.journal); line = x } in
     let by_identity : Identity → Standing = λ x. record { identity = x; own = new.node.engine.own; holdings = holdings_of new.spool } in
     let by_own : Announced → Standing = λ x. record { identity = old.node.engine.identity; own = x; holdings = holdings_of new.spool } in
@@ -169,7 +169,7 @@ does_so e old called new cleared writable does noted_so in_range own written hol
     }
 
 -- the end's step
-pub steps_so : (event : EndEvent) (old called new : LiveEndValue) → IsOrdered old → MayFind event
+pub steps_so : (event : EndEvent) (old called new : LineEndValue) → IsOrdered old → MayFind event
     → Does (end_step (player_of old).keeper (player_of old).identity event (state_of old)) (state_of called) old.node.engine called.node.engine
     → IsNoted called new → AreWritten called.journal.packets → holdings_of called.spool ≡ holdings_of old.spool
     → Calls (end_step (player_of old).keeper (player_of old).identity event (state_of old)) old called new

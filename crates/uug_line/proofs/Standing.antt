@@ -21,7 +21,7 @@ use Rattle.uug_line.specs.declared.verdict.LineVerdict.{LineVerdict}
 use Rattle.uug_line.specs.declared.verdict.LineVerdict.TheVariants.{Clean, Fooled}
 use Rattle.uug_line.specs.Belongings.{Belongings, SetupValue, party, renewed}
 use Rattle.uug_line.specs.Headline.{TookFronts, KeptToWindows, StaysInFront}
-use Rattle.uug_line.specs.LineEnd.{LineEnd, Participant, does, called_with, changed_line}
+use Rattle.uug_line.specs.LineEndState.{LineEndState, Participant, does, called_with, changed_line}
 use Rattle.uug_line.specs.LinkRun.{LinksRan, after_all}
 use Rattle.uug_line.specs.Report.{end_now, report_of_end}
 use Rattle.uug_line.specs.Run.{Run, end_at, with_end_at, has_now, first_end, session_begins, flipped, with_line_to, after_hearing, calls, hears_next, hung_up, calls_again, participant, after_event, unless_fooled, goes_through, first_run}
@@ -56,7 +56,7 @@ pub record Stands (setup : SetupValue) (run : Run DialogueState) : Type 0 where
   pub past : All (IsKept setup) run.past
   pub own : (giver : Side) → OwnSince setup run.brought giver
 
--- it stands so, and is told by numbers
+-- it stands so, and is described by numbers
 pub record Goes (setup : SetupValue) (run : Run DialogueState) (numbers : Run Count) : Type 0 where
   pub stands : Stands setup run
   pub counted_is : counted run ≡ numbers
@@ -64,7 +64,7 @@ pub record Goes (setup : SetupValue) (run : Run DialogueState) (numbers : Run Co
 -- ---- the bytes on a line join and part nothing
 
 near_line : (setup : SetupValue) (brought : AtBoth Belongings) (side : Side) (change : List ℕ → List ℕ)
-    (h : Buffered (LineEnd DialogueState)) (f : LineEnd DialogueState) → EndsJoined setup brought side h.end f →
+    (h : Buffered (LineEndState DialogueState)) (f : LineEndState DialogueState) → EndsJoined setup brought side h.end f →
     EndsJoined setup brought side (changed_line change h).end f
 near_line setup brought side change h f j = record {
   joined = j.joined;
@@ -81,11 +81,11 @@ near_line setup brought side change h f j = record {
 -- ---- a session's end by end
 
 -- how the links of these ends stand
-abbrev links_at : LineEnd DialogueState → LineEnd DialogueState → AtBoth State
+abbrev links_at : LineEndState DialogueState → LineEndState DialogueState → AtBoth State
 links_at e f = record { at_caller = e.state.link; at_called = f.state.link }
 
 -- an end's link with what is told of the end
-as_told : (e : LineEnd DialogueState) → HasPassed e.log → link_end (moment_of e) ≡ told_end (report_of_end e) e.state.link
+as_told : (e : LineEndState DialogueState) → HasPassed e.log → link_end (moment_of e) ≡ told_end (report_of_end e) e.state.link
 as_told e passed = ap (λ (n : ℕ). record {
   link = e.state.link;
   sent = e.log.sent;
@@ -99,16 +99,16 @@ module _ (setup : SetupValue) where
   steps_of run s = all_steps setup run.brought s.sound
 
   -- two ends of the run, the one of which is at the side
-  abbrev AreJoined : Run DialogueState → Side → (x y : Buffered (LineEnd DialogueState)) → Type 0
+  abbrev AreJoined : Run DialogueState → Side → (x y : Buffered (LineEndState DialogueState)) → Type 0
   AreJoined run side x y = EndsJoined setup run.brought side x.end y.end
 
-  turned_back : (run : Run DialogueState) → Stands setup run → (side : Side) (x y : Buffered (LineEnd DialogueState)) → AreJoined run (other side) x y →
+  turned_back : (run : Run DialogueState) → Stands setup run → (side : Side) (x y : Buffered (LineEndState DialogueState)) → AreJoined run (other side) x y →
       AreJoined run side y x
   turned_back run s side x y joined =
       subst (λ (z : Side). AreJoined run z y x) (sym (other_twice side)) ((steps_of run s).turned (other side) x.end y.end joined)
 
   -- one end becomes another
-  one_becomes : (side : Side) (run : Run DialogueState) (x : Buffered (LineEnd DialogueState)) → Stands setup run →
+  one_becomes : (side : Side) (run : Run DialogueState) (x : Buffered (LineEndState DialogueState)) → Stands setup run →
       AreJoined run side x (end_at (other side) run) → Stands setup (with_end_at side x run)
   one_becomes side run x s joined = record {
     sound = s.sound;
@@ -117,7 +117,7 @@ module _ (setup : SetupValue) where
     own = s.own;
   }
 
-  counted_with : (side : Side) (x : Buffered (LineEnd DialogueState)) (run : Run DialogueState) →
+  counted_with : (side : Side) (x : Buffered (LineEndState DialogueState)) (run : Run DialogueState) →
       counted (with_end_at side x run) ≡ with_end_at side (counted_hearer x) (counted run)
   counted_with Caller x run = refl
   counted_with Called x run = refl
@@ -137,7 +137,7 @@ module _ (setup : SetupValue) where
         stands = one_becomes side run (changed_line change h) s
             (near_line setup run.brought side change h (end_at (other side) run).end (s.joined side));
         counted_is = counted_with side (changed_line change h) run
-            ∙ ap (λ (z : Buffered (LineEnd Count)). with_end_at side (changed_line change z) (counted run)) (sym (counted_at run side));
+            ∙ ap (λ (z : Buffered (LineEndState Count)). with_end_at side (changed_line change z) (counted run)) (sym (counted_at run side));
       }
 
   -- ---- an end's call
@@ -153,16 +153,16 @@ module _ (setup : SetupValue) where
         stands = one_becomes side run (called_with (talk_player setup side) event here) s
             (steps.does_joined side event here.end there no_packet (s.joined side));
         counted_is = counted_with side (called_with (talk_player setup side) event here) run
-            ∙ ap (λ (z : LineEnd Count). with_end_at side (record { held = held_in z.state.stage here.held; end = z }) (counted run))
+            ∙ ap (λ (z : LineEndState Count). with_end_at side (record { held = held_in z.state.stage here.held; end = z }) (counted run))
             (steps.does_counted side event here.end there no_packet (s.joined side))
-            ∙ ap (λ (z : Buffered (LineEnd Count)). with_end_at side (called_with (count_player setup run.brought side) event z) (counted run))
+            ∙ ap (λ (z : Buffered (LineEndState Count)). with_end_at side (called_with (count_player setup run.brought side) event z) (counted run))
             (sym (counted_at run side));
       })
 
   -- ---- bytes that come
 
   -- the other end's line was changed so
-  heard_joined : (side : Side) (change : List ℕ → List ℕ) (run : Run DialogueState) (h : Buffered (LineEnd DialogueState)) → Stands setup run →
+  heard_joined : (side : Side) (change : List ℕ → List ℕ) (run : Run DialogueState) (h : Buffered (LineEndState DialogueState)) → Stands setup run →
       AreJoined run side h (end_at (other side) run) →
       (let now = with_at side h (with_at (other side) (changed_line change (end_at (other side) run)) run.ends) in
       (z : Side) → AreJoined run z (at z now) (at (other z) now))
@@ -171,7 +171,7 @@ module _ (setup : SetupValue) where
       let far = near_line setup run.brought (other side) change there h.end ((steps_of run s).turned side h.end there.end joined) in
       with_both (AreJoined run) side h (changed_line change there) run.ends (turned_back run s side (changed_line change there) h far) far
 
-  heard_stands : (number : ℕ) (side : Side) (change : List ℕ → List ℕ) (run : Run DialogueState) → Stands setup run → (came : Arrival (LineEnd DialogueState)) →
+  heard_stands : (number : ℕ) (side : Side) (change : List ℕ → List ℕ) (run : Run DialogueState) → Stands setup run → (came : Arrival (LineEndState DialogueState)) →
       EndsJoined setup run.brought side (end_of came) (end_at (other side) run).end →
       Stands setup (after_hearing number side came (with_line_to side change run))
   heard_stands number side change run s (all_taken h) joined =
@@ -179,7 +179,7 @@ module _ (setup : SetupValue) where
   heard_stands number side change run s (stopped h) joined =
       record { sound = s.sound; joined = heard_joined side change run h s joined; past = s.past; own = s.own }
 
-  heard_counted : (number : ℕ) (side : Side) (change : List ℕ → List ℕ) (run : Run DialogueState) (came : Arrival (LineEnd DialogueState)) →
+  heard_counted : (number : ℕ) (side : Side) (change : List ℕ → List ℕ) (run : Run DialogueState) (came : Arrival (LineEndState DialogueState)) →
       counted (after_hearing number side came (with_line_to side change run))
       ≡ after_hearing number side (counted_came came) (with_line_to side change (counted run))
   heard_counted number Caller change run (all_taken h) = refl
@@ -218,7 +218,7 @@ module _ (setup : SetupValue) where
   begun_counted : (brought : AtBoth Belongings) → Steps setup brought → (side : Side) →
       counted_hearer (first_end by_themselves setup brought side) ≡ first_end by_numbers setup brought side
   begun_counted brought steps side =
-      ap (λ (z : LineEnd Count). record { held = held_in z.state.stage []; end = z }) (steps.first_counted side)
+      ap (λ (z : LineEndState Count). record { held = held_in z.state.stage []; end = z }) (steps.first_counted side)
 
   begins_so : (past : List (AtBoth EndReportValue)) (brought : AtBoth Belongings) → IsSoundSession setup brought →
       All (IsKept setup) past → ((giver : Side) → OwnSince setup brought giver) →
@@ -241,7 +241,7 @@ module _ (setup : SetupValue) where
   -- ---- a call
 
   -- the run of the two links, as it is told
-  links_told : (e f : LineEnd DialogueState) → HasPassed e.log → HasPassed f.log → LinksOf setup Caller (moment_of e) (moment_of f) →
+  links_told : (e f : LineEndState DialogueState) → HasPassed e.log → HasPassed f.log → LinksOf setup Caller (moment_of e) (moment_of f) →
       LinksRan (first_links setup)
       (link_ends (record { at_caller = report_of_end e; at_called = report_of_end f }) (links_at e f)) e.log.arrivals f.log.arrivals
   links_told e f near far ran =
@@ -250,7 +250,7 @@ module _ (setup : SetupValue) where
       (subst (λ (b : End). LinksRan (first_links setup)
       (record { near = link_end (moment_of e); far = b }) e.log.arrivals f.log.arrivals) (as_told f far) ran)
 
-  ran_as_machine : (brought : AtBoth Belongings) → IsSoundSession setup brought → (e f : LineEnd DialogueState) →
+  ran_as_machine : (brought : AtBoth Belongings) → IsSoundSession setup brought → (e f : LineEndState DialogueState) →
       EndsJoined setup brought Caller e f →
       RanAsMachine setup (record { at_caller = report_of_end e; at_called = report_of_end f }) (links_at e f)
   ran_as_machine brought sound e f joined =
@@ -279,7 +279,7 @@ module _ (setup : SetupValue) where
       }
 
   -- a session whose ends are joined is as the headline says
-  session_kept : (brought : AtBoth Belongings) → IsSoundSession setup brought → (e f : LineEnd DialogueState) →
+  session_kept : (brought : AtBoth Belongings) → IsSoundSession setup brought → (e f : LineEndState DialogueState) →
       EndsJoined setup brought Caller e f →
       IsKept setup (record { at_caller = report_of_end e; at_called = report_of_end f })
   session_kept brought sound e f joined =
@@ -373,11 +373,11 @@ module _ (setup : SetupValue) where
       let steps = steps_of run s in
       let e = run.ends.at_caller.end in
       let f = run.ends.at_called.end in
-      let lost : (side : Side) → LineEnd Count = λ side. (hung_up by_numbers setup (counted run) side).end in
+      let lost : (side : Side) → LineEndState Count = λ side. (hung_up by_numbers setup (counted run) side).end in
       each_are (λ side. report_of_end (hung_up by_themselves setup run side).end) (λ side. report_of_end (lost side))
       (each (λ side. report_of_end (hung_up by_themselves setup run side).end ≡ report_of_end (lost side))
-      (ap (λ (z : LineEnd Count). report_of_end z) (steps.does_counted Caller line_lost e f tt (s.joined Caller)))
-      (ap (λ (z : LineEnd Count). report_of_end z) (steps.does_counted Called line_lost f e tt (s.joined Called))))
+      (ap (λ (z : LineEndState Count). report_of_end z) (steps.does_counted Caller line_lost e f tt (s.joined Caller)))
+      (ap (λ (z : LineEndState Count). report_of_end z) (steps.does_counted Called line_lost f e tt (s.joined Called))))
 
   again : (run : Run DialogueState) → Stands setup run →
       Goes setup (calls_again by_themselves setup run) (calls_again by_numbers setup (counted run))

@@ -13,7 +13,7 @@ use Rattle.uug_conversation.specs.View.{floor}
 use Rattle.uug_conversation.specs.declared.side.Side.{Side}
 use Rattle.uug_conversation.specs.declared.side.Side.TheVariants.{Caller, Called}
 use Rattle.uug_line.specs.Belongings.{Belongings, SetupValue, identity}
-use Rattle.uug_line.specs.LineEnd.{LineEnd, Participant, does}
+use Rattle.uug_line.specs.LineEndState.{LineEndState, Participant, does}
 use Rattle.uug_line.specs.Run.{first_end, parties}
 use Rattle.uug_line.specs.RunKeeper.{by_themselves, by_numbers, view_at}
 use Rattle.uug_line.specs.Sides.{AtBoth, at}
@@ -37,7 +37,7 @@ IsNoPacket _ = ⊤
 
 -- in a session to which the ends bring this
 pub record Steps (setup : SetupValue) (brought : AtBoth Belongings) : Type 0 where
-  pub turned : (side : Side) (e f : LineEnd DialogueState) →
+  pub turned : (side : Side) (e f : LineEndState DialogueState) →
       EndsJoined setup brought side e f → EndsJoined setup brought (other side) f e
   -- as the session begins
   pub first_joined : EndsJoined setup brought Caller
@@ -45,27 +45,27 @@ pub record Steps (setup : SetupValue) (brought : AtBoth Belongings) : Type 0 whe
   pub first_counted : (side : Side) →
       counted_end (first_end by_themselves setup brought side).end ≡ (first_end by_numbers setup brought side).end
   -- each step
-  pub does_joined : (side : Side) (event : EndEvent) (e f : LineEnd DialogueState) → IsNoPacket event →
+  pub does_joined : (side : Side) (event : EndEvent) (e f : LineEndState DialogueState) → IsNoPacket event →
       EndsJoined setup brought side e f → EndsJoined setup brought side (does (talk_player setup side) event e) f
-  pub does_counted : (side : Side) (event : EndEvent) (e f : LineEnd DialogueState) → IsNoPacket event →
+  pub does_counted : (side : Side) (event : EndEvent) (e f : LineEndState DialogueState) → IsNoPacket event →
       EndsJoined setup brought side e f →
       counted_end (does (talk_player setup side) event e) ≡ does (count_player setup brought side) event (counted_end e)
-  pub packet_joined : (side : Side) (p : PacketValue) (place : ℕ) (e f : LineEnd DialogueState) →
+  pub packet_joined : (side : Side) (p : PacketValue) (place : ℕ) (e f : LineEndState DialogueState) →
       e.state.stage ≡ linked →
       place_of p f.log.packets e.log.passed ≡ Some place →
       EndsJoined setup brought side e f →
       EndsJoined setup brought side (packet_taken_up (talk_player setup side) p place e) f
-  pub packet_counted : (side : Side) (p : PacketValue) (place : ℕ) (e f : LineEnd DialogueState) →
+  pub packet_counted : (side : Side) (p : PacketValue) (place : ℕ) (e f : LineEndState DialogueState) →
       e.state.stage ≡ linked →
       place_of p f.log.packets e.log.passed ≡ Some place →
       EndsJoined setup brought side e f →
       counted_end (packet_taken_up (talk_player setup side) p place e)
       ≡ packet_taken_up (count_player setup brought side) p place (counted_end e)
   -- what an end has, and how far it may be
-  pub has_counted : (side : Side) (e f : LineEnd DialogueState) → EndsJoined setup brought side e f →
+  pub has_counted : (side : Side) (e f : LineEndState DialogueState) → EndsJoined setup brought side e f →
       by_numbers.has (parties setup brought) side (at side brought) e.state.number (count_of e)
       ≡ by_themselves.has (parties setup brought) side (at side brought) e.state.number e.state.keeper
-  pub front : (side : Side) (e f : LineEnd DialogueState) → EndsJoined setup brought side e f →
+  pub front : (side : Side) (e f : LineEndState DialogueState) → EndsJoined setup brought side e f →
       IsFrontOf e.log.taken f.log.sent
-  pub to_floor : (side : Side) (e f : LineEnd DialogueState) → EndsJoined setup brought side e f →
+  pub to_floor : (side : Side) (e f : LineEndState DialogueState) → EndsJoined setup brought side e f →
       length e.log.sent ≤ floor (length e.log.taken) (view_at (parties setup brought) side)

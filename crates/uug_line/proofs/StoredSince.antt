@@ -16,7 +16,7 @@ use Rattle.uug_conversation.specs.declared.side.Side.{Side}
 use Rattle.uug_conversation.specs.declared.side.Side.TheVariants.{Caller, Called}
 use Rattle.uug_line.specs.Belongings.{Belongings, SetupValue, party, renewed}
 use Rattle.uug_line.specs.Headline.{since}
-use Rattle.uug_line.specs.LineEnd.{LineEnd}
+use Rattle.uug_line.specs.LineEndState.{LineEndState}
 use Rattle.uug_line.specs.Run.{parties}
 use Rattle.uug_line.specs.RunKeeper.{by_themselves, has_by, view_at}
 use Rattle.uug_line.specs.Sides.{AtBoth, at, at_each}
@@ -45,7 +45,7 @@ session_own parties Caller own others p q = called_store parties.at_caller parti
 session_own parties Called own others p q = caller_store parties.at_caller parties.at_called others own q p
 
 -- before its link is up an end has taken nothing
-took_nothing : (setup : SetupValue) (brought : AtBoth Belongings) (side : Side) (e f : LineEnd DialogueState) →
+took_nothing : (setup : SetupValue) (brought : AtBoth Belongings) (side : Side) (e f : LineEndState DialogueState) →
     EndsJoined setup brought side e f → e.state.keeper.opened ≡ false → length e.log.taken ≡ 0
 took_nothing setup brought side e f joined shut = by joined.joined.near_talk
   where
@@ -151,24 +151,24 @@ module _ (setup : SetupValue) (brought : AtBoth Belongings) (sound : IsSoundSess
   all_steps : Steps setup brought
   all_steps = steps setup brought sound
 
-  abbrev has : Side → LineEnd DialogueState → Belongings
+  abbrev has : Side → LineEndState DialogueState → Belongings
   has side e = by_themselves.has (parties setup brought) side (at side brought) e.state.number e.state.keeper
 
-  struck_now : (side : Side) (e f : LineEnd DialogueState) → EndsJoined setup brought side e f →
+  struck_now : (side : Side) (e f : LineEndState DialogueState) → EndsJoined setup brought side e f →
       (has side e).lists.struck ≡ (at side brought).lists.struck ++ struck_in (parties setup brought) side (length e.log.taken)
   struck_now side e f joined =
       ap (λ (b : Belongings). b.lists.struck) (sym (all_steps.has_counted side e f joined))
       ∙ has_struck e.state.number (parties setup brought) side (at side brought) e.state.keeper.opened (length e.log.taken)
       (took_nothing setup brought side e f joined)
 
-  stored_now : (side : Side) (e f : LineEnd DialogueState) → EndsJoined setup brought side e f →
+  stored_now : (side : Side) (e f : LineEndState DialogueState) → EndsJoined setup brought side e f →
       (has side e).kept ≡ (at side brought).kept ++ stored_in (parties setup brought) side (length e.log.taken)
   stored_now side e f joined =
       ap (λ (b : Belongings). b.kept) (sym (all_steps.has_counted side e f joined))
       ∙ has_stored e.state.number (parties setup brought) side (at side brought) e.state.keeper.opened (length e.log.taken)
       (took_nothing setup brought side e f joined)
 
-  pub names_now : (side : Side) (e f : LineEnd DialogueState) → EndsJoined setup brought side e f →
+  pub names_now : (side : Side) (e f : LineEndState DialogueState) → EndsJoined setup brought side e f →
       pending (at side brought).lists ≡ (at side (parties setup brought)).jobs →
       All HasNames (at side (parties setup brought)).jobs → All HasNames (pending (has side e).lists)
   names_now side e f joined same names =
@@ -176,14 +176,14 @@ module _ (setup : SetupValue) (brought : AtBoth Belongings) (sound : IsSoundSess
       (has_names e.state.number (parties setup brought) side (at side brought) e.state.keeper.opened (length e.log.taken) same names)
 
   -- no end has taken more than the other may have said
-  to_floor : (side : Side) (e f : LineEnd DialogueState) → EndsJoined setup brought side e f →
+  to_floor : (side : Side) (e f : LineEndState DialogueState) → EndsJoined setup brought side e f →
       EndsJoined setup brought (other side) f e →
       length e.log.taken ≤ floor (length f.log.taken) (view_at (parties setup brought) (other side))
   to_floor side e f near far =
       let front = all_steps.front side e f near in
       omega (arith, all_steps.to_floor (other side) f e far, ap length front.1, length-append e.log.taken front.0)
 
-  own_now : (giver : Side) (now : AtBoth Belongings) (e f : LineEnd DialogueState) → (at giver (parties setup brought)).holdings ≡ (at giver setup).holdings →
+  own_now : (giver : Side) (now : AtBoth Belongings) (e f : LineEndState DialogueState) → (at giver (parties setup brought)).holdings ≡ (at giver setup).holdings →
       (at giver now ≡ has giver e) → (at (other giver) now ≡ has (other giver) f) →
       EndsJoined setup brought giver e f → EndsJoined setup brought (other giver) f e →
       length f.log.taken ≤ floor (length e.log.taken) (view_at (parties setup brought) giver) →
@@ -199,7 +199,7 @@ module _ (setup : SetupValue) (brought : AtBoth Belongings) (sound : IsSoundSess
       (session_own (parties setup brought) giver (length e.log.taken) (length f.log.taken) (to_floor giver e f near far) behind))
 
   -- of both ends
-  pub own_of_both : (giver : Side) (now : AtBoth Belongings) (e f : LineEnd DialogueState) → EndsJoined setup brought Caller e f →
+  pub own_of_both : (giver : Side) (now : AtBoth Belongings) (e f : LineEndState DialogueState) → EndsJoined setup brought Caller e f →
       now.at_caller ≡ has Caller e → now.at_called ≡ has Called f →
       OwnSince setup brought giver → OwnSince setup now giver
   own_of_both Caller now e f near near_has far_has before =

@@ -8,7 +8,7 @@ use Rattle.uug_conversation.specs.Jobs.{pending}
 use Rattle.uug_line.specs.declared.event.Event.{Event}
 use Rattle.uug_line.specs.declared.verdict.LineVerdict.{LineVerdict}
 use Rattle.uug_line.specs.Belongings.{Belongings, SetupValue}
-use Rattle.uug_line.specs.LineEnd.{Log, LineEnd}
+use Rattle.uug_line.specs.LineEndState.{JournalState, LineEndState}
 use Rattle.uug_line.specs.Told.{EndReportValue, ReportValue}
 use Rattle.uug_session.specs.declared.phase.Phase.{Phase}
 use Rattle.uug_line.specs.Run.{run_of}
@@ -65,7 +65,7 @@ same_list same [] [] = true
 same_list same (x ∷ xs) (y ∷ ys) = same x y && same_list same xs ys
 same_list same _ _ = false
 
-abbrev same_log : Log → Log → Bool
+abbrev same_log : JournalState → JournalState → Bool
 same_log l m =
     (same_list same_message l.sent m.sent && same_list same_message l.taken m.taken)
     && ((same_list same_packet l.packets m.packets && same_message l.arrivals m.arrivals)
@@ -74,12 +74,12 @@ same_log l m =
 abbrev same_count : Count → Count → Bool
 same_count c d = (c.sent == d.sent) && (c.taken == d.taken)
 
-abbrev same_end : Buffered (LineEnd Count) → Buffered (LineEnd Count) → Bool
+abbrev same_end : Buffered (LineEndState Count) → Buffered (LineEndState Count) → Bool
 same_end g h =
     (same_log g.end.log h.end.log && same_message g.held h.held)
     && (same_message g.end.line h.end.line && same_count g.end.state.keeper h.end.state.keeper)
 
-abbrev same_ends : AtBoth (Buffered (LineEnd Count)) → AtBoth (Buffered (LineEnd Count)) → Bool
+abbrev same_ends : AtBoth (Buffered (LineEndState Count)) → AtBoth (Buffered (LineEndState Count)) → Bool
 same_ends e f = same_end e.at_caller f.at_caller && same_end e.at_called f.at_called
 
 -- by themselves and by numbers the ends come to this, and told by numbers the ends themselves are those of the world
@@ -89,10 +89,10 @@ pub record ComeTo (setup : SetupValue) (events : List Event) (expected : Summary
   pub same : same_ends (counted (run_of_ends setup events)).ends (world setup events).ends ≡ true
 
 -- in the present session they have written this down
-abbrev pub logs : {C : Type 0} → RunKeeper C → SetupValue → List Event → AtBoth Log
+abbrev pub logs : {C : Type 0} → RunKeeper C → SetupValue → List Event → AtBoth JournalState
 logs k setup events = both (λ h. h.end.log) (run_of k setup events).ends
 
-pub record Logs (setup : SetupValue) (events : List Event) (at_caller at_called : Log) : Type 0 where
+pub record Logs (setup : SetupValue) (events : List Event) (at_caller at_called : JournalState) : Type 0 where
   pub themselves : logs by_themselves setup events ≡ at_ends at_caller at_called
   pub numbers : logs by_numbers setup events ≡ at_ends at_caller at_called
 

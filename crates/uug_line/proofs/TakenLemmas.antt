@@ -9,8 +9,8 @@ use Rattle.uug_packet.specs.Packet.{PacketValue, control, carry}
 use Rattle.uug_packet.specs.Spelling.{canonical}
 use Rattle.uug_packet.specs.WellFormed.{IsWellFormed}
 use Rattle.uug_line.specs.JournalValue.{JournalValue, log_of, or_empty, packet_in, packet_noted}
-use Rattle.uug_line.specs.LineEnd.{Log, found_at, took}
-use Rattle.uug_line.specs.Live.{AreWritten}
+use Rattle.uug_line.specs.LineEndState.{JournalState, found_at, took}
+use Rattle.uug_line.specs.LineEndValue.{AreWritten}
 use Rattle.uug_line.specs.Code.Sightings.{StandsAt, StandsNowhere}
 use Rattle.uug_session.specs.EndStep.{message_of}
 use Rattle.uug_line.proofs.SpokenLemmas.{packet_back}
@@ -75,5 +75,5 @@ pub packet_logged : (p : PacketValue) (bytes : List ℕ) (place : ℕ) (j : Jour
     → log_of (packet_noted bytes place j was_taken) ≡ took was_taken (message_of p) (found_at place (log_of j))
 packet_logged p bytes place j false well is = refl
 packet_logged p bytes place j true well is =
-    let taking : List ℕ → Log = λ message. record (found_at place (log_of j)) { taken = j.taken ++ message ∷ [] } in
+    let taking : List ℕ → JournalState = λ message. record (found_at place (log_of j)) { taken = j.taken ++ message ∷ [] } in
     ap taking (ap (λ (b : List ℕ). or_empty (message_in b)) is ∙ message_back p well)

@@ -24,7 +24,7 @@ use Rattle.uug_line.specs.declared.verdict.LineVerdict.{LineVerdict}
 use Rattle.uug_line.specs.declared.verdict.LineVerdict.TheVariants.{Clean, Fooled}
 use Rattle.uug_line.specs.Belongings.{Belongings, SetupValue, renewed}
 use Rattle.uug_line.specs.Fooled.{ArrivalsArePlaces, FindsNothingMore, FindsUnsent, StoppedAt, present}
-use Rattle.uug_line.specs.LineEnd.{LineEnd, Participant, does, called_with, changed_line}
+use Rattle.uug_line.specs.LineEndState.{LineEndState, Participant, does, called_with, changed_line}
 use Rattle.uug_line.specs.Report.{report_of_end}
 use Rattle.uug_line.specs.Run.{Run, end_at, participant, has_now, first_end, first_run, session_begins, flipped, with_end_at, with_line_to, hears_next, after_hearing, calls, hung_up, calls_again, after_event, unless_fooled, goes_through, run_of}
 use Rattle.uug_line.specs.RunKeeper.{RunKeeper}
@@ -93,7 +93,7 @@ nothing_then linked (hailing h) bytes stays none = absurd stays
 nothing_then (ended how) (hailing h) bytes stays none = absurd stays
 nothing_then (ended how) linked bytes stays none = absurd stays
 
-call_finds_nothing : {C : Type 0} (p : Participant C) (event : EndEvent) (h : Buffered (LineEnd C)) → UsesNoBytes event →
+call_finds_nothing : {C : Type 0} (p : Participant C) (event : EndEvent) (h : Buffered (LineEndState C)) → UsesNoBytes event →
     FindsNothingMore h → FindsNothingMore (called_with p event h)
 call_finds_nothing p event h uses none =
     let s = h.end.state.stage in
@@ -117,30 +117,30 @@ pub record IsJudged {C : Type 0} (run : Run C) : Type 0 where
   pub found : FoundSo run
   pub judged : JudgedBy run.verdict run
 
-turned : {C : Type 0} (e f : LineEnd C) → BothFound e f → BothFound f e
+turned : {C : Type 0} (e f : LineEndState C) → BothFound e f → BothFound f e
 turned e f both = record { near = both.far; far = both.near }
 
 -- the bytes on a line don't matter
-near_line : {C : Type 0} (change : List ℕ → List ℕ) (h : Buffered (LineEnd C)) (f : LineEnd C) → BothFound h.end f →
+near_line : {C : Type 0} (change : List ℕ → List ℕ) (h : Buffered (LineEndState C)) (f : LineEndState C) → BothFound h.end f →
     BothFound (changed_line change h).end f
 near_line change h f both = record {
   near = record { packets = both.near.packets; places = both.near.places; passed = both.near.passed };
   far = record { packets = both.far.packets; places = both.far.places; passed = both.far.passed };
 }
 
-far_line : {C : Type 0} (change : List ℕ → List ℕ) (e : LineEnd C) (h : Buffered (LineEnd C)) → BothFound e h.end →
+far_line : {C : Type 0} (change : List ℕ → List ℕ) (e : LineEndState C) (h : Buffered (LineEndState C)) → BothFound e h.end →
     BothFound e (changed_line change h).end
 far_line change e h both = turned (changed_line change h).end e (near_line change h e (turned e h.end both))
 
 -- in a session the arrivals are places
-session_found : {C : Type 0} (e f : LineEnd C) → BothFound e f →
+session_found : {C : Type 0} (e f : LineEndState C) → BothFound e f →
     ArrivalsArePlaces (record { at_caller = report_of_end e; at_called = report_of_end f })
 session_found e f both Caller = (both.near.packets, both.near.places)
 session_found e f both Called = (both.far.packets, both.far.places)
 
 module _ {C : Type 0} (k : RunKeeper C) (setup : SetupValue) where
   -- both ends, told in one
-  judged_ends : (past : List (AtBoth EndReportValue)) (brought : AtBoth Belongings) (x y : Buffered (LineEnd C)) →
+  judged_ends : (past : List (AtBoth EndReportValue)) (brought : AtBoth Belongings) (x y : Buffered (LineEndState C)) →
       All ArrivalsArePlaces past → BothFound x.end y.end → FindsNothingMore x → FindsNothingMore y →
       IsJudged (record { past = past; brought = brought; ends = record { at_caller = x; at_called = y }; verdict = Clean })
   judged_ends past brought x y were both at_x at_y =
@@ -172,27 +172,27 @@ module _ {C : Type 0} (k : RunKeeper C) (setup : SetupValue) where
   both_at run found Called = turned run.ends.at_caller.end run.ends.at_called.end found.both
 
   -- its ends become these
-  abbrev with_ends : Side → (x y : Buffered (LineEnd C)) → Run C → Run C
+  abbrev with_ends : Side → (x y : Buffered (LineEndState C)) → Run C → Run C
   with_ends side x y run = with_end_at side x (with_end_at (other side) y run)
 
-  found_so : (side : Side) (run : Run C) (x y : Buffered (LineEnd C)) → All ArrivalsArePlaces run.past → BothFound x.end y.end →
+  found_so : (side : Side) (run : Run C) (x y : Buffered (LineEndState C)) → All ArrivalsArePlaces run.past → BothFound x.end y.end →
       FoundSo (with_ends side x y run)
   found_so Caller run x y past both = record { both = both; past = past }
   found_so Called run x y past both = record { both = turned x.end y.end both; past = past }
 
-  become : (side : Side) (run : Run C) (x y : Buffered (LineEnd C)) → run.verdict ≡ Clean → IsJudged run → BothFound x.end y.end →
+  become : (side : Side) (run : Run C) (x y : Buffered (LineEndState C)) → run.verdict ≡ Clean → IsJudged run → BothFound x.end y.end →
       FindsNothingMore x → FindsNothingMore y → IsJudged (with_ends side x y run)
   become side run x y clean j both at_x at_y = record {
     found = found_so side run x y j.found.past both;
     judged = subst (λ v. JudgedBy v (with_ends side x y run)) (sym clean)
-        (with_both (λ (s : Side) (h far : Buffered (LineEnd C)). FindsNothingMore h) side x y run.ends at_x at_y);
+        (with_both (λ (s : Side) (h far : Buffered (LineEndState C)). FindsNothingMore h) side x y run.ends at_x at_y);
   }
 
   -- one of them does
-  one_becomes : (side : Side) (run : Run C) (x : Buffered (LineEnd C)) → run.verdict ≡ Clean → IsJudged run →
+  one_becomes : (side : Side) (run : Run C) (x : Buffered (LineEndState C)) → run.verdict ≡ Clean → IsJudged run →
       BothFound x.end (end_at (other side) run).end → FindsNothingMore x → IsJudged (with_end_at side x run)
   one_becomes side run x clean j both at_x =
-      subst (λ (ends : AtBoth (Buffered (LineEnd C))). IsJudged (record run { ends = ends })) (other_stays side x run.ends)
+      subst (λ (ends : AtBoth (Buffered (LineEndState C))). IsJudged (record run { ends = ends })) (other_stays side x run.ends)
       (become side run x (end_at (other side) run) clean j both at_x (nothing_at run clean j (other side)))
 
   line_judged : (side : Side) (change : List ℕ → List ℕ) (run : Run C) → run.verdict ≡ Clean → IsJudged run →
@@ -211,7 +211,7 @@ module _ {C : Type 0} (k : RunKeeper C) (setup : SetupValue) where
       (call_finds_nothing p event h uses (nothing_at run clean j side))
 
   -- a piece has come
-  came_judged : (number : ℕ) (side : Side) (n : ℕ) (run : Run C) → run.verdict ≡ Clean → IsJudged run → (came : Arrival (LineEnd C)) →
+  came_judged : (number : ℕ) (side : Side) (n : ℕ) (run : Run C) → run.verdict ≡ Clean → IsJudged run → (came : Arrival (LineEndState C)) →
       CameSo (participant k setup run side) (end_at (other side) run).end came →
       IsJudged (after_hearing number side came (with_line_to side (drop n) run))
   came_judged number side n run clean j (all_taken h) so =
@@ -222,7 +222,7 @@ module _ {C : Type 0} (k : RunKeeper C) (setup : SetupValue) where
       let found = found_so side run h (changed_line (drop n) there) j.found.past (far_line (drop n) h.end there so.0) in
       record {
         found = record { both = found.both; past = found.past };
-        judged = here_so (λ (x y : Buffered (LineEnd C)). IsUnsent x y.end × FindsNothingMore y) side h (changed_line (drop n) there) run.ends (
+        judged = here_so (λ (x y : Buffered (LineEndState C)). IsUnsent x y.end × FindsNothingMore y) side h (changed_line (drop n) there) run.ends (
           record { packet = so.1.packet; behind = so.1.behind; next = so.1.next; no_place = so.1.no_place },
           nothing_at run clean j (other side),
         );
@@ -320,7 +320,7 @@ module _ {C : Type 0} (k : RunKeeper C) (setup : SetupValue) where
       finds_unsent (run_of k setup events) side j.found.both (subst (λ v. JudgedBy v (run_of k setup events)) is j.judged).0
 
   -- nothing is found where a packet is
-  both_found : (h : Buffered (LineEnd C)) (p : PacketValue) (behind : List ℕ) → FindsNothingMore h →
+  both_found : (h : Buffered (LineEndState C)) (p : PacketValue) (behind : List ℕ) → FindsNothingMore h →
       finding h.end.state.stage h.held ≡ finds_packet p h.held behind → ⊥
   both_found h p behind none some =
       let e : finds_nothing h.held ≡ finds_packet p h.held behind = sym none ∙ some in cc
@@ -365,7 +365,7 @@ module _ {C : Type 0} (k : RunKeeper C) (setup : SetupValue) where
     event_is : event ≡ Pass side bytes
     number_is : number ≡ at_number
 
-  came_stopped : (number : ℕ) (s : Side) (n : ℕ) (came : Arrival (LineEnd C)) (run : Run C) (at_number : ℕ) (side : Side) →
+  came_stopped : (number : ℕ) (s : Side) (n : ℕ) (came : Arrival (LineEndState C)) (run : Run C) (at_number : ℕ) (side : Side) →
       run.verdict ≡ Clean → (after_hearing number s came run).verdict ≡ Fooled at_number side →
       StoppedBy number (Pass s n) at_number side
   came_stopped number s n (all_taken h) run at_number side clean fooled =

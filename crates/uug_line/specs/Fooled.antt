@@ -11,7 +11,7 @@ use Rattle.uug_conversation.specs.declared.side.Side.{Side}
 use Rattle.uug_line.specs.declared.verdict.LineVerdict.{LineVerdict}
 use Rattle.uug_line.specs.declared.verdict.LineVerdict.TheVariants.{Clean, Fooled}
 use Rattle.uug_line.specs.Belongings.{SetupValue}
-use Rattle.uug_line.specs.LineEnd.{LineEnd}
+use Rattle.uug_line.specs.LineEndState.{LineEndState}
 use Rattle.uug_line.specs.Report.{report_of_end}
 use Rattle.uug_line.specs.Run.{Run, end_at, run_of}
 use Rattle.uug_line.specs.RunKeeper.{RunKeeper, by_themselves}
@@ -39,7 +39,7 @@ abbrev pub present : {C : Type 0} → Run C → AtBoth EndReportValue
 present run = at_each (λ side. report_of_end (end_at side run).end)
 
 -- nothing that is whole stands in the bytes that an end holds: whatever it found was taken up
-abbrev pub FindsNothingMore : {C : Type 0} → Buffered (LineEnd C) → Type 0
+abbrev pub FindsNothingMore : {C : Type 0} → Buffered (LineEndState C) → Type 0
 FindsNothingMore h = finding h.end.state.stage h.held ≡ finds_nothing h.held
 
 -- The packet stands next in the bytes that the end on the side holds. It was not sent: it and those found before it in the

@@ -6,7 +6,7 @@ use Rattle.uug_packet.specs.Decoded.{decoded}
 use Rattle.uug_packet.specs.Message.{message_in}
 use Rattle.uug_packet.specs.Packet.{PacketValue, close, control}
 use Rattle.uug_line.specs.declared.journal.Journal.{Journal}
-use Rattle.uug_line.specs.LineEnd.{Log, Notes, found_at}
+use Rattle.uug_line.specs.LineEndState.{JournalState, Notes, found_at}
 use Rattle.uug_line.specs.Shown.{lists_in}
 use Rattle.uug_line.specs.Told.{SpelledEnd}
 
@@ -23,7 +23,7 @@ journal_value j = record {
   most = j.most;
 }
 
--- of an end of which this is told, and which has found or gone past so many packets
+-- of an end of which this is told, and which has found or skipped so many packets
 abbrev pub journal_by : SpelledEnd → (passed : ℕ) → JournalValue
 journal_by told passed = record {
   sent = told.sent;
@@ -97,7 +97,7 @@ with_most unacked j = record j { most = max j.most unacked }
 
 -- ---- the log
 
-abbrev pub log_of : JournalValue → Log
+abbrev pub log_of : JournalValue → JournalState
 log_of j = record {
   sent = j.sent;
   taken = j.taken;

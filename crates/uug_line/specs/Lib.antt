@@ -3,7 +3,7 @@ pub mod Delivered
 pub mod Fooled
 pub mod Headline
 pub mod Heard
-pub mod LineEnd
+pub mod LineEndState
 pub mod LinkRun
 pub mod MachineRun
 pub mod OfSomeRun
@@ -12,7 +12,7 @@ pub mod OfBytes
 pub mod Run
 pub mod RunKeeper
 pub mod JournalValue
-pub mod Live
+pub mod LineEndValue
 pub mod RunValue
 pub mod Setup
 pub mod Settle

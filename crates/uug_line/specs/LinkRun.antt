@@ -15,7 +15,7 @@ happened_far [] = []
 happened_far (at_near h ∷ os) = happened_far os
 happened_far (at_far h ∷ os) = h ∷ happened_far os
 
--- the places of the packets that an end heard, among those that the other end emitted: so many were heard or gone past
+-- the places of the packets that an end heard, among those that the other end emitted: so many were heard or skipped
 -- before
 abbrev pub places_heard : (passed : ℕ) → List Happening → List ℕ
 places_heard passed [] = []

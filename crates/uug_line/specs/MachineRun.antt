@@ -18,7 +18,7 @@ use Rattle.uug_line.specs.WereSent.{passed_at}
 
 -- ---- in a session
 
--- an end's link in this state, with what is told of the end: it has found or gone past the other end's packets up to the
+-- an end's link in this state, with what is told of the end: it has found or skipped the other end's packets up to the
 -- place of the last that it found
 abbrev pub link_end : EndReportValue → (link : State) → End
 link_end told link = record {

@@ -10,7 +10,7 @@ use Rattle.uug_conversation.specs.declared.side.Side.{Side}
 use Rattle.uug_line.specs.declared.verdict.LineVerdict.{LineVerdict}
 use Rattle.uug_line.specs.declared.verdict.LineVerdict.TheVariants.{Clean, Fooled}
 use Rattle.uug_line.specs.Belongings.{Belongings, SetupValue, identity, party, renewed}
-use Rattle.uug_line.specs.LineEnd.{LineEnd, Participant, begins, called_with, changed_line}
+use Rattle.uug_line.specs.LineEndState.{LineEndState, Participant, begins, called_with, changed_line}
 use Rattle.uug_line.specs.Report.{report_of_end}
 use Rattle.uug_line.specs.RunKeeper.{RunKeeper}
 use Rattle.uug_line.specs.Sides.{AtBoth, at, with_at, at_each}
@@ -23,13 +23,13 @@ pub record Run (C : Type 0) : Type 0 where
   pub past : List (AtBoth EndReportValue)
   -- the present one: what the ends brought to it, and how they stand
   pub brought : AtBoth Belongings
-  pub ends : AtBoth (Buffered (LineEnd C))
+  pub ends : AtBoth (Buffered (LineEndState C))
   pub verdict : LineVerdict
 
-abbrev pub end_at : {C : Type 0} → Side → Run C → Buffered (LineEnd C)
+abbrev pub end_at : {C : Type 0} → Side → Run C → Buffered (LineEndState C)
 end_at side run = at side run.ends
 
-abbrev pub with_end_at : {C : Type 0} → Side → Buffered (LineEnd C) → Run C → Run C
+abbrev pub with_end_at : {C : Type 0} → Side → Buffered (LineEndState C) → Run C → Run C
 with_end_at side h run = record run { ends = with_at side h run.ends }
 
 abbrev pub parties : SetupValue → (brought : AtBoth Belongings) → AtBoth Party
@@ -48,7 +48,7 @@ has_now k setup run side =
 -- ---- a session begins
 
 -- the called end says its name
-abbrev pub first_end : {C : Type 0} → RunKeeper C → SetupValue → (brought : AtBoth Belongings) → Side → Buffered (LineEnd C)
+abbrev pub first_end : {C : Type 0} → RunKeeper C → SetupValue → (brought : AtBoth Belongings) → Side → Buffered (LineEndState C)
 first_end k setup brought side =
     begins (begins_session (identity setup side) (at side setup).own (at side brought).number (k.first (at side brought)))
 
@@ -76,13 +76,13 @@ with_line_to side change run = with_end_at (other side) (changed_line change (en
 -- ---- what an event does
 
 -- the next bytes, n of them or all, come to the end on the side as one piece
-abbrev pub hears_next : {C : Type 0} → RunKeeper C → SetupValue → Side → (n : ℕ) → Run C → Arrival (LineEnd C)
+abbrev pub hears_next : {C : Type 0} → RunKeeper C → SetupValue → Side → (n : ℕ) → Run C → Arrival (LineEndState C)
 hears_next k setup side n run =
     takes_piece (line_taker (participant k setup run side) (end_at (other side) run).end.log.packets)
     (take n (end_at (other side) run).end.line) (end_at side run)
 
 -- the end is then so; where it found a packet that was not sent, the run is fooled there
-abbrev pub after_hearing : {C : Type 0} → (number : ℕ) → Side → Arrival (LineEnd C) → Run C → Run C
+abbrev pub after_hearing : {C : Type 0} → (number : ℕ) → Side → Arrival (LineEndState C) → Run C → Run C
 after_hearing number side (all_taken h) run = with_end_at side h run
 after_hearing number side (stopped h) run = record (with_end_at side h run) { verdict = Fooled number side }
 
@@ -92,7 +92,7 @@ calls k setup side event run = with_end_at side (called_with (participant k setu
 
 -- both ends hang up (one that has ended does nothing), what is on the line is lost, and a session begins in which all
 -- pending jobs are to be offered again
-abbrev pub hung_up : {C : Type 0} → RunKeeper C → SetupValue → Run C → Side → Buffered (LineEnd C)
+abbrev pub hung_up : {C : Type 0} → RunKeeper C → SetupValue → Run C → Side → Buffered (LineEndState C)
 hung_up k setup run side = called_with (participant k setup run side) line_lost (end_at side run)
 
 abbrev pub calls_again : {C : Type 0} → RunKeeper C → SetupValue → Run C → Run C

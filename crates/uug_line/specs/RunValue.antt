@@ -12,8 +12,8 @@ use Rattle.uug_conversation.specs.declared.side.Side.TheVariants.{Caller}
 use Rattle.uug_line.specs.declared.verdict.LineVerdict.{LineVerdict}
 use Rattle.uug_line.specs.declared.verdict.LineVerdict.TheVariants.{Clean}
 use Rattle.uug_line.specs.Belongings.{Belongings, SetupValue, identity}
-use Rattle.uug_line.specs.LineEnd.{LineEnd}
-use Rattle.uug_line.specs.Live.{BeginsAgain, HasRoom, HearsPiece, IsCalled, IsOrdered, LiveEndValue, Standing, hearer_of, line_end_of, live_end_value, standing_of, told_of}
+use Rattle.uug_line.specs.LineEndState.{LineEndState}
+use Rattle.uug_line.specs.LineEndValue.{BeginsAgain, HasRoom, HearsPiece, IsCalled, IsOrdered, LineEndValue, Standing, hearer_of, line_end_of, live_end_value, standing_of, told_of}
 use Rattle.uug_line.specs.Told.{EndNow, SpelledEnd, SpelledReport}
 use Rattle.uug_line.specs.Run.{Run, end_at, flipped}
 use Rattle.uug_line.specs.Shown.{session_shown}
@@ -25,7 +25,7 @@ use Rattle.uug_conversation.specs.DialogueState.{DialogueState}
 pub record RunValue : Type 0 where
   -- what is told of the sessions that are over
   pub past : List (AtBoth SpelledEnd)
-  pub ends : AtBoth LiveEndValue
+  pub ends : AtBoth LineEndValue
 
 abbrev pub run_value : {A : Type 0} → RunSoFar A → RunValue
 run_value r = record {
@@ -34,7 +34,7 @@ run_value r = record {
 }
 
 -- between two events
-pub record IsReady (e : LiveEndValue) : Type 0 where
+pub record IsReady (e : LineEndValue) : Type 0 where
   pub ordered : IsOrdered e
   pub room : HasRoom e
 
@@ -45,15 +45,15 @@ pub record IsSteady (r : RunValue) : Type 0 where
 -- ---- what happens
 
 -- this happens at the side, and nothing else
-abbrev pub HappensAt : Side → (LiveEndValue → LiveEndValue → Type 0) → (old new : RunValue) → Type 0
+abbrev pub HappensAt : Side → (LineEndValue → LineEndValue → Type 0) → (old new : RunValue) → Type 0
 HappensAt side what old new =
     what (at side old.ends) (at side new.ends) × (at (other side) new.ends ≡ at (other side) old.ends) × (new.past ≡ old.past)
 
 -- the bytes that the end has emitted become others
-abbrev pub with_line : (List ℕ → List ℕ) → LiveEndValue → LiveEndValue
+abbrev pub with_line : (List ℕ → List ℕ) → LineEndValue → LineEndValue
 with_line change e = record e { line = change e.line }
 
-abbrev pub ChangesLine : (List ℕ → List ℕ) → (old new : LiveEndValue) → Type 0
+abbrev pub ChangesLine : (List ℕ → List ℕ) → (old new : LineEndValue) → Type 0
 ChangesLine change old new = new ≡ with_line change old
 
 -- the next bytes come to the side
@@ -65,7 +65,7 @@ Passes side n all_sent old new =
 
 -- both ends hang up, and a new session begins
 pub record CallsAgain (old new : RunValue) : Type 0 where
-  pub lost : AtBoth LiveEndValue
+  pub lost : AtBoth LineEndValue
   pub hangs_up : (side : Side) → IsCalled line_lost (at side old.ends) (at side lost)
   pub begins : (side : Side) → BeginsAgain (at side lost) (at side new.ends)
   pub past : new.past ≡ old.past ++ record { at_caller = told_of lost.at_caller; at_called = told_of lost.at_called } ∷ []
@@ -99,7 +99,7 @@ standing_at setup side = record {
 }
 
 -- an end of it is the program's
-pub record IsEnd (setup : SetupValue) (side : Side) (h : Buffered (LineEnd DialogueState)) (e : LiveEndValue) : Type 0 where
+pub record IsEnd (setup : SetupValue) (side : Side) (h : Buffered (LineEndState DialogueState)) (e : LineEndValue) : Type 0 where
   pub hearer : h ≡ hearer_of e
   pub standing : standing_of e ≡ standing_at setup side
 
@@ -113,7 +113,7 @@ abbrev pub held_parts : RunValue → AtBoth (List ℕ)
 held_parts r = record { at_caller = held_bytes r.ends.at_caller.node; at_called = held_bytes r.ends.at_called.node }
 
 -- as it stops, whatever bytes it holds
-pub record IsLastEnd (setup : SetupValue) (side : Side) (end : LineEnd DialogueState) (e : LiveEndValue) : Type 0 where
+pub record IsLastEnd (setup : SetupValue) (side : Side) (end : LineEndState DialogueState) (e : LineEndValue) : Type 0 where
   pub end_is : end ≡ line_end_of e
   pub standing : standing_of e ≡ standing_at setup side
   pub ordered : IsOrdered e
@@ -127,11 +127,11 @@ pub record EndsAs (setup : SetupValue) (run : Run DialogueState) (verdict : Line
 
 -- ---- what is told of it
 
-abbrev pub owned_parts : LiveEndValue → Belongings
+abbrev pub owned_parts : LineEndValue → Belongings
 owned_parts e =
     record { lists = e.node.engine.dialogue.machine.lists; kept = e.spool.stored; number = e.node.engine.number }
 
-abbrev pub parts_now : LiveEndValue → EndNow
+abbrev pub parts_now : LineEndValue → EndNow
 parts_now e = record { stage = e.node.engine.stage; link = e.node.engine.link }
 
 abbrev pub told_in_all : RunValue → LineVerdict → SpelledReport

@@ -21,7 +21,7 @@ HavePlaces [] [] emitted from = ⊤
 HavePlaces (p ∷ ps) (i ∷ is) emitted from = IsPlace p emitted from i × HavePlaces ps is emitted (suc i)
 HavePlaces _ _ emitted from = ⊥
 
--- how many of those emitted were then found or gone past
+-- how many of those emitted were then found or skipped
 abbrev pub passed_at : (places : List ℕ) → (from : ℕ) → ℕ
 passed_at [] from = from
 passed_at (i ∷ is) from = passed_at is (suc i)

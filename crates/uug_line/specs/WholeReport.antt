@@ -6,14 +6,14 @@ use Rattle.uug_line.specs.declared.report.LastEnd.{LastEnd}
 use Rattle.uug_line.specs.declared.report.SessionReport.{SessionReport}
 use Rattle.uug_line.specs.declared.verdict.LineVerdict.{LineVerdict}
 use Rattle.uug_line.specs.JournalValue.{journal_by}
-use Rattle.uug_line.specs.Live.{LiveEndValue}
+use Rattle.uug_line.specs.LineEndValue.{LineEndValue}
 use Rattle.uug_line.specs.RunValue.{RunValue, held_parts, told_in_all}
 use Rattle.uug_line.specs.Shown.{held_at, owned_by, session_shown, spool_of, stands_so}
 use Rattle.uug_line.specs.Sides.{AtBoth}
 use Rattle.uug_line.specs.Told.{SpelledEnd, SpelledReport}
 
 -- an end as the run leaves it: its node, what is on the line from it, and how many of the other's packets it has found or
--- gone past
+-- skipped
 pub record EndLeft : Type 0 where
   pub node : NodeState
   pub line : List ℕ
@@ -29,7 +29,7 @@ pub record WholeReport : Type 0 where
 
 -- ---- of the program's run
 
-abbrev pub left_parts : LiveEndValue → EndLeft
+abbrev pub left_parts : LineEndValue → EndLeft
 left_parts e = record { node = e.node; line = e.line; passed = e.journal.passed }
 
 abbrev pub whole_report : RunValue → LineVerdict → WholeReport
@@ -41,7 +41,7 @@ whole_report r verdict = record {
 }
 
 -- an end that goes on, of whose session this is told
-abbrev pub part_from : SpelledEnd → EndLeft → MemoryHoldings → LiveEndValue
+abbrev pub part_from : SpelledEnd → EndLeft → MemoryHoldings → LineEndValue
 part_from told left spool =
     record { node = left.node; spool = spool; journal = journal_by told left.passed; line = left.line }
 

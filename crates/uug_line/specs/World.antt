@@ -6,7 +6,7 @@ use Rattle.uug_conversation.specs.Count.{Count}
 use Rattle.uug_conversation.specs.DialogueState.{DialogueState}
 use Rattle.uug_line.specs.declared.event.Event.{Event}
 use Rattle.uug_line.specs.Belongings.{SetupValue}
-use Rattle.uug_line.specs.LineEnd.{LineEnd}
+use Rattle.uug_line.specs.LineEndState.{LineEndState}
 use Rattle.uug_line.specs.Report.{end_now, report_of_end}
 use Rattle.uug_line.specs.Run.{Run, end_at, has_now, run_of}
 use Rattle.uug_line.specs.RunKeeper.{RunKeeper, by_themselves, by_numbers}
@@ -38,17 +38,17 @@ report_of_world setup events = report_of by_numbers setup (world setup events)
 -- ---- the one as the other
 
 -- all but its conversation, of which is told how many messages were sent and taken
-abbrev pub count_of : LineEnd DialogueState → Count
+abbrev pub count_of : LineEndState DialogueState → Count
 count_of e = record { opened = e.state.keeper.opened; sent = length e.log.sent; taken = length e.log.taken }
 
-abbrev pub counted_end : LineEnd DialogueState → LineEnd Count
+abbrev pub counted_end : LineEndState DialogueState → LineEndState Count
 counted_end e = record {
   state = record { stage = e.state.stage; link = e.state.link; keeper = count_of e; number = e.state.number };
   log = e.log;
   line = e.line;
 }
 
-abbrev pub counted_hearer : Buffered (LineEnd DialogueState) → Buffered (LineEnd Count)
+abbrev pub counted_hearer : Buffered (LineEndState DialogueState) → Buffered (LineEndState Count)
 counted_hearer h = record { held = h.held; end = counted_end h.end }
 
 abbrev pub counted : Run DialogueState → Run Count

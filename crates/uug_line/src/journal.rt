@@ -1,7 +1,7 @@
 ghost use Rattle.std.specs.Prelude.{◌≡◌, ◌<◌, [], ◌∷◌, ◌++◌, length, MatchOption, OnOk, None, Some};
 ghost use Rattle.uug_line.specs.JournalValue.{journal_value, journal_by, packet_noted, saying, taking_from, sending_from, with_most};
 ghost use Rattle.uug_line.specs.Shown.{end_shown, lists_in};
-ghost use Rattle.uug_line.specs.LineEnd.{found_at, nothing_done};
+ghost use Rattle.uug_line.specs.LineEndState.{found_at, nothing_done};
 ghost use Rattle.uug_line.specs.Report.{told_by};
 ghost use Rattle.uug_link.specs.Entries.{shown_entry};
 
@@ -19,7 +19,7 @@ pub(crate) struct Journal<A: Allocator> {
     /// As they are spelled.
     pub(crate) packets: Vec<Vec<u8, A>, A>,
     pub(crate) arrivals: Vec<usize, A>,
-    /// How many of the other end's packets were found or gone past.
+    /// How many of the other end's packets were found or skipped.
     pub(crate) passed: usize,
     pub(crate) most: usize,
 }
@@ -39,7 +39,7 @@ impl<A: Allocator + Copy> Journal<A> {
         }
     }
 
-    /// What was written down of an end that has found or gone past so many packets.
+    /// What was written down of an end that has found or skipped so many packets.
     pub(crate) fn from_report(report: EndReport<A>, passed: usize) -> Self
         ensures { journal_value result ≡ journal_by (end_shown report) passed }
     {

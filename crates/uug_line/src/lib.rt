@@ -6,7 +6,7 @@ mod fault;
 mod journal;
 pub mod laws;
 mod line;
-mod live_end;
+mod line_end;
 mod report;
 mod running;
 pub mod settle_laws;
@@ -19,7 +19,7 @@ pub mod world_laws;
 
 pub use event::Event;
 pub use fault::RunFault;
-pub use report::{EndReport, Report, SessionReport};
+pub use report::{EndReport, Report, SessionReport, TIMEOUTS_BEFORE};
 pub use running::run;
 pub use settling::settle;
 pub use setup::{EndSetup, Setup};

@@ -56,7 +56,7 @@ pub(crate) struct LastEnd<A: Allocator + Copy> {
     pub(crate) node: Node<MemorySpool<A>, A>,
     /// What it has emitted and what is on its way to the other end.
     pub(crate) line: Line<A>,
-    /// How many of the other end's packets were found or gone past.
+    /// How many of the other end's packets were found or skipped.
     pub(crate) passed: usize,
 }
 
@@ -133,7 +133,7 @@ impl<A: Allocator + Copy> Report<A> {
 }
 
 /// So many timeouts in a row an end may have counted that is to settle.
-const TIMEOUTS_BEFORE: u8 = 6;
+pub const TIMEOUTS_BEFORE: u8 = 6;
 
 impl<A: Allocator + Copy> LastEnd<A> {
     /// Whether it talks, is not quiet on repeats, and has not counted too many timeouts, and nothing waits at it or on the line

@@ -7,7 +7,7 @@ ghost use Rattle.uug_conversation.specs.Turns.{other};
 ghost use Rattle.uug_conversation.specs.declared.side.Side.TheVariants.{Caller, Called};
 ghost use Rattle.uug_conversation.specs.DialogueState.{DialogueState};
 ghost use Rattle.uug_line.specs.Belongings.{SetupValue};
-ghost use Rattle.uug_line.specs.Live.{AreWritten, HasBegun, HasRoom, HearsPiece, IsCalled, IsOrdered, live_end_value};
+ghost use Rattle.uug_line.specs.LineEndValue.{AreWritten, HasBegun, HasRoom, HearsPiece, IsCalled, IsOrdered, live_end_value};
 ghost use Rattle.uug_line.specs.OfBytes.{AreOfTypes};
 ghost use Rattle.uug_line.specs.OfSomeRun.{IsOfSomeRun, IsRunOf};
 ghost use Rattle.uug_line.specs.Run.{Run, end_at, first_run, flipped, goes_through};
@@ -31,7 +31,7 @@ ghost use Rattle.uug_line.specs.declared.verdict.LineVerdict.TheVariants.{Clean}
 
 use crate::event::Event;
 use crate::fault::RunFault;
-use crate::live_end::LiveEnd;
+use crate::line_end::LineEnd;
 use crate::report::{LastEnd, Report, SessionReport};
 use crate::setup::{EndSetup, Setup};
 use crate::soundness::look_at_setup;
@@ -44,8 +44,8 @@ use uug_session::{Node, Place, Side};
 pub(crate) struct RunSoFar<A: Allocator + Copy> {
     /// The sessions that are over.
     pub(crate) past: Vec<SessionReport<A>, A>,
-    pub(crate) caller: LiveEnd<A>,
-    pub(crate) called: LiveEnd<A>,
+    pub(crate) caller: LineEnd<A>,
+    pub(crate) called: LineEnd<A>,
 }
 
 /// Sends these events over a line between two ends that are set up so, and tells what they did. The first session starts
@@ -317,7 +317,7 @@ fn start_caller<A: Allocator + Copy>(
     alloc: A,
     place: Place,
     setup: EndSetup<A>,
-) -> Result<LiveEnd<A>, AllocError>
+) -> Result<LineEnd<A>, AllocError>
     ensures { IfOk result (λ end.
         HasBegun (record { side = Caller; me = place.me; peer = place.peer })
         (announced place.announce)
@@ -326,7 +326,7 @@ fn start_caller<A: Allocator + Copy>(
     let Ok(node) = Node::caller(alloc, place, setup.queue, setup.spool) else {
         return Err(AllocError);
     };
-    let end = LiveEnd::start(alloc, node)?;
+    let end = LineEnd::start(alloc, node)?;
     Ok(end)
 }
 
@@ -334,7 +334,7 @@ fn start_called<A: Allocator + Copy>(
     alloc: A,
     place: Place,
     setup: EndSetup<A>,
-) -> Result<LiveEnd<A>, AllocError>
+) -> Result<LineEnd<A>, AllocError>
     ensures { IfOk result (λ end.
         HasBegun (record { side = Called; me = place.me; peer = place.peer })
         (announced place.announce)
@@ -343,7 +343,7 @@ fn start_called<A: Allocator + Copy>(
     let Ok(node) = Node::called(alloc, place, setup.queue, setup.spool) else {
         return Err(AllocError);
     };
-    let end = LiveEnd::start(alloc, node)?;
+    let end = LineEnd::start(alloc, node)?;
     Ok(end)
 }
 
@@ -351,8 +351,8 @@ fn start_called<A: Allocator + Copy>(
 /// that was not sent.
 fn deliver<A: Allocator + Copy>(
     alloc: A,
-    hearer: &mut LiveEnd<A>,
-    speaker: &mut LiveEnd<A>,
+    hearer: &mut LineEnd<A>,
+    speaker: &mut LineEnd<A>,
     n: usize,
 ) -> Result<bool, AllocError>
     requires ordered { IsOrdered (live_end_value hearer.old) }

@@ -6,7 +6,7 @@ ghost use Rattle.uug_session.specs.Node.{node_of};
 ghost use Rattle.uug_line.specs.declared.event.Event.{Event};
 ghost use Rattle.uug_line.specs.declared.verdict.LineVerdict.TheVariants.{Clean};
 ghost use Rattle.uug_line.specs.Belongings.{SetupValue};
-ghost use Rattle.uug_line.specs.Live.{live_end_value};
+ghost use Rattle.uug_line.specs.LineEndValue.{live_end_value};
 ghost use Rattle.uug_line.specs.RunValue.{IsSteady, RunValue, run_value};
 ghost use Rattle.uug_line.specs.OfSomeRun.{IsOfSomeRun, IsRunOf};
 ghost use Rattle.uug_line.specs.Settle.{one_if_over};
@@ -17,7 +17,7 @@ ghost use Rattle.uug_line.specs.WholeReport.{left_of, part_from, whole_report};
 
 use crate::fault::RunFault;
 use crate::journal::Journal;
-use crate::live_end::LiveEnd;
+use crate::line_end::LineEnd;
 use crate::report::{EndReport, LastEnd, Report};
 use crate::running::RunSoFar;
 use crate::verdict::LineVerdict;
@@ -72,12 +72,12 @@ impl<A: Allocator + Copy> Report<A> {
 
 impl<A: Allocator + Copy> LastEnd<A> {
     /// The end in its session, of which this is reported.
-    fn goes_on(self, report: EndReport<A>) -> LiveEnd<A>
+    fn goes_on(self, report: EndReport<A>) -> LineEnd<A>
         ensures { live_end_value result
             ≡ part_from (end_shown report) (left_of self) (held_by self.node.spool) }
     {
         let journal = Journal::from_report(report, self.passed);
-        LiveEnd {
+        LineEnd {
             node: self.node,
             journal,
             line: self.line,
@@ -141,7 +141,7 @@ impl<A: Allocator + Copy> RunSoFar<A> {
     }
 }
 
-impl<A: Allocator + Copy> LiveEnd<A> {
+impl<A: Allocator + Copy> LineEnd<A> {
     /// Whether its session is over, and well.
     fn is_done(&self) -> bool
         ensures { IsTrue result ↔ ((node_of self.now.node).engine.stage ≡ ended done) }

@@ -1,7 +1,7 @@
 ghost use Rattle.std.specs.Prelude.{◌≡◌, ◌<◌, ◌↔◌, length, slice_get, IsTrue, MatchOption, Some};
 ghost use Rattle.uug_packet.specs.Packet.{shown};
 ghost use Rattle.uug_packet.specs.Spelling.{IsWritable, canonical};
-ghost use Rattle.uug_line.specs.Live.{AreWritten};
+ghost use Rattle.uug_line.specs.LineEndValue.{AreWritten};
 ghost use Rattle.uug_line.specs.Shown.{lists_in};
 ghost use Rattle.uug_line.specs.Code.Sightings.{ItemIsWritable, Sights, SightsNext, StandsAt, StandsNowhere};
 ghost use Rattle.uug_reader.specs.declared.reader.TheConstants.{READER_SIZE};

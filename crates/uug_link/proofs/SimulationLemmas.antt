@@ -143,7 +143,7 @@ stays a b e f out back h = record {
   sim = h;
 }
 
--- the other end's packet is gone past, and with it what the machine has of it in front
+-- the other end's packet is skipped, and with it what the machine has of it in front
 abbrev pub Past : (a b : Announced) (e f : End) (out back : Wire) (came : List Act) → Type 0
 Past a b e f out back came =
     (xs : List Flying) × Came a b e f out back came (gone_past e) out (record back { flight = xs })

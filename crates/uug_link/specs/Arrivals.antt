@@ -39,7 +39,7 @@ abbrev pub one_more : Option ℕ → Option ℕ
 one_more None = None
 one_more (Some i) = Some (suc i)
 
--- the first place, behind those that are gone past
+-- the first place, behind those that are skipped
 abbrev pub place_of : PacketValue → List PacketValue → (passed : ℕ) → Option ℕ
 place_of p [] passed = None
 place_of p (q ∷ qs) zero = if same_packet p q then Some zero else one_more (place_of p qs zero)

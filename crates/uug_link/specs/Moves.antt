@@ -23,7 +23,7 @@ abbrev pub becomes : Act → Option PacketValue → List Act
 becomes act None = []
 becomes act (Some p) = if is_of_window p then act ∷ [] else []
 
--- what becomes of the other end's packets; one that is gone past is lost
+-- what becomes of the other end's packets; one that is skipped is lost
 abbrev pub comes : End → End → Happening → List Act
 comes e other (moves event) = []
 comes e other misses = becomes loses (slice_get other.emitted e.passed)

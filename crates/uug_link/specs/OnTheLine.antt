@@ -40,6 +40,6 @@ pub record Reads (from to : End) (d : Direction) : Type 0 where
   -- what was taken, at the receiver
   pub taken : to.taken ≡ take d.taken from.sent
   pub expected : to.link.expected ≡ (d.taken + 1) % 8
-  -- what was emitted and neither found nor gone past
+  -- what was emitted and neither found nor skipped
   pub passed : to.passed ≤ length from.emitted
   pub flight : AreWritten from.sent d.flight (of_window (drop to.passed from.emitted))

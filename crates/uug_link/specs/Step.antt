@@ -11,7 +11,7 @@ use Rattle.uug_link.specs.Terms.{smallest_code}
 use Rattle.uug_packet.specs.Packet.{ControlValue, close, rj, srj, rr, init_c, init_b, init_a, PacketValue, control, carry}
 
 -- what may happen to a link: its caller begins it, sends a message or closes it; a packet was found in what came from
--- the other end, or a broken one; nothing has come for some time
+-- the other end, or a broken one; a timeout
 pub data Event : Type 0 where
   to_begin : Event
   packet_found : PacketValue → Event
@@ -265,7 +265,7 @@ on_packet (carry seq ack k message) s = on_data s.phase seq ack s
 
 -- ---- timeouts
 
--- what goes out again when nothing has come for some time (this project's profile)
+-- what goes out again at a timeout (this project's profile)
 abbrev pub repeated : Role → Phase → State → List Emission
 repeated Caller AwaitsInitA s = only (own_init_a s)
 repeated Caller AwaitsInitB s = only (own_init_b s)

@@ -8,7 +8,7 @@ use Rattle.uug_link.specs.Terms.{IsWindow}
 use Rattle.uug_packet.specs.Packet.{PacketValue, carry}
 
 -- One end: its link; all messages that it has sent and taken and all packets that it has emitted, since the start; and
--- how many of the other end's packets it has found or gone past.
+-- how many of the other end's packets it has found or skipped.
 pub record End : Type 0 where
   pub link : State
   pub sent : List (List ℕ)
@@ -29,7 +29,7 @@ IsFirst own s = (s ≡ caller_state own) ⊎ (s ≡ called_state own)
 pub data Happening : Type 0 where
   -- its caller, a broken packet or a timeout moves its link
   moves : Event → Happening
-  -- one more packet of the other end is gone past: it is lost
+  -- one more packet of the other end is skipped: it is lost
   misses : Happening
   -- the other end's next packet is found
   hears : PacketValue → Happening

@@ -158,7 +158,7 @@ pub fn two_links_run_as_the_machine()
 
 /// What occurs at two links is so many moves of the window machine: first what comes, then what goes out.
 ///
-/// A packet of the window that is found arrives, at a link that is up; at any other link, and where it is gone past, it
+/// A packet of the window that is found arrives, at a link that is up; at any other link, and where it is skipped, it
 /// is lost. Each packet of the window that is emitted is put in flight, one by one: as a new message where the end's
 /// caller sends one, else as a message that is sent again or as an acknowledgement. Nothing else moves the machine.
 pub fn each_occurrence_is_moves_of_the_machine()

@@ -23,7 +23,7 @@ use std::marker::Model;
 use uug_packet::{Packet, field_size};
 
 /// One end's link. It knows no time and reads no bytes: its caller hands it the packets and the broken ones that were
-/// found, and says when nothing has come for some time. What it emits goes into an outbox.
+/// found, and hears of timeouts. What it emits goes into an outbox.
 #[derive(Drop)]
 pub struct Link {
     status: Status,
@@ -97,7 +97,7 @@ impl Link {
         self.react(reaction, out)
     }
 
-    /// Takes up that nothing has come for some time, and emits what may be lost again. The eighth time in a row without
+    /// Handles a timeout, and emits what may be lost again. The eighth time in a row without
     /// progress ends the link: CLOSE is emitted, and the answer is `GaveUp`.
     pub fn on_timeout<A: Allocator>(&mut self, out: &mut Outbox<A>) -> Result<Outcome, LinkFault>
         ensures { Follows (step self.old timed_out) self.old self.new out.old out.new

@@ -98,7 +98,7 @@ impl Status {
         }
     }
 
-    /// Takes up that nothing has come for some time.
+    /// Handles a timeout.
     pub(crate) fn after_timeout(self) -> Reaction
         ensures strikes { result.strikes ≡ 0 }
         ensures effect { (ms : List (List ℕ))
@@ -191,7 +191,7 @@ impl Status {
         }
     }
 
-    /// What goes out again when nothing has come for some time.
+    /// What goes out again at a timeout.
     fn repeated(self) -> Emits
         ensures { (ms : List (List ℕ)) →
             emitted_of result (state_of self ms)
@@ -209,7 +209,7 @@ impl Status {
         }
     }
 
-    /// Whether anything goes out when nothing has come for some time, of a link that keeps so many messages.
+    /// Whether anything goes out at a timeout, of a link that keeps so many messages.
     pub(crate) fn speaks_when_late(self, outstanding: usize) -> bool
         ensures { (ms : List (List ℕ)) → length ms ≡ outstanding →
             IsTrue result ↔ ((step (state_of self ms) timed_out).emitted ≢ []) }

@@ -1,6 +1,6 @@
 //! Sessions as tables, and the two players that follow them: one of two ends that hand each other their bytes, and one of
 //! an end over whose line a script speaks. The clauses say that an end does what the definitions say. These tests catch a
-//! call that answers want of memory where none was refused, a refused call that can't be made again, and a rule that the
+//! call that says that it is out of memory where none was refused, a refused call that can't be made again, and a rule that the
 //! definitions state wrongly: above each test stands which.
 
 mod answers;

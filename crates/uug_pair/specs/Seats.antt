@@ -59,7 +59,7 @@ abbrev pub LateStep : (before after : EngineState) → Type 0
 LateStep before after = Does (stage_late before.number before.identity (dialogue_has_parted before.dialogue) before.stage before.link before.dialogue)
     (bare after) before after
 
--- Nothing has come for some time; what it then had emitted is to be written.
+-- A timeout; what it then had emitted is to be written.
 pub record Waits (noise noise_after : Noise) (bytes bytes_after : List ℕ) (before after : NodeState) : Type 0 where
   pub between : NodeState
   pub late : LateStep before.engine between.engine

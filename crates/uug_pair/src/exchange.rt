@@ -22,7 +22,7 @@ use uug_tool::{Output, ToolFault};
 
 /// Two ends take at most so many turns at a line. Then the pending jobs of each are written to its file, and the report
 /// to the output. The answer is the program's status: 0 where both sessions are done, and 1 where one is not. Of several
-/// faults the first is answered, and none of them keeps what comes behind it from being done, but want of memory before
+/// faults the first is answered, and none of them keeps what comes behind it from being done, except running out of memory before
 /// the first write.
 pub fn pair_over<S, T, L, J, K, O, A>(
     alloc: A,

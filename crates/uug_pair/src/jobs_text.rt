@@ -88,7 +88,7 @@ fn add_line<A: Allocator>(queue: &mut Queue<A>, number: usize, line: &[u8]) -> R
 
 /// Reads a text of jobs, in order. A line is `send SOURCE TARGET USER` or `request SOURCE TARGET USER`; its words are
 /// separated by one or more spaces, and spaces at either end of it are dropped. Empty lines and lines that begin with
-/// `#` are passed over. The first line that is any other, that has more than `LINE_MAX` bytes, or that has one job more
+/// `#` are skipped. The first line that is any other, that has more than `LINE_MAX` bytes, or that has one job more
 /// than may be pending, is answered as bad.
 pub fn read_jobs<A: Allocator + Copy>(alloc: A, text: &[u8]) -> Result<Queue<A>, JobsFault>
     ensures exact { IfOk result (λ queue. jobs_of text.now ≡ Ok (pending queue)) }

@@ -73,7 +73,7 @@ impl<S: Spool + Drop, A: Allocator + Copy> Seat<S, A> {
         self.note_emitted(noise)
     }
 
-    /// Nothing has come for some time.
+    /// A timeout.
     pub fn time_out(&mut self, noise: &mut Noise) -> Result<(), AllocError>
         ensures jobs { KeepsJobs (S.kept (spool_in self.old)) (S.kept (spool_in self.new))
             (seated self.old) (seated self.new) }

@@ -122,7 +122,7 @@ pub fn read_text<A: Allocator + Copy, R: Files>(
 }
 
 /// The files in the folder `send` below `dir`. A missing folder is an empty one. What has a name that is no `Name`, or is
-/// no regular file, is passed over, and so is a file of more than `FILE_MAX` bytes, which still counts among the
+/// no regular file, is skipped, and so is a file of more than `FILE_MAX` bytes, which still counts among the
 /// `FILES_MAX`.
 pub fn read_send<A: Allocator + Copy, R: Files + Alloc + Clone + Drop>(
     alloc: A,

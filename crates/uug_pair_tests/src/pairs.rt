@@ -183,7 +183,7 @@ fn fail_each(
     None
 }
 
-// a fault that is passed over; a job that is gone though its file did not come; a fault after which the other jobs stay as
+// a fault that is skipped; a job that is gone though its file did not come; a fault after which the other jobs stay as
 // they were, or nothing is printed
 #[test]
 fn loses_no_job_by_a_fault(rt: HostRuntime) -> Result<(), Fail> {

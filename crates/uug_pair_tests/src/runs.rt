@@ -489,7 +489,7 @@ fn play_rows(rt: &(impl Runtime + Net + Abort + AllocGlobal), dir: &str) -> io::
     Ok(())
 }
 
-// a file that does not come, or comes to another place; a fault that is passed over, or after which a job is gone; a
+// a file that does not come, or comes to another place; a fault that is skipped, or after which a job is gone; a
 // folder that makes a run wait, or end before its time
 #[test]
 fn moves_files_between_folders(rt: HostRuntime) -> Result<(), Fail> {

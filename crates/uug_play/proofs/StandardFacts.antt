@@ -40,7 +40,7 @@ job = Send (codes "x") (codes "y") (codes "u") None
 abbrev stored : List Kept
 stored = kept_file (codes "y") 420 [] ∷ []
 
--- jobs that were passed over are pending, too
+-- jobs that were skipped are pending, too
 abbrev some_jobs : Belongings
 some_jobs = record {
   lists = record { passed = job ∷ []; ahead = job ∷ job ∷ []; struck = job ∷ []; failed = job ∷ job ∷ [] };

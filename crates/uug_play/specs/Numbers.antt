@@ -1,9 +1,7 @@
 -- What is shown of a run, and how the program ends then (this project's profile).
 use Rattle.std.specs.Prelude.{ℕ, ◌-◌, Bool, true, false, List, length, map, slice_get, Option, Some, None, if◌then◌else◌, ◌&&◌}
 use Rattle.uug_conversation.specs.Jobs.{pending}
-use Rattle.uug_session.specs.declared.end.End.TheVariants.{Done}
-use Rattle.uug_session.specs.declared.phase.Phase.{Phase}
-use Rattle.uug_session.specs.declared.phase.Phase.TheVariants.{Ended}
+use Rattle.uug_session.specs.Phases.{is_done}
 use Rattle.uug_line.specs.declared.verdict.LineVerdict.{LineVerdict}
 use Rattle.uug_line.specs.declared.verdict.LineVerdict.TheVariants.{Clean, Fooled}
 use Rattle.uug_line.specs.Belongings.{Belongings}
@@ -39,10 +37,6 @@ result_of r = record {
 }
 
 -- ---- the status
-
-abbrev pub is_done : Phase → Bool
-is_done (Ended Done) = true
-is_done _ = false
 
 -- whether both ends came to the end with all done
 abbrev pub is_done_at_both : Option SessionNumbers → Bool

@@ -4,7 +4,7 @@ ghost use Rattle.uug_line.specs.Shown.{session_shown, owned_by};
 ghost use Rattle.uug_line.specs.Shown as told;
 ghost use Rattle.uug_script.specs.ReportShown.{end_shown};
 ghost use Rattle.uug_script.specs.ReportText.{report_text};
-ghost use Rattle.uug_play.specs.Numbers.{end_numbers, session_numbers, end_result, result_of, status_of_result, status_by, last_session, is_done};
+ghost use Rattle.uug_play.specs.Numbers.{end_numbers, session_numbers, end_result, result_of, status_of_result, status_by, last_session};
 ghost use Rattle.uug_play.specs.Played.{IsPlayed, IsPlayedVerbosely, IsScriptFault};
 ghost use Rattle.uug_play.specs.Reasons.{holdings_in, reasons_text};
 ghost use Rattle.uug_play.specs.Settled.{IsRunOfScript};
@@ -15,7 +15,7 @@ use uug_line::{EndReport, LineVerdict, Report, SessionReport, run};
 use uug_script::{
     EndNumbers, ScriptFault, SessionNumbers, ShownEnd, ShownReport, add_report, read_script,
 };
-use uug_session::{End, MemorySpool, Node, Phase};
+use uug_session::{MemorySpool, Node};
 use uug_tool::ToolFault;
 
 /// What a script came to.
@@ -82,15 +82,6 @@ fn shown_end<A: Allocator + Copy>(node: &Node<MemorySpool<A>, A>) -> ShownEnd<'_
     }
 }
 
-fn is_done(phase: Phase) -> bool
-    ensures { result ≡ is_done phase }
-{
-    match phase {
-        Phase::Ended(End::Done) => true,
-        _ => false,
-    }
-}
-
 /// 5 where an end was fooled; else 0 where the last session is done at both ends, and 1 where it is not.
 fn status(sessions: &[SessionNumbers], verdict: LineVerdict) -> u8
     ensures { result ≡ status_by verdict (last_session sessions.now) }
@@ -98,7 +89,7 @@ fn status(sessions: &[SessionNumbers], verdict: LineVerdict) -> u8
     match verdict {
         LineVerdict::Fooled { .. } => 5,
         LineVerdict::Clean => match sessions.last() {
-            Some(last) if is_done(last.caller.phase) && is_done(last.called.phase) => 0,
+            Some(last) if last.caller.phase.is_done() && last.called.phase.is_done() => 0,
             _ => 1,
         },
     }

@@ -10,7 +10,7 @@ ghost use Rattle.uug_line.specs.World.{world};
 ghost use Rattle.uug_play.specs.Unsettled.{EndFails, Fails, IsQuietEnd, unsettled_line, unsettled_words};
 
 use std::alloc::{AllocError, Allocator};
-use uug_line::{LineVerdict, Report, Side};
+use uug_line::{LineVerdict, Report, Side, TIMEOUTS_BEFORE};
 use uug_session::{MemorySpool, Node, Phase};
 
 /// A condition of `settle` that a report does not meet.
@@ -29,9 +29,6 @@ pub enum Unsettled {
     /// Bytes are on the line.
     OnLine,
 }
-
-/// So many timeouts in a row an end may have counted that is to settle.
-const TIMEOUTS_BEFORE: u8 = 6;
 
 /// What keeps the end on the side from settling, but for what is on the line.
 fn end_unsettled<A: Allocator + Copy>(

@@ -1,4 +1,4 @@
-//! What no clause says of a player: scripts and reports from outside, where the ends stand, want of memory, failing streams, and
+//! What no clause says of a player: scripts and reports from outside, where the ends stand, running out of memory, failing streams, and
 //! noisy lines.
 
 mod faults;

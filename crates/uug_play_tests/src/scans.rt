@@ -1,5 +1,5 @@
 //! What no clause says of a scan: streams from outside with their listings, that lines go out before the next read, faults
-//! and the limit in mid-stream, and want of memory.
+//! and the limit in mid-stream, and running out of memory.
 
 use crate::assertions::{assert_same, assert_same_at, assert_so_at};
 use crate::streams::{SlowInput, SlowOutput};

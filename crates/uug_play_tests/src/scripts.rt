@@ -1,5 +1,5 @@
 //! Scripts from outside. What this catches beyond the clauses: a rule that is wrong in the definition, and a reader that
-//! answers want of memory where none was refused.
+//! says that it is out of memory where none was refused.
 
 use crate::assertions::{assert_same, assert_so, assert_so_at};
 use std::alloc::Global;

@@ -14,7 +14,7 @@ use Rattle.uug_script.specs.Script.{Place, EndSaid, Said, nothing_said, numbered
 use Rattle.uug_script.specs.ScriptOf.{script_said}
 use Rattle.uug_script.proofs.WordTableLemmas.{bind_some}
 
--- nothing was passed over, struck, failed or stored
+-- nothing was skipped, struck, failed or stored
 record Fresh (end : EndSaid) : Type 0 where
   passed : end.queue.passed ≡ []
   struck : end.queue.struck ≡ []

@@ -51,7 +51,7 @@ pub record BeginsAfresh (script : ScriptSays) : Type 0 where
   pub caller : EndBegins script.caller
   pub called : EndBegins script.called
 
--- the fault says the first bad line; want of memory is left open
+-- the fault says the first bad line; running out of memory is left open
 abbrev pub IsFaultOf : ScriptFault → List ℕ → Type 0
 IsFaultOf (fault.Bad n) text = IsFirstBad text n
 IsFaultOf fault.Memory text = ⊤

@@ -83,7 +83,7 @@ end_line_added line end = end_meaning line >>= (λ m. end_added m end)
 abbrev pub line_added : Statement → Said → Option Said
 line_added line said = line_meaning line >>= (λ m. added m said)
 
--- the fault says the first bad line; want of memory is left open
+-- the fault says the first bad line; running out of memory is left open
 abbrev pub Faults : ScriptFault → Result ScriptSays ℕ → Type 0
 Faults (fault.Bad n) script = script ≡ Err n
 Faults fault.Memory script = ⊤

@@ -22,7 +22,7 @@ use Rattle.uug_session.proofs.SpeakLemmas.{has_parted_told}
 abbrev pub with_talk : Holdings → List Kept → EndState DialogueValue → EndState DialogueState
 with_talk h kept e = record { stage = e.stage; link = e.link; keeper = dialogue_of h kept e.keeper; number = e.number }
 
--- ---- nothing has come for some time
+-- ---- a timeout
 
 late_link_beside : (number : Option ℕ) (h : Holdings) (kept : List Kept) (id : Identity) (parted : Bool) (o : OutcomeValue) (e : Effect) (before after : EngineState)
     → Does (late_link number id parted o e before.dialogue) (bare after) before after

@@ -72,7 +72,7 @@ entries_behind entries es more =
     append_assoc entries (map written es) (map written more)
     ∙ ap (λ (x : List EntryValue). entries ++ x) (sym (map-append written es more) ∙ sym (packets_written (es ++ more)))
 
--- the end that speaks is told by its parts
+-- the end that speaks is described by its parts
 speaks_from : (h : Holdings) (kept : List Kept) (id : Identity) (e : Effect) (entries : List EntryValue) (middle : EngineState)
     → middle.link ≡ e.state → middle.outbox.entries ≡ entries ++ map written e.emitted → middle.identity ≡ id
     → after_speaking h kept middle
@@ -228,7 +228,7 @@ greeted_does id greeted texts s c end_after before middle after said identity ow
   own = does.own ∙ own;
 }
 
--- ---- nothing has come for some time
+-- ---- a timeout
 
 pub late_by : {C : Type 0} (id : Identity) (has_parted : Bool) (o : OutcomeValue) (e : Effect) (c : C) (end_after : EndState C) (before after : EngineState)
     → o ≡ e.outcome → Does (late_link before.number id has_parted o e c) end_after before after

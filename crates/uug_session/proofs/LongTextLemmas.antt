@@ -6,7 +6,7 @@ use Rattle.uug_talk.specs.Texts.{Heard, Passing, Open, Whole, Holds, is_whole, w
 use Rattle.uug_session.specs.declared.greeting.Greeting.{Greeting}
 use Rattle.uug_session.specs.EndStep.{hailing, text_found, long_text_found}
 use Rattle.uug_session.specs.Finding.{finds, behind_byte, behind_long_text, text_finding, finding, found_with, LeavesFewer}
-use Rattle.uug_session.specs.Says.{start_byte}
+use Rattle.uug_talk.specs.declared.hail.TheConstants.{TEXT_START}
 use Rattle.uug_session.specs.TextsHeld.{TextSearch, text_waits, text_stands, text_too_long, size_of_text, search_heard, search_text}
 use Rattle.uug_session.proofs.TextsHeldLemmas.{cut_at_text, found_waiting, nothing_heard}
 use Rattle.uug_talk.proofs.TextLemmas.{took, took_of, goes_on, stays_whole, stays_too_long}
@@ -73,18 +73,18 @@ behind_heard (Whole text) next (b ∷ bytes) more used e partial =
 
 -- ---- a start byte begins anew
 
-hears_anew : (heard : Heard) (rest : List ℕ) → is_whole heard ≡ false → hear heard (start_byte ∷ rest) ≡ hear Passing (start_byte ∷ rest)
+hears_anew : (heard : Heard) (rest : List ℕ) → is_whole heard ≡ false → hear heard (TEXT_START ∷ rest) ≡ hear Passing (TEXT_START ∷ rest)
 hears_anew Passing rest w = refl
 hears_anew (Open text) rest w = refl
 hears_anew (Whole text) rest w = absurd cc
 
 passes_anew : (heard : Heard) (rest : List ℕ) → is_whole heard ≡ false
-    → behind_long_text heard (start_byte ∷ rest) ≡ behind_long_text Passing (start_byte ∷ rest)
+    → behind_long_text heard (TEXT_START ∷ rest) ≡ behind_long_text Passing (TEXT_START ∷ rest)
 passes_anew Passing rest w = refl
 passes_anew (Open text) rest w = refl
 passes_anew (Whole text) rest w = absurd cc
 
--- ---- what is passed over changes nothing
+-- ---- what is skipped changes nothing
 
 same_finding : (a b : List ℕ) (x : TextSearch) → behind_long_text Passing a ≡ behind_long_text Passing b → text_finding a x ≡ text_finding b x
 same_finding a b (text_waits rest) e = refl
@@ -109,7 +109,7 @@ shifted passed bytes (Some (used, Whole text)) e =
     let c = cut_at_text bytes text used (took_of bytes Passing (Whole text) used e).0 h in
     ap (text_stands text) (drop_passed passed bytes used (size_of_text text) c.size)
 
--- behind bytes that are passed over the same is found
+-- behind bytes that are skipped the same is found
 found_behind : (g : Greeting) (passed bytes : List ℕ) (used : ℕ) (heard : Heard) → hear Passing passed ≡ Some (used, heard) → is_whole heard ≡ false
     → hear heard bytes ≡ hear Passing bytes → behind_long_text heard bytes ≡ behind_long_text Passing bytes
     → finding (hailing g) (passed ++ bytes) ≡ finding (hailing g) bytes
@@ -140,13 +140,13 @@ hears_before passed bytes text used e = by_heard (hear Passing passed) refl wher
       let same : ◌≡◌ {A = ℕ × Heard} (n, Whole other) (used, Open text) = cc in
       absurd (let whole : true ≡ false = ap (λ (z : ℕ × Heard). is_whole z.1) same in cc)
 
--- the front of a text that is not whole: what came before it is passed over
+-- the front of a text that is not whole: what came before it is skipped
 open_more : (g : Greeting) (bytes more text : List ℕ) (used : ℕ) → hear Passing bytes ≡ Some (used, Open text)
     → finding (hailing g) (bytes ++ more) ≡ finding (hailing g) (drop (used - waiting_of (Open text)) bytes ++ more)
 open_more g bytes more text used e =
     ap (λ z. finding (hailing g) (z ++ more)) spelled
-    ∙ ap (finding (hailing g)) (append_assoc h.before (start_byte ∷ text) more)
-    ∙ found_behind g h.before (start_byte ∷ (text ++ more)) k.used k.heard k.is k.partial (hears_anew k.heard (text ++ more) k.partial) (passes_anew k.heard (text ++ more) k.partial)
+    ∙ ap (finding (hailing g)) (append_assoc h.before (TEXT_START ∷ text) more)
+    ∙ found_behind g h.before (TEXT_START ∷ (text ++ more)) k.used k.heard k.is k.partial (hears_anew k.heard (text ++ more) k.partial) (passes_anew k.heard (text ++ more) k.partial)
     ∙ ap (λ z. finding (hailing g) (z ++ more)) (sym rest) where
       all : used ≡ length bytes
       all = (took_of bytes Passing (Open text) used e).1 refl
@@ -154,15 +154,15 @@ open_more g bytes more text used e =
       h : Holds (Open text) bytes
       h = subst (Holds (Open text)) (take_all used bytes (omega (arith, all))) (took bytes Passing (Open text) [] used (nothing_heard Passing refl) e)
 
-      spelled : bytes ≡ h.before ++ start_byte ∷ text
+      spelled : bytes ≡ h.before ++ TEXT_START ∷ text
       spelled = h.spelled
 
       k : HearsBefore h.before
-      k = hears_before h.before (start_byte ∷ text) text used (ap (hear Passing) (sym spelled) ∙ e)
+      k = hears_before h.before (TEXT_START ∷ text) text used (ap (hear Passing) (sym spelled) ∙ e)
 
-      rest : drop (used - waiting_of (Open text)) bytes ≡ start_byte ∷ text
+      rest : drop (used - waiting_of (Open text)) bytes ≡ TEXT_START ∷ text
       rest = ap (drop (used - waiting_of (Open text))) spelled
-          ∙ drop_at h.before (start_byte ∷ text) (used - waiting_of (Open text)) (omega (arith, all, ap length spelled, length-append h.before (start_byte ∷ text)))
+          ∙ drop_at h.before (TEXT_START ∷ text) (used - waiting_of (Open text)) (omega (arith, all, ap length spelled, length-append h.before (TEXT_START ∷ text)))
 
 whole_more : (bytes more text : List ℕ) (used : ℕ) → hear Passing bytes ≡ Some (used, Whole text)
     → drop (size_of_text text) (drop (used - size_of_text text) (bytes ++ more)) ≡ drop (size_of_text text) (drop (used - size_of_text text) bytes) ++ more

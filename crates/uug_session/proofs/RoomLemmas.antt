@@ -177,7 +177,7 @@ link_said number k id failed closed e message c within = tt
 link_said number k id failed gave_up e message c within = tt
 link_said number k id failed halted e message c within = goes_on_said number k false e c within
 
--- ---- nothing has come for some time
+-- ---- a timeout
 
 -- what the link does then, by whether it goes on
 abbrev pub late_effect : (lasts : Bool) → State → Effect

@@ -10,7 +10,7 @@ use Rattle.uug_talk.specs.declared.hail.TheConstants.{HAIL_MAX}
 use Rattle.uug_talk.specs.Call.{call_text, number_in_call}
 use Rattle.uug_talk.specs.Name.{IsName}
 use Rattle.uug_talk.specs.StreamTexts.{TextsEnd, Rest, TooLong, texts_of, with_text}
-use Rattle.uug_talk.specs.Texts.{IsPlain, IsHailText, Passing, Open, Whole, heard_byte, one_used, hear}
+use Rattle.uug_talk.specs.Texts.{IsPlain, IsHailText, Passing, Open, Whole, heard_byte, one_used, hear, written_text}
 use Rattle.std.specs.Str.{bytes_eq}
 use Rattle.uug_session.specs.declared.greeting.AwaitedText.{AwaitedText}
 use Rattle.uug_session.specs.declared.greeting.AwaitedText.TheVariants.{CalledName, CallerName, Admission, Protocols, Choice}
@@ -18,7 +18,6 @@ use Rattle.uug_session.specs.declared.greeting.Greeted.{Greeted}
 use Rattle.uug_session.specs.declared.greeting.Greeted.TheVariants.{GoesOn, LinkBegins, Ended}
 use Rattle.uug_session.specs.declared.greeting.Greeting.{Greeting}
 use Rattle.uug_session.specs.Greeting.{GreetingStep, called_text, begins_with, is_expected, name_in_caller_text, number_by, number_came, offers_g, came_for, risen, text_came}
-use Rattle.uug_session.specs.Says.{written_text}
 use Rattle.uug_talk.proofs.CallLemmas.{hail_with_number, hail_without_number}
 use Rattle.uug_session.specs.WholeGreeting.{GreetingRun, IsNumber, written_texts, with_no_text, step_behind, texts_came}
 use Rattle.uug_talk.proofs.StreamTextLemmas.{of_whole}

@@ -4,7 +4,7 @@ use Rattle.std.proofs.lemmas.List.{append-nil, drop_at, take_all, same_from_push
 use Rattle.std.proofs.lemmas.List.Elements.{All-nil}
 use Rattle.uug_talk.specs.StreamTexts.{StreamTexts, TextsEnd, Rest, TooLong, StandBefore, EndsAs, HasTexts, texts_of, with_text, no_text}
 use Rattle.uug_talk.specs.Texts.{IsUnsettled, IsFirstText, Heard, Passing, Open, Whole, Holds, is_whole, waiting_of, hear}
-use Rattle.uug_session.specs.Says.{start_byte}
+use Rattle.uug_talk.specs.declared.hail.TheConstants.{TEXT_START}
 use Rattle.uug_session.specs.TextsFound.{EndsBehind, ReadsAs, with_texts, FindsText, FindsNone, Passed}
 use Rattle.uug_session.specs.TextsHeld.{TextSearch, text_waits, text_stands, text_too_long, size_of_text, search_heard, search_text}
 use Rattle.uug_session.proofs.TextsHeldLemmas.{framed, CutAtText, cut_at_text, the_frame}
@@ -36,14 +36,14 @@ unsettled_front front rest u = record {
 -- what stands in front of a first text
 unsettled_before : (passed text : List ℕ) (last : ℕ) → IsFirstText (passed ++ framed text last) text → IsUnsettled passed
 unsettled_before passed text last h =
-    let front : h.front ≡ passed ++ start_byte ∷ text =
-    (same_from_push h.front (passed ++ start_byte ∷ text) h.last last (sym h.one_more ∙ sym (append_assoc passed (start_byte ∷ text) (last ∷ [])))).0 in
-    unsettled_front passed (start_byte ∷ text) (subst IsUnsettled front h.unsettled)
+    let front : h.front ≡ passed ++ TEXT_START ∷ text =
+    (same_from_push h.front (passed ++ TEXT_START ∷ text) h.last last (sym h.one_more ∙ sym (append_assoc passed (TEXT_START ∷ text) (last ∷ [])))).0 in
+    unsettled_front passed (TEXT_START ∷ text) (subst IsUnsettled front h.unsettled)
 
--- ---- what was passed over
+-- ---- what was skipped
 
 nothing_heard : Holds Passing []
-nothing_heard = All-nil (λ b. b ≢ start_byte)
+nothing_heard = All-nil (λ b. b ≢ TEXT_START)
 
 pub passed_nothing : (held : List ℕ) → Passed [] held
 passed_nothing held = record { heard = Passing; holds = nothing_heard; same = λ more. refl }
@@ -59,12 +59,12 @@ passed_more passed held more p = record {
 }
 
 -- a start byte begins anew
-begins_anew : (heard : Heard) (rest : List ℕ) → is_whole heard ≡ false → hear heard (start_byte ∷ rest) ≡ hear Passing (start_byte ∷ rest)
+begins_anew : (heard : Heard) (rest : List ℕ) → is_whole heard ≡ false → hear heard (TEXT_START ∷ rest) ≡ hear Passing (TEXT_START ∷ rest)
 begins_anew Passing rest w = refl
 begins_anew (Open text) rest w = refl
 begins_anew (Whole text) rest w = absurd cc
 
--- ---- what a search leaves behind what was passed over
+-- ---- what a search leaves behind what was skipped
 
 pub record LeavesText (passed held text others : List ℕ) : Type 0 where
   pub more_passed : List ℕ
@@ -121,7 +121,7 @@ hears_unsettled bytes u = by_heard (hear Passing bytes) refl where
   by_heard (Some (used, Whole text)) e =
       absurd (let k : [] ≡ text ∷ (texts_of (drop used bytes)).texts = ap (λ (f : StreamTexts). f.texts) (rest ∙ of_whole Passing [] bytes text used nothing_heard e) in cc)
 
-passed_before : (passed held rest : List ℕ) → IsUnsettled passed → held ≡ start_byte ∷ rest → Passed passed held
+passed_before : (passed held rest : List ℕ) → IsUnsettled passed → held ≡ TEXT_START ∷ rest → Passed passed held
 passed_before passed held rest u e =
     let h = hears_unsettled passed u in
     record {
@@ -189,7 +189,7 @@ leaves_open passed held text used p e = record {
   more_passed = h.before;
   spelled = h.spelled ∙ ap (λ b. h.before ++ b) (sym rest);
   passes = passed_before (passed ++ h.before) (drop (used - waiting_of (Open text)) held) text
-      (unsettled_front (passed ++ h.before) (start_byte ∷ text) (subst IsUnsettled (ap (λ b. passed ++ b) h.spelled ∙ sym (append_assoc passed h.before (start_byte ∷ text))) k.unsettled)) rest;
+      (unsettled_front (passed ++ h.before) (TEXT_START ∷ text) (subst IsUnsettled (ap (λ b. passed ++ b) h.spelled ∙ sym (append_assoc passed h.before (TEXT_START ∷ text))) k.unsettled)) rest;
   none = of_rest p.heard (Open text) passed held used p.holds there refl;
 } where
   there : hear p.heard held ≡ Some (used, Open text)
@@ -207,9 +207,9 @@ leaves_open passed held text used p e = record {
   k : Holds (Open text) (passed ++ held)
   k = subst (λ b. Holds (Open text) (passed ++ b)) whole (took held p.heard (Open text) passed used p.holds there)
 
-  rest : drop (used - waiting_of (Open text)) held ≡ start_byte ∷ text
+  rest : drop (used - waiting_of (Open text)) held ≡ TEXT_START ∷ text
   rest = ap (drop (used - waiting_of (Open text))) h.spelled
-      ∙ drop_at h.before (start_byte ∷ text) (used - waiting_of (Open text)) (omega (arith, all, ap length h.spelled, length-append h.before (start_byte ∷ text)))
+      ∙ drop_at h.before (TEXT_START ∷ text) (used - waiting_of (Open text)) (omega (arith, all, ap length h.spelled, length-append h.before (TEXT_START ∷ text)))
 
 leaves_nothing : (passed held : List ℕ) (used : ℕ) → Passed passed held → hear Passing held ≡ Some (used, Passing) → LeavesNone passed held []
 leaves_nothing passed held used p e =

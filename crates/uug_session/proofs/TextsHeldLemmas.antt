@@ -4,18 +4,17 @@ use Rattle.std.proofs.lemmas.List.{take-append-drop, drop_at, same_from_push}
 use Rattle.std.proofs.lemmas.List.Elements.{All-nil, All-cons, All-head, All-drop, All-take, All-weaker}
 use Rattle.std.proofs.Math.Nat.{lt_of_not-le}
 use Rattle.std.proofs.Math.Seq.{take-append_seam}
-use Rattle.uug_talk.specs.declared.hail.TheConstants.{HAIL_MAX}
+use Rattle.uug_talk.specs.declared.hail.TheConstants.{HAIL_MAX, TEXT_START}
 use Rattle.uug_talk.specs.Texts.{IsEnd, IsPlain, Closes, Overflows, IsUnsettled, IsFirstText, Heard, Passing, Open, Whole, Holds, is_whole, waiting_of, hear}
-use Rattle.uug_session.specs.Says.{start_byte}
 use Rattle.uug_session.specs.TextsHeld.{text_stands, size_of_text, search_heard, search_text, ShowsText, shown_text, held_as, ShowsFirst}
 
 -- ---- a text between its start byte and its end byte
 
 abbrev pub framed : List ℕ → ℕ → List ℕ
-framed text last = start_byte ∷ text ++ last ∷ []
+framed text last = TEXT_START ∷ text ++ last ∷ []
 
 closes_framed : (stream text : List ℕ) (c : Closes stream text) → stream ≡ c.before ++ framed text c.last
-closes_framed stream text c = c.spelled ∙ append_assoc c.before (start_byte ∷ text) (c.last ∷ [])
+closes_framed stream text c = c.spelled ∙ append_assoc c.before (TEXT_START ∷ text) (c.last ∷ [])
 
 middle_has : (P : ℕ → Type 0) (xs : List ℕ) (y : ℕ) (ys : List ℕ) → All P (xs ++ y ∷ ys) → P y
 middle_has P xs y ys h = All-head P y ys (subst (All P) (drop_at xs (y ∷ ys) (length xs) refl) (All-drop P (length xs) (xs ++ y ∷ ys) h))
@@ -24,7 +23,7 @@ plain_no_end : (b : ℕ) → IsPlain b → IsEnd b → ⊥
 plain_no_end b p (inl e) = p.no_zero e
 plain_no_end b p (inr e) = p.no_line_feed e
 
-start_no_end : IsEnd start_byte → ⊥
+start_no_end : IsEnd TEXT_START → ⊥
 start_no_end (inl e) = absurd (omega (arith, e))
 start_no_end (inr e) = absurd (omega (arith, e))
 
@@ -33,14 +32,14 @@ text_short : (stream text : List ℕ) → IsFirstText stream text → length tex
 text_short stream text h =
     let short : length text < HAIL_MAX + 1 = lt_of_not-le {n = HAIL_MAX + 1} {m = length text} (too_many) in
     omega arith where
-      front_is : h.front ≡ h.closes.before ++ start_byte ∷ text
-      front_is = (same_from_push h.front (h.closes.before ++ start_byte ∷ text) h.last h.closes.last (sym h.one_more ∙ h.closes.spelled)).0
+      front_is : h.front ≡ h.closes.before ++ TEXT_START ∷ text
+      front_is = (same_from_push h.front (h.closes.before ++ TEXT_START ∷ text) h.last h.closes.last (sym h.one_more ∙ h.closes.spelled)).0
 
       too_many : HAIL_MAX + 1 ≤ length text → ⊥
       too_many le =
           let cut : text ≡ take (HAIL_MAX + 1) text ++ drop (HAIL_MAX + 1) text = sym (take-append-drop (HAIL_MAX + 1) text) in
-          h.unsettled.in_limit (h.closes.before ++ start_byte ∷ take (HAIL_MAX + 1) text) (drop (HAIL_MAX + 1) text)
-          (front_is ∙ ap (λ t. h.closes.before ++ start_byte ∷ t) cut ∙ sym (append_assoc h.closes.before (start_byte ∷ take (HAIL_MAX + 1) text) (drop (HAIL_MAX + 1) text)))
+          h.unsettled.in_limit (h.closes.before ++ TEXT_START ∷ take (HAIL_MAX + 1) text) (drop (HAIL_MAX + 1) text)
+          (front_is ∙ ap (λ t. h.closes.before ++ TEXT_START ∷ t) cut ∙ sym (append_assoc h.closes.before (TEXT_START ∷ take (HAIL_MAX + 1) text) (drop (HAIL_MAX + 1) text)))
           (record {
             before = h.closes.before;
             text = take (HAIL_MAX + 1) text;
@@ -50,25 +49,25 @@ text_short stream text h =
           })
 
 -- the front of a text, from its start byte on, is settled nowhere
-front_unsettled : (text : List ℕ) → All IsPlain text → length text ≤ HAIL_MAX → IsUnsettled (start_byte ∷ text)
+front_unsettled : (text : List ℕ) → All IsPlain text → length text ≤ HAIL_MAX → IsUnsettled (TEXT_START ∷ text)
 front_unsettled text p l = record { no_text = no_text; in_limit = in_limit } where
-  no_end : All (λ b. ¬ IsEnd b) (start_byte ∷ text)
-  no_end = All-cons (λ b. ¬ IsEnd b) start_byte text start_no_end (All-weaker IsPlain (λ b. ¬ IsEnd b) plain_no_end text p)
+  no_end : All (λ b. ¬ IsEnd b) (TEXT_START ∷ text)
+  no_end = All-cons (λ b. ¬ IsEnd b) TEXT_START text start_no_end (All-weaker IsPlain (λ b. ¬ IsEnd b) plain_no_end text p)
 
-  no_text : (front rest other : List ℕ) → start_byte ∷ text ≡ front ++ rest → ¬ Closes front other
+  no_text : (front rest other : List ℕ) → TEXT_START ∷ text ≡ front ++ rest → ¬ Closes front other
   no_text front rest other e k =
-      let spelled : start_byte ∷ text ≡ (k.before ++ start_byte ∷ other) ++ k.last ∷ rest =
+      let spelled : TEXT_START ∷ text ≡ (k.before ++ TEXT_START ∷ other) ++ k.last ∷ rest =
       e ∙ ap (λ z. z ++ rest) k.spelled ∙ simp append_assoc in
-      middle_has (λ b. ¬ IsEnd b) (k.before ++ start_byte ∷ other) k.last rest (subst (All (λ b. ¬ IsEnd b)) spelled no_end) k.ends
+      middle_has (λ b. ¬ IsEnd b) (k.before ++ TEXT_START ∷ other) k.last rest (subst (All (λ b. ¬ IsEnd b)) spelled no_end) k.ends
 
-  in_limit : (front rest : List ℕ) → start_byte ∷ text ≡ front ++ rest → ¬ Overflows front
+  in_limit : (front rest : List ℕ) → TEXT_START ∷ text ≡ front ++ rest → ¬ Overflows front
   in_limit front rest e k =
-      absurd (omega (arith, l, k.long, ap length e, length-append front rest, ap length k.spelled, length-append k.before (start_byte ∷ k.text)))
+      absurd (omega (arith, l, k.long, ap length e, length-append front rest, ap length k.spelled, length-append k.before (TEXT_START ∷ k.text)))
 
 -- a text is the first of the bytes from its start byte on
 first_alone : (text : List ℕ) (last : ℕ) → All IsPlain text → length text ≤ HAIL_MAX → IsEnd last → IsFirstText (framed text last) text
 first_alone text last p l e = record {
-  front = start_byte ∷ text;
+  front = TEXT_START ∷ text;
   last = last;
   one_more = refl;
   unsettled = front_unsettled text p l;
@@ -155,7 +154,7 @@ shows_first text bytes s =
 -- ---- what a search finds
 
 pub nothing_heard : (heard : Heard) → heard ≡ Passing → Holds heard []
-nothing_heard heard e = subst (λ h. Holds h []) (sym e) (All-nil (λ b. b ≢ start_byte))
+nothing_heard heard e = subst (λ h. Holds h []) (sym e) (All-nil (λ b. b ≢ TEXT_START))
 
 pub record FoundWhole (bytes text : List ℕ) (used : ℕ) : Type 0 where
   pub size : length text + 2 ≤ used
@@ -182,6 +181,6 @@ pub record FoundWaiting (bytes : List ℕ) (used waiting : ℕ) : Type 0 where
 pub found_waiting : (bytes : List ℕ) (heard : Heard) (used : ℕ) → is_whole heard ≡ false → used ≡ length bytes → Holds heard (take used bytes) → FoundWaiting bytes used (waiting_of heard)
 found_waiting bytes Passing used w n h = record { within = omega arith; short = omega (arith, n) }
 found_waiting bytes (Open text) used w n h =
-    let l : length (take used bytes) ≡ length h.before + length (start_byte ∷ text) = ap length h.spelled ∙ length-append h.before (start_byte ∷ text) in
+    let l : length (take used bytes) ≡ length h.before + length (TEXT_START ∷ text) = ap length h.spelled ∙ length-append h.before (TEXT_START ∷ text) in
     record { within = omega (arith, l, length-take used bytes); short = omega (arith, n, h.short) }
 found_waiting bytes (Whole text) used w n h = absurd cc

@@ -55,7 +55,7 @@ packets emissions = map sends_packet emissions
 
 -- ---- the end of a session
 
--- the text with which an end that is done takes its leave
+-- the final text of an end that is done
 abbrev pub final_text : Side → List ℕ
 final_text Caller = replicate 6 79
 final_text Called = replicate 7 79
@@ -190,7 +190,7 @@ packet_came number k id device_failed p s c =
 abbrev pub bad_came : {C : Type 0} → (number : Option ℕ) → Keeper C → Identity → State → C → EndEffect C
 bad_came number k id s c = behind_link number k id false (step s bad_found).outcome (step s bad_found) [] c
 
--- nothing has come for some time: the conversation does not move
+-- a timeout: the conversation does not move
 abbrev pub late_link : {C : Type 0} → (number : Option ℕ) → Identity → (has_parted : Bool) → OutcomeValue → Effect → C → EndEffect C
 late_link number id has_parted gave_up e c = ends_so number id has_parted ends.GaveUp e c false
 late_link number id has_parted _ e c = goes_on_with number false e.emitted (sending_nothing e.state c)
@@ -240,7 +240,7 @@ pub data EndEvent : Type 0 where
   -- a packet was found, and the spool's device did or did not fail at the file that it ended; or a broken one
   packet_found_whole : (device_failed : Bool) → PacketValue → EndEvent
   broken_found : EndEvent
-  -- nothing has come for some time
+  -- a timeout
   time_ran_out : EndEvent
   -- the line is gone
   line_lost : EndEvent

@@ -112,7 +112,7 @@ pub record IsUnopened (l : Lists) (dialogue : DialogueValue) : Type 0 where
   pub size : dialogue.size ≡ 0
   pub silent : dialogue.outgoing.sayings ≡ []
 
--- ---- nothing has come for some time
+-- ---- a timeout
 
 abbrev pub stage_late : {C : Type 0} → (number : Option ℕ) → Identity → (has_parted : Bool) → Stage → State → C → EndEffect C
 stage_late number id has_parted (hailing greeting) s c = behind_greeting number id (timed_out greeting) s c

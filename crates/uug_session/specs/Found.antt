@@ -1,5 +1,5 @@
 -- What an end finds in all bytes that came to it, in whatever pieces they came: in the greeting their texts, behind it the
--- items of the link. That bytes in front of a text and noise are passed over is this project's profile.
+-- items of the link. That bytes in front of a text and noise are skipped is this project's profile.
 use Rattle.std.specs.Prelude.{◌≡◌, ◌≢◌, ℕ, List, [], ◌∷◌, ◌++◌, Option, Some, None}
 use Rattle.uug_packet.specs.Packet.{PacketValue}
 use Rattle.uug_reader.specs.Cut.{Item, found, bad}

@@ -1,5 +1,5 @@
 -- The greeting: the texts that two ends exchange before the link begins. Taylor UUCP manual, "UUCP Protocol"; that a text
--- which is not awaited is passed over, the count of timeouts, and when the number of an end's conversations rises, is this
+-- which is not awaited is skipped, the count of timeouts, and when the number of an end's conversations rises, is this
 -- project's profile.
 use Rattle.std.specs.Prelude.{ℕ, ◌+◌, ◌%◌, Bool, true, false, ◌==◌, nat_eq, nat_lt, if◌then◌else◌, List, [], ◌∷◌, ◌++◌, take, drop, codes, Option, Some, None}
 use Rattle.std.specs.List.{starts_with, list_any, position_or_len}

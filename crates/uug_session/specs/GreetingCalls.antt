@@ -1,4 +1,4 @@
--- How a node greets through whatever is called, step by step: what it hears, or that nothing has come for some time, what
+-- How a node greets through whatever is called, step by step: what it hears, or a timeout, what
 -- it says to that, and how far it is then (this project's profile).
 use Rattle.std.specs.Prelude.{◌≡◌, ℕ, List, [], ◌∷◌, ◌++◌, map, Option, Some, None, ⊤}
 use Rattle.uug_link.specs.Entries.{EntryValue}
@@ -50,7 +50,7 @@ Brings times_out texts came x = x ≡ Some hears_nothing
 Brings _ texts came x = x ≡ None
 
 -- The node is at this stage of its greeting. It has taken these texts, the first of the bytes that came, and holds what is
--- left of them, but for what was passed over.
+-- left of them, but for what was skipped.
 pub record GreetsAt (id : Identity) (g : Greeting) (texts : List (List ℕ)) (came : List ℕ) (n : NodeState) : Type 0 where
   pub identity : n.engine.identity ≡ id
   pub stage : n.engine.stage ≡ hailing g

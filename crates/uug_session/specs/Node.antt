@@ -112,7 +112,7 @@ searched_at (hailing greeting) n = texts_searched (search_text n.texts.bytes) n
 searched_at linked n = record n { packets = after_search n.packets.bytes }
 searched_at (ended how) n = n
 
--- what is passed over in front of the first item is taken away, and the item is shown; at a text that is too long the
+-- what is skipped in front of the first item is taken away, and the item is shown; at a text that is too long the
 -- session is over
 abbrev pub searched : NodeState → NodeState
 searched n = searched_at n.engine.stage n
@@ -152,7 +152,7 @@ TakesShown h kept kept_after counts before after took = (item : ItemValue)
     × ShowsItem before.engine.stage before.texts before.packets item
     × TakesItem h kept kept_after counts item before after took
 
--- for want of memory nothing has changed, and the item is still there
+-- when out of memory nothing has changed, and the item is still there
 pub record IsAsBefore (h : Holdings) (kept kept_after : List Kept) (before after : NodeState) : Type 0 where
   pub does : Does (unmoved (end_of h kept before.engine)) (end_of h kept_after after.engine) before.engine after.engine
   pub texts : after.texts ≡ before.texts

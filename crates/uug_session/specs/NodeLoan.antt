@@ -8,7 +8,7 @@ use Rattle.uug_session.specs.declared.node.Node.{Node}
 use Rattle.uug_session.specs.contracts.node.Node.{the_row}
 use Rattle.uug_session.specs.Node.{LeavesRoom, ShowsItem, item_size, node_of, searched, shown_item, spool_of}
 
--- What is passed over in front was taken away, or the session has ended at a text that is too long. Then the item that was
+-- What is skipped in front was taken away, or the session has ended at a text that is too long. Then the item that was
 -- found stands first and is shown, or none is, and then at least a byte fits.
 pub record HasFound {S A : Type 0} (old : Node S A) (result : Option Item) (new : Node S A) : Type 0 where
   pub found : node_of new ≡ searched (node_of old)

@@ -1,4 +1,4 @@
--- What a list of a node's calls comes to: steps in each of which bytes come, or nothing has come for some time. A timeout
+-- What a list of a node's calls comes to: steps in each of which bytes come, or there is a timeout. A timeout
 -- counts, and may end a session, so it parts what came before it from what came after it (this project's profile).
 use Rattle.std.specs.Prelude.{◌≡◌, ◌≤◌, ℕ, List, [], ◌∷◌, ◌++◌}
 use Rattle.uug_link.specs.Entries.{EntryValue}

@@ -1,7 +1,8 @@
 -- How far an end is, as the program says it (this project's profile).
-use Rattle.std.specs.Prelude.{◌≡◌, ℕ}
+use Rattle.std.specs.Prelude.{◌≡◌, ℕ, Bool, true, false}
 use Rattle.uug_link.specs.declared.phase.Phase.{Phase as LinkPhase}
 use Rattle.uug_link.specs.declared.phase.Phase.TheVariants as link_phases
+use Rattle.uug_session.specs.declared.end.End.TheVariants as ends
 use Rattle.uug_session.specs.declared.phase.Phase.{Phase}
 use Rattle.uug_session.specs.declared.phase.Phase.TheVariants as phases
 use Rattle.uug_session.specs.EndStep.{Stage, hailing, linked, ended, EndState}
@@ -17,6 +18,14 @@ abbrev pub phase_at : Stage → LinkPhase → Phase
 phase_at (hailing greeting) p = phases.Hail
 phase_at linked p = phase_of_link p
 phase_at (ended how) p = phases.Ended how
+
+abbrev pub is_over : Phase → Bool
+is_over (phases.Ended how) = true
+is_over _ = false
+
+abbrev pub is_done : Phase → Bool
+is_done (phases.Ended ends.Done) = true
+is_done _ = false
 
 -- of the timeouts that its link has counted, those of an end that talks; of no other are any counted
 abbrev pub timeouts_in : Phase → (timeouts : ℕ) → ℕ

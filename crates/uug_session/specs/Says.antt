@@ -1,14 +1,7 @@
 -- What a call leaves in the outbox that says texts of the greeting.
 use Rattle.std.specs.Prelude.{◌≡◌, ℕ, ◌+◌, ◌≤◌, List, [], ◌∷◌, ◌++◌, length, map, Result, IsOk, OnOk, OnErr}
 use Rattle.uug_link.specs.Entries.{EntryValue, text, Held}
-
--- the byte with which every text begins
-abbrev pub start_byte : ℕ
-start_byte = 16
-
--- a text as it goes out: behind a start byte, and ended by zero
-abbrev pub written_text : List ℕ → List ℕ
-written_text t = start_byte ∷ t ++ 0 ∷ []
+use Rattle.uug_talk.specs.Texts.{written_text}
 
 abbrev pub entry_of_text : List ℕ → EntryValue
 entry_of_text t = text (written_text t)

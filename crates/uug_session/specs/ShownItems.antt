@@ -56,7 +56,7 @@ IsFirstItem item n = StandsNext n.engine.stage item (held_bytes n)
 abbrev pub HoldsNoItem : NodeState → Type 0
 HoldsNoItem n = NothingStands n.engine.stage (held_bytes n)
 
--- Only noise of the link is passed over, and it is all but a rest that waits where no item is shown then.
+-- Only noise of the link is skipped, and it is all but a rest that waits where no item is shown then.
 pub record PassesNoiseAt (before after : NodeState) : Type 0 where
   pub noise : PassesNoise before.packets.bytes after.packets.bytes
   pub none : item_size after ≡ 0 ↔ FindsNothing before.packets.bytes

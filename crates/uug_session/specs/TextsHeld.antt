@@ -1,5 +1,5 @@
 -- The bytes that came in the greeting and were not read yet, and the search for the first text in them. Taylor UUCP
--- manual, "UUCP Protocol"; that bytes in front of a text are passed over is this project's profile.
+-- manual, "UUCP Protocol"; that bytes in front of a text are skipped is this project's profile.
 use Rattle.std.specs.Prelude.{◌≡◌, ℕ, ◌+◌, ◌-◌, ◌≤◌, Bool, true, false, List, [], length, take, drop, Option, Some, None, IfSome}
 use Rattle.uug_reader.specs.declared.reader.TheConstants.{READER_SIZE}
 use Rattle.uug_talk.specs.Texts.{Heard, Passing, Open, Whole, IsFirstText, hear, waiting_of}

@@ -1,4 +1,4 @@
--- How an end in a session is told by two numbers, whatever it has brought from earlier ones (this project's profile).
+-- How an end in a session is described by two numbers, whatever it has brought from earlier ones (this project's profile).
 use Rattle.std.specs.Prelude.{ℕ, true, List, ◌++◌, length}
 use Rattle.uug_conversation.specs.declared.job.Job.{Job}
 use Rattle.uug_conversation.specs.Count.{Count}

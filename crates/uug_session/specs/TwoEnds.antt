@@ -83,7 +83,7 @@ pub data Reached (a b : Party) : Two → Type 0 where
   after : (two : Two) (me : Side) (act : Act) → Reached a b two → Permits act (talker me two) (talker (other me) two) →
       Reached a b (with_talker me (after_act act (party me a b) (talker me two)) two)
 
--- the end is told by two numbers: how many messages it has sent, and how many it has taken
+-- the end is described by two numbers: how many messages it has sent, and how many it has taken
 pub record IsTold (me : Side) (a b : Party) (own others : Talker) : Type 0 where
   -- what it has taken and sent are the first messages of the conversation, and what waits is what it may yet say
   pub taken_first : own.taken ≡ take (length own.taken) (others_messages (conversation_view me a b))

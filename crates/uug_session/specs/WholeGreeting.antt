@@ -11,7 +11,7 @@ use Rattle.uug_session.specs.declared.greeting.Greeted.{Greeted}
 use Rattle.uug_session.specs.declared.greeting.Greeted.TheVariants.{GoesOn, LinkBegins, Ended}
 use Rattle.uug_session.specs.declared.greeting.Greeting.{Greeting}
 use Rattle.uug_session.specs.Greeting.{greeting_at_first, first_texts, long_text_came, number_by, text_came}
-use Rattle.uug_session.specs.Says.{written_text}
+use Rattle.uug_talk.specs.Texts.{written_text}
 use Rattle.uug_conversation.specs.declared.side.Side.{Side}
 use Rattle.uug_conversation.specs.declared.side.Side.TheVariants.{Caller, Called}
 

@@ -59,7 +59,7 @@ pub fn pieces_arrive_as_one()
 {}
 
 /// Whatever is called, in whatever order, a node goes through steps: bytes come, and are taken up as if all that came between
-/// two timeouts had come at once, in whatever pieces, and whatever was refused memory; or nothing has come for some time.
+/// two timeouts had come at once, in whatever pieces, and whatever was refused memory; or there is a timeout.
 /// What is emitted is what was added to the outbox, whatever was cleared away since. Without a timeout there is one step.
 pub fn calls_take_what_comes()
     ensures goes_through { (h : Holdings) (most : ℕ) (calls : List NodeCall)

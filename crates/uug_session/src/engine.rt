@@ -145,7 +145,7 @@ impl<A: Allocator + Copy> Engine<A> {
         };
     }
 
-    /// The session is over: it is done, and the end takes its leave, where it had parted.
+    /// The session is over: it is done, and the end sends its final text, where it had parted.
     fn finish(&mut self, has_parted: bool, how: End)
         requires spare { 1 ≤ self.old.outbox.spare }
         ensures stage { self.new.stage ≡ ended (how_it_ends has_parted how) }
@@ -323,7 +323,7 @@ impl<A: Allocator + Copy> Engine<A> {
         Ok(())
     }
 
-    /// Takes up that nothing has come for some time.
+    /// Handles a timeout.
     pub(crate) fn on_timeout(&mut self) -> Result<(), AllocError>
         ensures ok { OnOk result (Does (stage_late self.old.number self.old.identity
             (dialogue_has_parted self.old.dialogue) self.old.stage
@@ -633,7 +633,7 @@ fn first_link(side: Side, announce: Announce) -> Link
     }
 }
 
-/// The text with which an end that is done takes its leave.
+/// The final text of an end that is done.
 fn final_text(side: Side) -> &'static [u8]
     ensures text { result.now ≡ final_text side }
 {

@@ -104,7 +104,7 @@ impl Greeting {
         Greeted::Ended(End::BadTalk)
     }
 
-    /// Nothing has come for some time. At the limit the session ends; nothing is said.
+    /// A timeout. At the limit the session ends; nothing is said.
     pub fn on_timeout(self) -> Greeted
         ensures { result ≡ (timed_out self).greeted }
     {

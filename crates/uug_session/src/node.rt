@@ -82,7 +82,7 @@ impl<S: Spool, A: Allocator + Copy> Node<S, A> {
         }
     }
 
-    /// Drops what is passed over in front of the first item, which is then shown. At a text that is too long the session
+    /// Drops what is skipped in front of the first item, which is then shown. At a text that is too long the session
     /// is over.
     pub(crate) fn search(&mut self)
         ensures found { node_of self.new ≡ searched (node_of self.old) }
@@ -104,7 +104,7 @@ impl<S: Spool, A: Allocator + Copy> Node<S, A> {
     }
 
     /// Shows the first item in the bytes held, which stays until it is taken: a text in the greeting, a packet or a broken
-    /// one on the link. What is passed over in front is taken away. At a text that is too long the session is over. After
+    /// one on the link. What is skipped in front is taken away. At a text that is too long the session is over. After
     /// `None` at least one byte fits.
     pub fn next_found(&mut self) -> Option<Item<'_>>
         ensures none { IsNone result ↔ HoldsNoItem (node_of self.old) }
@@ -199,7 +199,7 @@ impl<S: Spool, A: Allocator + Copy> Node<S, A> {
         }
     }
 
-    /// Nothing has come for some time. Memory is needed only where the link has begun and emits something: in the
+    /// A timeout. Memory is needed only where the link has begun and emits something: in the
     /// greeting, and after the session's end, the answer is always Ok.
     pub fn on_timeout(&mut self) -> Result<(), AllocError>
         ensures ok { OnOk result (Does (stage_late (node_of self.old).engine.number

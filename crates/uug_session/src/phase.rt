@@ -1,3 +1,6 @@
+ghost use Rattle.std.specs.Prelude.{◌≡◌};
+ghost use Rattle.uug_session.specs.Phases.{is_done, is_over};
+
 use crate::end::End;
 
 /// How far a session has come at an end.
@@ -13,4 +16,20 @@ pub enum Phase {
     Closing,
     /// The session is over.
     Ended(End),
+}
+
+impl Phase {
+    /// Whether the session is over.
+    pub fn is_over(self) -> bool
+        ensures { result ≡ is_over self }
+    {
+        matches!(self, Phase::Ended(_))
+    }
+
+    /// Whether the session is over, with all done.
+    pub fn is_done(self) -> bool
+        ensures { result ≡ is_done self }
+    {
+        matches!(self, Phase::Ended(End::Done))
+    }
 }

@@ -54,7 +54,7 @@ pub fn texts_are_taken_in_order()
         → Taken texts accepted held
         → search_text held ≡ text_stands text others
         → StandBefore (texts ++ text ∷ []) (drop (size_of_text text) others) accepted }
-    // Right behind a text nothing was passed over.
+    // Right behind a text nothing was skipped.
     ensures behind { (texts : List (List ℕ)) (accepted held : List ℕ)
         → StandBefore texts held accepted
         → Taken texts accepted held }
@@ -70,7 +70,7 @@ pub fn texts_are_taken_in_order()
 {}
 
 /// A text that is shown is the one that stands first. It stays shown, whatever is pushed, searched and shown, until it is
-/// dropped; a further search, with more bytes behind, passes over nothing and finds it again.
+/// dropped; a further search, with more bytes behind, skips nothing and finds it again.
 pub fn a_shown_text_stays()
     ensures is { (text : List ℕ) (held : TextsHeld) → ShowsText text held → text ≡ shown_text held }
     ensures again { (text more : List ℕ) (held : TextsHeld) → ShowsText text held

@@ -34,7 +34,7 @@ impl<A: Allocator> Model for Texts<A> {
 /// What a search finds.
 #[derive(Clone, Copy)]
 struct Search {
-    /// How many bytes stand in front that are passed over.
+    /// How many bytes stand in front that are skipped.
     passed: usize,
     /// How long the text behind them is, or `None` where none is whole.
     shown: Option<usize>,
@@ -62,7 +62,7 @@ impl<A: Allocator> Texts<A> {
         count
     }
 
-    /// Drops what is passed over from the front, up to the first text, and says whether one is whole. That text is shown
+    /// Drops what is skipped from the front, up to the first text, and says whether one is whole. That text is shown
     /// until it is dropped. Where there is none, at least one byte fits. After `TextTooLong` nothing is held.
     pub(crate) fn search(&mut self) -> Result<bool, TextTooLong>
         ensures exact { self.new ≡ after_text_search (search_text self.old.bytes) }

@@ -1,4 +1,4 @@
-//! Laws of how an end of a conversation is told by two numbers. The functions do nothing.
+//! Laws of how an end of a conversation is described by two numbers. The functions do nothing.
 ghost use Rattle.std.specs.Prelude.{◌≡◌, ℕ, List, [], false};
 ghost use Rattle.uug_conversation.specs.declared.job.Job.{Job};
 ghost use Rattle.uug_conversation.specs.Count.{count_keeper};
@@ -27,7 +27,7 @@ pub fn an_end_keeps_what_it_brought()
         ≡ talk_behind struck failed kept p.size (after_act sends p t) }
 {}
 
-/// An end of a conversation is told by two numbers: how many messages it has sent and taken say what it says next, whether
+/// An end of a conversation is described by two numbers: how many messages it has sent and taken say what it says next, whether
 /// all is over, and whether HY was sent or taken; and what it has taken fitted its turn.
 pub fn an_end_is_told_by_two_numbers()
     ensures next { (me : Side) (a b : Party) (own others : Talker) (struck failed : List Job)

@@ -8,6 +8,10 @@ use Rattle.uug_talk.specs.declared.hail.TheConstants.{HAIL_MAX, TEXT_START}
 abbrev pub IsEnd : ℕ → Type 0
 IsEnd b = (b ≡ 0) ⊎ (b ≡ 10)
 
+-- a text as it is written: behind a start byte, and ended by zero
+abbrev pub written_text : List ℕ → List ℕ
+written_text text = TEXT_START ∷ text ++ 0 ∷ []
+
 -- a byte of a text
 pub record IsPlain (b : ℕ) : Type 0 where
   pub no_start : b ≢ TEXT_START

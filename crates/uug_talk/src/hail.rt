@@ -1,6 +1,6 @@
 ghost use Rattle.std.specs.Prelude.{◌≡◌, ◌≤◌, ◌↔◌, [], ◌∷◌, ◌++◌, length, Some, None, true, false, Ok, MatchResult, IfOk, OnErr, IsTrue};
 ghost use Rattle.uug_talk.specs.HailCalls.{Hears, FindsTooLong};
-ghost use Rattle.uug_talk.specs.Texts.{Heard, Passing, Whole, IsWhole, is_whole, IsHailText, IsFirstText, waiting_of, heard_byte, hear};
+ghost use Rattle.uug_talk.specs.Texts.{Heard, Passing, Whole, IsWhole, is_whole, IsHailText, IsFirstText, waiting_of, heard_byte, hear, written_text};
 
 use arrayvec::ArrayVec;
 use std::marker::Model;
@@ -12,7 +12,8 @@ pub const HAIL_MAX: usize = 256;
 /// The room for a handshake text with its 0x10 and its zero byte.
 pub const HAIL_WRITTEN_MAX: usize = HAIL_MAX + 2;
 
-const TEXT_START: u8 = 0x10;
+/// The byte with which a handshake text begins. Inside a text it restarts it.
+pub const TEXT_START: u8 = 0x10;
 
 /// More bytes than a handshake text may have came behind a 0x10.
 #[derive(Clone, Copy, Debug, PartialEq, Eq, Error)]
@@ -159,7 +160,7 @@ pub fn is_hail_text(text: &[u8]) -> bool
 /// A handshake text as it goes out: 0x10, the text, a zero byte. `is_hail_text` tells whether it may.
 pub fn write_hail(text: &[u8]) -> ArrayVec<u8, HAIL_WRITTEN_MAX>
     requires { IsHailText text.now }
-    ensures spelled { result.items ≡ TEXT_START ∷ text.now ++ 0 ∷ [] }
+    ensures spelled { result.items ≡ written_text text.now }
     // It is heard as the text again.
     ensures read_back { IsFirstText result.items text.now }
 {

@@ -20,7 +20,9 @@ pub use call::{NUMBER_DIGITS_MAX, NUMBER_MAX, caller_number, write_call};
 pub use chunks::{Chunks, MESSAGE_MAX, Message, is_command_text};
 pub use error::BadText;
 pub use gather::{FILE_MAX, Gather, Progress};
-pub use hail::{HAIL_MAX, HAIL_WRITTEN_MAX, Hail, TextTooLong, is_hail_text, write_hail};
+pub use hail::{
+    HAIL_MAX, HAIL_WRITTEN_MAX, Hail, TEXT_START, TextTooLong, is_hail_text, write_hail,
+};
 pub use laws::{
     command_goes_on, command_is_gathered, file_goes_on, file_is_gathered, gathering_goes_on,
     hearing_comes_to_an_end, hearing_finds_the_texts, hearing_in_pieces, hearing_says_what_came,

@@ -1,6 +1,6 @@
 //! Links and their outboxes: scenarios as tables, and the small player that follows them. What a link does on each event
 //! is computed by the theorems of `uug_link`, and the clauses say that the code does it. Here each call is made with
-//! ample memory and with each of its requests refused. This catches a call that answers want of memory where none was
+//! ample memory and with each of its requests refused. This catches a call that says that it is out of memory where none was
 //! refused, one that changes something when it is refused, and one that cannot be made again.
 
 mod fields;

@@ -1,4 +1,4 @@
-//! What no clause says of a reader: that it does its work on bytes from outside, and want of memory.
+//! What no clause says of a reader: that it does its work on bytes from outside, and running out of memory.
 
 use crate::assertions::{assert_same, assert_same_at, assert_so};
 use crate::packets::number;

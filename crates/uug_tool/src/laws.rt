@@ -4,7 +4,6 @@ ghost use Rattle.uug_packet.specs.Bytes.{AreBytes};
 ghost use Rattle.uug_tool.specs.Listing.{IsListing};
 ghost use Rattle.uug_tool.specs.declared.scan.TheConstants.{PIECE_SIZE, READ_LIMIT};
 
-
 /// Each stream of bytes has one listing, as it has one scan.
 pub fn one_listing()
     ensures some { (s : List ℕ) → AreBytes s → (text : List ℕ) × IsListing s text }

@@ -150,7 +150,7 @@ impl Line {
         Err("an end of the items".into())
     }
 
-    /// Nothing has come for some time.
+    /// A timeout.
     pub(super) fn time_out<S: Spool, A: Allocator + Copy>(
         &mut self,
         node: &mut Node<S, A>,

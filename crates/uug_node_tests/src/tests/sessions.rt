@@ -270,7 +270,7 @@ fn refuse_each_of_all(rt: &impl Abort, alloc: Global, hand: Hand) -> Result<(), 
     Ok(())
 }
 
-// a call that answers want of memory where none was refused; a refused call that leaves something behind, or that can't be
+// a call that says that it is out of memory where none was refused; a refused call that leaves something behind, or that can't be
 // made again; one that tells wrongly how much of a piece it has used
 #[test]
 fn makes_refused_calls_good(rt: HostRuntime) -> Result<(), Fail> {

@@ -1,5 +1,5 @@
 //! How the ends stand that a report lends. What this catches beyond the clauses: a wrong definition of where an end stands,
-//! and a run that always answers want of memory.
+//! and a run that always says that it is out of memory.
 
 use crate::assertions::assert_same_at;
 use std::alloc::Global;

@@ -1,5 +1,5 @@
 //! What is played of whole scripts. What this catches beyond the clauses: a wrong definition of the sessions, and a player
-//! that always answers want of memory.
+//! that always says that it is out of memory.
 
 use super::{BROKEN_OFF, SENT_TWICE};
 use crate::assertions::assert_same;

@@ -1,5 +1,5 @@
 //! Greetings of an end `a` that calls `b`, text by text as they stand in what comes over the line. What this catches
-//! beyond the clauses: an end that always answers want of memory.
+//! beyond the clauses: an end that always says that it is out of memory.
 
 use super::place;
 use crate::assertions::assert_same;

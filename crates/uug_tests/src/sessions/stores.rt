@@ -1,4 +1,4 @@
-//! A queue and a spool in memory. What this catches beyond the clauses: a call that always answers want of memory.
+//! A queue and a spool in memory. What this catches beyond the clauses: a call that always says that it is out of memory.
 
 use super::{name, send_job};
 use crate::assertions::{assert_same, assert_so};

@@ -5,7 +5,7 @@ use Rattle.uug_session.specs.EndStep.{Identity}
 use Rattle.uug_session.specs.Engine.{all_ahead}
 use Rattle.uug_conversation.specs.MemoryHoldings.{MemoryHoldings, held_by}
 use Rattle.uug_conversation.specs.declared.side.Side.TheVariants.{Caller}
-use Rattle.uug_line.specs.Live.{HasBegun, live_end_value}
+use Rattle.uug_line.specs.LineEndValue.{HasBegun, live_end_value}
 use Rattle.uug_line.proofs.running.start_caller.Goals as goal
 
 pub returns : goal.returns

@@ -1,6 +1,6 @@
 use Rattle.std.proofs.Common.{◌∙◌, ◌++◌, Option, ap, option_to_list}
 use Rattle.uug_line.specs.declared.report.SessionReport.{SessionReport}
-use Rattle.uug_line.specs.Live.{live_end_value}
+use Rattle.uug_line.specs.LineEndValue.{live_end_value}
 use Rattle.uug_line.proofs.ReportLemmas.{goes_on_as}
 use Rattle.uug_line.proofs.report.Report.into_run.Goals as goal
 

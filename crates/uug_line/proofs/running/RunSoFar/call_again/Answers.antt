@@ -1,5 +1,5 @@
 use Rattle.uug_session.specs.EndStep.{line_lost}
-use Rattle.uug_line.specs.Live.{BeginsAgain, IsCalled, LiveEndValue, live_end_value, told_of}
+use Rattle.uug_line.specs.LineEndValue.{BeginsAgain, IsCalled, LineEndValue, live_end_value, told_of}
 use Rattle.uug_line.specs.RunValue.{run_value}
 use Rattle.uug_line.specs.Sides.{AtBoth, at}
 use Rattle.uug_line.proofs.RunLemmas.{one_more_shown}
@@ -11,8 +11,8 @@ returns g c =
     let old = run_value c.args.self.now in
     let caller = live_end_value c.hang_up.new.self in
     let called = live_end_value c.hang_up-2.new.self in
-    let lost : AtBoth LiveEndValue = record { at_caller = caller; at_called = called } in
-    let new : AtBoth LiveEndValue = record {
+    let lost : AtBoth LineEndValue = record { at_caller = caller; at_called = called } in
+    let new : AtBoth LineEndValue = record {
       at_caller = live_end_value c.call_again.new.self;
       at_called = live_end_value c.call_again-2.new.self;
     } in

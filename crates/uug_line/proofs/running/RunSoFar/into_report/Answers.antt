@@ -1,7 +1,7 @@
 use Rattle.std.proofs.Common.{◌∙◌, List, ap, subst, sym}
 use Rattle.uug_session.specs.Node.{node_of}
 use Rattle.uug_line.specs.JournalValue.{journal_value}
-use Rattle.uug_line.specs.Live.{live_end_value, told_of}
+use Rattle.uug_line.specs.LineEndValue.{live_end_value, told_of}
 use Rattle.uug_line.specs.OfSomeRun.{IsOfSomeRun}
 use Rattle.uug_line.specs.Report.{told_by}
 use Rattle.uug_line.specs.Shown.{held_at, owned_by, spool_of, stands_so}

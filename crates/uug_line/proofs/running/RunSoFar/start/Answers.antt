@@ -3,7 +3,7 @@ use Rattle.uug_link.specs.Announced.{announced}
 use Rattle.uug_session.specs.Engine.{all_ahead}
 use Rattle.uug_conversation.specs.MemoryHoldings.{held_by}
 use Rattle.uug_conversation.specs.declared.side.Side.TheVariants.{Caller, Called}
-use Rattle.uug_line.specs.Live.{live_end_value}
+use Rattle.uug_line.specs.LineEndValue.{live_end_value}
 use Rattle.uug_line.specs.Setup.{setup_of}
 use Rattle.uug_line.proofs.RunLemmas.{begun_as, sessions_none, starts_as}
 use Rattle.uug_line.proofs.running.RunSoFar.start.Goals as goal

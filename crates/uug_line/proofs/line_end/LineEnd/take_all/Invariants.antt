@@ -1,8 +1,8 @@
 use Rattle.std.proofs.Common.{length}
 use Rattle.uug_session.specs.Node.{held_bytes, node_of}
-use Rattle.uug_line.specs.Live.{StillTakes, live_end_value}
+use Rattle.uug_line.specs.LineEndValue.{StillTakes, live_end_value}
 use Rattle.uug_line.specs.Shown.{lists_in}
-use Rattle.uug_line.proofs.live_end.LiveEnd.take_all.Given as goal
+use Rattle.uug_line.proofs.line_end.LineEnd.take_all.Given as goal
 
 -- what is still held is to be taken up
 abbrev pub invariant-loop : goal.invariant-loop

@@ -2,7 +2,7 @@ ghost use Rattle.std.specs.Prelude.{◌≡◌, ◌<◌, ℕ, [], IfOk, OnOk, Opt
 ghost use Rattle.uug_link.specs.Announced.{Announced};
 ghost use Rattle.uug_link.specs.InRange.{IsAnnouncement};
 ghost use Rattle.uug_line.specs.JournalValue.{journal_value, packet_noted};
-ghost use Rattle.uug_line.specs.Live.{AreWritten, BeginsAgain, HasBegun, HasRoom, HearsPiece, IsCalled, IsNoted, IsOrdered, IsTakenUp, TakesItems, TakesNext, live_end_value, told_of};
+ghost use Rattle.uug_line.specs.LineEndValue.{AreWritten, BeginsAgain, HasBegun, HasRoom, HearsPiece, IsCalled, IsNoted, IsOrdered, IsTakenUp, TakesItems, TakesNext, live_end_value, told_of};
 ghost use Rattle.uug_line.specs.Shown.{end_shown, lists_in};
 ghost use Rattle.uug_session.specs.Engine.{BeginsSession, IsEnded};
 ghost use Rattle.uug_conversation.specs.Jobs.{Lists};
@@ -21,7 +21,7 @@ use uug_session::{MemorySpool, Node};
 
 /// An end of a session on a line, and what is written down of it.
 #[derive(Drop)]
-pub(crate) struct LiveEnd<A: Allocator + Copy> {
+pub(crate) struct LineEnd<A: Allocator + Copy> {
     pub(crate) node: Node<MemorySpool<A>, A>,
     pub(crate) journal: Journal<A>,
     /// What it has emitted and what is on its way to the other end.
@@ -39,7 +39,7 @@ pub(crate) enum Taking {
     Stops,
 }
 
-impl<A: Allocator + Copy> LiveEnd<A> {
+impl<A: Allocator + Copy> LineEnd<A> {
     /// The end's first session has begun.
     pub(crate) fn start(alloc: A, node: Node<MemorySpool<A>, A>) -> Result<Self, AllocError>
         ensures { IfOk result (λ end. (id : Identity) (own : Announced) (number : Option ℕ)
@@ -47,7 +47,7 @@ impl<A: Allocator + Copy> LiveEnd<A> {
             → BeginsSession id own number l [] (node_of node).engine → HoldsNothing (node_of node)
             → HasBegun id own number l (held_by node.spool) (live_end_value end)) }
     {
-        let mut end = LiveEnd {
+        let mut end = LineEnd {
             node,
             journal: Journal::new(alloc),
             line: Line::new(alloc),
@@ -68,7 +68,7 @@ impl<A: Allocator + Copy> LiveEnd<A> {
         Ok(())
     }
 
-    /// Nothing has come for some time.
+    /// A timeout.
     pub(crate) fn time_out(&mut self, alloc: A) -> Result<(), AllocError>
         requires ordered { IsOrdered (live_end_value self.old) }
         requires room { HasRoom (live_end_value self.old) }

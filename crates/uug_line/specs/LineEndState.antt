@@ -5,7 +5,7 @@ use Rattle.uug_packet.specs.Spelling.{canonical}
 use Rattle.uug_session.specs.Arriving.{Buffered, held_in}
 use Rattle.uug_session.specs.EndStep.{EndState, Emitted, says_text, sends_packet, EndEffect, EndEvent, Identity, end_step}
 use Rattle.uug_conversation.specs.Keeper.{Keeper}
-use Rattle.uug_session.specs.Says.{written_text}
+use Rattle.uug_talk.specs.Texts.{written_text}
 
 -- what is written down of an end's session, whichever way a packet is kept
 pub record Notes (P : Type 0) : Type 0 where
@@ -15,19 +15,19 @@ pub record Notes (P : Type 0) : Type 0 where
   -- all packets that it emitted
   pub packets : List P
   -- the places of the packets that it found, among those that the other end emitted; and how many of those were found
-  -- or gone past
+  -- or skipped
   pub arrivals : List ℕ
   pub passed : ℕ
   -- the most packets that were unacknowledged after any call
   pub most : ℕ
 
 -- with packets as values
-abbrev pub Log : Type 0
-Log = Notes PacketValue
+abbrev pub JournalState : Type 0
+JournalState = Notes PacketValue
 
-pub record LineEnd (C : Type 0) : Type 0 where
+pub record LineEndState (C : Type 0) : Type 0 where
   pub state : EndState C
-  pub log : Log
+  pub log : JournalState
   -- the bytes that it has emitted and that are still on the line to the other end
   pub line : List ℕ
 
@@ -69,12 +69,12 @@ abbrev pub found_at : {P : Type 0} → (place : ℕ) → Notes P → Notes P
 found_at place notes = record notes { arrivals = notes.arrivals ++ place ∷ []; passed = suc place }
 
 -- by whether its message was taken
-abbrev pub took : Bool → (message : List ℕ) → Log → Log
+abbrev pub took : Bool → (message : List ℕ) → JournalState → JournalState
 took false message log = log
 took true message log = record log { taken = log.taken ++ message ∷ [] }
 
 -- a call emitted this, and left so many packets unacknowledged
-abbrev pub emitting : List Emitted → (unacked : ℕ) → Log → Log
+abbrev pub emitting : List Emitted → (unacked : ℕ) → JournalState → JournalState
 emitting emitted unacked log = record log {
   sent = log.sent ++ messages_sent emitted;
   packets = log.packets ++ packets_in emitted;
@@ -84,31 +84,31 @@ emitting emitted unacked log = record log {
 -- ---- a call
 
 -- the bytes on the line are changed so, which the end does not notice
-abbrev pub changed_line : {C : Type 0} → (List ℕ → List ℕ) → Buffered (LineEnd C) → Buffered (LineEnd C)
+abbrev pub changed_line : {C : Type 0} → (List ℕ → List ℕ) → Buffered (LineEndState C) → Buffered (LineEndState C)
 changed_line change h = record {
   held = h.held;
   end = record { state = h.end.state; log = h.end.log; line = change h.end.line };
 }
 
 -- a call did this to an end; what it emits goes on the line at once
-abbrev pub after_call : {C : Type 0} → Log → (line : List ℕ) → EndEffect C → LineEnd C
+abbrev pub after_call : {C : Type 0} → JournalState → (line : List ℕ) → EndEffect C → LineEndState C
 after_call log line effect = record {
   state = effect.state;
   log = emitting effect.emitted (length effect.state.link.unacked) log;
   line = line ++ bytes_in effect.emitted;
 }
 
-abbrev pub does : {C : Type 0} → Participant C → EndEvent → LineEnd C → LineEnd C
+abbrev pub does : {C : Type 0} → Participant C → EndEvent → LineEndState C → LineEndState C
 does p event e = after_call e.log e.line (end_step p.keeper p.identity event e.state)
 
 -- an end that has ended forgets all bytes
-abbrev pub holding : {C : Type 0} → List ℕ → LineEnd C → Buffered (LineEnd C)
+abbrev pub holding : {C : Type 0} → List ℕ → LineEndState C → Buffered (LineEndState C)
 holding bytes e = record { held = held_in e.state.stage bytes; end = e }
 
 -- one of an end's calls, which uses no bytes
-abbrev pub called_with : {C : Type 0} → Participant C → EndEvent → Buffered (LineEnd C) → Buffered (LineEnd C)
+abbrev pub called_with : {C : Type 0} → Participant C → EndEvent → Buffered (LineEndState C) → Buffered (LineEndState C)
 called_with p event h = holding h.held (does p event h.end)
 
 -- a session begins so
-abbrev pub begins : {C : Type 0} → EndEffect C → Buffered (LineEnd C)
+abbrev pub begins : {C : Type 0} → EndEffect C → Buffered (LineEndState C)
 begins effect = holding [] (after_call nothing_done [] effect)

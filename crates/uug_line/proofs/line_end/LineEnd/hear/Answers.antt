@@ -4,10 +4,10 @@ use Rattle.std.proofs.lemmas.List.{take_rest}
 use Rattle.uug_conversation.specs.MemoryHoldings.{held_by}
 use Rattle.uug_session.specs.Node.{node_of}
 use Rattle.uug_line.specs.JournalValue.{journal_value}
-use Rattle.uug_line.specs.Live.{LiveEndValue, TakesItems, live_end_value}
+use Rattle.uug_line.specs.LineEndValue.{LineEndValue, TakesItems, live_end_value}
 use Rattle.uug_line.specs.Shown.{lists_in}
 use Rattle.uug_line.proofs.PieceLemmas.{all_parted, hears_all, hears_some, part_is, part_within, parted, still_hears}
-use Rattle.uug_line.proofs.live_end.LiveEnd.hear.Goals as goal
+use Rattle.uug_line.proofs.line_end.LineEnd.hear.Goals as goal
 
 pub returns-then-not-branch : goal.returns-then-not-branch
 returns-then-not-branch g c =
@@ -17,10 +17,10 @@ returns-then-not-branch g c =
     let count = c.offer-count.result in
     let rest = c.loop-self.rest.now in
     let behind = take (length rest - count) (drop count rest) in
-    let mid : LiveEndValue = record { node = node_of node; spool = held_by node.spool; journal = journal_value now.journal; line = now.line } in
+    let mid : LineEndValue = record { node = node_of node; spool = held_by node.spool; journal = journal_value now.journal; line = now.line } in
     let new = live_end_value c.take_all.new.self in
     let last = c.offer.new.self in
-    let filled : LiveEndValue = record { node = node_of last; spool = held_by last.spool; journal = new.journal; line = new.line } in
+    let filled : LineEndValue = record { node = node_of last; spool = held_by last.spool; journal = new.journal; line = new.line } in
     let part = part_is (live_end_value now) mid (take count rest) c.offer-count.ensures.bytes (ap held_by c.offer-count.ensures.spool) refl refl in
     hears_some others c.args.piece.now rest (take count rest) behind c.offer.result
     (live_end_value c.args.self.now) (live_end_value now) mid new filled
@@ -37,7 +37,7 @@ returns-then-is_empty g c =
     let node = c.offer-count.new.self in
     let count = c.offer-count.result in
     let rest = c.loop-self.rest.now in
-    let mid : LiveEndValue = record { node = node_of node; spool = held_by node.spool; journal = journal_value now.journal; line = now.line } in
+    let mid : LineEndValue = record { node = node_of node; spool = held_by node.spool; journal = journal_value now.journal; line = now.line } in
     let new = live_end_value c.take_all.new.self in
     hears_all others c.args.piece.now rest (take count rest) (live_end_value c.args.self.now) (live_end_value now) mid new
     (all_parted count rest (take (length rest - count) (drop count rest)) (take_rest rest count) (grind (arith, nat_tests, c.if-is_empty.ensures)))
@@ -52,7 +52,7 @@ loop-self-preserved g c =
     let node = c.offer-count.new.self in
     let count = c.offer-count.result in
     let rest = c.loop-self.rest.now in
-    let mid : LiveEndValue = record { node = node_of node; spool = held_by node.spool; journal = journal_value now.journal; line = now.line } in
+    let mid : LineEndValue = record { node = node_of node; spool = held_by node.spool; journal = journal_value now.journal; line = now.line } in
     let new = live_end_value c.take_all.new.self in
     still_hears others c.args.piece.now rest (take count rest) (take (length rest - count) (drop count rest))
     (live_end_value c.args.self.now) (live_end_value now) mid new (parted count rest (take (length rest - count) (drop count rest)) (take_rest rest count))

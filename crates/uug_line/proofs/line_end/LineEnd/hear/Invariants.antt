@@ -1,7 +1,7 @@
 use Rattle.std.proofs.Common.{length}
-use Rattle.uug_line.specs.Live.{StillHears, live_end_value}
+use Rattle.uug_line.specs.LineEndValue.{StillHears, live_end_value}
 use Rattle.uug_line.specs.Shown.{lists_in}
-use Rattle.uug_line.proofs.live_end.LiveEnd.hear.Given as goal
+use Rattle.uug_line.proofs.line_end.LineEnd.hear.Given as goal
 
 -- the rest of the piece is still to come
 abbrev pub invariant-loop-self : goal.invariant-loop-self

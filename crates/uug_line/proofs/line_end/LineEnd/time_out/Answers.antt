@@ -2,15 +2,15 @@ use Rattle.std.proofs.Common.{refl, ap}
 use Rattle.uug_conversation.specs.MemoryHoldings.{held_by}
 use Rattle.uug_session.specs.Node.{node_of}
 use Rattle.uug_line.specs.JournalValue.{journal_value}
-use Rattle.uug_line.specs.Live.{LiveEndValue, live_end_value}
+use Rattle.uug_line.specs.LineEndValue.{LineEndValue, live_end_value}
 use Rattle.uug_line.proofs.EndCallLemmas.{timed_out_so}
-use Rattle.uug_line.proofs.live_end.LiveEnd.time_out.Goals as goal
+use Rattle.uug_line.proofs.line_end.LineEnd.time_out.Goals as goal
 
 pub returns : goal.returns
 returns g c =
     let old = c.args.self.now in
     let node = c.on_timeout.new.self in
-    let called : LiveEndValue = record {
+    let called : LineEndValue = record {
       node = node_of node;
       spool = held_by node.spool;
       journal = journal_value old.journal;

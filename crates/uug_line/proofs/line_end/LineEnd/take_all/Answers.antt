@@ -1,9 +1,9 @@
 use Rattle.std.proofs.Common.{subst}
-use Rattle.uug_line.specs.declared.live_end.Taking.{Taking}
-use Rattle.uug_line.specs.Live.{TakesNext, live_end_value}
+use Rattle.uug_line.specs.declared.line_end.Taking.{Taking}
+use Rattle.uug_line.specs.LineEndValue.{TakesNext, live_end_value}
 use Rattle.uug_line.specs.Shown.{lists_in}
 use Rattle.uug_line.proofs.PieceLemmas.{still_takes, then_all, then_stopped}
-use Rattle.uug_line.proofs.live_end.LiveEnd.take_all.Goals as goal
+use Rattle.uug_line.proofs.line_end.LineEnd.take_all.Goals as goal
 
 pub loop-preserved : goal.loop-preserved
 loop-preserved g c =
