@@ -1,5 +1,5 @@
 -- What an end emits is bytes, where its name is and its packets carry bytes.
-use Rattle.std.proofs.Common.{ℕ, zero, suc, Bool, true, false, ◌&&◌, nat_lt, ◌<◌, ◌+◌, ◌/◌, ◌%◌, ◌==◌, if◌then◌else◌, List, [], ◌∷◌, ◌++◌, drop, map, codes, All, Option, None, Some, arith}
+use Rattle.std.proofs.Common.{ℕ, zero, suc, Bool, true, false, nat_lt, ◌<◌, ◌+◌, ◌/◌, ◌%◌, ◌==◌, if◌then◌else◌, List, [], ◌∷◌, ◌++◌, drop, map, codes, All, Option, None, Some, arith}
 use Rattle.std.specs.Bool.{⊤}
 use Rattle.std.specs.Fmt.{decimal, digit_glyph, digits, digits_onto}
 use Rattle.std.specs.Str.{bytes_eq}
@@ -8,9 +8,8 @@ use Rattle.std.proofs.lemmas.Bool.Decides.{nat_tests}
 use Rattle.uug_talk.specs.Call.{call_text, number_in_call, number_word}
 use Rattle.std.proofs.lemmas.List.Elements.{All-nil, All-cons, All-head, All-tail, All-append, All-replicate}
 use Rattle.uug_link.specs.declared.limits.TheConstants.{TIMEOUTS_MAX}
-use Rattle.uug_link.specs.Step.{Effect, Emission, OutcomeValue, nothing, up, taken, closed, gave_up, halted, bad_found, packet_found, step, timed_out, to_begin}
+use Rattle.uug_link.specs.Step.{Effect, Emission, step, timed_out, to_begin}
 use Rattle.uug_link.specs.State.{State}
-use Rattle.uug_link.specs.Terms.{size_of_code}
 use Rattle.uug_packet.specs.Packet.{PacketValue}
 use Rattle.uug_packet.specs.Spelling.{canonical}
 use Rattle.uug_packet.specs.WellFormed.{IsWellFormed}
@@ -20,7 +19,7 @@ use Rattle.uug_session.specs.declared.greeting.AwaitedText.TheVariants.{CalledNa
 use Rattle.uug_session.specs.declared.greeting.Greeted.{Greeted}
 use Rattle.uug_session.specs.declared.greeting.Greeted.TheVariants.{GoesOn, LinkBegins, Ended}
 use Rattle.uug_session.specs.declared.greeting.Greeting.{Greeting}
-use Rattle.uug_session.specs.EndStep.{EndEvent, EndState, Emitted, Identity, Stage, behind_link, begins_link, broken_found, ended, first_words, goes_on as link_goes_on, greeted_so, hailing, hailing_step, is_up, late_link, leave, line_lost, linked, linked_step, long_text_found, message_of, packet_found_whole, packets, says_text, sends_packet, speaks_by, stage_step, takes_by, talks_by, text_found, then_closes, time_ran_out}
+use Rattle.uug_session.specs.EndStep.{EndEvent, EndState, Emitted, Identity, Stage, begins_link, broken_found, ended, first_words, goes_on as link_goes_on, greeted_so, hailing, hailing_step, is_up, leave, line_lost, linked, linked_step, long_text_found, packet_found_whole, packets, says_text, sends_packet, speaks_by, stage_step, text_found, time_ran_out}
 use Rattle.uug_session.specs.Greeting.{GreetingStep, begins_with, called_text, came_for, fails, goes_on, begins, is_expected, lets_in, name_in_caller_text, number_by, number_came, offers_g, passes_over, text_came, timed_out as greeting_timed_out}
 use Rattle.uug_conversation.specs.Keeper.{Keeper}
 use Rattle.uug_talk.specs.Texts.{written_text}
@@ -28,6 +27,7 @@ use Rattle.uug_conversation.specs.declared.side.Side.{Side}
 use Rattle.uug_conversation.specs.declared.side.Side.TheVariants.{Caller, Called}
 use Rattle.uug_line.specs.LineEndState.{bytes_in, packets_in}
 use Rattle.uug_line.proofs.ByteLemmas.{AllBytes, CarriesBytes, IsByte, bytewise, canonical_bytes}
+use Rattle.uug_session.proofs.StepKeeps.{linked_leads}
 
 -- ---- texts
 
@@ -69,40 +69,10 @@ module _ {C : Type 0} (k : Keeper C) (id : Identity) where
   on_says : (number : Option ℕ) (took : Bool) (e : Effect) (c : C) → SaysBytes (link_goes_on number k took e c).emitted
   on_says number took e c = packets_say (e.emitted ++ (speaks_by (is_up e.state.phase) k e.state c).emissions)
 
-  talk_says : (number : Option ℕ) (bad_talk : Bool) (e : Effect) (before after : C) → SaysBytes (talks_by number bad_talk k id e before after).emitted
-  talk_says number true e before after = ends_say (then_closes e).emitted (k.has_parted before) id.side
-  talk_says number false e before after = on_says number true e after
-
-  take_says : (number : Option ℕ) (failed : Bool) (e : Effect) (message : List ℕ) (c : C) → SaysBytes (takes_by number failed k id e message c).emitted
-  take_says number true e message c = ends_say (then_closes e).emitted (k.has_parted c) id.side
-  take_says number false e message c = talk_says number (k.is_bad (k.taking message c)) e c (k.taking message c)
-
-  link_says : (number : Option ℕ) (failed : Bool) (o : OutcomeValue) (e : Effect) (message : List ℕ) (c : C)
-      → SaysBytes (behind_link number k id failed o e message c).emitted
-  link_says number failed nothing e message c = on_says number false e c
-  link_says number failed up e message c = on_says number false e (k.opened (size_of_code e.state.size_code) c)
-  link_says number failed taken e message c = take_says number (failed && k.asks_spool message c) e message c
-  link_says number failed closed e message c = ends_say e.emitted (k.has_parted c) id.side
-  link_says number failed gave_up e message c = ends_say e.emitted (k.has_parted c) id.side
-  link_says number failed halted e message c = on_says number false e c
-
-  late_says : (number : Option ℕ) (parted : Bool) (o : OutcomeValue) (e : Effect) (c : C) → SaysBytes (late_link number id parted o e c).emitted
-  late_says number parted nothing e c = packets_say (e.emitted ++ [])
-  late_says number parted up e c = packets_say (e.emitted ++ [])
-  late_says number parted taken e c = packets_say (e.emitted ++ [])
-  late_says number parted closed e c = packets_say (e.emitted ++ [])
-  late_says number parted gave_up e c = ends_say e.emitted parted id.side
-  late_says number parted halted e c = packets_say (e.emitted ++ [])
-
   linked_says : (event : EndEvent) (e : EndState C) → SaysBytes (linked_step k id event e).emitted
-  linked_says (packet_found_whole failed p) e =
-      let effect : Effect = step e.link (packet_found p) in link_says e.number failed effect.outcome effect (message_of p) e.keeper
-  linked_says broken_found e = let effect : Effect = step e.link bad_found in link_says e.number false effect.outcome effect [] e.keeper
-  linked_says time_ran_out e =
-      let effect : Effect = step e.link timed_out in late_says e.number (k.has_parted e.keeper) effect.outcome effect e.keeper
-  linked_says line_lost e = tt
-  linked_says (text_found text) e = tt
-  linked_says long_text_found e = tt
+  linked_says event e =
+      linked_leads k id e (λ x. SaysBytes x.emitted) (λ took x c. on_says e.number took x c) (λ parted how x c took none. ends_say x.emitted parted id.side)
+      (packets_say ((step e.link timed_out).emitted ++ [])) tt tt event
 
 -- ---- in the greeting
 

@@ -1,9 +1,9 @@
 -- What the ends of a run have found in all bytes that came to them.
-use Rattle.std.proofs.Common.{◌≡◌, inl, inr, ℕ, zero, suc, ◌<◌, Bool, true, false, ◌&&◌, List, [], ◌∷◌, ◌++◌, length, take, drop, Option, Some, None, refl, sym, ap, subst, ◌∙◌, append_assoc, arith}
+use Rattle.std.proofs.Common.{◌≡◌, inl, inr, ℕ, zero, suc, ◌<◌, Bool, true, false, List, [], ◌∷◌, ◌++◌, length, take, drop, Option, Some, None, refl, sym, ap, subst, ◌∙◌, append_assoc, arith}
 use Rattle.std.proofs.lemmas.List.{append-nil}
 use Rattle.uug_link.specs.Announced.{Announced}
 use Rattle.uug_link.specs.Arrivals.{IsPlace, place_of}
-use Rattle.uug_link.specs.Step.{Effect, OutcomeValue, nothing, up, taken, closed, gave_up, halted, step, packet_found, bad_found}
+use Rattle.uug_link.specs.Step.{step}
 use Rattle.uug_packet.specs.Bytes.{AreBytes}
 use Rattle.uug_packet.specs.Packet.{PacketValue}
 use Rattle.uug_reader.specs.Cut.{Item, found, bad}
@@ -15,7 +15,7 @@ use Rattle.uug_session.specs.declared.greeting.AwaitedText.{AwaitedText}
 use Rattle.uug_session.specs.declared.greeting.Greeting.{Greeting}
 use Rattle.uug_session.specs.Greeting.{greeting_at_first, number_by}
 use Rattle.uug_session.specs.Arriving.{Receiver, Buffered, held_in, holds, Arrival, all_taken, stopped, takes_if, takes_up, takes_up_to, takes_piece}
-use Rattle.uug_session.specs.EndStep.{rises_at, EndEffect, EndEvent, EndState, Identity, time_ran_out, line_lost, text_found, long_text_found, packet_found_whole, broken_found, Stage, hailing, linked, ended, message_of, behind_link, takes_by, talks_by, begins_session, stage_step, end_step}
+use Rattle.uug_session.specs.EndStep.{rises_at, EndEffect, EndEvent, EndState, Identity, time_ran_out, line_lost, text_found, long_text_found, packet_found_whole, broken_found, Stage, hailing, linked, ended, message_of, begins_session, stage_step, end_step}
 use Rattle.uug_session.specs.Finding.{Finding, finds_nothing, finds, finds_packet, text_finding, item_finding, finding, behind_long_text}
 use Rattle.uug_conversation.specs.Keeper.{Keeper}
 use Rattle.uug_session.specs.TextsFound.{Taken}
@@ -45,7 +45,7 @@ use Rattle.uug_line.proofs.SideLemmas.{at_here, at_there, from_other, with_both,
 use Rattle.uug_line.proofs.FoundLemmas.{event_takes, packet_takes, held_fewer, passed_behind, place_is_there, took_packets}
 use Rattle.uug_line.proofs.GreetedLemmas.{StandsBehind, text_leads}
 use Rattle.uug_line.proofs.PlaceLemmas.{later_places, next_place}
-use Rattle.uug_line.proofs.VerdictLemmas.{StaysOrEnds, UsesNoBytes, call_stays}
+use Rattle.uug_line.proofs.VerdictLemmas.{StaysOrEnds, UsesNoBytes, call_stays, linked_stays}
 use Rattle.uug_reader.proofs.ScanLemmas.{Finds-none, Finds-item, Finds-join, Finds-append}
 use Rattle.uug_reader.proofs.SearchLemmas.{search_finds_item, search_finds_rest}
 use Rattle.uug_session.proofs.FoundLemmas.{bytes_behind_texts, bytes_found, bytes_in_front}
@@ -157,36 +157,10 @@ called_hears p brought event h came emitted uses x = record {
 
 -- ---- on the link an end does not go back to the greeting
 
-talk_stays : {C : Type 0} (number : Option ℕ) (bad_talk : Bool) (k : Keeper C) (id : Identity) (e : Effect) (before after : C)
-    → StaysOrEnds linked (talks_by number bad_talk k id e before after).state.stage
-talk_stays number true k id e before after = tt
-talk_stays number false k id e before after = tt
-
-take_stays : {C : Type 0} (number : Option ℕ) (failed : Bool) (k : Keeper C) (id : Identity) (e : Effect) (message : List ℕ) (c : C)
-    → StaysOrEnds linked (takes_by number failed k id e message c).state.stage
-take_stays number true k id e message c = tt
-take_stays number false k id e message c = talk_stays number (k.is_bad (k.taking message c)) k id e c (k.taking message c)
-
-link_stays : {C : Type 0} (number : Option ℕ) (k : Keeper C) (id : Identity) (failed : Bool) (o : OutcomeValue) (e : Effect) (message : List ℕ) (c : C)
-    → StaysOrEnds linked (behind_link number k id failed o e message c).state.stage
-link_stays number k id failed nothing e message c = tt
-link_stays number k id failed up e message c = tt
-link_stays number k id failed taken e message c = take_stays number (failed && k.asks_spool message c) k id e message c
-link_stays number k id failed closed e message c = tt
-link_stays number k id failed gave_up e message c = tt
-link_stays number k id failed halted e message c = tt
-
-packet_stays : {C : Type 0} (k : Keeper C) (id : Identity) (q : PacketValue) (e : EndState C) → e.stage ≡ linked
-    → StaysOrEnds linked (end_step k id (packet_found_whole false q) e).state.stage
-packet_stays k id q e on =
-    subst (λ s. StaysOrEnds linked (stage_step k id s (packet_found_whole false q) e).state.stage) (sym on)
-    (link_stays e.number k id false (step e.link (packet_found q)).outcome (step e.link (packet_found q)) (message_of q) e.keeper)
-
-broken_stays : {C : Type 0} (k : Keeper C) (id : Identity) (e : EndState C) → e.stage ≡ linked
-    → StaysOrEnds linked (end_step k id broken_found e).state.stage
-broken_stays k id e on =
-    subst (λ s. StaysOrEnds linked (stage_step k id s broken_found e).state.stage) (sym on)
-    (link_stays e.number k id false (step e.link bad_found).outcome (step e.link bad_found) [] e.keeper)
+event_stays : {C : Type 0} (k : Keeper C) (id : Identity) (event : EndEvent) (e : EndState C) → e.stage ≡ linked
+    → StaysOrEnds linked (end_step k id event e).state.stage
+event_stays k id event e on =
+    subst (λ s. StaysOrEnds linked (stage_step k id s event e).state.stage) (sym on) (linked_stays k id event e on)
 
 -- ---- bytes are taken up
 
@@ -433,7 +407,7 @@ module _ {C : Type 0} (p : Participant C) (brought : Option ℕ) (emitted : List
       let placed = took_arrivals effect.took q place h x at effect refl in
       behind_item n more h on enough x same began (found q) size from e
       (packet_takes linked h.held from (drop size from) q (ap item_finding e))
-      (packet_taken_up p q place h.end) (packet_stays p.keeper p.identity q h.end.state on) refl placed.0 placed.1
+      (packet_taken_up p q place h.end) (event_stays p.keeper p.identity (packet_found_whole false q) h.end.state on) refl placed.0 placed.1
 
   by_item : (n : ℕ) → HearsUpTo n → (h : Buffered (LineEndState C)) → h.end.state.stage ≡ linked → length h.held < suc n → (x : Hears p brought came h emitted)
       → x.heard.others ≡ h.held → LinkBeganWith p.identity brought x.heard.texts h.end.state.number → (search : Search) → search_of h.held ≡ search
@@ -459,7 +433,7 @@ module _ {C : Type 0} (p : Participant C) (brought : Option ℕ) (emitted : List
   by_item n more h on enough x same began (standing bad size from) e =
       behind_item n more h on enough x same began bad size from e
       (event_takes linked h.held (drop size from) broken_found (ap item_finding e))
-      (does p broken_found h.end) (broken_stays p.keeper p.identity h.end.state on) refl
+      (does p broken_found h.end) (event_stays p.keeper p.identity broken_found h.end.state on) refl
       (subst (λ (ps : List PacketValue). HavePlaces ps h.end.log.arrivals emitted 0)
       (sym (packets_joined x.heard.items (bad ∷ []) ∙ append-nil (packets_among x.heard.items))) x.heard.places) x.past
 

@@ -1,12 +1,12 @@
 -- What taking up an item comes to.
-use Rattle.std.proofs.Common.{◌≡◌, ◌⊎◌, inl, inr, ℕ, ◌<◌, ◌≤◌, max, Bool, true, false, ◌&&◌, List, [], ◌++◌, map, length, drop, take, get_or, slice_get, Vec, Option, Some, ap, sym, subst, ◌∙◌, refl, arith}
+use Rattle.std.proofs.Common.{◌≡◌, ◌⊎◌, inl, inr, ℕ, ◌<◌, ◌≤◌, max, Bool, true, false, List, [], ◌++◌, map, length, drop, take, get_or, slice_get, Vec, Option, Some, ap, sym, subst, ◌∙◌, refl, arith}
 use Rattle.std.proofs.lemmas.List.{append-nil, length-map}
 use Rattle.std.proofs.lemmas.Option.{slice_get-map, slice_get_read, slice_get_within}
 use Rattle.std.specs.Option.{option_map}
 use Rattle.std.specs.Bool.{⊤}
 use Rattle.uug_link.specs.InRange.{IsAnnouncement}
 use Rattle.uug_link.specs.State.{State}
-use Rattle.uug_link.specs.Step.{Effect, OutcomeValue, nothing, up, taken, closed, gave_up, halted, step, bad_found, packet_found}
+use Rattle.uug_link.specs.Step.{taken}
 use Rattle.uug_packet.specs.Packet.{PacketValue}
 use Rattle.uug_packet.specs.Spelling.{canonical}
 use Rattle.uug_packet.specs.WellFormed.{IsWellFormed}
@@ -14,7 +14,7 @@ use Rattle.uug_reader.specs.Reading.{Reading}
 use Rattle.uug_session.specs.Arriving.{Arrival, Buffered, all_taken, held_in, holds, stopped, takes_all, takes_if, takes_up}
 use Rattle.uug_session.specs.declared.end.End.TheVariants as ends
 use Rattle.uug_session.specs.declared.greeting.Greeting.{Greeting}
-use Rattle.uug_session.specs.EndStep.{EndEffect, EndEvent, EndState, Identity, Stage, hailing, linked, ended, behind_link, end_step, long_text_found, message_of, packet_found_whole, takes_by, talks_by, stage_step}
+use Rattle.uug_session.specs.EndStep.{EndEffect, EndEvent, EndState, Identity, Stage, hailing, linked, ended, end_step, long_text_found, packet_found_whole, broken_found, stage_step}
 use Rattle.uug_session.specs.Engine.{CountsFaults, Does, EngineState, end_of, faults_max}
 use Rattle.uug_session.specs.Finding.{Finding, LeavesFewer, finding}
 use Rattle.uug_conversation.specs.Holdings.{Holdings, Kept}
@@ -39,45 +39,23 @@ use Rattle.uug_packet.proofs.WellFormedLemmas.{IsWellFormed-spelled}
 use Rattle.uug_session.proofs.ShownItemLemmas.{item_found, one_item, nothing_found}
 use Rattle.uug_session.proofs.InRangeLemmas.{end_stays}
 use Rattle.uug_session.proofs.ArrivingLemmas.{found_fewer, takes_next}
+use Rattle.uug_session.proofs.BehindGreetingLemmas.{HasGreeted, linked_greeted}
 
 -- ---- behind an item of the link no end hails
 
-abbrev NotHailing : Stage → Type 0
-NotHailing (hailing g) = ⊥
-NotHailing linked = ⊤
-NotHailing (ended how) = ⊤
-
-talks_on : (number : Option ℕ) (bad : Bool) (k : Keeper DialogueState) (id : Identity) (e : Effect) (before after : DialogueState) → NotHailing (talks_by number bad k id e before after).state.stage
-talks_on number true k id e before after = tt
-talks_on number false k id e before after = tt
-
-takes_on : (number : Option ℕ) (device_failed : Bool) (k : Keeper DialogueState) (id : Identity) (e : Effect) (message : List ℕ) (c : DialogueState)
-    → NotHailing (takes_by number device_failed k id e message c).state.stage
-takes_on number true k id e message c = tt
-takes_on number false k id e message c = talks_on number (k.is_bad (k.taking message c)) k id e c (k.taking message c)
-
-link_on : (number : Option ℕ) (k : Keeper DialogueState) (id : Identity) (device_failed : Bool) (o : OutcomeValue) (e : Effect) (message : List ℕ) (c : DialogueState)
-    → NotHailing (behind_link number k id device_failed o e message c).state.stage
-link_on number k id device_failed nothing e message c = tt
-link_on number k id device_failed up e message c = tt
-link_on number k id device_failed taken e message c = takes_on number (device_failed && k.asks_spool message c) k id e message c
-link_on number k id device_failed closed e message c = tt
-link_on number k id device_failed gave_up e message c = tt
-link_on number k id device_failed halted e message c = tt
-
 abbrev MayBeAt : ItemValue → Stage → Type 0
 MayBeAt (text_item text) stage = ⊤
-MayBeAt (packet_item p) stage = NotHailing stage
-MayBeAt bad_item stage = NotHailing stage
+MayBeAt (packet_item p) stage = HasGreeted stage
+MayBeAt bad_item stage = HasGreeted stage
 
 item_on : (number : Option ℕ) (k : Keeper DialogueState) (id : Identity) (device_failed : Bool) (stage : Stage) (texts : TextsHeld) (packets : Reading) (item : ItemValue)
     (s : State) (c : DialogueState) → ShowsItem stage texts packets item
     → MayBeAt item (stage_step k id stage (event_of device_failed item) (record { stage = stage; link = s; keeper = c; number = number })).state.stage
 item_on number k id device_failed stage texts packets (text_item text) s c shows = tt
 item_on number k id device_failed linked texts packets (packet_item p) s c shows =
-    link_on number k id device_failed (step s (packet_found p)).outcome (step s (packet_found p)) (message_of p) c
+    linked_greeted k id (packet_found_whole device_failed p) (record { stage = linked; link = s; keeper = c; number = number }) tt
 item_on number k id device_failed linked texts packets bad_item s c shows =
-    link_on number k id false (step s bad_found).outcome (step s bad_found) [] c
+    linked_greeted k id broken_found (record { stage = linked; link = s; keeper = c; number = number }) tt
 item_on number k id device_failed (hailing g) texts packets (packet_item p) s c shows = absurd shows
 item_on number k id device_failed (hailing g) texts packets bad_item s c shows = absurd shows
 item_on number k id device_failed (ended how) texts packets (packet_item p) s c shows = absurd shows
@@ -92,7 +70,7 @@ text_left (hailing g) after bytes texts packets = ap (λ (t : TextsHeld). t.byte
 text_left linked after bytes texts packets = ap (λ (r : Reading). r.bytes) packets
 text_left (ended how) after bytes texts packets = refl
 
-item_left : (stage : Stage) (after : NodeState) (bytes : List ℕ) → NotHailing stage
+item_left : (stage : Stage) (after : NodeState) (bytes : List ℕ) → HasGreeted stage
     → after.packets ≡ record { bytes = bytes; shown_size = 0 } → bytes_at stage after ≡ held_in stage bytes
 item_left (hailing g) after bytes not packets = absurd not
 item_left linked after bytes not packets = ap (λ (r : Reading). r.bytes) packets

@@ -6,12 +6,11 @@ use Rattle.uug_conversation.specs.Turns.{other}
 use Rattle.uug_link.specs.Arrivals.{place_of}
 use Rattle.uug_link.specs.declared.limits.TheConstants.{TIMEOUTS_MAX}
 use Rattle.uug_link.specs.State.{State}
-use Rattle.uug_link.specs.Step.{Effect, OutcomeValue, nothing, up, taken, closed, gave_up, halted, step, timed_out}
 use Rattle.uug_session.specs.declared.end.End.TheVariants as ends
 use Rattle.uug_session.specs.declared.greeting.Greeted.TheVariants.{GoesOn}
 use Rattle.uug_session.specs.declared.greeting.Greeting.{Greeting}
 use Rattle.uug_session.specs.Arriving.{Buffered, held_in, Arrival, all_taken, stopped}
-use Rattle.uug_session.specs.EndStep.{EndEvent, text_found, long_text_found, packet_found_whole, broken_found, time_ran_out, line_lost, behind_greeting, stage_step, EndState, Identity, Stage, hailing, linked, ended, end_step, late_link}
+use Rattle.uug_session.specs.EndStep.{EndEvent, text_found, long_text_found, packet_found_whole, broken_found, time_ran_out, line_lost, behind_greeting, stage_step, EndState, Identity, Stage, hailing, linked, ended, end_step, linked_step}
 use Rattle.uug_packet.specs.Packet.{PacketValue}
 use Rattle.uug_session.specs.Finding.{finds_nothing, finds_packet, finding}
 use Rattle.uug_session.specs.Greeting.{fails}
@@ -34,6 +33,7 @@ use Rattle.uug_line.specs.Told.{EndReportValue}
 use Rattle.uug_line.proofs.FoundLemmas.{BothFound, IsUnsent, CameSo, does_found, came_piece}
 use Rattle.uug_line.proofs.PlaceLemmas.{none_left}
 use Rattle.uug_line.proofs.SideLemmas.{here_so, other_stays, with_both}
+use Rattle.uug_session.proofs.StepKeeps.{linked_leads}
 
 -- ---- a call of an end that finds nothing more
 
@@ -45,14 +45,12 @@ StaysOrEnds (hailing g) (hailing h) = g.awaited ≡ h.awaited
 StaysOrEnds linked linked = ⊤
 StaysOrEnds _ _ = ⊥
 
-late_stays : {C : Type 0} (number : Option ℕ) (id : Identity) (parted : Bool) (o : OutcomeValue) (e : Effect) (c : C) →
-    StaysOrEnds linked (late_link number id parted o e c).state.stage
-late_stays number id parted nothing e c = tt
-late_stays number id parted up e c = tt
-late_stays number id parted taken e c = tt
-late_stays number id parted closed e c = tt
-late_stays number id parted gave_up e c = tt
-late_stays number id parted halted e c = tt
+-- on the link no event leads back to the greeting
+pub linked_stays : {C : Type 0} (k : Keeper C) (id : Identity) (event : EndEvent) (e : EndState C) → e.stage ≡ linked →
+    StaysOrEnds linked (linked_step k id event e).state.stage
+linked_stays k id event e is =
+    linked_leads k id e (λ x. StaysOrEnds linked x.state.stage) (λ took x c. tt) (λ parted how x c took none. tt) tt tt
+    (subst (StaysOrEnds linked) (sym is) tt) event
 
 greeting_stays : {C : Type 0} (number : Option ℕ) (id : Identity) (g : Greeting) (goes_on : Bool) (link : State) (c : C) →
     StaysOrEnds (hailing g) (behind_greeting number id (if goes_on
@@ -74,13 +72,7 @@ call_stays k id (hailing g) (text_found text) e is uses = absurd uses
 call_stays k id (hailing g) long_text_found e is uses = absurd uses
 call_stays k id (hailing g) (packet_found_whole failed p) e is uses = absurd uses
 call_stays k id (hailing g) broken_found e is uses = absurd uses
-call_stays k id linked time_ran_out e is uses =
-    late_stays e.number id (k.has_parted e.keeper) (step e.link timed_out).outcome (step e.link timed_out) e.keeper
-call_stays k id linked line_lost e is uses = tt
-call_stays k id linked (text_found text) e is uses = absurd uses
-call_stays k id linked long_text_found e is uses = absurd uses
-call_stays k id linked (packet_found_whole failed p) e is uses = absurd uses
-call_stays k id linked broken_found e is uses = absurd uses
+call_stays k id linked event e is uses = linked_stays k id event e is
 call_stays k id (ended how) event e is uses = subst (StaysOrEnds (ended how)) (sym is) refl
 
 nothing_then : (s t : Stage) (bytes : List ℕ) → StaysOrEnds s t → finding s bytes ≡ finds_nothing bytes →

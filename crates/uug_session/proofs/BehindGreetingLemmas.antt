@@ -1,10 +1,8 @@
 -- What a node does behind its greeting: it never greets again, and what it emitted before stands in front.
-use Rattle.std.proofs.Common.{◌≡◌, ◌≢◌, ℕ, zero, suc, Bool, true, false, ◌&&◌, List, [], ◌++◌, Option, refl, ap, ◌∙◌, append_assoc}
-use Rattle.uug_link.specs.State.{State}
-use Rattle.uug_link.specs.Step.{Effect, OutcomeValue, nothing, up, taken, closed, gave_up, halted, step, packet_found, bad_found, timed_out}
+use Rattle.std.proofs.Common.{◌≡◌, ◌≢◌, ℕ, zero, suc, Bool, false, List, ◌++◌, Option, refl, ap, ◌∙◌, append_assoc}
 use Rattle.uug_session.specs.declared.greeting.Greeting.{Greeting}
 use Rattle.uug_session.specs.Arriving.{Buffered, Arrival, all_taken, stopped, held_in, holds, takes_up, takes_up_to}
-use Rattle.uug_session.specs.EndStep.{Stage, hailing, linked, ended, Emitted, EndEvent, EndState, Identity, text_found, long_text_found, packet_found_whole, broken_found, time_ran_out, line_lost, behind_link, end_step, late_link, linked_step, message_of, rises_at, stage_step, takes_by, talks_by}
+use Rattle.uug_session.specs.EndStep.{Stage, hailing, linked, ended, Emitted, EndEvent, EndState, Identity, packet_found_whole, end_step, linked_step, rises_at}
 use Rattle.uug_session.specs.Finding.{Finding, finds_nothing, finds, finds_packet, finding}
 use Rattle.uug_session.specs.Greeting.{number_by}
 use Rattle.uug_conversation.specs.Holdings.{Holdings}
@@ -12,6 +10,8 @@ use Rattle.uug_conversation.specs.Keeper.{Keeper}
 use Rattle.uug_session.specs.NodeArriving.{NodeEnd, fails_first, fails_later, node_taker, with_effect}
 use Rattle.uug_conversation.specs.DialogueState.{DialogueState, end_keeper}
 use Rattle.uug_session.proofs.NumberLemmas.{step_number}
+use Rattle.uug_session.proofs.StepKeeps.{linked_leads, stage_leads}
+use Rattle.uug_session.proofs.KeeperLemmas.{end_in, taken_keeps}
 
 -- ---- what is emitted on the link stands behind what was emitted before
 
@@ -74,71 +74,25 @@ hails_not (hailing other) is g e = absurd is
 hails_not linked is g e = cc
 hails_not (ended how) is g e = cc
 
-module _ (k : Keeper DialogueState) (id : Identity) where
-  talks_greeted : (number : Option ℕ) (bad : Bool) (e : Effect) (before after : DialogueState) → HasGreeted (talks_by number bad k id e before after).state.stage
-  talks_greeted number true e before after = tt
-  talks_greeted number false e before after = tt
+pub linked_greeted : {C : Type 0} (k : Keeper C) (id : Identity) (event : EndEvent) (e : EndState C) → HasGreeted e.stage → HasGreeted (linked_step k id event e).state.stage
+linked_greeted k id event e is = linked_leads k id e (λ x. HasGreeted x.state.stage) (λ took x c. tt) (λ parted how x c took none. tt) tt tt is event
 
-  takes_greeted : (number : Option ℕ) (failed : Bool) (e : Effect) (message : List ℕ) (c : DialogueState) → HasGreeted (takes_by number failed k id e message c).state.stage
-  takes_greeted number true e message c = tt
-  takes_greeted number false e message c = talks_greeted number (k.is_bad (k.taking message c)) e c (k.taking message c)
-
-  link_greeted : (number : Option ℕ) (failed : Bool) (o : OutcomeValue) (e : Effect) (message : List ℕ) (c : DialogueState) → HasGreeted (behind_link number k id failed o e message c).state.stage
-  link_greeted number failed nothing e message c = tt
-  link_greeted number failed up e message c = tt
-  link_greeted number failed taken e message c = takes_greeted number (failed && k.asks_spool message c) e message c
-  link_greeted number failed closed e message c = tt
-  link_greeted number failed gave_up e message c = tt
-  link_greeted number failed halted e message c = tt
-
-  late_greeted : (number : Option ℕ) (parted : Bool) (o : OutcomeValue) (e : Effect) (c : DialogueState) → HasGreeted (late_link number id parted o e c).state.stage
-  late_greeted number parted nothing e c = tt
-  late_greeted number parted up e c = tt
-  late_greeted number parted taken e c = tt
-  late_greeted number parted closed e c = tt
-  late_greeted number parted gave_up e c = tt
-  late_greeted number parted halted e c = tt
-
-  linked_greeted : (number : Option ℕ) (event : EndEvent) (s : State) (c : DialogueState) → HasGreeted (linked_step k id event (record { stage = linked; link = s; keeper = c; number = number })).state.stage
-  linked_greeted number (text_found text) s c = tt
-  linked_greeted number long_text_found s c = tt
-  linked_greeted number (packet_found_whole failed p) s c = link_greeted number failed (step s (packet_found p)).outcome (step s (packet_found p)) (message_of p) c
-  linked_greeted number broken_found s c = link_greeted number false (step s bad_found).outcome (step s bad_found) [] c
-  linked_greeted number time_ran_out s c = late_greeted number (k.has_parted c) (step s timed_out).outcome (step s timed_out) c
-  linked_greeted number line_lost s c = tt
-
-  step_greeted : (number : Option ℕ) (stage : Stage) (event : EndEvent) (s : State) (c : DialogueState) → HasGreeted stage → HasGreeted (stage_step k id stage event (record { stage = stage; link = s; keeper = c; number = number })).state.stage
-  step_greeted number (hailing g) event s c is = absurd is
-  step_greeted number linked event s c is = linked_greeted number event s c
-  step_greeted number (ended how) event s c is = tt
+step_greeted : (k : Keeper DialogueState) (id : Identity) (event : EndEvent) (e : EndState DialogueState) → HasGreeted e.stage → HasGreeted (end_step k id event e).state.stage
+step_greeted k id event e is =
+    stage_leads k id event e (λ x. HasGreeted x.state.stage) HasGreeted (λ g at. absurd at) (λ at. linked_greeted k id event e is) is e.stage is
 
 abbrev pub CameGreeted : Arrival NodeEnd → Type 0
-CameGreeted (all_taken y) = HasGreeted y.end.state.stage
-CameGreeted (stopped y) = HasGreeted y.end.state.stage
+CameGreeted came = HasGreeted (end_in came).state.stage
 
-module _ (h : Holdings) (id : Identity) where
-  greeted_up : (n : ℕ) → ((bytes : List ℕ) (x : NodeEnd) → HasGreeted x.state.stage → CameGreeted (takes_up_to n (node_taker h id) (record { held = bytes; end = x })))
-      → (x : NodeEnd) (found : Finding) → HasGreeted x.state.stage → CameGreeted (takes_up (takes_up_to n (node_taker h id)) (node_taker h id) found x)
-  greeted_up n more x (finds_nothing rest) is = is
-  greeted_up n more x (finds event behind) is =
-      let e = end_step (end_keeper id.side h) id event x.state in
-      more (held_in e.state.stage behind) (with_effect e x.failures x)
-      (step_greeted (end_keeper id.side h) id x.state.number x.state.stage event x.state.link x.state.keeper is)
-  greeted_up n more x (finds_packet p from behind) is =
-      let event = packet_found_whole (fails_first x.failures) p in
-      let e = end_step (end_keeper id.side h) id event x.state in
-      more (held_in e.state.stage behind) (with_effect e (fails_later x.failures) x)
-      (step_greeted (end_keeper id.side h) id x.state.number x.state.stage event x.state.link x.state.keeper is)
-
-  pub stays_greeted : (n : ℕ) (bytes : List ℕ) (x : NodeEnd) → HasGreeted x.state.stage → CameGreeted (takes_up_to n (node_taker h id) (record { held = bytes; end = x }))
-  stays_greeted zero bytes x is = is
-  stays_greeted (suc n) bytes x is = greeted_up n (stays_greeted n) x (finding x.state.stage bytes) is
+pub stays_greeted : (h : Holdings) (id : Identity) (n : ℕ) (bytes : List ℕ) (x : NodeEnd) → HasGreeted x.state.stage
+    → CameGreeted (takes_up_to n (node_taker h id) (record { held = bytes; end = x }))
+stays_greeted h id n bytes x is =
+    taken_keeps id h (λ e. HasGreeted e.stage) (step_greeted (end_keeper id.side h) id) n (record { held = bytes; end = x }) is
 
 -- ---- and its number stays
 
 abbrev pub CameWith : Option ℕ → Arrival NodeEnd → Type 0
-CameWith number (all_taken y) = y.end.state.number ≡ number
-CameWith number (stopped y) = y.end.state.number ≡ number
+CameWith number came = (end_in came).state.number ≡ number
 
 nothing_rises : (id : Identity) (number : Option ℕ) (stage : Stage) (event : EndEvent) → HasGreeted stage → rises_at id number stage event ≡ false
 nothing_rises id number (hailing g) event is = absurd is
@@ -150,21 +104,8 @@ module _ (h : Holdings) (id : Identity) (number : Option ℕ) where
   keeps_number event e is same =
       step_number (end_keeper id.side h) id event e ∙ ap (λ (b : Bool). number_by b e.number) (nothing_rises id e.number e.stage event is) ∙ same
 
-  with_up : (n : ℕ)
-      → ((bytes : List ℕ) (x : NodeEnd) → HasGreeted x.state.stage → x.state.number ≡ number → CameWith number (takes_up_to n (node_taker h id) (record { held = bytes; end = x })))
-      → (x : NodeEnd) (found : Finding) → HasGreeted x.state.stage → x.state.number ≡ number → CameWith number (takes_up (takes_up_to n (node_taker h id)) (node_taker h id) found x)
-  with_up n more x (finds_nothing rest) is same = same
-  with_up n more x (finds event behind) is same =
-      let e = end_step (end_keeper id.side h) id event x.state in
-      more (held_in e.state.stage behind) (with_effect e x.failures x)
-      (step_greeted (end_keeper id.side h) id x.state.number x.state.stage event x.state.link x.state.keeper is) (keeps_number event x.state is same)
-  with_up n more x (finds_packet p from behind) is same =
-      let event = packet_found_whole (fails_first x.failures) p in
-      let e = end_step (end_keeper id.side h) id event x.state in
-      more (held_in e.state.stage behind) (with_effect e (fails_later x.failures) x)
-      (step_greeted (end_keeper id.side h) id x.state.number x.state.stage event x.state.link x.state.keeper is) (keeps_number event x.state is same)
-
   pub stays_with : (n : ℕ) (bytes : List ℕ) (x : NodeEnd) → HasGreeted x.state.stage → x.state.number ≡ number
       → CameWith number (takes_up_to n (node_taker h id) (record { held = bytes; end = x }))
-  stays_with zero bytes x is same = same
-  stays_with (suc n) bytes x is same = with_up n (stays_with n) x (finding x.state.stage bytes) is same
+  stays_with n bytes x is same =
+      (taken_keeps id h (λ e. HasGreeted e.stage × (e.number ≡ number))
+      (λ event e so. (step_greeted (end_keeper id.side h) id event e so.0, keeps_number event e so.0 so.1)) n (record { held = bytes; end = x }) (is, same)).1

@@ -1,8 +1,7 @@
 -- Each step of an end that is in range leaves it so, and what it emits can be written.
-use Rattle.std.proofs.Common.{◌≡◌, ◌⊎◌, ◌&&◌, ℕ, zero, suc, ◌≤◌, nat_lt, if◌then◌else◌, Bool, true, false, List, [], ◌∷◌, ◌++◌, length, map, All, Option, Some, None, inl, inr, refl, sym, subst, ◌∙◌}
+use Rattle.std.proofs.Common.{◌≡◌, ◌⊎◌, ◌&&◌, ℕ, ◌≤◌, nat_lt, if◌then◌else◌, Bool, true, false, List, [], ◌∷◌, ◌++◌, length, map, All, Option, Some, inl, inr, refl, sym, subst, ◌∙◌}
 use Rattle.std.specs.Bool.{⊤}
 use Rattle.std.proofs.lemmas.List.Elements.{All-nil, All-cons, All-head, All-tail, All-append}
-use Rattle.uug_link.specs.declared.limits.TheConstants.{WINDOW_MAX}
 use Rattle.uug_link.specs.declared.phase.Phase.{Phase}
 use Rattle.uug_link.specs.declared.phase.Phase.TheVariants as phases
 use Rattle.uug_link.specs.Announced.{Announced}
@@ -15,11 +14,9 @@ use Rattle.uug_packet.specs.Packet.{PacketValue}
 use Rattle.uug_packet.specs.WellFormed.{IsWellFormed}
 use Rattle.uug_session.specs.declared.end.End.{End}
 use Rattle.uug_session.specs.declared.end.End.TheVariants as ends
-use Rattle.uug_session.specs.declared.greeting.Greeted.{Greeted}
-use Rattle.uug_session.specs.declared.greeting.Greeted.TheVariants.{GoesOn, LinkBegins, Ended}
 use Rattle.uug_session.specs.declared.greeting.Greeting.{Greeting}
-use Rattle.uug_session.specs.EndStep.{Stage, hailing, linked, ended, EndState, Emitted, says_text, sends_packet, EndEffect, Identity, Sending, packets, leave, ends_so, is_up, has_room, sending_nothing, sends_next, sends_by, sends_up_to, sends, closes_by, speaks_by, goes_on, goes_on_with, then_closes, talks_by, takes_by, behind_link, message_of, packet_came, bad_came, late_link, begins_link, greeted_so, EndEvent, text_found, long_text_found, packet_found_whole, broken_found, time_ran_out, line_lost, unmoved, hailing_step, linked_step, stage_step, end_step, begins_session, first_link, how_it_ends}
-use Rattle.uug_session.specs.Greeting.{GreetingStep, first_texts, long_text_came, number_by, text_came, timed_out as greeting_timed_out}
+use Rattle.uug_session.specs.EndStep.{hailing, linked, ended, EndState, Emitted, says_text, sends_packet, EndEffect, Identity, Sending, in_front, packets, leave, ends_so, is_up, has_room, sending_nothing, closes_by, speaks_by, goes_on, goes_on_with, then_closes, behind_link, message_of, packet_came, bad_came, late_link, EndEvent, text_found, long_text_found, packet_found_whole, broken_found, time_ran_out, line_lost, unmoved, hailing_step, linked_step, end_step, begins_session, first_link, how_it_ends}
+use Rattle.uug_session.specs.Greeting.{first_texts}
 use Rattle.uug_conversation.specs.Holdings.{Holdings}
 use Rattle.uug_session.specs.InRange.{BeginsFresh, CanBeWritten, HasSize, IsEndInRange, MayFind}
 use Rattle.uug_conversation.specs.Keeper.{Keeper}
@@ -32,6 +29,7 @@ use Rattle.uug_conversation.proofs.FitLemmas.{said_fit}
 use Rattle.uug_link.proofs.InRangeLemmas.{range_at_first, range_stays, emits_well_formed}
 use Rattle.uug_link.proofs.OutcomeLemmas.{answers_of, moves_of}
 use Rattle.uug_link.proofs.TermsLemmas.{size_stays}
+use Rattle.uug_session.proofs.StepKeeps.{speaks_so, takes_so, hailing_leads, stage_leads}
 
 abbrev Fits : ℕ → List ℕ → Type 0
 Fits size message = length message ≤ size
@@ -205,49 +203,37 @@ module _ (on : Side) (h : Holdings) where
   abbrev k : Keeper DialogueState
   k = end_keeper on h
 
-  -- what is sent by more
-  abbrev SendsFine : (State → DialogueState → Sending DialogueState) → Type 0
-  SendsFine more = (s : State) (talk : DialogueState) → IsInRange s → Suits s talk → FineSending (more s talk)
-
-  next_fine : (more : State → DialogueState → Sending DialogueState) (o : Option (List ℕ)) (s : State) (talk : DialogueState) → SendsFine more
-      → first_of talk.waiting ≡ o → IsUp s → IsInRange s → HasSize (size_of_code s.size_code) talk
-      → FineSending (sends_next more k o s talk)
-  next_fine more None s talk fine e is_up range size = sends_none s talk range (λ again. size)
-  next_fine more (Some message) s talk fine e is_up range size =
+  sent_fine : (s : State) (talk : DialogueState) (message : List ℕ) → has_room s ≡ true → first_of talk.waiting ≡ Some message → IsInRange s × Suits s talk
+      → (IsInRange (step s (to_send message)).state × Suits (step s (to_send message)).state (with_first_sent talk))
+      × ((x : Sending DialogueState) → FineSending x → FineSending (in_front (step s (to_send message)).emitted x))
+  sent_fine s talk message room e so =
+      let is_up : IsUp s = room_is_up s room in
+      let size : HasSize (size_of_code s.size_code) talk = so.1 is_up in
       let may : MayMeet s (to_send message) = (is_up, first_fits (size_of_code s.size_code) talk.waiting message size.fit e) in
       let left : HasSize (size_of_code s.size_code) (with_first_sent talk) =
       record { is = size.is; fit = rest_fit (size_of_code s.size_code) talk.waiting size.fit } in
-      let after = fine (step s (to_send message)).state (with_first_sent talk) (range_stays s (to_send message) range may)
-      (suits_later s (step s (to_send message)).state (with_first_sent talk) (λ again. left) (λ again. is_up) (sent_size s message)) in
-      record {
-        link = after.link;
-        talk = after.talk;
-        emissions = joined_emissions (step s (to_send message)).emitted _ (emits_well_formed s (to_send message) range may) after.emissions;
-      }
+      (
+        (
+          range_stays s (to_send message) so.0 may,
+          suits_later s (step s (to_send message)).state (with_first_sent talk) (λ again. left) (λ again. is_up) (sent_size s message),
+        ),
+        λ x after. record {
+          link = after.link;
+          talk = after.talk;
+          emissions = joined_emissions (step s (to_send message)).emitted x.emissions (emits_well_formed s (to_send message) so.0 may) after.emissions;
+        },
+      )
 
-  room_fine : (more : State → DialogueState → Sending DialogueState) (room : Bool) (s : State) (talk : DialogueState) → SendsFine more → has_room s ≡ room
-      → IsInRange s → Suits s talk → FineSending (sends_by room more k s talk)
-  room_fine more false s talk fine e range suits = sends_none s talk range suits
-  room_fine more true s talk fine e range suits =
-      let is_up : IsUp s = room_is_up s e in
-      next_fine more (first_of talk.waiting) s talk fine refl is_up range (suits is_up)
-
-  sends_fine : (n : ℕ) → SendsFine (sends_up_to n k)
-  sends_fine zero s talk range suits = sends_none s talk range suits
-  sends_fine (suc n) s talk range suits = room_fine (sends_up_to n k) (has_room s) s talk (sends_fine n) refl range suits
-
-  closes_fine : (over : Bool) (x : Sending DialogueState) → FineSending x → FineSending (closes_by over x)
-  closes_fine false x fine = fine
-  closes_fine true x fine = record {
+  closes_fine : (x : Sending DialogueState) → FineSending x → FineSending (closes_by true x)
+  closes_fine x fine = record {
     link = range_stays x.link to_close fine.link tt;
     talk = suits_down (step x.link to_close).state x.keeper (closed_down x.link);
     emissions = joined_emissions x.emissions (step x.link to_close).emitted fine.emissions (emits_well_formed x.link to_close fine.link tt);
   }
 
-  speaks_fine : (b : Bool) → SendsFine (speaks_by b k)
-  speaks_fine false s talk range suits = sends_none s talk range suits
-  speaks_fine true s talk range suits =
-      closes_fine (k.is_over (sends k s talk).keeper) (sends k s talk) (sends_fine WINDOW_MAX s talk range suits)
+  speaks_fine : (live : Bool) (s : State) (talk : DialogueState) → IsInRange s → Suits s talk → FineSending (speaks_by live k s talk)
+  speaks_fine live s talk range suits =
+      speaks_so k (λ s talk. IsInRange s × Suits s talk) FineSending (λ s talk so. sends_none s talk so.0 so.1) sent_fine closes_fine live s talk (range, suits)
 
   -- ---- behind the link's answer
 
@@ -287,20 +273,6 @@ module _ (on : Side) (h : Holdings) where
     emitted = joined_emissions e.emitted (step e.state to_close).emitted fine.emitted (emits_well_formed e.state to_close fine.state tt);
   }
 
-  talks_fine : (number : Option ℕ) (bad : Bool) (id : Identity) (e : Effect) (before after : DialogueState) → FineEffect e → Suits e.state after
-      → IsFine id.side (talks_by number bad k id e before after)
-  talks_fine number true id e before after fine suits =
-      ends_fine number id (k.has_parted before) ends.BadTalk (then_closes e) after true (closed_fine e fine) (closed_down e.state)
-  talks_fine number false id e before after fine suits = goes_on_fine number id.side true e after fine suits
-
-  takes_fine : (number : Option ℕ) (device_failed : Bool) (id : Identity) (e : Effect) (message : List ℕ) (talk : DialogueState) → FineEffect e
-      → Suits e.state talk → IsFine id.side (takes_by number device_failed k id e message talk)
-  takes_fine number true id e message talk fine suits =
-      ends_fine number id (k.has_parted talk) ends.SpoolFault (then_closes e) talk true (closed_fine e fine) (closed_down e.state)
-  takes_fine number false id e message talk fine suits =
-      talks_fine number (k.is_bad (taking h message talk)) id e talk (taking h message talk) fine
-      (λ is_up. has_size_taking h message (size_of_code e.state.size_code) talk (suits is_up))
-
   -- what a link did on an event
   record FineAnswer (s : State) (o : OutcomeValue) (e : Effect) : Type 0 where
     effect : FineEffect e
@@ -330,8 +302,12 @@ module _ (on : Side) (h : Holdings) where
       goes_on_fine number id.side false e (opened_with on h (size_of_code e.state.size_code) talk) a.effect
       (λ is_up. has_size_opened on h (size_of_code e.state.size_code) talk)
   behind_fine number id device_failed taken s e message talk a suits =
-      takes_fine number (device_failed && k.asks_spool message talk) id e message talk a.effect
-      (suits_moved s e talk suits (λ is_up. a.phases.0) a.size_stays)
+      let closed_so = closed_fine e a.effect in
+      takes_so k id number (IsFine id.side) (device_failed && k.asks_spool message talk) e message talk
+      (goes_on_fine number id.side true e (taking h message talk) a.effect
+      (λ is_up. has_size_taking h message (size_of_code e.state.size_code) talk (suits_moved s e talk suits (λ is_up. a.phases.0) a.size_stays is_up)))
+      (ends_fine number id (k.has_parted talk) ends.BadTalk (then_closes e) (taking h message talk) true closed_so (closed_down e.state))
+      (ends_fine number id (k.has_parted talk) ends.SpoolFault (then_closes e) talk true closed_so (closed_down e.state))
   behind_fine number id device_failed closed s e message talk a suits =
       ends_fine number id (k.has_parted talk) ends.PeerClosed e talk false a.effect (halted_down e.state.phase a.phases.1)
   behind_fine number id device_failed gave_up s e message talk a suits =
@@ -382,57 +358,35 @@ module _ (on : Side) (h : Holdings) where
 
   -- ---- the greeting
 
-  begun_fine : (number : Option ℕ) (side : Side) (g : Greeting) (s : State) (talk : DialogueState) (said : List Emitted) → AllCan said → IsInRange s
-      → BeginsFresh side (hailing g) s → Suits s talk → IsFine side (begins_link number side s talk said)
-  begun_fine number Caller g s talk said out range fresh suits = record {
-    state = record {
-      link = range_stays s to_begin range fresh;
-      fresh = tt;
-      talk = suits_down (step s to_begin).state talk (begun_down s);
-    };
-    emitted = All-append CanBeWritten said (packets (step s to_begin).emitted) out
-        (packets_can (step s to_begin).emitted (emits_well_formed s to_begin range fresh));
-  }
-  begun_fine number Called g s talk said out range fresh suits =
-      record { state = record { link = range; fresh = tt; talk = suits }; emitted = out }
-
   still_fresh : (side : Side) (g next : Greeting) (s : State) → BeginsFresh side (hailing g) s → BeginsFresh side (hailing next) s
   still_fresh Caller g next s fresh = fresh
   still_fresh Called g next s fresh = tt
-
-  greeted_fine : (number : Option ℕ) (id : Identity) (g : Greeting) (greeted : Greeted) (said : List Emitted) (s : State) (talk : DialogueState) → AllCan said
-      → IsInRange s → BeginsFresh id.side (hailing g) s → Suits s talk → IsFine id.side (greeted_so number id greeted said s talk)
-  greeted_fine number id g (GoesOn next) said s talk out range fresh suits = record {
-    state = record { link = range; fresh = still_fresh id.side g next s fresh; talk = suits };
-    emitted = out;
-  }
-  greeted_fine number id g LinkBegins said s talk out range fresh suits = begun_fine number id.side g s talk said out range fresh suits
-  greeted_fine number id g (Ended how) said s talk out range fresh suits =
-      record { state = record { link = range; fresh = fresh_ended id.side how s; talk = suits }; emitted = out }
 
   unmoved_fine : (side : Side) (e : EndState DialogueState) → IsEndInRange side e → IsFine side (unmoved e)
   unmoved_fine side e r = record { state = r; emitted = All-nil CanBeWritten }
 
   -- ---- the step
 
-  hailing_fine : (id : Identity) (g : Greeting) (event : EndEvent) (e : EndState DialogueState) → e.stage ≡ hailing g
+  hailing_fine : (id : Identity) (g : Greeting) (event : EndEvent) (e : EndState DialogueState) → BeginsFresh id.side (hailing g) e.link
       → IsEndInRange id.side e → IsFine id.side (hailing_step id g event e)
-  hailing_fine id g (text_found text) e is r =
-      let came : GreetingStep = text_came id.me id.peer e.number g text in
-      greeted_fine (number_by came.rises e.number) id g came.greeted (map says_text came.says) e.link e.keeper (texts_can came.says) r.link
-      (subst (λ (stage : Stage). BeginsFresh id.side stage e.link) is r.fresh) r.talk
-  hailing_fine id g long_text_found e is r =
-      greeted_fine e.number id g long_text_came.greeted (map says_text long_text_came.says) e.link e.keeper (texts_can long_text_came.says) r.link
-      (subst (λ (stage : Stage). BeginsFresh id.side stage e.link) is r.fresh) r.talk
-  hailing_fine id g time_ran_out e is r =
-      let came : GreetingStep = greeting_timed_out g in
-      greeted_fine (number_by came.rises e.number) id g came.greeted (map says_text came.says) e.link e.keeper (texts_can came.says) r.link
-      (subst (λ (stage : Stage). BeginsFresh id.side stage e.link) is r.fresh) r.talk
-  hailing_fine id g line_lost e is r =
-      greeted_fine e.number id g (Ended ends.HungUp) [] e.link e.keeper (All-nil CanBeWritten) r.link
-      (subst (λ (stage : Stage). BeginsFresh id.side stage e.link) is r.fresh) r.talk
-  hailing_fine id g (packet_found_whole device_failed p) e is r = unmoved_fine id.side e r
-  hailing_fine id g broken_found e is r = unmoved_fine id.side e r
+  hailing_fine id g event e fresh r =
+      hailing_leads id e (IsFine id.side)
+      (λ number next says. record {
+        state = record { link = r.link; fresh = still_fresh id.side g next e.link fresh; talk = r.talk };
+        emitted = texts_can says;
+      })
+      (λ number says is. let begun = subst (λ (side : Side). BeginsFresh side (hailing g) e.link) is fresh in record {
+        state = record {
+          link = range_stays e.link to_begin r.link begun;
+          fresh = fresh_linked id.side (step e.link to_begin).state;
+          talk = suits_down (step e.link to_begin).state e.keeper (begun_down e.link);
+        };
+        emitted = All-append CanBeWritten (map says_text says) (packets (step e.link to_begin).emitted) (texts_can says)
+            (packets_can (step e.link to_begin).emitted (emits_well_formed e.link to_begin r.link begun));
+      })
+      (λ number says. record { state = record { link = r.link; fresh = fresh_linked id.side e.link; talk = r.talk }; emitted = texts_can says })
+      (λ number how says. record { state = record { link = r.link; fresh = fresh_ended id.side how e.link; talk = r.talk }; emitted = texts_can says })
+      (unmoved_fine id.side e r) g event
 
   linked_fine : (id : Identity) (event : EndEvent) (e : EndState DialogueState) → MayFind event → IsEndInRange id.side e
       → IsFine id.side (linked_step k id event e)
@@ -448,19 +402,18 @@ module _ (on : Side) (h : Holdings) where
   linked_fine id (text_found text) e may r = unmoved_fine id.side e r
   linked_fine id long_text_found e may r = unmoved_fine id.side e r
 
-  stage_fine : (id : Identity) (stage : Stage) (event : EndEvent) (e : EndState DialogueState) → e.stage ≡ stage → MayFind event
-      → IsEndInRange id.side e → IsFine id.side (stage_step k id stage event e)
-  stage_fine id (hailing g) event e is may r = hailing_fine id g event e is r
-  stage_fine id linked event e is may r = linked_fine id event e may r
-  stage_fine id (ended how) event e is may r = unmoved_fine id.side e r
+  end_fine : (id : Identity) (event : EndEvent) (e : EndState DialogueState) → IsEndInRange id.side e → MayFind event → IsFine id.side (end_step k id event e)
+  end_fine id event e r may =
+      stage_leads k id event e (IsFine id.side) (λ stage. BeginsFresh id.side stage e.link) (λ g fresh. hailing_fine id g event e fresh r)
+      (λ fresh. linked_fine id event e may r) (unmoved_fine id.side e r) e.stage r.fresh
 
   pub end_stays : (id : Identity) (event : EndEvent) (e : EndState DialogueState) → IsEndInRange id.side e → MayFind event
       → IsEndInRange id.side (end_step k id event e).state
-  end_stays id event e r may = (stage_fine id e.stage event e refl may r).state
+  end_stays id event e r may = (end_fine id event e r may).state
 
   pub end_emits : (id : Identity) (event : EndEvent) (e : EndState DialogueState) → IsEndInRange id.side e → MayFind event
       → All CanBeWritten (end_step k id event e).emitted
-  end_emits id event e r may = (stage_fine id e.stage event e refl may r).emitted
+  end_emits id event e r may = (end_fine id event e r may).emitted
 
 -- ---- a session begins
 

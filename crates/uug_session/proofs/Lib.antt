@@ -40,6 +40,7 @@ pub mod OverLemmas
 pub mod SaidTextLemmas
 mod SaysLemmas
 pub mod SpeakLemmas
+pub mod StepKeeps
 pub mod TextsHeldLemmas
 pub mod WholeGreetingLemmas
 pub mod PacketSearchLemmas

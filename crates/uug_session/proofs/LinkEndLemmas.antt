@@ -1,25 +1,21 @@
 -- The session of an end whose link has ended is over.
-use Rattle.std.proofs.Common.{◌≡◌, ◌≢◌, ◌⊎◌, ◌&&◌, ℕ, zero, suc, if◌then◌else◌, Bool, true, false, List, [], Option, Some, None, inl, inr, refl, sym, subst, ◌∙◌}
-use Rattle.uug_link.specs.declared.limits.TheConstants.{WINDOW_MAX}
+use Rattle.std.proofs.Common.{◌≡◌, ◌≢◌, ◌⊎◌, ◌&&◌, ℕ, if◌then◌else◌, Bool, true, false, List, Option, inl, inr, refl, sym, subst, ◌∙◌}
 use Rattle.uug_link.specs.declared.phase.Phase.{Phase}
 use Rattle.uug_link.specs.declared.phase.Phase.TheVariants as phases
 use Rattle.uug_link.specs.Announced.{Announced}
 use Rattle.uug_link.specs.Outcomes.{MayAnswer, MovesPhase}
 use Rattle.uug_link.specs.State.{State, IsStarting, is_halted}
-use Rattle.uug_link.specs.Step.{Effect, OutcomeValue, nothing, up, taken, closed, gave_up, halted, answers_halted, on_event, step, to_begin, packet_found, bad_found, timed_out, to_send, to_close}
+use Rattle.uug_link.specs.Step.{Effect, OutcomeValue, nothing, up, taken, closed, gave_up, halted, answers_halted, on_event, step, to_begin, timed_out, to_send, to_close}
 use Rattle.uug_link.specs.Terms.{size_of_code}
-use Rattle.uug_session.specs.declared.greeting.Greeted.{Greeted}
-use Rattle.uug_session.specs.declared.greeting.Greeted.TheVariants.{GoesOn, LinkBegins, Ended}
-use Rattle.uug_session.specs.declared.greeting.Greeting.{Greeting}
 use Rattle.uug_session.specs.declared.phase.Phase.TheVariants as session_phases
-use Rattle.uug_session.specs.EndStep.{Stage, hailing, linked, ended, EndState, Emitted, Identity, Sending, has_room, is_up, sends_next, sends_by, sends_up_to, sends, closes_by, speaks_by, goes_on, talks_by, takes_by, behind_link, message_of, late_link, begins_link, greeted_so, EndEvent, text_found, long_text_found, packet_found_whole, broken_found, time_ran_out, line_lost, hailing_step, linked_step, stage_step, end_step, begins_session, first_link}
+use Rattle.uug_session.specs.EndStep.{Stage, hailing, linked, ended, EndState, EndEffect, Identity, is_up, speaks_by, goes_on, behind_link, late_link, EndEvent, end_step, begins_session, first_link}
 use Rattle.uug_session.specs.Engine.{IsEnded}
-use Rattle.uug_session.specs.Greeting.{number_by, text_came, timed_out as greeting_timed_out}
 use Rattle.uug_conversation.specs.Keeper.{Keeper}
 use Rattle.uug_session.specs.Phases.{EndsWithItsLink, phase_at}
 use Rattle.uug_conversation.specs.declared.side.Side.{Side}
 use Rattle.uug_conversation.specs.declared.side.Side.TheVariants.{Caller, Called}
 use Rattle.uug_link.proofs.OutcomeLemmas.{answers_of, moves_of}
+use Rattle.uug_session.proofs.StepKeeps.{speaks_so, takes_so, linked_by, hailing_leads, stage_leads}
 
 -- ---- links
 
@@ -72,41 +68,13 @@ first_lives Called own = starting_lives
 -- ---- an end
 
 module _ (C : Type 0) (k : Keeper C) where
-  abbrev SendsLive : (State → C → Sending C) → Type 0
-  SendsLive more = (s : State) (c : C) → IsAlive s.phase → IsAlive (more s c).link.phase
-
-  next_lives : (more : State → C → Sending C) (o : Option (List ℕ)) → SendsLive more → SendsLive (sends_next more k o)
-  next_lives more None live s c lives = lives
-  next_lives more (Some message) live s c lives = live (step s (to_send message)).state (k.sent c) (sent_lives s message lives)
-
-  room_lives : (more : State → C → Sending C) (room : Bool) → SendsLive more → SendsLive (sends_by room more k)
-  room_lives more false live s c lives = lives
-  room_lives more true live s c lives = next_lives more (k.next c) live s c lives
-
-  sends_live : (n : ℕ) → SendsLive (sends_up_to n k)
-  sends_live zero s c lives = lives
-  sends_live (suc n) s c lives = room_lives (sends_up_to n k) (has_room s) (sends_live n) s c lives
-
-  closes_lives : (over : Bool) (x : Sending C) → IsAlive x.link.phase → IsAlive (closes_by over x).link.phase
-  closes_lives false x lives = lives
-  closes_lives true x lives = closed_lives x.link lives
-
-  speaks_lives : (b : Bool) → SendsLive (speaks_by b k)
-  speaks_lives false s c lives = lives
-  speaks_lives true s c lives = closes_lives (k.is_over (sends k s c).keeper) (sends k s c) (sends_live WINDOW_MAX s c lives)
+  speaks_lives : (live : Bool) (s : State) (c : C) → IsAlive s.phase → IsAlive (speaks_by live k s c).link.phase
+  speaks_lives live s c lives =
+      speaks_so k (λ s c. IsAlive s.phase) (λ x. IsAlive x.link.phase) (λ s c lives. lives)
+      (λ s c message room next lives. (sent_lives s message lives, λ x then_lives. then_lives)) (λ x lives. closed_lives x.link lives) live s c lives
 
   goes_on_lives : (number : Option ℕ) (took : Bool) (e : Effect) (c : C) → IsAlive e.state.phase → EndsWithItsLink (goes_on number k took e c).state
   goes_on_lives number took e c lives = speaks_lives (is_up e.state.phase) e.state c lives
-
-  talks_lives : (number : Option ℕ) (bad : Bool) (id : Identity) (e : Effect) (before after : C) → IsAlive e.state.phase
-      → EndsWithItsLink (talks_by number bad k id e before after).state
-  talks_lives number true id e before after lives = λ is. tt
-  talks_lives number false id e before after lives = goes_on_lives number true e after lives
-
-  takes_lives : (number : Option ℕ) (device_failed : Bool) (id : Identity) (e : Effect) (message : List ℕ) (c : C) → IsAlive e.state.phase
-      → EndsWithItsLink (takes_by number device_failed k id e message c).state
-  takes_lives number true id e message c lives = λ is. tt
-  takes_lives number false id e message c lives = talks_lives number (k.is_bad (k.taking message c)) id e c (k.taking message c) lives
 
   behind_lives : (number : Option ℕ) (id : Identity) (device_failed : Bool) (o : OutcomeValue) (before : Phase) (e : Effect) (message : List ℕ) (c : C)
       → IsAlive before → MovesPhase o before e.state.phase → EndsWithItsLink (behind_link number k id device_failed o e message c).state
@@ -115,7 +83,8 @@ module _ (C : Type 0) (k : Keeper C) where
   behind_lives number id device_failed up before e message c lives moves =
       goes_on_lives number false e (k.opened (size_of_code e.state.size_code) c) (came_up e.state.phase moves.1)
   behind_lives number id device_failed taken before e message c lives moves =
-      takes_lives number (device_failed && k.asks_spool message c) id e message c (came_up e.state.phase moves.1)
+      takes_so k id number (λ x. EndsWithItsLink x.state) (device_failed && k.asks_spool message c) e message c
+      (goes_on_lives number true e (k.taking message c) (came_up e.state.phase moves.1)) (λ is. tt) (λ is. tt)
   behind_lives number id device_failed closed before e message c lives moves = λ is. tt
   behind_lives number id device_failed gave_up before e message c lives moves = λ is. tt
   behind_lives number id device_failed halted before e message c lives moves = absurd (lives moves.0)
@@ -129,48 +98,19 @@ module _ (C : Type 0) (k : Keeper C) where
   late_lives number id has_parted gave_up before e c lives may moves = λ is. tt
   late_lives number id has_parted halted before e c lives may moves = absurd (lives moves.0)
 
-  begins_lives : (number : Option ℕ) (side : Side) (s : State) (c : C) (said : List Emitted) → IsAlive s.phase → EndsWithItsLink (begins_link number side s c said).state
-  begins_lives number Caller s c said lives = begun_lives s lives
-  begins_lives number Called s c said lives = lives
-
-  greeted_lives : (number : Option ℕ) (id : Identity) (greeted : Greeted) (said : List Emitted) (s : State) (c : C) → IsAlive s.phase
-      → EndsWithItsLink (greeted_so number id greeted said s c).state
-  greeted_lives number id (GoesOn g) said s c lives = lives
-  greeted_lives number id LinkBegins said s c lives = begins_lives number id.side s c said lives
-  greeted_lives number id (Ended how) said s c lives = λ is. tt
-
-  hailing_ends : (id : Identity) (g : Greeting) (event : EndEvent) (e : EndState C) → EndsWithItsLink e → IsAlive e.link.phase
-      → EndsWithItsLink (hailing_step id g event e).state
-  hailing_ends id g (text_found text) e ends lives = greeted_lives (number_by (text_came id.me id.peer e.number g text).rises e.number) id (text_came id.me id.peer e.number g text).greeted _ e.link e.keeper lives
-  hailing_ends id g long_text_found e ends lives = λ is. tt
-  hailing_ends id g time_ran_out e ends lives = greeted_lives (number_by (greeting_timed_out g).rises e.number) id (greeting_timed_out g).greeted _ e.link e.keeper lives
-  hailing_ends id g line_lost e ends lives = λ is. tt
-  hailing_ends id g (packet_found_whole device_failed packet) e ends lives = ends
-  hailing_ends id g broken_found e ends lives = ends
-
-  linked_ends : (id : Identity) (event : EndEvent) (e : EndState C) → EndsWithItsLink e → IsAlive e.link.phase
-      → EndsWithItsLink (linked_step k id event e).state
-  linked_ends id (packet_found_whole device_failed packet) e ends lives =
-      let x = step e.link (packet_found packet) in
-      behind_lives e.number id device_failed x.outcome e.link.phase x (message_of packet) e.keeper lives (moves_of e.link (packet_found packet) tt)
-  linked_ends id broken_found e ends lives =
-      let x = step e.link bad_found in
-      behind_lives e.number id false x.outcome e.link.phase x [] e.keeper lives (moves_of e.link bad_found tt)
-  linked_ends id time_ran_out e ends lives =
-      let x = step e.link timed_out in
-      late_lives e.number id (k.has_parted e.keeper) x.outcome e.link.phase x e.keeper lives (answers_of e.link timed_out) (moves_of e.link timed_out tt)
-  linked_ends id line_lost e ends lives = λ is. tt
-  linked_ends id (text_found text) e ends lives = ends
-  linked_ends id long_text_found e ends lives = ends
-
-  stage_ends : (stage : Stage) (id : Identity) (event : EndEvent) (e : EndState C) → EndsWithItsLink e
-      → (e.link.phase ≡ phases.Halted → IsEnded stage) → EndsWithItsLink (stage_step k id stage event e).state
-  stage_ends (hailing g) id event e ends lives = hailing_ends id g event e ends lives
-  stage_ends linked id event e ends lives = linked_ends id event e ends lives
-  stage_ends (ended how) id event e ends lives = ends
-
   pub step_ends : (id : Identity) (event : EndEvent) (e : EndState C) → EndsWithItsLink e → EndsWithItsLink (end_step k id event e).state
-  step_ends id event e ends = stage_ends e.stage id event e ends ends
+  step_ends id event e ends =
+      let R : EndEffect C → Type 0 = λ x. EndsWithItsLink x.state in
+      let late = step e.link timed_out in
+      stage_leads k id event e R (λ stage. e.link.phase ≡ phases.Halted → IsEnded stage)
+      (λ g lives. hailing_leads id e R (λ number next says. lives) (λ number says is. begun_lives e.link lives) (λ number says. lives)
+      (λ number how says is. tt) ends g event)
+      (λ lives. linked_by k id e R
+      (λ event failed message comes. let x = step e.link event in
+      behind_lives e.number id failed x.outcome e.link.phase x message e.keeper lives (moves_of e.link event comes))
+      (late_lives e.number id (k.has_parted e.keeper) late.outcome e.link.phase late e.keeper lives (answers_of e.link timed_out) (moves_of e.link timed_out tt))
+      (λ is. tt) ends event)
+      ends e.stage ends
 
 pub begins_alive : (C : Type 0) (id : Identity) (own : Announced) (number : Option ℕ) (c : C) → EndsWithItsLink (begins_session id own number c).state
 begins_alive C id own number c = first_lives id.side own

@@ -3,26 +3,21 @@ use Rattle.std.proofs.Common.{◌≡◌, ℕ, ◌<◌, ◌≤◌, Bool, true, fa
 use Rattle.std.proofs.lemmas.List.{append-nil, take-append-drop}
 use Rattle.std.proofs.lemmas.List.Elements.{All-nil, All-cons}
 use Rattle.std.specs.Option.{is_some}
-use Rattle.uug_link.specs.Step.{Effect, OutcomeValue, nothing, up, taken, closed, gave_up, halted, step, packet_found, bad_found}
-use Rattle.uug_link.specs.State.{State}
 use Rattle.uug_packet.specs.Decoded.{decoded}
-use Rattle.uug_packet.specs.Packet.{PacketValue}
 use Rattle.uug_reader.specs.Cut.{Item, found, bad}
 use Rattle.uug_reader.specs.Reading.{Reading}
 use Rattle.uug_reader.specs.Search.{Search, waiting, standing, search_of, left_by}
 use Rattle.uug_session.specs.declared.greeting.Greeting.{Greeting}
 use Rattle.uug_session.specs.Arriving.{Receiver, held_in, holds, takes_all, takes_piece}
-use Rattle.uug_session.specs.EndStep.{Stage, hailing, linked, ended, EndState, Emitted, EndEffect, Identity, text_found, packet_found_whole, broken_found, bad_came, behind_link, message_of, packet_came, takes_by, talks_by}
+use Rattle.uug_session.specs.EndStep.{Stage, hailing, linked, ended, EndState, Emitted, EndEffect, text_found, packet_found_whole, broken_found}
 use Rattle.uug_session.specs.Engine.{Does, EngineState, end_of, with_stage}
 use Rattle.uug_session.specs.Finding.{Finding, finds, finds_packet, text_finding, item_finding, finding, found_with, LeavesFewer}
 use Rattle.uug_conversation.specs.Holdings.{Kept, Holdings}
-use Rattle.uug_conversation.specs.Keeper.{Keeper}
 use Rattle.uug_session.specs.Node.{NodeState, ItemValue, text_item, packet_item, bad_item, ShowsItem, TakesItem, TakesShown, IsAsBefore, IsLeft, bytes_at, held_bytes, item_size, struck_jobs, texts_searched, searched, effect_of, event_of}
 use Rattle.uug_session.specs.NodeArriving.{NodeEnd, with_effect, node_taker, GoesOn, IsAtRest}
 use Rattle.uug_session.specs.NodeCalls.{ShowsWhatIsFound}
 use Rattle.uug_conversation.specs.OwnRequests.{KeepsWhatItAskedFor}
 use Rattle.uug_conversation.specs.DialogueState.{DialogueState, end_keeper}
-use Rattle.uug_conversation.specs.DialogueValue.{dialogue_of}
 use Rattle.uug_session.specs.TextsHeld.{TextsHeld, TextSearch, text_waits, text_stands, text_too_long, search_text, ShowsText}
 use Rattle.uug_session.proofs.ArrivingLemmas.{held_fewer, held_same, found_event, found_packet, found_more, found_fewer}
 use Rattle.uug_session.proofs.PacketSearchLemmas.{Within, search_within, IsFoundAgain, search_again, read_stands}
@@ -32,6 +27,7 @@ use Rattle.uug_session.proofs.NodeSearchLemmas.{searched_rests, searches}
 use Rattle.uug_session.proofs.TextSearchLemmas.{finds_text}
 use Rattle.uug_session.proofs.TextCallLemmas.{found_again}
 use Rattle.uug_packet.proofs.DecodedLemmas.{decoded-spelling}
+use Rattle.uug_session.proofs.BehindGreetingLemmas.{HasGreeted, linked_greeted}
 
 -- an answer that has nothing says what is so where there is nothing
 pub none_shown : {X : Type 0} (o : Option X) (P : Type 0) (Q : X → Type 0) → is_some o ≡ false → MatchOption o P Q → P
@@ -40,40 +36,12 @@ none_shown (Some x) P Q none h = absurd cc
 
 -- ---- what a node comes to by what is found
 
--- a packet leads to the link, or to the end
-abbrev IsPastGreeting : Stage → Type 0
-IsPastGreeting (hailing g) = ⊥
-IsPastGreeting _ = Unit {0}
-
-past_talk : (number : Option ℕ) (bad_talk : Bool) (k : Keeper DialogueState) (id : Identity) (e : Effect) (before after : DialogueState) → IsPastGreeting (talks_by number bad_talk k id e before after).state.stage
-past_talk number true k id e before after = tt
-past_talk number false k id e before after = tt
-
-past_taking : (number : Option ℕ) (failed : Bool) (k : Keeper DialogueState) (id : Identity) (e : Effect) (message : List ℕ) (talk : DialogueState) → IsPastGreeting (takes_by number failed k id e message talk).state.stage
-past_taking number true k id e message talk = tt
-past_taking number false k id e message talk = past_talk number (k.is_bad (k.taking message talk)) k id e talk (k.taking message talk)
-
-past_link : (number : Option ℕ) (o : OutcomeValue) (k : Keeper DialogueState) (id : Identity) (failed : Bool) (e : Effect) (message : List ℕ) (talk : DialogueState)
-    → IsPastGreeting (behind_link number k id failed o e message talk).state.stage
-past_link number nothing k id failed e message talk = tt
-past_link number up k id failed e message talk = tt
-past_link number taken k id failed e message talk = past_taking number _ k id e message talk
-past_link number closed k id failed e message talk = tt
-past_link number gave_up k id failed e message talk = tt
-past_link number halted k id failed e message talk = tt
-
-past_packet : (number : Option ℕ) (k : Keeper DialogueState) (id : Identity) (failed : Bool) (p : PacketValue) (s : State) (talk : DialogueState) → IsPastGreeting (packet_came number k id failed p s talk).state.stage
-past_packet number k id failed p s talk = past_link number (step s (packet_found p)).outcome k id failed (step s (packet_found p)) (message_of p) talk
-
-past_bad : (number : Option ℕ) (k : Keeper DialogueState) (id : Identity) (s : State) (talk : DialogueState) → IsPastGreeting (bad_came number k id s talk).state.stage
-past_bad number k id s talk = past_link number (step s bad_found).outcome k id false (step s bad_found) [] talk
-
 left_text : (s : Stage) (n : NodeState) (behind : List ℕ) → n.texts.bytes ≡ behind → n.packets.bytes ≡ behind → bytes_at s n ≡ held_in s behind
 left_text (hailing g) n behind texts packets = texts
 left_text linked n behind texts packets = packets
 left_text (ended how) n behind texts packets = refl
 
-left_packets : (s : Stage) (n : NodeState) (behind : List ℕ) → IsPastGreeting s → n.packets.bytes ≡ behind → bytes_at s n ≡ held_in s behind
+left_packets : (s : Stage) (n : NodeState) (behind : List ℕ) → HasGreeted s → n.packets.bytes ≡ behind → bytes_at s n ≡ held_in s behind
 left_packets (hailing g) n behind past packets = absurd past
 left_packets linked n behind past packets = packets
 left_packets (ended how) n behind past packets = refl
@@ -165,11 +133,13 @@ module _ (h : Holdings) where
   left_behind linked e texts packets (text_item text) kept kept_after failed after shows left does = absurd shows
   left_behind linked e texts packets (packet_item p) kept kept_after failed after shows left does =
       left_packets after.engine.stage after (drop packets.shown_size packets.bytes)
-      (subst IsPastGreeting (sym (ap (λ (x : EndState DialogueState). x.stage) does.end)) (past_packet e.number (end_keeper e.identity.side h) e.identity failed p e.link (dialogue_of h kept e.dialogue)))
+      (subst HasGreeted (sym (ap (λ (x : EndState DialogueState). x.stage) does.end))
+      (linked_greeted (end_keeper e.identity.side h) e.identity (packet_found_whole failed p) (end_of h kept (with_stage linked e)) tt))
       (ap (λ (r : Reading). r.bytes) left)
   left_behind linked e texts packets bad_item kept kept_after failed after shows left does =
       left_packets after.engine.stage after (drop packets.shown_size packets.bytes)
-      (subst IsPastGreeting (sym (ap (λ (x : EndState DialogueState). x.stage) does.end)) (past_bad e.number (end_keeper e.identity.side h) e.identity e.link (dialogue_of h kept e.dialogue)))
+      (subst HasGreeted (sym (ap (λ (x : EndState DialogueState). x.stage) does.end))
+      (linked_greeted (end_keeper e.identity.side h) e.identity broken_found (end_of h kept (with_stage linked e)) tt))
       (ap (λ (r : Reading). r.bytes) left)
   left_behind (ended how) e texts packets item kept kept_after failed after shows left does = absurd shows
 

@@ -1,10 +1,9 @@
 -- The number of an end's conversations: it stays but where a text of the greeting lets the caller in.
-use Rattle.std.proofs.Common.{◌≡◌, ◌⊎◌, ◌&&◌, ℕ, ◌+◌, nat_lt, if◌then◌else◌, Bool, true, false, List, [], ◌∷◌, codes, Option, inl, inr, refl, sym, ap, subst, ◌∙◌}
+use Rattle.std.proofs.Common.{◌≡◌, ◌⊎◌, ℕ, ◌+◌, nat_lt, if◌then◌else◌, Bool, true, false, List, [], ◌∷◌, codes, Option, inl, inr, refl, sym, ap, subst, ◌∙◌}
 use Rattle.std.specs.Prelude.{drop}
 use Rattle.std.specs.Str.{bytes_eq}
 use Rattle.uug_link.specs.declared.limits.TheConstants.{TIMEOUTS_MAX}
 use Rattle.uug_link.specs.State.{State}
-use Rattle.uug_link.specs.Step.{Effect, OutcomeValue, nothing, up, taken, closed, gave_up, halted, step, packet_found, bad_found, timed_out}
 use Rattle.uug_talk.specs.Call.{call_text, number_in_call}
 use Rattle.uug_talk.specs.StreamTexts.{TextsEnd, Rest, TooLong}
 use Rattle.uug_session.specs.declared.end.End.{End}
@@ -14,53 +13,20 @@ use Rattle.uug_session.specs.declared.greeting.AwaitedText.TheVariants.{CalledNa
 use Rattle.uug_session.specs.declared.greeting.Greeted.{Greeted}
 use Rattle.uug_session.specs.declared.greeting.Greeted.TheVariants.{GoesOn, LinkBegins, Ended}
 use Rattle.uug_session.specs.declared.greeting.Greeting.{Greeting}
-use Rattle.uug_session.specs.EndStep.{Stage, hailing, linked, ended, Emitted, EndEvent, EndState, Identity, text_found, long_text_found, packet_found_whole, broken_found, time_ran_out, line_lost, begins_link, behind_link, end_step, greeted_so, hailing_step, late_link, linked_step, message_of, rises_at, stage_step, takes_by, talks_by}
+use Rattle.uug_session.specs.EndStep.{Stage, hailing, linked, ended, Emitted, EndEvent, EndState, Identity, text_found, long_text_found, packet_found_whole, broken_found, time_ran_out, line_lost, begins_link, end_step, greeted_so, hailing_step, linked_step, rises_at, stage_step}
 use Rattle.uug_session.specs.Greeting.{GreetingStep, begins_with, goes_on, is_expected, name_in_caller_text, number_by, number_came, offers_g, risen, text_came, timed_out as greeting_timed_out}
 use Rattle.uug_conversation.specs.Keeper.{Keeper}
 use Rattle.uug_conversation.specs.declared.side.Side.{Side}
 use Rattle.uug_conversation.specs.declared.side.Side.TheVariants.{Caller, Called}
 use Rattle.uug_session.specs.WholeGreeting.{GreetingRun, Greets, IsRefusal, has_let_in, step_behind, texts_came}
+use Rattle.uug_session.proofs.StepKeeps.{linked_leads}
 
 -- ---- on the link
 
-talks_number : {C : Type 0} (number : Option ℕ) (bad : Bool) (k : Keeper C) (id : Identity) (e : Effect) (before after : C)
-    → (talks_by number bad k id e before after).state.number ≡ number
-talks_number number true k id e before after = refl
-talks_number number false k id e before after = refl
-
-takes_number : {C : Type 0} (number : Option ℕ) (failed : Bool) (k : Keeper C) (id : Identity) (e : Effect) (message : List ℕ) (c : C)
-    → (takes_by number failed k id e message c).state.number ≡ number
-takes_number number true k id e message c = refl
-takes_number number false k id e message c = talks_number number (k.is_bad (k.taking message c)) k id e c (k.taking message c)
-
-link_number : {C : Type 0} (number : Option ℕ) (k : Keeper C) (id : Identity) (failed : Bool) (o : OutcomeValue) (e : Effect) (message : List ℕ) (c : C)
-    → (behind_link number k id failed o e message c).state.number ≡ number
-link_number number k id failed nothing e message c = refl
-link_number number k id failed up e message c = refl
-link_number number k id failed taken e message c = takes_number number (failed && k.asks_spool message c) k id e message c
-link_number number k id failed closed e message c = refl
-link_number number k id failed gave_up e message c = refl
-link_number number k id failed halted e message c = refl
-
-late_number : {C : Type 0} (number : Option ℕ) (id : Identity) (parted : Bool) (o : OutcomeValue) (e : Effect) (c : C)
-    → (late_link number id parted o e c).state.number ≡ number
-late_number number id parted nothing e c = refl
-late_number number id parted up e c = refl
-late_number number id parted taken e c = refl
-late_number number id parted closed e c = refl
-late_number number id parted gave_up e c = refl
-late_number number id parted halted e c = refl
-
 linked_number : {C : Type 0} (k : Keeper C) (id : Identity) (event : EndEvent) (e : EndState C)
     → (linked_step k id event e).state.number ≡ e.number
-linked_number k id (packet_found_whole failed p) e =
-    link_number e.number k id failed (step e.link (packet_found p)).outcome (step e.link (packet_found p)) (message_of p) e.keeper
-linked_number k id broken_found e = link_number e.number k id false (step e.link bad_found).outcome (step e.link bad_found) [] e.keeper
-linked_number k id time_ran_out e =
-    late_number e.number id (k.has_parted e.keeper) (step e.link timed_out).outcome (step e.link timed_out) e.keeper
-linked_number k id line_lost e = refl
-linked_number k id (text_found text) e = refl
-linked_number k id long_text_found e = refl
+linked_number k id event e =
+    linked_leads k id e (λ x. x.state.number ≡ e.number) (λ took x c. refl) (λ parted how x c took none. refl) refl refl refl event
 
 -- ---- in the greeting
 

@@ -1,12 +1,12 @@
 -- The number of an end's conversations stands as its session does, whatever happens to the end.
-use Rattle.std.proofs.Common.{◌≡◌, ◌⊎◌, ◌&&◌, ℕ, zero, suc, ◌+◌, nat_lt, if◌then◌else◌, Bool, true, false, List, [], ◌++◌, length, codes, Option, inl, inr, refl, sym, ap, subst}
+use Rattle.std.proofs.Common.{◌≡◌, ◌⊎◌, ℕ, ◌+◌, nat_lt, if◌then◌else◌, Bool, true, false, List, [], ◌++◌, codes, Option, inl, inr, refl, sym, ap, subst}
 use Rattle.std.specs.Prelude.{drop}
 use Rattle.std.specs.Str.{bytes_eq}
 use Rattle.uug_link.specs.declared.limits.TheConstants.{TIMEOUTS_MAX}
 use Rattle.uug_link.specs.Announced.{Announced}
 use Rattle.uug_link.specs.Entries.{EntryValue}
 use Rattle.uug_link.specs.State.{State}
-use Rattle.uug_link.specs.Step.{Effect, OutcomeValue, nothing, up, taken, closed, gave_up, halted, step, packet_found, bad_found, timed_out}
+use Rattle.uug_link.specs.Step.{step, timed_out}
 use Rattle.uug_talk.specs.Call.{number_in_call}
 use Rattle.uug_session.specs.declared.end.End.{End}
 use Rattle.uug_session.specs.declared.end.End.TheVariants as ends
@@ -15,23 +15,23 @@ use Rattle.uug_session.specs.declared.greeting.AwaitedText.TheVariants.{CalledNa
 use Rattle.uug_session.specs.declared.greeting.Greeted.{Greeted}
 use Rattle.uug_session.specs.declared.greeting.Greeted.TheVariants.{GoesOn, LinkBegins, Ended}
 use Rattle.uug_session.specs.declared.greeting.Greeting.{Greeting}
-use Rattle.uug_session.specs.Arriving.{Receiver, Buffered, Arrival, holds, held_in, takes_up, takes_up_to, takes_piece}
-use Rattle.uug_session.specs.EndStep.{Stage, hailing, linked, ended, Emitted, EndEvent, EndState, Identity, text_found, long_text_found, packet_found_whole, broken_found, time_ran_out, line_lost, begins_link, begins_session, behind_link, end_step, greeted_so, hailing_step, how_it_ends, late_link, linked_step, message_of, stage_step, takes_by, talks_by}
+use Rattle.uug_session.specs.Arriving.{Buffered, Arrival}
+use Rattle.uug_session.specs.EndStep.{Stage, hailing, linked, ended, Emitted, EndEvent, EndState, Identity, text_found, long_text_found, packet_found_whole, broken_found, time_ran_out, line_lost, begins_link, begins_session, end_step, greeted_so, hailing_step, how_it_ends, linked_step, stage_step}
 use Rattle.uug_session.specs.Engine.{BeginsSession, Does, EngineState, bare, end_of, hung_up, stage_late, with_stage}
-use Rattle.uug_session.specs.Finding.{Finding, finds_nothing, finds, finds_packet, finding}
 use Rattle.uug_session.specs.Greeting.{GreetingStep, begins_with, came_for, is_expected, name_in_caller_text, number_by, number_came, offers_g, risen, text_came, timed_out as greeting_timed_out}
 use Rattle.uug_conversation.specs.Holdings.{Kept, Holdings}
 use Rattle.uug_conversation.specs.Jobs.{Lists}
 use Rattle.uug_conversation.specs.Keeper.{Keeper}
 use Rattle.uug_session.specs.Node.{NodeState, effect_of}
-use Rattle.uug_session.specs.NodeArriving.{NodeEnd, TakesAll, fails_first, fails_later, hearer_of, node_taker, with_effect}
+use Rattle.uug_session.specs.NodeArriving.{NodeEnd, TakesAll, hearer_of}
 use Rattle.uug_session.specs.NumberStanding.{EndsWithNumber, KeepsNumber, NumberStands, number_while}
 use Rattle.uug_conversation.specs.DialogueState.{end_keeper}
 use Rattle.uug_conversation.specs.DialogueValue.{DialogueValue, dialogue_has_parted}
 use Rattle.uug_conversation.specs.declared.side.Side.{Side}
 use Rattle.uug_conversation.specs.declared.side.Side.TheVariants.{Caller, Called}
 use Rattle.uug_session.specs.WholeGreeting.{IsRefusal}
-use Rattle.uug_session.proofs.KeeperLemmas.{end_in}
+use Rattle.uug_session.proofs.KeeperLemmas.{end_in, piece_keeps}
+use Rattle.uug_session.proofs.StepKeeps.{late_so, linked_leads}
 
 -- of an end at its stage
 abbrev Stands : {C : Type 0} (n : Option ℕ) → EndState C → Type 0
@@ -44,45 +44,11 @@ over : (n now : Option ℕ) (parted : Bool) (how : End) → (IsRefusal how → �
 over n now true how none e = record { once = inr e; refused = λ is. absurd is }
 over n now false how none e = record { once = inr e; refused = λ is. absurd (none is) }
 
-module _ (n number : Option ℕ) (e : number ≡ risen n) where
-  talked : {C : Type 0} (bad : Bool) (k : Keeper C) (id : Identity) (x : Effect) (before after : C)
-      → Stands n (talks_by number bad k id x before after).state
-  talked true k id x before after = over n number (k.has_parted before) ends.BadTalk (λ is. is) e
-  talked false k id x before after = e
-
-  took : {C : Type 0} (failed : Bool) (k : Keeper C) (id : Identity) (x : Effect) (message : List ℕ) (c : C)
-      → Stands n (takes_by number failed k id x message c).state
-  took true k id x message c = over n number (k.has_parted c) ends.SpoolFault (λ is. is) e
-  took false k id x message c = talked (k.is_bad (k.taking message c)) k id x c (k.taking message c)
-
-  behind : {C : Type 0} (k : Keeper C) (id : Identity) (failed : Bool) (o : OutcomeValue) (x : Effect) (message : List ℕ) (c : C)
-      → Stands n (behind_link number k id failed o x message c).state
-  behind k id failed nothing x message c = e
-  behind k id failed up x message c = e
-  behind k id failed taken x message c = took (failed && k.asks_spool message c) k id x message c
-  behind k id failed closed x message c = over n number (k.has_parted c) ends.PeerClosed (λ is. is) e
-  behind k id failed gave_up x message c = over n number (k.has_parted c) ends.GaveUp (λ is. is) e
-  behind k id failed halted x message c = e
-
-  was_late : {C : Type 0} (id : Identity) (parted : Bool) (o : OutcomeValue) (x : Effect) (c : C)
-      → Stands n (late_link number id parted o x c).state
-  was_late id parted nothing x c = e
-  was_late id parted up x c = e
-  was_late id parted taken x c = e
-  was_late id parted closed x c = e
-  was_late id parted gave_up x c = over n number parted ends.GaveUp (λ is. is) e
-  was_late id parted halted x c = e
-
 on_link : {C : Type 0} (n : Option ℕ) (k : Keeper C) (id : Identity) (event : EndEvent) (e : EndState C) → e.number ≡ risen n
     → Stands n e → Stands n (linked_step k id event e).state
-on_link n k id (packet_found_whole failed p) e h same =
-    behind n e.number h k id failed (step e.link (packet_found p)).outcome (step e.link (packet_found p)) (message_of p) e.keeper
-on_link n k id broken_found e h same = behind n e.number h k id false (step e.link bad_found).outcome (step e.link bad_found) [] e.keeper
-on_link n k id time_ran_out e h same =
-    was_late n e.number h id (k.has_parted e.keeper) (step e.link timed_out).outcome (step e.link timed_out) e.keeper
-on_link n k id line_lost e h same = over n e.number (k.has_parted e.keeper) ends.HungUp (λ is. is) h
-on_link n k id (text_found text) e h same = same
-on_link n k id long_text_found e h same = same
+on_link n k id event e h same =
+    linked_leads k id e (λ x. Stands n x.state) (λ took x c. h) (λ parted how x c took none. over n e.number parted how none h) h
+    (over n e.number (k.has_parted e.keeper) ends.HungUp (λ is. is) h) same event
 
 -- ---- in the greeting
 
@@ -190,36 +156,13 @@ event_keeps h kept event e number stands = stepped number (end_keeper e.identity
 
 -- ---- bytes that come
 
-module _ (n : Option ℕ) (id : Identity) (h : Holdings) where
-  abbrev t : Receiver NodeEnd
-  t = node_taker h id
-
-  abbrev Keeps : (Buffered NodeEnd → Arrival NodeEnd) → Type 0
-  Keeps more = (r : Buffered NodeEnd) → Stands n r.end.state → Stands n (end_in (more r)).state
-
-  found : (more : Buffered NodeEnd → Arrival NodeEnd) (f : Finding) (x : NodeEnd) → Keeps more → Stands n x.state
-      → Stands n (end_in (takes_up more t f x)).state
-  found more (finds_nothing rest) x keep p = p
-  found more (finds event rest) x keep p = keep (holds t rest (t.takes event x)) (stepped n (end_keeper id.side h) id event x.state p)
-  found more (finds_packet packet from rest) x keep p =
-      let event = packet_found_whole (fails_first x.failures) packet in
-      keep (holds t rest (with_effect (end_step (end_keeper id.side h) id event x.state) (fails_later x.failures) x))
-      (stepped n (end_keeper id.side h) id event x.state p)
-
-  taken_up : (m : ℕ) → Keeps (takes_up_to m t)
-  taken_up zero r p = p
-  taken_up (suc m) r p = found (takes_up_to m t) (finding r.end.state.stage r.held) r.end (taken_up m) p
-
-  piece_keeps : (piece : List ℕ) (r : Buffered NodeEnd) → Stands n r.end.state → Stands n (end_in (takes_piece t piece r)).state
-  piece_keeps piece r p = taken_up (suc (length (held_in r.end.state.stage (r.held ++ piece)))) (holds t (r.held ++ piece) r.end) p
-
 pub takes_all_keeps : (h : Holdings) (kept kept_after : List Kept) (failure : Type 0) (bytes : List ℕ) (before after : NodeState)
     → TakesAll h kept kept_after failure bytes before after → KeepsNumber before.engine after.engine
 takes_all_keeps h kept kept_after failure bytes before after g = record {
   stands = λ number stands.
       let from : Buffered NodeEnd = hearer_of h kept [] (g.course.failures ++ []) before in
       subst (λ (c : Arrival NodeEnd). Stands number (end_in c).state) (g.taken [] [])
-      (piece_keeps number before.engine.identity h bytes from stands);
+      (piece_keeps before.engine.identity h (Stands number) (stepped number (end_keeper before.engine.identity.side h) before.engine.identity) bytes from stands);
 }
 
 -- ---- a timeout, and the line's end
@@ -229,7 +172,8 @@ late_at : {C : Type 0} (n number : Option ℕ) (id : Identity) (parted : Bool) (
 late_at n number id parted (hailing g) s c h =
     let w = greeting_timed_out g in
     greeted n (number_by w.rises number) id w.greeted _ s c (waited n number g h)
-late_at n number id parted linked s c h = was_late n number h id parted (step s timed_out).outcome (step s timed_out) c
+late_at n number id parted linked s c h =
+    late_so id number (λ x. Stands n x.state) parted (step s timed_out).outcome (step s timed_out) c h (over n number parted ends.GaveUp (λ is. is) h)
 late_at n number id parted (ended how) s c h = h
 
 pub late_keeps : (before after : EngineState)

@@ -299,7 +299,7 @@ module _ (id : Identity) (h : Holdings) (struck : List Job) (kept : List Kept) w
       step_keeps DialogueState (end_keeper id.side h) Since opened_keeps taking_keeps (λ talk same. same) id event e is
 
   piece_since : (piece : List ℕ) (r : Buffered NodeEnd) → Since r.end.state.keeper → Since (talk_in (takes_piece (node_taker h id) piece r))
-  piece_since piece r is = piece_keeps id h Since event_since piece r is
+  piece_since piece r is = piece_keeps id h (λ e. Since e.keeper) event_since piece r is
 
 pub event_keeps : (h : Holdings) (kept : List Kept) (event : EndEvent) (e : EngineState)
     → KeepsWhatItAskedFor e.dialogue.machine.lists.struck (effect_of h kept event e).state.keeper.machine.lists.struck

@@ -1,18 +1,14 @@
 -- An end sends while there is room: no window lets out more messages than are tried.
-use Rattle.std.proofs.Common.{◌≡◌, inl, inr, ◌⊎◌, ℕ, zero, suc, ◌+◌, ◌≤◌, nat_lt, Bool, true, false, if◌then◌else◌, ◌&&◌, map, List, [], ◌∷◌, length, Option, Some, None, refl, sym, ap, subst, ◌∙◌, arith, length-append}
+use Rattle.std.proofs.Common.{◌≡◌, inl, inr, ◌⊎◌, ℕ, zero, suc, ◌+◌, ◌≤◌, nat_lt, Bool, true, false, if◌then◌else◌, List, [], ◌∷◌, length, Option, Some, None, refl, sym, ap, subst, ◌∙◌, arith, length-append}
 use Rattle.std.proofs.lemmas.Bool.Decides.{nat_tests}
 use Rattle.uug_link.specs.Announced.{Announced}
 use Rattle.uug_link.specs.declared.limits.TheConstants.{TIMEOUTS_MAX, WINDOW_MAX}
 use Rattle.uug_link.specs.declared.phase.Phase.{Phase}
 use Rattle.uug_link.specs.declared.phase.Phase.TheVariants.{Fresh, AwaitsInitA, AwaitsInitB, AwaitsInitC, Up, Closing, Halted}
 use Rattle.uug_link.specs.State.{State, is_halted}
-use Rattle.uug_link.specs.Step.{Effect, OutcomeValue, nothing, up, taken, closed, gave_up, halted, answers, answers_halted, on_event, on_send, repeated, step, timed_out, to_begin, to_close, to_send, packet_found, bad_found}
-use Rattle.uug_link.specs.Terms.{size_of_code}
+use Rattle.uug_link.specs.Step.{Effect, nothing, up, gave_up, answers, answers_halted, on_event, on_send, repeated, step, timed_out, to_begin, to_close, to_send}
 use Rattle.uug_packet.specs.Packet.{close}
-use Rattle.uug_session.specs.declared.greeting.Greeted.{Greeted}
-use Rattle.uug_session.specs.declared.greeting.Greeted.TheVariants.{GoesOn, LinkBegins, Ended}
-use Rattle.uug_session.specs.EndStep.{says_text, EndEffect, EndEvent, EndState, Emitted, Identity, Sending, Stage, text_found, long_text_found, packet_found_whole, broken_found, time_ran_out, line_lost, hailing, linked, ended, begins_link, behind_link, closes_by, end_step, goes_on, greeted_so, has_room, is_up, late_link, message_of, sends, sends_by, sends_next, sends_up_to, speaks_by, stage_step, takes_by, talks_by, begins_session, first_link}
-use Rattle.uug_session.specs.Greeting.{number_by, text_came, long_text_came, timed_out as greeting_timed_out}
+use Rattle.uug_session.specs.EndStep.{EndEffect, EndEvent, EndState, Identity, Sending, closes_by, end_step, goes_on, has_room, is_up, sends, sends_by, sends_next, sends_up_to, speaks_by, begins_session, first_link}
 use Rattle.uug_session.specs.Engine.{Does, EngineState, end_of}
 use Rattle.uug_conversation.specs.Holdings.{Holdings, Kept}
 use Rattle.uug_conversation.specs.Keeper.{Keeper}
@@ -21,6 +17,7 @@ use Rattle.uug_conversation.specs.DialogueState.{DialogueState, end_keeper}
 use Rattle.uug_session.specs.Sending.{HasSaidWhatItCan, NodeHasSaidWhatItCan, SaidAt}
 use Rattle.uug_conversation.specs.declared.side.Side.{Side}
 use Rattle.uug_conversation.specs.declared.side.Side.TheVariants.{Caller, Called}
+use Rattle.uug_session.proofs.StepKeeps.{speaks_so, linked_leads, hailing_leads, stage_leads}
 
 -- ---- where there is no room
 
@@ -100,23 +97,6 @@ sent_window : (halts : Bool) (message : List ℕ) (s : State)
 sent_window true message s = refl
 sent_window false message s = refl
 
-window_next : {C : Type 0} (n : ℕ) (k : Keeper C) (s : State) (c : C) (next : Option (List ℕ))
-    → ((t : State) (d : C) → (sends_up_to n k t d).link.window ≡ t.window)
-    → (sends_next (sends_up_to n k) k next s c).link.window ≡ s.window
-window_next n k s c None more = refl
-window_next n k s c (Some message) more =
-    more (step s (to_send message)).state (k.sent c) ∙ sent_window (is_halted s.phase) message s
-
-window_by : {C : Type 0} (n : ℕ) (k : Keeper C) (s : State) (c : C) (room : Bool)
-    → ((t : State) (d : C) → (sends_up_to n k t d).link.window ≡ t.window)
-    → (sends_by room (sends_up_to n k) k s c).link.window ≡ s.window
-window_by n k s c false more = refl
-window_by n k s c true more = window_next n k s c (k.next c) more
-
-window_stays : {C : Type 0} (n : ℕ) (k : Keeper C) (s : State) (c : C) → (sends_up_to n k s c).link.window ≡ s.window
-window_stays zero k s c = refl
-window_stays (suc n) k s c = window_by n k s c (has_room s) (window_stays n k)
-
 -- ---- closing
 
 closed_window : (halts : Bool) (s : State) → (if halts then answers_halted s else on_event to_close s).state.window ≡ s.window
@@ -132,16 +112,13 @@ close_said : {C : Type 0} (over : Bool) (k : Keeper C) (x : Sending C) → SaidA
 close_said false k x said = said
 close_said true k x said = inl (closed_has_no_room (is_halted x.link.phase) x.link refl)
 
-close_window : {C : Type 0} (over : Bool) (x : Sending C) → (closes_by over x).link.window ≡ x.link.window
-close_window false x = refl
-close_window true x = closed_window (is_halted x.link.phase) x.link
-
 -- ---- behind the link's answer
 
-speak_window : {C : Type 0} (up : Bool) (k : Keeper C) (s : State) (c : C) → (speaks_by up k s c).link.window ≡ s.window
-speak_window false k s c = refl
-speak_window true k s c =
-    let x = sends k s c in close_window (k.is_over x.keeper) x ∙ window_stays WINDOW_MAX k s c
+speak_window : {C : Type 0} (live : Bool) (k : Keeper C) (s : State) (c : C) → (speaks_by live k s c).link.window ≡ s.window
+speak_window live k s c =
+    speaks_so k (λ t d. t.window ≡ s.window) (λ x. x.link.window ≡ s.window) (λ t d same. same)
+    (λ t d message room next same. (sent_window (is_halted t.phase) message t ∙ same, λ x is. is))
+    (λ x same. closed_window (is_halted x.link.phase) x.link ∙ same) live s c refl
 
 speak_said : {C : Type 0} (up : Bool) (k : Keeper C) (s : State) (c : C) → is_up s.phase ≡ up → s.window ≤ WINDOW_MAX
     → SaidAll k (speaks_by up k s c)
@@ -158,24 +135,6 @@ goes_on_said : {C : Type 0} (number : Option ℕ) (k : Keeper C) (took : Bool) (
 goes_on_said number k took e c within =
     speak_said (is_up e.state.phase) k e.state c refl
     (subst (λ (w : ℕ). w ≤ WINDOW_MAX) (speak_window (is_up e.state.phase) k e.state c) within)
-
-talks_said : {C : Type 0} (number : Option ℕ) (bad : Bool) (k : Keeper C) (id : Identity) (e : Effect) (before after : C) → Says k (talks_by number bad k id e before after)
-talks_said number true k id e before after within = tt
-talks_said number false k id e before after within = goes_on_said number k true e after within
-
-takes_said : {C : Type 0} (number : Option ℕ) (failed : Bool) (k : Keeper C) (id : Identity) (e : Effect) (message : List ℕ) (c : C)
-    → Says k (takes_by number failed k id e message c)
-takes_said number true k id e message c within = tt
-takes_said number false k id e message c within = talks_said number (k.is_bad (k.taking message c)) k id e c (k.taking message c) within
-
-link_said : {C : Type 0} (number : Option ℕ) (k : Keeper C) (id : Identity) (failed : Bool) (o : OutcomeValue) (e : Effect) (message : List ℕ) (c : C)
-    → Says k (behind_link number k id failed o e message c)
-link_said number k id failed nothing e message c within = goes_on_said number k false e c within
-link_said number k id failed up e message c within = goes_on_said number k false e (k.opened (size_of_code e.state.size_code) c) within
-link_said number k id failed taken e message c within = takes_said number (failed && k.asks_spool message c) k id e message c within
-link_said number k id failed closed e message c within = tt
-link_said number k id failed gave_up e message c within = tt
-link_said number k id failed halted e message c within = goes_on_said number k false e c within
 
 -- ---- a timeout
 
@@ -204,15 +163,6 @@ still_said : {C : Type 0} (k : Keeper C) (s : State) (c : C) → (has_room s ≡
 still_said k s c (inl none) = inl (late_room (is_halted s.phase) s none)
 still_said k s c (inr none) = inr none
 
-late_said : {C : Type 0} (number : Option ℕ) (k : Keeper C) (id : Identity) (parted : Bool) (o : OutcomeValue) (e : Effect) (c : C)
-    → (has_room e.state ≡ false) ⊎ (k.next c ≡ None) → HasSaidWhatItCan k (late_link number id parted o e c).state
-late_said number k id parted nothing e c said = said
-late_said number k id parted up e c said = said
-late_said number k id parted taken e c said = said
-late_said number k id parted closed e c said = said
-late_said number k id parted gave_up e c said = tt
-late_said number k id parted halted e c said = said
-
 -- ---- the greeting
 
 pub begun_is_down : (halts : Bool) (s : State) → is_halted s.phase ≡ halts
@@ -220,52 +170,18 @@ pub begun_is_down : (halts : Bool) (s : State) → is_halted s.phase ≡ halts
 begun_is_down true s is = halted_is_down s.phase is
 begun_is_down false s is = refl
 
-begins_said : {C : Type 0} (number : Option ℕ) (k : Keeper C) (side : Side) (s : State) (c : C) (said : List Emitted) → is_up s.phase ≡ false
-    → HasSaidWhatItCan k (begins_link number side s c said).state
-begins_said number k Caller s c said down =
-    inl (down_has_no_room (step s to_begin).state (begun_is_down (is_halted s.phase) s refl))
-begins_said number k Called s c said down = inl (down_has_no_room s down)
-
-greeted_said : {C : Type 0} (number : Option ℕ) (k : Keeper C) (id : Identity) (g : Greeted) (says : List Emitted) (s : State) (c : C)
-    → is_up s.phase ≡ false → HasSaidWhatItCan k (greeted_so number id g says s c).state
-greeted_said number k id (GoesOn g) says s c down = down
-greeted_said number k id LinkBegins says s c down = begins_said number k id.side s c says down
-greeted_said number k id (Ended how) says s c down = tt
-
 -- ---- a step
-
-unmoved_said : {C : Type 0} (k : Keeper C) (stage : Stage) (e : EndState C) → e.stage ≡ stage → SaidAt k stage e.link e.keeper
-    → HasSaidWhatItCan k e
-unmoved_said k stage e is said = subst (λ (t : Stage). SaidAt k t e.link e.keeper) (sym is) said
-
-step_said : {C : Type 0} (k : Keeper C) (id : Identity) (stage : Stage) (event : EndEvent) (e : EndState C) → e.stage ≡ stage
-    → SaidAt k stage e.link e.keeper → Says k (stage_step k id stage event e)
-step_said k id (hailing g) (text_found text) e is said within =
-    let step_then = text_came id.me id.peer e.number g text in
-    greeted_said (number_by step_then.rises e.number) k id step_then.greeted (map says_text step_then.says) e.link e.keeper said
-step_said k id (hailing g) long_text_found e is said within =
-    greeted_said e.number k id long_text_came.greeted (map says_text long_text_came.says) e.link e.keeper said
-step_said k id (hailing g) time_ran_out e is said within =
-    let step_then = greeting_timed_out g in
-    greeted_said (number_by step_then.rises e.number) k id step_then.greeted (map says_text step_then.says) e.link e.keeper said
-step_said k id (hailing g) line_lost e is said within = tt
-step_said k id (hailing g) (packet_found_whole failed p) e is said within = unmoved_said k (hailing g) e is said
-step_said k id (hailing g) broken_found e is said within = unmoved_said k (hailing g) e is said
-step_said k id linked (packet_found_whole failed p) e is said within =
-    link_said e.number k id failed (step e.link (packet_found p)).outcome (step e.link (packet_found p)) (message_of p) e.keeper within
-step_said k id linked broken_found e is said within =
-    link_said e.number k id false (step e.link bad_found).outcome (step e.link bad_found) [] e.keeper within
-step_said k id linked time_ran_out e is said within =
-    late_said e.number k id (k.has_parted e.keeper) (step e.link timed_out).outcome (step e.link timed_out) e.keeper
-    (still_said k e.link e.keeper said)
-step_said k id linked line_lost e is said within = tt
-step_said k id linked (text_found text) e is said within = unmoved_said k linked e is said
-step_said k id linked long_text_found e is said within = unmoved_said k linked e is said
-step_said k id (ended how) event e is said within = unmoved_said k (ended how) e is said
 
 pub stays_said : {C : Type 0} (k : Keeper C) (id : Identity) (event : EndEvent) (e : EndState C)
     → (end_step k id event e).state.link.window ≤ WINDOW_MAX → HasSaidWhatItCan k e → HasSaidWhatItCan k (end_step k id event e).state
-stays_said k id event e within said = step_said k id e.stage event e refl said within
+stays_said k id event e within said =
+    stage_leads k id event e (Says k) (λ stage. SaidAt k stage e.link e.keeper)
+    (λ g down. hailing_leads id e (Says k) (λ number next says within. down)
+    (λ number says is within. inl (down_has_no_room (step e.link to_begin).state (begun_is_down (is_halted e.link.phase) e.link refl)))
+    (λ number says within. inl (down_has_no_room e.link down)) (λ number how says within. tt) (λ within. said) g event)
+    (λ so_far. linked_leads k id e (Says k) (λ took x c. goes_on_said e.number k took x c) (λ parted how x c took none within. tt)
+    (λ within. still_said k e.link e.keeper so_far) (λ within. tt) (λ within. said) event)
+    (λ within. said) e.stage said within
 
 first_said : (side : Side) (own : Announced) → is_up (first_link side own).phase ≡ false
 first_said Caller own = refl

@@ -88,7 +88,7 @@ event_moves h kept event e =
 
 piece_moves : (id : Identity) (h : Holdings) (l : Lists) (piece : List ℕ) (r : Buffered NodeEnd)
     → OnlyMoves l r.end.state.keeper.machine.lists → OnlyMoves l (talk_in (takes_piece (node_taker h id) piece r)).machine.lists
-piece_moves id h l piece r is = piece_keeps id h (Moved id.side h l) (step_moves id.side h l id) piece r is
+piece_moves id h l piece r is = piece_keeps id h (λ e. Moved id.side h l e.keeper) (step_moves id.side h l id) piece r is
 
 abbrev jobs_of : NodeState → Lists
 jobs_of n = n.engine.dialogue.machine.lists
