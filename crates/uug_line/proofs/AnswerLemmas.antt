@@ -14,9 +14,9 @@ use Rattle.uug_conversation.specs.Holdings.{Holdings}
 use Rattle.uug_conversation.specs.DialogueState.{DialogueState, end_keeper}
 use Rattle.uug_conversation.specs.declared.side.Side.{Side}
 use Rattle.uug_conversation.specs.View.{Seen}
-use Rattle.uug_line.proofs.Invariant.{DoesAlike, IsInvariant, answer_to, found, heard_by, moved}
-use Rattle.uug_line.proofs.Joining.{Moment}
-use Rattle.uug_line.proofs.MomentLemmas.{count, count_silent, none_sent}
+use Rattle.uug_line.proofs.World.Invariant.{DoesAlike, IsInvariant, answer_to, found, heard_by, moved}
+use Rattle.uug_line.proofs.World.Joining.{Moment}
+use Rattle.uug_line.proofs.World.MomentLemmas.{count, count_silent, none_sent}
 use Rattle.uug_line.proofs.SpeakLemmas.{ends_alike, goes_on_alike, stays_alike}
 use Rattle.uug_link.proofs.OutcomeLemmas.{answers_of, moves_of, firsts_of}
 

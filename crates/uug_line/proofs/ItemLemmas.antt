@@ -39,7 +39,7 @@ use Rattle.uug_packet.proofs.WellFormedLemmas.{IsWellFormed-spelled}
 use Rattle.uug_session.proofs.ShownItemLemmas.{item_found, one_item, nothing_found}
 use Rattle.uug_session.proofs.InRangeLemmas.{end_stays}
 use Rattle.uug_session.proofs.ArrivingLemmas.{found_fewer, takes_next}
-use Rattle.uug_session.proofs.BehindGreetingLemmas.{HasGreeted, linked_greeted}
+use Rattle.uug_session.proofs.Greetings.BehindGreetingLemmas.{HasGreeted, linked_greeted}
 
 -- ---- behind an item of the link no end hails
 

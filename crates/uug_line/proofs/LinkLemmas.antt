@@ -18,10 +18,10 @@ use Rattle.uug_line.specs.Belongings.{SetupValue}
 use Rattle.uug_line.specs.LineEndState.{messages_sent, packets_in}
 use Rattle.uug_line.specs.LinkRun.{LinksRan, places_heard}
 use Rattle.uug_line.specs.Sides.{at}
-use Rattle.uug_line.proofs.Invariant.{answer_to, heard_with, moved}
-use Rattle.uug_line.proofs.Joining.{IsOpened, LinksOf, Moment, link_end}
+use Rattle.uug_line.proofs.World.Invariant.{answer_to, heard_with, moved}
+use Rattle.uug_line.proofs.World.Joining.{IsOpened, LinksOf, Moment, link_end}
 use Rattle.uug_line.proofs.LinkRunLemmas.{arrival_heard, is_run, ran_on}
-use Rattle.uug_line.proofs.MomentLemmas.{none_sent, packets_in_packets}
+use Rattle.uug_line.proofs.World.MomentLemmas.{none_sent, packets_in_packets}
 use Rattle.uug_line.proofs.SendLemmas.{sends_it}
 use Rattle.uug_link.proofs.OutcomeLemmas.{firsts_of}
 use Rattle.uug_link.proofs.ArrivalLemmas.{arrival_happens}

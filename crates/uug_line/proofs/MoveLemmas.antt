@@ -23,12 +23,12 @@ use Rattle.uug_line.specs.Belongings.{Belongings, SetupValue, party}
 use Rattle.uug_line.specs.LineEndState.{messages_sent}
 use Rattle.uug_line.specs.Sides.{AtBoth, at}
 use Rattle.uug_line.proofs.AnswerLemmas.{taken_message}
-use Rattle.uug_line.proofs.Invariant.{answer_to, heard_by, heard_with, moved}
-use Rattle.uug_line.proofs.Joining.{IsSoundSession, IsTalk, Joined, LinksOf, Moment, link_end}
+use Rattle.uug_line.proofs.World.Invariant.{answer_to, heard_by, heard_with, moved}
+use Rattle.uug_line.proofs.World.Joining.{IsSoundSession, IsTalk, Joined, LinksOf, Moment, link_end}
 use Rattle.uug_line.proofs.LinkLemmas.{DoesNotOpen, FindsNone, IsNotUp, does_not_open, closes_it, links_run, opened_stays, run_hears, run_moves, sends_none, stays_starting, stays_up, up_is_not_starting}
-use Rattle.uug_line.proofs.MomentLemmas.{none_sent}
+use Rattle.uug_line.proofs.World.MomentLemmas.{none_sent}
 use Rattle.uug_line.proofs.SendLemmas.{sends_it, up_with_room}
-use Rattle.uug_line.proofs.TalkLemmas.{Acted, Reaches, acts, fit_at, seen_at, talk_at, talker_at, told_at}
+use Rattle.uug_line.proofs.World.TalkLemmas.{Acted, Reaches, acts, fit_at, seen_at, talk_at, talker_at, told_at}
 use Rattle.uug_link.proofs.OutcomeLemmas.{answers_of, moves_of, begin_phase, send_phase, close_phase, firsts_of}
 use Rattle.uug_link.proofs.TwoLinksRuns.{fronts, sizes as link_sizes}
 use Rattle.uug_conversation.proofs.EarlierJobLemmas.{start_behind}

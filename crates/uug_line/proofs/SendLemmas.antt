@@ -13,9 +13,9 @@ use Rattle.uug_conversation.specs.DialogueState.{DialogueState, end_keeper}
 use Rattle.uug_conversation.specs.declared.side.Side.{Side}
 use Rattle.uug_conversation.specs.View.{Seen}
 use Rattle.uug_line.specs.LineEndState.{messages_sent}
-use Rattle.uug_line.proofs.Invariant.{IsInvariant, SendsAlike, counted_sending, moved, sent_all}
-use Rattle.uug_line.proofs.Joining.{Moment}
-use Rattle.uug_line.proofs.MomentLemmas.{count, emits, emits_more_packets, emits_nothing, length_sent}
+use Rattle.uug_line.proofs.World.Invariant.{IsInvariant, SendsAlike, counted_sending, moved, sent_all}
+use Rattle.uug_line.proofs.World.Joining.{Moment}
+use Rattle.uug_line.proofs.World.MomentLemmas.{count, emits, emits_more_packets, emits_nothing, length_sent}
 use Rattle.uug_link.proofs.OutcomeLemmas.{send_phase}
 
 -- ---- a link that is up

@@ -19,12 +19,12 @@ use Rattle.uug_line.specs.RunKeeper.{by_numbers, by_themselves, has_by, view_at}
 use Rattle.uug_line.specs.Sides.{AtBoth, at}
 use Rattle.uug_line.specs.LinkRun.{LinksRan}
 use Rattle.uug_line.specs.World.{count_of, counted_end}
-use Rattle.uug_line.proofs.Joining.{EndsJoined, Hails, IsSoundSession, IsTalk, Joined, Moment, Spoken, link_end, moment_of}
+use Rattle.uug_line.proofs.World.Joining.{EndsJoined, Hails, IsSoundSession, IsTalk, Joined, Moment, Spoken, link_end, moment_of}
 use Rattle.uug_line.proofs.LinkLemmas.{links_run, not_up}
 use Rattle.uug_line.proofs.SpeakingLemmas.{spoken_at_first}
 use Rattle.uug_line.proofs.LinkRunLemmas.{first_of, ran_from_far, ran_nowhere}
 use Rattle.uug_line.proofs.SideLemmas.{other_twice}
-use Rattle.uug_line.proofs.TalkLemmas.{IsToldAt, seen_at, talk_at, talker_at, told_at}
+use Rattle.uug_line.proofs.World.TalkLemmas.{IsToldAt, seen_at, talk_at, talker_at, told_at}
 use Rattle.uug_link.proofs.TwoLinksRuns.{fronts}
 
 module _ (setup : SetupValue) (brought : AtBoth Belongings) where

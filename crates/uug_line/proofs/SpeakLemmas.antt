@@ -11,9 +11,9 @@ use Rattle.uug_conversation.specs.Holdings.{Holdings}
 use Rattle.uug_conversation.specs.DialogueState.{DialogueState, end_keeper}
 use Rattle.uug_conversation.specs.declared.side.Side.{Side}
 use Rattle.uug_conversation.specs.View.{Seen}
-use Rattle.uug_line.proofs.Invariant.{DoesAlike, HailsFresh, IsInvariant, SendsAlike, counted_effect, counted_sending, done_all, moved, sent_all}
-use Rattle.uug_line.proofs.Joining.{Moment}
-use Rattle.uug_line.proofs.MomentLemmas.{count, count_silent, emits, emits_and_leaves, emits_more_packets, none_sent}
+use Rattle.uug_line.proofs.World.Invariant.{DoesAlike, HailsFresh, IsInvariant, SendsAlike, counted_effect, counted_sending, done_all, moved, sent_all}
+use Rattle.uug_line.proofs.World.Joining.{Moment}
+use Rattle.uug_line.proofs.World.MomentLemmas.{count, count_silent, emits, emits_and_leaves, emits_more_packets, none_sent}
 use Rattle.uug_line.proofs.SendLemmas.{nothing_alike, sends_alike, sends_stays_up, up_by}
 use Rattle.uug_link.proofs.OutcomeLemmas.{firsts_of}
 

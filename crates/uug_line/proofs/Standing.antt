@@ -31,18 +31,18 @@ use Rattle.uug_line.specs.SoundSetup.{IsSoundSetup}
 use Rattle.uug_line.specs.Speaking.{HaveSpoken}
 use Rattle.uug_line.specs.Taking.{line_taker}
 use Rattle.uug_line.specs.World.{report_of, counted_hearer, counted, run_of_ends, world, report_of_ends, report_of_world}
-use Rattle.uug_line.proofs.Hearing.{counted_came, end_of, taken_piece}
-use Rattle.uug_line.proofs.Joining.{EndsJoined, HasPassed, IsSoundSession, LinksOf, link_end, moment_of}
+use Rattle.uug_line.proofs.World.Hearing.{counted_came, end_of, taken_piece}
+use Rattle.uug_line.proofs.World.Joining.{EndsJoined, HasPassed, IsSoundSession, LinksOf, link_end, moment_of}
 use Rattle.uug_line.proofs.MachineLemmas.{stands_behind, stands_first}
 use Rattle.uug_line.specs.MachineRun.{PresentRanAsMachine, RanAsMachine, SomeLinksRan, first_links, first_machine, link_end as told_end, link_ends}
 use Rattle.uug_line.specs.Told.{EndReportValue}
 use Rattle.uug_line.proofs.SideLemmas.{at_each_is, counted_at, each, each_are, other_twice, with_both, with_here}
-use Rattle.uug_line.proofs.Steps.{talk_player, count_player, IsNoPacket, Steps}
+use Rattle.uug_line.proofs.World.Steps.{talk_player, count_player, IsNoPacket, Steps}
 use Rattle.uug_line.proofs.StoredSince.{OwnSince, names_now, own_of_both, own_at_first, OwnPlaces, own_places, set_up}
 use Rattle.uug_link.proofs.TwoLinksRuns.{first_reads}
 use Rattle.uug_link.proofs.MovesRuns.{run_moves as links_move}
 use Rattle.uug_line.proofs.LowerLemmas.{always_within}
-use Rattle.uug_line.proofs.JoinedSteps.{steps as all_steps}
+use Rattle.uug_line.proofs.World.JoinedSteps.{steps as all_steps}
 
 -- the session is as the headline says
 pub record IsKept (setup : SetupValue) (session : AtBoth EndReportValue) : Type 0 where

@@ -17,11 +17,11 @@ use Rattle.uug_conversation.specs.declared.side.Side.{Side}
 use Rattle.uug_conversation.specs.declared.side.Side.TheVariants.{Caller, Called}
 use Rattle.uug_conversation.specs.View.{Seen}
 use Rattle.uug_line.proofs.AnswerLemmas.{Heard, bad_alike, late_alike, packet_alike, quiet_count}
-use Rattle.uug_line.proofs.Invariant.{DoesAlike, HailsFresh, IsInvariant, moved}
-use Rattle.uug_line.proofs.Joining.{Moment}
-use Rattle.uug_line.proofs.MomentLemmas.{count, emits, emits_nothing, emits_texts, emits_texts_first}
+use Rattle.uug_line.proofs.World.Invariant.{DoesAlike, HailsFresh, IsInvariant, moved}
+use Rattle.uug_line.proofs.World.Joining.{Moment}
+use Rattle.uug_line.proofs.World.MomentLemmas.{count, emits, emits_nothing, emits_texts, emits_texts_first}
 use Rattle.uug_line.proofs.SpeakLemmas.{ended_hails_not, linked_hails_not}
-use Rattle.uug_line.proofs.Steps.{IsNoPacket}
+use Rattle.uug_line.proofs.World.Steps.{IsNoPacket}
 use Rattle.uug_link.proofs.OutcomeLemmas.{firsts_of}
 
 -- an end at that stage

@@ -20,13 +20,13 @@ use Rattle.uug_line.specs.LineEndState.{LineEndState}
 use Rattle.uug_line.specs.Run.{parties}
 use Rattle.uug_line.specs.RunKeeper.{by_themselves, has_by, view_at}
 use Rattle.uug_line.specs.Sides.{AtBoth, at, at_each}
-use Rattle.uug_line.proofs.Joining.{IsTalk, EndsJoined, IsSoundSession}
+use Rattle.uug_line.proofs.World.Joining.{IsTalk, EndsJoined, IsSoundSession}
 use Rattle.uug_line.proofs.SideLemmas.{at_each_is}
-use Rattle.uug_line.proofs.Steps.{Steps}
+use Rattle.uug_line.proofs.World.Steps.{Steps}
 use Rattle.uug_conversation.proofs.StoredLemmas.{called_store, caller_store, nothing_struck_at_first, nothing_stored_at_first}
 use Rattle.uug_conversation.proofs.OwnEntryLemmas.{of_sessions, by_places}
 use Rattle.uug_conversation.proofs.SharingLemmas.{lists_are_shared, AreShared-All}
-use Rattle.uug_line.proofs.JoinedSteps.{steps}
+use Rattle.uug_line.proofs.World.JoinedSteps.{steps}
 
 -- ---- in a session of these parties
 

@@ -23,8 +23,8 @@ use Rattle.uug_session.specs.declared.greeting.Greeting.{Greeting}
 use Rattle.uug_session.specs.Greeting.{GreetingStep, first_greeting, goes_on, fails, called_text, is_expected, name_in_caller_text, number_by, number_came, risen}
 use Rattle.uug_talk.proofs.CallLemmas.{call_with_number, call_without_number}
 use Rattle.uug_session.specs.WholeGreeting.{GreetingRun, GreetsBy, GreetEachOther, IsNumber, BecomeOf, behind_text, step_behind, texts_came, saying_first, written_texts}
-use Rattle.uug_session.proofs.SaidTextLemmas.{texts_of-written, run_says, said_called}
-use Rattle.uug_session.proofs.WholeGreetingLemmas.{first_stand, one_run}
+use Rattle.uug_session.proofs.Greetings.SaidTextLemmas.{texts_of-written, run_says, said_called}
+use Rattle.uug_session.proofs.Greetings.WholeGreetingLemmas.{first_stand, one_run}
 use Rattle.uug_talk.proofs.StreamTextLemmas.{reads}
 
 -- a run of these texts, with nothing behind them

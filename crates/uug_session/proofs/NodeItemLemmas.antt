@@ -27,7 +27,7 @@ use Rattle.uug_session.proofs.NodeSearchLemmas.{searched_rests, searches}
 use Rattle.uug_session.proofs.TextSearchLemmas.{finds_text}
 use Rattle.uug_session.proofs.TextCallLemmas.{found_again}
 use Rattle.uug_packet.proofs.DecodedLemmas.{decoded-spelling}
-use Rattle.uug_session.proofs.BehindGreetingLemmas.{HasGreeted, linked_greeted}
+use Rattle.uug_session.proofs.Greetings.BehindGreetingLemmas.{HasGreeted, linked_greeted}
 
 -- an answer that has nothing says what is so where there is nothing
 pub none_shown : {X : Type 0} (o : Option X) (P : Type 0) (Q : X → Type 0) → is_some o ≡ false → MatchOption o P Q → P

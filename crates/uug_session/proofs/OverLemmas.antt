@@ -4,7 +4,7 @@ use Rattle.uug_link.specs.Announced.{Announced}
 use Rattle.uug_link.specs.declared.limits.TheConstants.{TIMEOUTS_MAX}
 use Rattle.uug_link.specs.State.{State, is_halted}
 use Rattle.uug_link.specs.Step.{Effect, answers_halted, on_event, step, timed_out, to_begin, to_close}
-use Rattle.uug_session.specs.EndStep.{EndEvent, EndState, Identity, Sending, begins_session, closes_by, end_step, first_link, goes_on, is_up, sends, speaks_by}
+use Rattle.uug_session.specs.EndStep.{EndEffect, EndEvent, EndState, Identity, Sending, begins_session, closes_by, end_step, first_link, goes_on, is_up, sends, speaks_by}
 use Rattle.uug_conversation.specs.Keeper.{Keeper}
 use Rattle.uug_session.specs.Sending.{HasClosedWhereItIsOver, GoesOnAt}
 use Rattle.uug_conversation.specs.declared.side.Side.{Side}

@@ -9,7 +9,7 @@ use Rattle.uug_session.specs.declared.greeting.Greeting.{Greeting}
 use Rattle.uug_session.specs.Greeting.{greeting_at_first, first_texts, number_by, text_came}
 use Rattle.uug_conversation.specs.declared.side.Side.{Side}
 use Rattle.uug_session.specs.WholeGreeting.{GreetingRun, GreetsBy, Greets, IsOver, run_behind, behind_text, step_behind, texts_came}
-use Rattle.uug_session.proofs.WholeGreetingLemmas.{one_rest}
+use Rattle.uug_session.proofs.Greetings.WholeGreetingLemmas.{one_rest}
 use Rattle.uug_talk.proofs.StreamTextLemmas.{reads, in_pieces, too_long_for_good}
 
 -- ---- the texts of two streams, one behind the other

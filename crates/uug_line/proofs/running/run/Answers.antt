@@ -19,7 +19,7 @@ use Rattle.uug_line.specs.WholeReport.{WholeReport}
 use Rattle.uug_line.proofs.HeardLemmas.{heard_at, scanned_at}
 use Rattle.uug_line.proofs.PastLemmas.{were_present}
 use Rattle.uug_line.proofs.ReportLemmas.{is_run_of}
-use Rattle.uug_line.proofs.RightPacketLemmas.{ends_bytes}
+use Rattle.uug_line.proofs.World.RightPacketLemmas.{ends_bytes}
 use Rattle.uug_line.proofs.RunLemmas.{give_as_set_up, told_by_ends, told_by_world}
 use Rattle.uug_line.proofs.Standing.{all_kept, all_own, present_ran, report_is, stays_in_front}
 use Rattle.uug_line.proofs.ToldLemmas.{earlier_spelled, fronts_spelled, windows_spelled}

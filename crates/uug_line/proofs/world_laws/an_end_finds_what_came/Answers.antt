@@ -1,6 +1,6 @@
 use Rattle.uug_line.specs.RunKeeper.{by_themselves, by_numbers}
 use Rattle.uug_line.proofs.HeardLemmas.{heard_at, scanned_at}
-use Rattle.uug_line.proofs.RightPacketLemmas.{ends_bytes, world_bytes}
+use Rattle.uug_line.proofs.World.RightPacketLemmas.{ends_bytes, world_bytes}
 use Rattle.uug_line.proofs.VerdictLemmas.{nothing_left}
 use Rattle.uug_line.proofs.world_laws.an_end_finds_what_came.Goals as goal
 

@@ -1,4 +1,4 @@
-use Rattle.uug_line.proofs.RightPacketLemmas.{ends_bytes, world_bytes}
+use Rattle.uug_line.proofs.World.RightPacketLemmas.{ends_bytes, world_bytes}
 use Rattle.uug_line.proofs.world_laws.what_comes_is_bytes.Goals as goal
 
 pub returns : goal.returns

@@ -1,5 +1,5 @@
-use Rattle.uug_session.proofs.GreetingCallLemmas.{greets_first, greets_through}
-use Rattle.uug_session.proofs.HeardGreetingLemmas.{greets_still, has_begun_link, has_ended, whole}
+use Rattle.uug_session.proofs.Greetings.GreetingCallLemmas.{greets_first, greets_through}
+use Rattle.uug_session.proofs.Greetings.HeardGreetingLemmas.{greets_still, has_begun_link, has_ended, whole}
 use Rattle.uug_session.proofs.greeting_laws.a_node_greets.Goals as goal
 
 pub returns-clause-steps : goal.returns-clause-steps

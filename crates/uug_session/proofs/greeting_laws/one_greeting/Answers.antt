@@ -1,4 +1,4 @@
-use Rattle.uug_session.proofs.WholeGreetingLemmas.{some_run, one_run, one_left, some_whole, one_whole, one_left_of_whole}
+use Rattle.uug_session.proofs.Greetings.WholeGreetingLemmas.{some_run, one_run, one_left, some_whole, one_whole, one_left_of_whole}
 use Rattle.uug_session.proofs.greeting_laws.one_greeting.Goals as goal
 
 pub returns-clause-some : goal.returns-clause-some

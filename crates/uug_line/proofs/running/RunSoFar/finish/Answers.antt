@@ -1,7 +1,7 @@
 use Rattle.std.proofs.Common.{◌∙◌, ℕ, ◌≤◌, subst, sym, true≢false}
 use Rattle.uug_line.specs.Code.Settling.{AreOver, parts_weight}
 use Rattle.uug_line.specs.RunValue.{run_value}
-use Rattle.uug_line.proofs.CleanLoop.{begins_so, goes_nearer, is_finished, less_left}
+use Rattle.uug_line.proofs.Clean.Loop.{begins_so, goes_nearer, is_finished, less_left}
 use Rattle.uug_line.proofs.running.RunSoFar.finish.Goals as goal
 
 pub prove-unreachable-requires : goal.prove-unreachable-requires

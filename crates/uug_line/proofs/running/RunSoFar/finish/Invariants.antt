@@ -3,7 +3,7 @@ use Rattle.uug_line.specs.declared.event.Event.{Event}
 use Rattle.uug_line.specs.Belongings.{SetupValue}
 use Rattle.uug_line.specs.RunValue.{run_value}
 use Rattle.uug_line.specs.Code.Settling.{MayFinish, parts_weight}
-use Rattle.uug_line.proofs.CleanLoop.{Nearing}
+use Rattle.uug_line.proofs.Clean.Loop.{Nearing}
 use Rattle.uug_line.proofs.running.RunSoFar.finish.Given as goal
 
 -- the rounds that are left lead to the end

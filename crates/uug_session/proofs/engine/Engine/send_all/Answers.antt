@@ -2,7 +2,7 @@ use Rattle.std.proofs.Common.{◌≡◌, ◌-◌, ◌+◌, ℕ, zero, suc, ap, r
 use Rattle.uug_link.specs.declared.limits.TheConstants.{WINDOW_MAX}
 use Rattle.uug_session.specs.Engine.{after_sends}
 use Rattle.uug_conversation.specs.DialogueValue.{dialogue_of}
-use Rattle.uug_session.proofs.SaysLemmas.{sends_say}
+use Rattle.uug_session.proofs.Greetings.SaysLemmas.{sends_say}
 use Rattle.uug_session.proofs.SpeakLemmas.{stays_so}
 use Rattle.uug_session.proofs.engine.Engine.send_all.Goals as goal
 

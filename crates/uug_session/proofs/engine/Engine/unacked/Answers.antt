@@ -1,7 +1,7 @@
 use Rattle.std.proofs.Common.{sym, subst, ◌∙◌}
 use Rattle.uug_link.specs.Announced.{announced}
 use Rattle.uug_session.specs.Engine.{EngineState, IsHailing, stage_of}
-use Rattle.uug_session.proofs.BeginningLemmas.{none_in_greeting}
+use Rattle.uug_session.proofs.Greetings.BeginningLemmas.{none_in_greeting}
 use Rattle.uug_session.proofs.engine.Engine.unacked.Goals as goal
 
 pub returns-clause-greeting : goal.returns-clause-greeting

@@ -8,7 +8,7 @@ use Rattle.uug_session.specs.NodeCalls.{IsMadeOfCalls, beside}
 use Rattle.uug_session.proofs.MadeLemmas.{made_of_both, made_of_none, offered_made}
 use Rattle.uug_session.proofs.CourseLemmas.{stays, takes_further}
 use Rattle.uug_session.specs.Sending.{SaysWhatItCan}
-use Rattle.uug_session.proofs.SaysLemmas.{offered_says}
+use Rattle.uug_session.proofs.Greetings.SaysLemmas.{offered_says}
 use Rattle.uug_session.proofs.NodeSearchLemmas.{accepted_most, offers_more, takes_all_of}
 use Rattle.uug_session.proofs.node.Node.arrive.Goals as goal
 

@@ -6,7 +6,7 @@ use Rattle.uug_session.specs.NodeArriving.{GoesOn}
 use Rattle.uug_session.proofs.NodeItemLemmas.{none_shown, refuses_next, rests_behind, searches_to, takes_next}
 use Rattle.uug_session.specs.NodeCalls.{beside}
 use Rattle.uug_session.proofs.MadeLemmas.{looked_made, made_of_both, refused_made, took_made}
-use Rattle.uug_session.proofs.SaysLemmas.{refused_says, searched_says}
+use Rattle.uug_session.proofs.Greetings.SaysLemmas.{refused_says, searched_says}
 use Rattle.uug_session.proofs.node.Node.take_next.Goals as goal
 
 pub returns-then-is_none-clause-goes_on : goal.returns-then-is_none-clause-goes_on

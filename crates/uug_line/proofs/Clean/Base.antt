@@ -26,10 +26,10 @@ use Rattle.uug_line.specs.RunKeeper.{view_at}
 use Rattle.uug_line.specs.Sides.{AtBoth, at}
 use Rattle.uug_line.specs.Speaking.{HasSpoken}
 use Rattle.uug_line.specs.Taking.{line_taker, packet_taken_up, takes_sent}
-use Rattle.uug_line.proofs.CleanWays.{packets_of-append}
-use Rattle.uug_line.proofs.Steps.{count_player}
+use Rattle.uug_line.proofs.Clean.Ways.{packets_of-append}
+use Rattle.uug_line.proofs.World.Steps.{count_player}
 use Rattle.uug_link.proofs.ArrivalLemmas.{place_is}
-use Rattle.uug_line.proofs.CleanFinds.{found_first}
+use Rattle.uug_line.proofs.Clean.Finds.{found_first}
 use Rattle.uug_session.proofs.ArrivingLemmas.{takes_next}
 
 -- ---- packets on a line

@@ -26,13 +26,13 @@ use Rattle.uug_line.specs.Settle.{AreRounds, EndIsSettled, IsSettled, MaySettle,
 use Rattle.uug_line.specs.Sides.{AtBoth, at}
 use Rattle.uug_line.specs.Told.{EndReportValue}
 use Rattle.uug_line.specs.World.{counted, counted_end, run_of_ends, world}
-use Rattle.uug_line.proofs.CleanBase.{Base, seen}
-use Rattle.uug_line.proofs.CleanCounts.{over_at}
-use Rattle.uug_line.proofs.CleanPairs.{IsPair, base_of_pairs, pair, pair_own, taken_first}
-use Rattle.uug_line.proofs.CleanRounds.{DonePair}
-use Rattle.uug_line.proofs.CleanRuns.{run_with, settling}
-use Rattle.uug_line.proofs.CleanSteps.{taken_within}
-use Rattle.uug_line.proofs.Joining.{IsSoundSession}
+use Rattle.uug_line.proofs.Clean.Base.{Base, seen}
+use Rattle.uug_line.proofs.Clean.Counts.{over_at}
+use Rattle.uug_line.proofs.Clean.Pairs.{IsPair, base_of_pairs, pair, pair_own, taken_first}
+use Rattle.uug_line.proofs.Clean.Rounds.{DonePair}
+use Rattle.uug_line.proofs.Clean.Runs.{run_with, settling}
+use Rattle.uug_line.proofs.Clean.Steps.{taken_within}
+use Rattle.uug_line.proofs.World.Joining.{IsSoundSession}
 use Rattle.uug_line.proofs.PastLemmas.{goes_on}
 use Rattle.uug_line.proofs.SideLemmas.{counted_at}
 use Rattle.uug_line.proofs.Standing.{Stands, run_goes}

@@ -11,7 +11,7 @@ use Rattle.uug_session.specs.EndStep.{Emitted, says_text, sends_packet, leave, p
 use Rattle.uug_conversation.specs.DialogueState.{DialogueState}
 use Rattle.uug_conversation.specs.declared.side.Side.{Side}
 use Rattle.uug_line.specs.LineEndState.{messages_sent, packets_in, sent_by}
-use Rattle.uug_line.proofs.Joining.{Moment}
+use Rattle.uug_line.proofs.World.Joining.{Moment}
 
 -- ---- what is emitted
 

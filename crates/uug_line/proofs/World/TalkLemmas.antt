@@ -15,7 +15,7 @@ use Rattle.uug_line.specs.Belongings.{Belongings, SetupValue, party}
 use Rattle.uug_line.specs.Run.{parties}
 use Rattle.uug_line.specs.RunKeeper.{view_at}
 use Rattle.uug_line.specs.Sides.{AtBoth, at}
-use Rattle.uug_line.proofs.Joining.{IsSoundSession}
+use Rattle.uug_line.proofs.World.Joining.{IsSoundSession}
 use Rattle.uug_conversation.proofs.FitLemmas.{own_fit}
 use Rattle.uug_line.proofs.LowerLemmas.{both_told, over_is}
 use Rattle.uug_session.proofs.ToldLemmas.{next_is, parted_is}

@@ -12,8 +12,8 @@ use Rattle.uug_line.specs.declared.event.Event.TheVariants.{Pass}
 use Rattle.uug_conversation.specs.declared.side.Side.TheVariants.{Caller, Called}
 use Rattle.uug_line.specs.declared.verdict.LineVerdict.TheVariants.{Clean}
 use Rattle.uug_line.specs.Belongings.{EndSetupValue, SetupValue}
-use Rattle.uug_line.proofs.FactSetups.{all, end_with, file, flow, flow_then, gives, send, x, y}
-use Rattle.uug_line.proofs.Summaries.{InSession, Summary, ComeTo, at_ends, talks, owns}
+use Rattle.uug_line.proofs.Facts.FactSetups.{all, end_with, file, flow, flow_then, gives, send, x, y}
+use Rattle.uug_line.proofs.Facts.Summaries.{InSession, Summary, ComeTo, at_ends, talks, owns}
 
 abbrev wide_end : (name : List ℕ) → List Job → MemoryHoldings → EndSetupValue
 wide_end name jobs spool = record (end_with name jobs spool) { own = record { window = 7; size_code = 0; quiet = false } }

@@ -1,10 +1,10 @@
 -- What is known of an end's steps in a session, from what the crates below promise.
 use Rattle.uug_line.specs.Belongings.{Belongings, SetupValue}
 use Rattle.uug_line.specs.Sides.{AtBoth}
-use Rattle.uug_line.proofs.JoinedLemmas.{does_joined, packet_joined}
-use Rattle.uug_line.proofs.Joining.{IsSoundSession}
+use Rattle.uug_line.proofs.World.JoinedLemmas.{does_joined, packet_joined}
+use Rattle.uug_line.proofs.World.Joining.{IsSoundSession}
 use Rattle.uug_line.proofs.SessionLemmas.{first_counted, first_joined, front, has_joined, to_floor, turned}
-use Rattle.uug_line.proofs.Steps.{Steps}
+use Rattle.uug_line.proofs.World.Steps.{Steps}
 
 pub steps : (setup : SetupValue) (brought : AtBoth Belongings) → IsSoundSession setup brought → Steps setup brought
 steps setup brought sound = record {

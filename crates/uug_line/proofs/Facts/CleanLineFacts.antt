@@ -10,8 +10,8 @@ use Rattle.uug_conversation.specs.MemoryHoldings.{no_holdings}
 use Rattle.uug_line.specs.declared.verdict.LineVerdict.TheVariants.{Clean}
 use Rattle.uug_line.specs.LineEndState.{JournalState}
 use Rattle.uug_session.specs.declared.phase.Phase.TheVariants.{Ended}
-use Rattle.uug_line.proofs.FactSetups.{cannot_place_y, denies_y, end_of_size, file, flow, gives, puts_y_off, q, request, send, sends_to, text, trickle, two_ends, x, y}
-use Rattle.uug_line.proofs.Summaries.{InSession, Has, Summary, ComeTo, Logs, at_ends, talks, owns}
+use Rattle.uug_line.proofs.Facts.FactSetups.{cannot_place_y, denies_y, end_of_size, file, flow, gives, puts_y_off, q, request, send, sends_to, text, trickle, two_ends, x, y}
+use Rattle.uug_line.proofs.Facts.Summaries.{InSession, Has, Summary, ComeTo, Logs, at_ends, talks, owns}
 
 -- both ends are done after one session
 abbrev done : (caller_talk called_talk : InSession) → (caller_has called_has : Has) → Summary

@@ -21,14 +21,14 @@ use Rattle.uug_line.specs.RunKeeper.{by_numbers}
 use Rattle.uug_line.specs.Settle.{AllBringOn, AreRounds, IsIdle, IsOver, PassesClean, Round, behind_two, events_of, late, line_from, one_if_over, passing, run_weight}
 use Rattle.uug_line.specs.Sides.{AtBoth}
 use Rattle.uug_line.specs.Told.{EndReportValue}
-use Rattle.uug_line.proofs.CleanBase.{Base, seen, receiver, with_line}
-use Rattle.uug_line.proofs.CleanItems.{Talks}
-use Rattle.uug_line.proofs.CleanPasses.{Passed}
-use Rattle.uug_line.proofs.CleanRounds.{DonePair, LeftPair, OpenPair, ShutPair, none_written, open_is_not_idle, some_closing, some_closing_line}
-use Rattle.uug_line.proofs.CleanSteps.{LeftStep, OpenStep, OpenThen, Stepped, both_sent, both_taken, called_then, caller_left, caller_shut, grows, round_left, round_open, round_shut, shut_grows, still_open, taken_within, takes_no_less}
-use Rattle.uug_line.proofs.CleanTimes.{both_waited, waited}
-use Rattle.uug_line.proofs.CleanWays.{Certainty, sure, unsure}
-use Rattle.uug_line.proofs.Steps.{count_player}
+use Rattle.uug_line.proofs.Clean.Base.{Base, seen, receiver, with_line}
+use Rattle.uug_line.proofs.Clean.Items.{Talks}
+use Rattle.uug_line.proofs.Clean.Passes.{Passed}
+use Rattle.uug_line.proofs.Clean.Rounds.{DonePair, LeftPair, OpenPair, ShutPair, none_written, open_is_not_idle, some_closing, some_closing_line}
+use Rattle.uug_line.proofs.Clean.Steps.{LeftStep, OpenStep, OpenThen, Stepped, both_sent, both_taken, called_then, caller_left, caller_shut, grows, round_left, round_open, round_shut, shut_grows, still_open, taken_within, takes_no_less}
+use Rattle.uug_line.proofs.Clean.Times.{both_waited, waited}
+use Rattle.uug_line.proofs.Clean.Ways.{Certainty, sure, unsure}
+use Rattle.uug_line.proofs.World.Steps.{count_player}
 
 -- a run of these two ends, which hold nothing
 abbrev pub run_with : List (AtBoth EndReportValue) → AtBoth Belongings → (x y : LineEndState Count) → Run Count

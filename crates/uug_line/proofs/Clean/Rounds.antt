@@ -17,11 +17,11 @@ use Rattle.uug_conversation.specs.declared.side.Side.{Side}
 use Rattle.uug_line.specs.Belongings.{Belongings, SetupValue}
 use Rattle.uug_line.specs.LineEndState.{LineEndState}
 use Rattle.uug_line.specs.Sides.{AtBoth}
-use Rattle.uug_line.proofs.CleanBase.{Base, as_end, came_on, seen, with_line, written, written-append}
-use Rattle.uug_line.proofs.CleanCounts.{all_came, none_outstanding, over_too, stuck}
-use Rattle.uug_line.proofs.CleanItems.{Back, Open, Shutting, ShutsWith, StaysKnown, Talks}
-use Rattle.uug_line.proofs.CleanPasses.{Closed, Passed, closed_of, closes_with, forgets, HeardAll, heard_all, leaves, passed_all, passed_behind}
-use Rattle.uug_line.proofs.CleanWays.{Certainty, IsTold, Knows, knows_on, sure, then_sure}
+use Rattle.uug_line.proofs.Clean.Base.{Base, as_end, came_on, seen, with_line, written, written-append}
+use Rattle.uug_line.proofs.Clean.Counts.{all_came, none_outstanding, over_too, stuck}
+use Rattle.uug_line.proofs.Clean.Items.{Back, Open, Shutting, ShutsWith, StaysKnown, Talks}
+use Rattle.uug_line.proofs.Clean.Passes.{Closed, Passed, closed_of, closes_with, forgets, HeardAll, heard_all, leaves, passed_all, passed_behind}
+use Rattle.uug_line.proofs.Clean.Ways.{Certainty, IsTold, Knows, knows_on, sure, then_sure}
 
 -- ---- two ends and their lines
 

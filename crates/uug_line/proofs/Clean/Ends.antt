@@ -17,7 +17,7 @@ use Rattle.uug_conversation.specs.Count.{Count, all_sent, all_taken, count_keepe
 use Rattle.uug_session.specs.EndStep.{EndEffect, EndState, Identity, Sending, packet_found_whole, time_ran_out, linked, ended, says_text, behind_link, closes_by, end_step, final_text, goes_on, goes_on_with, how_it_ends, is_up, late_link, leave, message_of, packets, sends, sends_by, sends_next, sends_up_to, sending_nothing, speaks_by, stage_step}
 use Rattle.uug_conversation.specs.Keeper.{Keeper}
 use Rattle.uug_conversation.specs.View.{Seen}
-use Rattle.uug_line.proofs.CleanWays.{Speaks, hears_on, packets_of-append, speaks_nothing, speaks_on}
+use Rattle.uug_line.proofs.Clean.Ways.{Speaks, hears_on, packets_of-append, speaks_nothing, speaks_on}
 
 -- ---- what goes out behind an answer
 

@@ -23,12 +23,12 @@ use Rattle.uug_line.proofs.ByteLemmas.{AllBytes, all_bytes}
 use Rattle.uug_line.proofs.CameLemmas.{comes_bytes}
 use Rattle.uug_line.proofs.CarriedLemmas.{right_packets, run_right}
 use Rattle.uug_line.proofs.EmittedByteLemmas.{IsRight}
-use Rattle.uug_line.proofs.Joining.{IsSoundSession, Joined, Moment, link_end, moment_of}
+use Rattle.uug_line.proofs.World.Joining.{IsSoundSession, Joined, Moment, link_end, moment_of}
 use Rattle.uug_line.proofs.LinkLemmas.{links_run}
 use Rattle.uug_line.proofs.Standing.{Goes, run_goes}
 use Rattle.uug_conversation.proofs.SaidByteLemmas.{own_bytes}
 use Rattle.uug_line.proofs.SideLemmas.{each}
-use Rattle.uug_line.proofs.TalkLemmas.{told_at}
+use Rattle.uug_line.proofs.World.TalkLemmas.{told_at}
 
 -- the packets of both ends
 abbrev pub AllRight : {C : Type 0} → Run C → Type 0

@@ -19,7 +19,7 @@ use Rattle.uug_line.specs.RunKeeper.{by_themselves, by_numbers, view_at}
 use Rattle.uug_line.specs.Sides.{AtBoth, at}
 use Rattle.uug_line.specs.Taking.{packet_taken_up}
 use Rattle.uug_line.specs.World.{count_of, counted_end}
-use Rattle.uug_line.proofs.Joining.{EndsJoined}
+use Rattle.uug_line.proofs.World.Joining.{EndsJoined}
 
 -- the end on the side, itself and by numbers
 abbrev pub talk_player : SetupValue → Side → Participant DialogueState

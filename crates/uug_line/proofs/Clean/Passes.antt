@@ -18,10 +18,10 @@ use Rattle.uug_line.specs.Belongings.{Belongings, SetupValue, identity}
 use Rattle.uug_line.specs.LineEndState.{LineEndState}
 use Rattle.uug_line.specs.Sides.{AtBoth}
 use Rattle.uug_line.specs.Taking.{packet_taken_up, with_packet}
-use Rattle.uug_line.proofs.CleanBase.{Base, Came, as_end, came_on, came_so, next_found, nothing_came, seen, still_coming, receiver, took_passed, written}
-use Rattle.uug_line.proofs.CleanEnds.{closing_end, closing_ends, closing_ignores, done_end}
-use Rattle.uug_line.proofs.CleanItems.{Open, Shutting, ShutsWith, StaysKnown, formed_there, heard}
-use Rattle.uug_line.proofs.Steps.{count_player}
+use Rattle.uug_line.proofs.Clean.Base.{Base, Came, as_end, came_on, came_so, next_found, nothing_came, seen, still_coming, receiver, took_passed, written}
+use Rattle.uug_line.proofs.Clean.Ends.{closing_end, closing_ends, closing_ignores, done_end}
+use Rattle.uug_line.proofs.Clean.Items.{Open, Shutting, ShutsWith, StaysKnown, formed_there, heard}
+use Rattle.uug_line.proofs.World.Steps.{count_player}
 use Rattle.uug_session.proofs.ArrivingLemmas.{takes_next}
 
 -- ---- an end that closes, and one that is done

@@ -19,8 +19,8 @@ use Rattle.uug_line.specs.Delivered.{GreetsOn, came_in}
 use Rattle.uug_session.specs.declared.phase.Phase.TheVariants.{Hail, Talking, Ended}
 use Rattle.uug_line.specs.RunKeeper.{by_numbers}
 use Rattle.uug_line.specs.World.{world, report_of_ends, report_of_world}
-use Rattle.uug_line.proofs.FactSetups.{all, end_with, file, flow, flow_then, gives, idle, inserted_then, puts_y_off, q, request, send, send_copy, sends_to, two_ends, x, y}
-use Rattle.uug_line.proofs.Summaries.{Has, ComeTo, at_ends, logs, talks, owns}
+use Rattle.uug_line.proofs.Facts.FactSetups.{all, end_with, file, flow, flow_then, gives, idle, inserted_then, puts_y_off, q, request, send, send_copy, sends_to, two_ends, x, y}
+use Rattle.uug_line.proofs.Facts.Summaries.{Has, ComeTo, at_ends, logs, talks, owns}
 
 abbrev nothing_left : Has
 nothing_left = owns 0 0 0 []

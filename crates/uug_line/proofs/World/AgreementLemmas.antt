@@ -8,10 +8,10 @@ use Rattle.uug_conversation.specs.View.{Seen}
 use Rattle.uug_conversation.specs.declared.side.Side.{Side}
 use Rattle.uug_line.specs.Belongings.{Belongings, SetupValue, party}
 use Rattle.uug_line.specs.Sides.{AtBoth, at}
-use Rattle.uug_line.proofs.Invariant.{IsInvariant}
-use Rattle.uug_line.proofs.Joining.{IsSoundSession, IsTalk, Joined, Moment}
+use Rattle.uug_line.proofs.World.Invariant.{IsInvariant}
+use Rattle.uug_line.proofs.World.Joining.{IsSoundSession, IsTalk, Joined, Moment}
 use Rattle.uug_line.proofs.MoveLemmas.{StandsThere, joined_begins, joined_closes, joined_finds_bad, joined_hears, joined_sends, joined_times_out}
-use Rattle.uug_line.proofs.TalkLemmas.{Agrees, agrees_at, seen_at, talk_at, talker_at, told_at}
+use Rattle.uug_line.proofs.World.TalkLemmas.{Agrees, agrees_at, seen_at, talk_at, talker_at, told_at}
 
 -- what an end keeps, and its two numbers, say the same
 pub record SaysSame (me : Side) (h : Holdings) (v : List Seen) (talk : DialogueState) (sent taken : ℕ) : Type 0 where

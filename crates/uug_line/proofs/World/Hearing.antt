@@ -17,9 +17,9 @@ use Rattle.uug_line.specs.LineEndState.{LineEndState, does}
 use Rattle.uug_line.specs.Sides.{AtBoth}
 use Rattle.uug_line.specs.Taking.{takes_sent, line_taker, packet_taken_up}
 use Rattle.uug_line.specs.World.{counted_end, counted_hearer}
-use Rattle.uug_line.proofs.Joining.{EndsJoined, IsSoundSession}
-use Rattle.uug_line.proofs.Steps.{talk_player, count_player, IsNoPacket, Steps}
-use Rattle.uug_line.proofs.JoinedSteps.{steps}
+use Rattle.uug_line.proofs.World.Joining.{EndsJoined, IsSoundSession}
+use Rattle.uug_line.proofs.World.Steps.{talk_player, count_player, IsNoPacket, Steps}
+use Rattle.uug_line.proofs.World.JoinedSteps.{steps}
 
 -- ---- packets are found on a link alone, and told apart from the rest
 

@@ -21,9 +21,9 @@ use Rattle.uug_line.specs.Belongings.{Belongings, SetupValue}
 use Rattle.uug_line.specs.LineEndState.{LineEndState, bytes_in, found_at, packets_in, took}
 use Rattle.uug_line.specs.Sides.{AtBoth, at}
 use Rattle.uug_line.specs.Taking.{packet_taken_up, with_packet}
-use Rattle.uug_line.proofs.CleanBase.{Base, Came, as_end, bytes_written, came_so, more_coming, next_found, packets_written, seen, still_coming, took_packets, took_passed, with_close, written, written-append}
-use Rattle.uug_line.proofs.CleanEnds.{ClosesThen, TalksOn, TalksOrCloses, closing_end, talks_or_closes}
-use Rattle.uug_line.proofs.Steps.{count_player}
+use Rattle.uug_line.proofs.Clean.Base.{Base, Came, as_end, bytes_written, came_so, more_coming, next_found, packets_written, seen, still_coming, took_packets, took_passed, with_close, written, written-append}
+use Rattle.uug_line.proofs.Clean.Ends.{ClosesThen, TalksOn, TalksOrCloses, closing_end, talks_or_closes}
+use Rattle.uug_line.proofs.World.Steps.{count_player}
 use Rattle.uug_link.proofs.OutcomeLemmas.{moves_of}
 use Rattle.uug_link.proofs.CountsRuns.{counted as links_counted}
 

@@ -24,10 +24,10 @@ use Rattle.uug_conversation.specs.declared.side.Side.{Side}
 use Rattle.uug_conversation.specs.declared.side.Side.TheVariants.{Caller, Called}
 use Rattle.uug_session.specs.WholeGreeting.{GreetingRun, Greets}
 use Rattle.uug_session.proofs.ArrivingLemmas.{found_nothing}
-use Rattle.uug_session.proofs.BehindGreetingLemmas.{CameGreeted, CameWith, CameWithout, came_without, front_stays, HasGreeted, hails_not, stays_greeted, stays_with, with_front}
+use Rattle.uug_session.proofs.Greetings.BehindGreetingLemmas.{CameGreeted, CameWith, CameWithout, came_without, front_stays, HasGreeted, hails_not, stays_greeted, stays_with, with_front}
 use Rattle.uug_session.proofs.CallLemmas.{begun_with}
 use Rattle.uug_session.proofs.CourseLemmas.{hearer_with}
-use Rattle.uug_session.proofs.NodeGreetingLemmas.{ComesTo, Waits, from_start, node_by}
+use Rattle.uug_session.proofs.Greetings.NodeGreetingLemmas.{ComesTo, Waits, from_start, node_by}
 use Rattle.uug_session.proofs.NumberLemmas.{begun_number}
 
 entries_said : (texts : List (List ℕ)) → map entry_of (map says_text texts) ≡ map entry_of_text texts

@@ -20,7 +20,7 @@ use Rattle.uug_line.specs.Settle.{AllBringOn, AreRounds, IsOver, PassesClean, Ro
 use Rattle.uug_line.specs.Code.Settling.{AreOver, IsFinished, MayFinish, RoundHappens, goes, parts_weight, stops}
 use Rattle.uug_line.specs.Sides.{at}
 use Rattle.uug_line.specs.World.{counted, run_of_ends, world}
-use Rattle.uug_line.proofs.CleanLaw.{settles_by, settles_of, settles_from}
+use Rattle.uug_line.proofs.Clean.Law.{settles_by, settles_of, settles_from}
 use Rattle.uug_line.proofs.PastLemmas.{next_event}
 use Rattle.uug_line.proofs.RunLemmas.{happens_clean, happens_fooled}
 use Rattle.uug_line.proofs.SideLemmas.{counted_at}

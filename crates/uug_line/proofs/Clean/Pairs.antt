@@ -22,13 +22,13 @@ use Rattle.uug_line.specs.Sides.{AtBoth, at}
 use Rattle.uug_line.specs.Speaking.{HasSpoken}
 use Rattle.uug_line.specs.Taking.{packet_taken_up}
 use Rattle.uug_line.specs.World.{count_of, counted_end}
-use Rattle.uug_line.proofs.AgreementLemmas.{is_invariant}
-use Rattle.uug_line.proofs.CleanBase.{Base, as_end, seen, with_line}
-use Rattle.uug_line.proofs.Joining.{EndsJoined, IsSoundSession, moment_of}
-use Rattle.uug_line.proofs.JoinedSteps.{steps}
+use Rattle.uug_line.proofs.World.AgreementLemmas.{is_invariant}
+use Rattle.uug_line.proofs.Clean.Base.{Base, as_end, seen, with_line}
+use Rattle.uug_line.proofs.World.Joining.{EndsJoined, IsSoundSession, moment_of}
+use Rattle.uug_line.proofs.World.JoinedSteps.{steps}
 use Rattle.uug_line.proofs.LinkLemmas.{links_run}
-use Rattle.uug_line.proofs.Steps.{Steps, count_player, talk_player}
-use Rattle.uug_line.proofs.TalkLemmas.{IsToldAt, talker_at, told_at}
+use Rattle.uug_line.proofs.World.Steps.{Steps, count_player, talk_player}
+use Rattle.uug_line.proofs.World.TalkLemmas.{IsToldAt, talker_at, told_at}
 use Rattle.uug_link.proofs.TwoLinksRuns.{owns}
 use Rattle.uug_link.proofs.WrittenRuns.{always_written}
 

@@ -13,8 +13,8 @@ use Rattle.uug_conversation.specs.Keeper.{Keeper}
 use Rattle.uug_conversation.specs.DialogueState.{DialogueState, end_keeper}
 use Rattle.uug_conversation.specs.declared.side.Side.{Side}
 use Rattle.uug_conversation.specs.View.{Seen}
-use Rattle.uug_line.proofs.Joining.{Moment}
-use Rattle.uug_line.proofs.MomentLemmas.{count, emits}
+use Rattle.uug_line.proofs.World.Joining.{Moment}
+use Rattle.uug_line.proofs.World.MomentLemmas.{count, emits}
 
 -- what is kept then, by the link's answer
 abbrev pub heard_talk : Keeper DialogueState → OutcomeValue → (size : ℕ) → (message : List ℕ) → DialogueState → DialogueState

@@ -11,12 +11,12 @@ use Rattle.uug_conversation.specs.declared.side.Side.TheVariants.{Caller, Called
 use Rattle.uug_line.specs.Belongings.{Belongings, SetupValue}
 use Rattle.uug_line.specs.LineEndState.{LineEndState}
 use Rattle.uug_line.specs.Sides.{AtBoth}
-use Rattle.uug_line.proofs.CleanBase.{Base, seen, with_line}
-use Rattle.uug_line.proofs.CleanCounts.{OverAt, all_came, counted_back, floor_within, goes_on, none_outstanding, others_is_own, over_at, stuck}
-use Rattle.uug_line.proofs.CleanItems.{Talks}
-use Rattle.uug_line.proofs.CleanPasses.{Passed}
-use Rattle.uug_line.proofs.CleanRounds.{DonePair, LeftPair, OpenPair, PassedTo, PassesOpen, ShutPair, done_passes, left_passes, open_passes, shut_passes, turned_done, turned_open}
-use Rattle.uug_line.proofs.CleanWays.{Certainty, sure}
+use Rattle.uug_line.proofs.Clean.Base.{Base, seen, with_line}
+use Rattle.uug_line.proofs.Clean.Counts.{OverAt, all_came, counted_back, floor_within, goes_on, none_outstanding, others_is_own, over_at, stuck}
+use Rattle.uug_line.proofs.Clean.Items.{Talks}
+use Rattle.uug_line.proofs.Clean.Passes.{Passed}
+use Rattle.uug_line.proofs.Clean.Rounds.{DonePair, LeftPair, OpenPair, PassedTo, PassesOpen, ShutPair, done_passes, left_passes, open_passes, shut_passes, turned_done, turned_open}
+use Rattle.uug_line.proofs.Clean.Ways.{Certainty, sure}
 
 -- ---- a round: the line from the caller x, then that from the called end y
 

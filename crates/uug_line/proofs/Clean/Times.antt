@@ -12,13 +12,13 @@ use Rattle.uug_conversation.specs.declared.side.Side.{Side}
 use Rattle.uug_line.specs.Belongings.{Belongings, SetupValue}
 use Rattle.uug_line.specs.LineEndState.{LineEndState, bytes_in, does, packets_in}
 use Rattle.uug_line.specs.Sides.{AtBoth, at}
-use Rattle.uug_line.proofs.CleanBase.{Base, as_end, bytes_written, packets_written, seen, written}
-use Rattle.uug_line.proofs.CleanCounts.{counted_back, counted_to, few}
-use Rattle.uug_line.proofs.CleanEnds.{waits_on}
-use Rattle.uug_line.proofs.CleanItems.{Talks}
-use Rattle.uug_line.proofs.CleanRounds.{OpenPair}
-use Rattle.uug_line.proofs.CleanWays.{HasData, IsTold, unsure}
-use Rattle.uug_line.proofs.Steps.{count_player}
+use Rattle.uug_line.proofs.Clean.Base.{Base, as_end, bytes_written, packets_written, seen, written}
+use Rattle.uug_line.proofs.Clean.Counts.{counted_back, counted_to, few}
+use Rattle.uug_line.proofs.Clean.Ends.{waits_on}
+use Rattle.uug_line.proofs.Clean.Items.{Talks}
+use Rattle.uug_line.proofs.Clean.Rounds.{OpenPair}
+use Rattle.uug_line.proofs.Clean.Ways.{HasData, IsTold, unsure}
+use Rattle.uug_line.proofs.World.Steps.{count_player}
 use Rattle.uug_link.proofs.OutcomeLemmas.{moves_of}
 use Rattle.uug_line.proofs.LowerLemmas.{always_passed}
 

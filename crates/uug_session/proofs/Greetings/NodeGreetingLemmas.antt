@@ -22,7 +22,7 @@ use Rattle.uug_session.specs.WholeGreeting.{Greets, GreetingRun, GreetsBy, greet
 use Rattle.uug_talk.specs.Texts.{Passing}
 use Rattle.uug_session.proofs.ArrivingLemmas.{found_event, found_fewer}
 use Rattle.uug_session.proofs.TextSearchLemmas.{finds_text, finds_none, finds_too_long}
-use Rattle.uug_session.proofs.WholeGreetingLemmas.{one_left, one_run}
+use Rattle.uug_session.proofs.Greetings.WholeGreetingLemmas.{one_left, one_run}
 use Rattle.uug_talk.proofs.StreamTextLemmas.{reads}
 
 -- ---- texts that are said one after another

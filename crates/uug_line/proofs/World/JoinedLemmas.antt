@@ -14,18 +14,18 @@ use Rattle.uug_line.specs.LineEndState.{LineEndState, JournalState, after_call, 
 use Rattle.uug_line.specs.Sides.{AtBoth, at}
 use Rattle.uug_line.specs.Taking.{packet_taken_up}
 use Rattle.uug_line.specs.World.{counted_end}
-use Rattle.uug_line.proofs.AgreementLemmas.{is_invariant}
+use Rattle.uug_line.proofs.World.AgreementLemmas.{is_invariant}
 use Rattle.uug_line.proofs.AnswerLemmas.{taken_if}
 use Rattle.uug_line.proofs.FoundLemmas.{passed_behind}
-use Rattle.uug_line.proofs.Invariant.{DoesAlike, counted_effect, done_all, found}
-use Rattle.uug_line.proofs.Joining.{EndsJoined, HasPassed, IsSoundSession, Joined, Moment, link_end, moment_of}
+use Rattle.uug_line.proofs.World.Invariant.{DoesAlike, counted_effect, done_all, found}
+use Rattle.uug_line.proofs.World.Joining.{EndsJoined, HasPassed, IsSoundSession, Joined, Moment, link_end, moment_of}
 use Rattle.uug_line.proofs.LinkLemmas.{links_run}
 use Rattle.uug_line.proofs.MoveLemmas.{StandsThere}
 use Rattle.uug_line.proofs.SpeakingLemmas.{spoken_after}
 use Rattle.uug_line.specs.Speaking.{HasSpoken}
 use Rattle.uug_line.proofs.StepLemmas.{packet_step_alike, step_alike}
-use Rattle.uug_line.proofs.Steps.{IsNoPacket, count_player, talk_player}
-use Rattle.uug_line.proofs.TalkLemmas.{seen_at}
+use Rattle.uug_line.proofs.World.Steps.{IsNoPacket, count_player, talk_player}
+use Rattle.uug_line.proofs.World.TalkLemmas.{seen_at}
 use Rattle.uug_link.proofs.TwoLinksRuns.{within as links_unacked, windows}
 use Rattle.uug_link.proofs.ArrivalLemmas.{place_is}
 

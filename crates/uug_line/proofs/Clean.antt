@@ -1,0 +1,14 @@
+pub mod Base
+pub mod Counts
+pub mod Ends
+pub mod Finds
+pub mod Items
+pub mod Law
+pub mod Loop
+pub mod Pairs
+pub mod Passes
+pub mod Rounds
+pub mod Runs
+pub mod Steps
+pub mod Times
+pub mod Ways

@@ -1,0 +1,10 @@
+pub mod AgreementLemmas
+pub mod Invariant
+pub mod JoinedLemmas
+pub mod JoinedSteps
+pub mod Joining
+pub mod MomentLemmas
+pub mod Hearing
+pub mod Steps
+pub mod TalkLemmas
+pub mod RightPacketLemmas

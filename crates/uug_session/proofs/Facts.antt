@@ -1,0 +1,5 @@
+pub mod EndFacts
+pub mod EndStepFacts
+pub mod GreetingFacts
+pub mod TextSearchFacts
+pub mod ToldFacts
