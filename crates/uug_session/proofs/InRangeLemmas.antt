@@ -211,8 +211,7 @@ module _ (on : Side) (h : Holdings) where
       let size : HasSize (size_of_code s.size_code) talk = so.1 is_up in
       let may : MayMeet s (to_send message) = (is_up, first_fits (size_of_code s.size_code) talk.waiting message size.fit e) in
       let left : HasSize (size_of_code s.size_code) (with_first_sent talk) =
-      record { is = size.is; fit = rest_fit (size_of_code s.size_code) talk.waiting size.fit } in
-      (
+      record { is = size.is; fit = rest_fit (size_of_code s.size_code) talk.waiting size.fit } in (
         (
           range_stays s (to_send message) so.0 may,
           suits_later s (step s (to_send message)).state (with_first_sent talk) (λ again. left) (λ again. is_up) (sent_size s message),
