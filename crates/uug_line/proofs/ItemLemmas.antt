@@ -6,7 +6,6 @@ use Rattle.std.specs.Option.{option_map}
 use Rattle.std.specs.Bool.{⊤}
 use Rattle.uug_link.specs.InRange.{IsAnnouncement}
 use Rattle.uug_link.specs.State.{State}
-use Rattle.uug_link.specs.Step.{taken}
 use Rattle.uug_packet.specs.Packet.{PacketValue}
 use Rattle.uug_packet.specs.Spelling.{canonical}
 use Rattle.uug_packet.specs.WellFormed.{IsWellFormed}

@@ -17,6 +17,7 @@ use Rattle.uug_line.proofs.World.Invariant.{IsInvariant, SendsAlike, counted_sen
 use Rattle.uug_line.proofs.World.Joining.{Moment}
 use Rattle.uug_line.proofs.World.MomentLemmas.{count, emits, emits_more_packets, emits_nothing, length_sent}
 use Rattle.uug_link.proofs.OutcomeLemmas.{send_phase}
+use Rattle.uug_session.proofs.StepKeeps.{sends_so}
 
 -- ---- a link that is up
 
@@ -47,21 +48,9 @@ sends_it s message h =
     (if_runs (is_halted s.phase) s (on_send message s) (ap is_halted h))
 
 -- and stays up
-next_stays_up : {C : Type 0} → (more : State → C → Sending C) (k : Keeper C) (o : Option (List ℕ)) (s : State) (c : C) →
-    IsUp s → ((t : State) (d : C) → IsUp t → IsUp (more t d).link) → IsUp (sends_next more k o s c).link
-next_stays_up more k None s c h stays = h
-next_stays_up more k (Some message) s c h stays =
-    stays (step s (to_send message)).state (k.sent c) (send_phase s message h)
-
-room_stays_up : {C : Type 0} → (more : State → C → Sending C) (k : Keeper C) (room : Bool) (s : State) (c : C) →
-    IsUp s → ((t : State) (d : C) → IsUp t → IsUp (more t d).link) → IsUp (sends_by room more k s c).link
-room_stays_up more k false s c h stays = h
-room_stays_up more k true s c h stays = next_stays_up more k (k.next c) s c h stays
-
 pub sends_stays_up : {C : Type 0} → (n : ℕ) (k : Keeper C) (s : State) (c : C) → IsUp s → IsUp (sends_up_to n k s c).link
-sends_stays_up zero k s c h = h
-sends_stays_up (suc n) k s c h =
-    room_stays_up (sends_up_to n k) k (has_room s) s c h (λ t d up. sends_stays_up n k t d up)
+sends_stays_up n k s c h =
+    sends_so k (λ s c. IsUp s) (λ x. IsUp x.link) (λ s c h. h) (λ s c message room next h. (send_phase s message h, λ x stays. stays)) n s c h
 
 -- ---- one message after the other
 

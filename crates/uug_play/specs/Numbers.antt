@@ -1,5 +1,5 @@
 -- What is shown of a run, and how the program ends then (this project's profile).
-use Rattle.std.specs.Prelude.{ℕ, ◌-◌, Bool, true, false, List, length, map, slice_get, Option, Some, None, if◌then◌else◌, ◌&&◌}
+use Rattle.std.specs.Prelude.{ℕ, ◌-◌, Bool, false, List, length, map, slice_get, Option, Some, None, if◌then◌else◌, ◌&&◌}
 use Rattle.uug_conversation.specs.Jobs.{pending}
 use Rattle.uug_session.specs.Phases.{is_done}
 use Rattle.uug_line.specs.declared.verdict.LineVerdict.{LineVerdict}

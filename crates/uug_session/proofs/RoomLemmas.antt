@@ -6,7 +6,7 @@ use Rattle.uug_link.specs.declared.limits.TheConstants.{TIMEOUTS_MAX, WINDOW_MAX
 use Rattle.uug_link.specs.declared.phase.Phase.{Phase}
 use Rattle.uug_link.specs.declared.phase.Phase.TheVariants.{Fresh, AwaitsInitA, AwaitsInitB, AwaitsInitC, Up, Closing, Halted}
 use Rattle.uug_link.specs.State.{State, is_halted}
-use Rattle.uug_link.specs.Step.{Effect, nothing, up, gave_up, answers, answers_halted, on_event, on_send, repeated, step, timed_out, to_begin, to_close, to_send}
+use Rattle.uug_link.specs.Step.{Effect, nothing, gave_up, answers, answers_halted, on_event, on_send, repeated, step, timed_out, to_begin, to_close, to_send}
 use Rattle.uug_packet.specs.Packet.{close}
 use Rattle.uug_session.specs.EndStep.{EndEffect, EndEvent, EndState, Identity, Sending, closes_by, end_step, goes_on, has_room, is_up, sends, sends_by, sends_next, sends_up_to, speaks_by, begins_session, first_link}
 use Rattle.uug_session.specs.Engine.{Does, EngineState, end_of}

@@ -24,8 +24,7 @@ use Rattle.uug_conversation.specs.declared.side.Side.TheVariants.{Caller, Called
 module _ {C : Type 0} (k : Keeper C) (Before : State → C → Type 0) (Then : Sending C → Type 0)
     (silent : (s : State) (c : C) → Before s c → Then (sending_nothing s c))
     (sent : (s : State) (c : C) (message : List ℕ) → has_room s ≡ true → k.next c ≡ Some message → Before s c
-    → Before (step s (to_send message)).state (k.sent c) × ((x : Sending C) → Then x → Then (in_front (step s (to_send message)).emitted x)))
-    (closing : (x : Sending C) → Then x → Then (closes_by true x)) where
+    → Before (step s (to_send message)).state (k.sent c) × ((x : Sending C) → Then x → Then (in_front (step s (to_send message)).emitted x))) where
   abbrev Says : (State → C → Sending C) → Type 0
   Says more = (s : State) (c : C) → Before s c → Then (more s c)
 
@@ -40,17 +39,17 @@ module _ {C : Type 0} (k : Keeper C) (Before : State → C → Type 0) (Then : S
   room_so more false s c says is so = silent s c so
   room_so more true s c says is so = next_so more (k.next c) s c says is refl so
 
-  sends_so : (n : ℕ) → Says (sends_up_to n k)
+  pub sends_so : (n : ℕ) → Says (sends_up_to n k)
   sends_so zero s c so = silent s c so
   sends_so (suc n) s c so = room_so (sends_up_to n k) (has_room s) s c (sends_so n) refl so
 
-  closes_so : (over : Bool) (x : Sending C) → Then x → Then (closes_by over x)
-  closes_so false x so = so
-  closes_so true x so = closing x so
+  closes_so : ((x : Sending C) → Then x → Then (closes_by true x)) → (over : Bool) (x : Sending C) → Then x → Then (closes_by over x)
+  closes_so closing false x so = so
+  closes_so closing true x so = closing x so
 
-  pub speaks_so : (live : Bool) → Says (speaks_by live k)
-  speaks_so false s c so = silent s c so
-  speaks_so true s c so = closes_so (k.is_over (sends k s c).keeper) (sends k s c) (sends_so WINDOW_MAX s c so)
+  pub speaks_so : ((x : Sending C) → Then x → Then (closes_by true x)) → (live : Bool) → Says (speaks_by live k)
+  speaks_so closing false s c so = silent s c so
+  speaks_so closing true s c so = closes_so closing (k.is_over (sends k s c).keeper) (sends k s c) (sends_so WINDOW_MAX s c so)
 
 -- ---- behind the link's answer
 

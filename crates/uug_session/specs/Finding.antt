@@ -1,6 +1,6 @@
 -- What is found next in the bytes that came to an end. Taylor UUCP manual, "UUCP Protocol" and "UUCP 'g' Protocol"; that
 -- bytes in front are skipped is this project's profile.
-use Rattle.std.specs.Prelude.{◌≡◌, ◌<◌, ◌≤◌, ℕ, List, [], ◌∷◌, ◌++◌, length, drop, Option, Some, None}
+use Rattle.std.specs.Prelude.{◌<◌, ◌≤◌, ℕ, List, [], ◌∷◌, ◌++◌, length, drop, Option, Some, None}
 use Rattle.uug_packet.specs.Packet.{PacketValue}
 use Rattle.uug_reader.specs.Cut.{found, bad}
 use Rattle.uug_reader.specs.Search.{Search, waiting, standing, search_of}

@@ -1,5 +1,5 @@
 -- What a call leaves in the outbox that says texts of the greeting.
-use Rattle.std.specs.Prelude.{◌≡◌, ℕ, ◌+◌, ◌≤◌, List, [], ◌∷◌, ◌++◌, length, map, Result, IsOk, OnOk, OnErr}
+use Rattle.std.specs.Prelude.{◌≡◌, ℕ, ◌+◌, ◌≤◌, List, ◌++◌, length, map, Result, IsOk, OnOk, OnErr}
 use Rattle.uug_link.specs.Entries.{EntryValue, text, Held}
 use Rattle.uug_talk.specs.Texts.{written_text}
 
