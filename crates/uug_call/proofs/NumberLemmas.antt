@@ -3,8 +3,6 @@ use Rattle.std.proofs.Common.{◌≡◌, Ok, Err, Result, sym, subst}
 use Rattle.uug_session.specs.Engine.{EngineState}
 use Rattle.uug_session.specs.Node.{NodeState}
 use Rattle.uug_session.specs.NumberStanding.{KeepsNumber}
-use Rattle.uug_tool.specs.declared.fault.ToolFault.{ToolFault}
-use Rattle.uug_tool.specs.declared.fault.ToolFault.TheVariants as tool
 use Rattle.uug_pair.specs.declared.turn_fault.TurnFault.{TurnFault}
 use Rattle.uug_pair.specs.declared.turn_fault.TurnFault.TheVariants as turn
 use Rattle.uug_call.specs.Hearing.{UnlessRefused}

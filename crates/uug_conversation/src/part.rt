@@ -7,10 +7,8 @@ ghost use Rattle.uug_conversation.specs.Reactions.{said_by};
 use crate::choice::to_give;
 use crate::reaction::Saying;
 use crate::spool::Spool;
-use uug_talk::{
-    Chunks, FILE_MAX, MESSAGE_MAX, Message, command_goes_on, file_goes_on, messages_fit,
-    write_answer, write_order,
-};
+use uug_talk::laws::{command_goes_on, file_goes_on, messages_fit};
+use uug_talk::{Chunks, FILE_MAX, MESSAGE_MAX, Message, write_answer, write_order};
 
 /// Puts the message of at most `size` bytes that stands at an offset in the text or file into `message`, and says whether
 /// it is the last.

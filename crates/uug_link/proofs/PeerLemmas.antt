@@ -1,11 +1,11 @@
 -- What the law of any peer says of a link that runs as the window machine does: how far an acknowledgement moves it, and
 -- with which window it comes up.
-use Rattle.std.proofs.Common.{◌≡◌, ◌⊎◌, ℕ, suc, ◌+◌, ◌-◌, ◌%◌, ◌<◌, ◌≤◌, ◌==◌, Bool, true, false, if◌then◌else◌, List, length, length-drop, drop, Some, inl, inr, refl, ap, sym, subst, ◌∙◌, arith}
+use Rattle.std.proofs.Common.{◌≡◌, ◌⊎◌, ℕ, suc, ◌+◌, ◌-◌, ◌%◌, ◌≤◌, ◌==◌, Bool, true, false, if◌then◌else◌, List, length, length-drop, drop, Some, inl, inr, refl, ap, sym, subst, ◌∙◌, arith}
 use Rattle.std.proofs.lemmas.Bool.Decides.{nat_tests}
 use Rattle.uug_link.specs.Announced.{Announced}
 use Rattle.uug_link.specs.State.{State, IsUp, KnowsWindow, KnowsSize, is_halted}
-use Rattle.uug_link.specs.Step.{Effect, up, packet_found, step, acknowledged, next_number, on_init_c}
-use Rattle.uug_link.specs.Strays.{HasNumbers, IsSmallerOf, StandsBehind, acknowledgement}
+use Rattle.uug_link.specs.Step.{Effect, up, packet_found, step, acknowledged, on_init_c}
+use Rattle.uug_link.specs.Strays.{HasNumbers, acknowledgement}
 use Rattle.uug_link.specs.declared.phase.Phase.{Phase}
 use Rattle.uug_link.specs.declared.phase.Role.{Role}
 use Rattle.uug_link.proofs.OnTheLineLemmas.{drop_drop}

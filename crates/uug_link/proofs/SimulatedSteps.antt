@@ -10,8 +10,7 @@ use Rattle.uug_link.specs.State.{State, IsUp, KnowsWindow, KnowsSize, HasRoom, i
 use Rattle.uug_link.specs.Step.{Effect, Event, to_begin, packet_found, bad_found, timed_out, to_send, to_close, taken as taken_up, answers, ignored, quiet, moved, halt, on_init_a, on_init_b, on_init_c, on_close, on_rr, on_rj, on_srj, on_data, on_number, is_expected, is_enough, reject_left_after, until_over, on_bad, acknowledged, repeated, on_packet, on_event, answers_halted, last_received, outstanding, next_number, data_packet}
 use Rattle.uug_link.specs.Strays.{acknowledgement as acknowledged_by}
 use Rattle.uug_link.specs.TwoLinks.{End, gone_past, hears, packets_of, with_effect, moved_by, MayCall}
-use Rattle.uug_link.specs.WindowBounds.{CountsInOrder}
-use Rattle.uug_link.specs.WindowMachine.{Machine, Flying, data_at, acknowledgement, ack_of, Always, EachAck, EachNumber, IsReached, Act, arrives, loses, sends, on_back, after_move, taken_with}
+use Rattle.uug_link.specs.WindowMachine.{Machine, Flying, data_at, acknowledgement, ack_of, EachNumber, IsReached, Act, arrives, loses, sends, on_back, after_move, taken_with}
 use Rattle.uug_link.specs.declared.limits.TheConstants.{TIMEOUTS_MAX}
 use Rattle.uug_link.specs.declared.phase.Phase.{Phase}
 use Rattle.uug_link.specs.declared.phase.Phase.TheVariants.{AwaitsInitA, AwaitsInitB, AwaitsInitC, Up, Closing, Halted}

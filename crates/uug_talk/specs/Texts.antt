@@ -1,5 +1,5 @@
 -- The handshake texts in a stream of bytes (Taylor UUCP manual, "UUCP Protocol"; that a line feed ends
--- a text, that bytes before a text are passed over and that a 0x10 inside a text begins it anew is this
+-- a text, that bytes before a text are skipped and that a 0x10 inside a text restarts it is this
 -- project's profile).
 use Rattle.std.specs.Prelude.{◌≡◌, ◌≢◌, ◌==◌, ◌||◌, ℕ, ◌+◌, ◌≤◌, Bool, true, false, List, [], ◌∷◌, ◌++◌, length, All, nat_lt, IsTrue, ◌⊎◌, Option, Some, None, option_and_then, if◌then◌else◌}
 use Rattle.uug_talk.specs.declared.hail.TheConstants.{HAIL_MAX, TEXT_START}

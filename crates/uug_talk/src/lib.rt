@@ -8,7 +8,7 @@ mod chunks;
 mod error;
 mod gather;
 mod hail;
-mod laws;
+pub mod laws;
 mod mode;
 mod name;
 mod number;
@@ -22,12 +22,6 @@ pub use error::BadText;
 pub use gather::{FILE_MAX, Gather, Progress};
 pub use hail::{
     HAIL_MAX, HAIL_WRITTEN_MAX, Hail, TEXT_START, TextTooLong, is_hail_text, write_hail,
-};
-pub use laws::{
-    command_goes_on, command_is_gathered, file_goes_on, file_is_gathered, gathering_goes_on,
-    hearing_comes_to_an_end, hearing_finds_the_texts, hearing_in_pieces, hearing_says_what_came,
-    limits, messages_fit, one_first_text, one_reading_of_texts, shown_are_the_texts,
-    texts_in_pieces, written_answers_are_read, written_orders_are_read, written_texts_are_commands,
 };
 pub use mode::{MODE_MAX, mode_digits, read_mode};
 pub use name::{NAME_MAX, Name};
