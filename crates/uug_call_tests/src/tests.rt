@@ -121,12 +121,23 @@ struct Left {
     kept: usize,
 }
 
+// Each end is made in a function of its own, and lent: a `?` beside both would be dear.
+fn play_at(alloc: Global, seat: &mut MemorySeat, manner: Manner, most: u64) -> Result<Left, Fail> {
+    let mut own_noise = noise()?;
+    let other_noise = noise()?;
+    let mut line = ScriptedLine::new(called(alloc, None)?, other_noise, manner);
+    let answer = talk(seat, &mut line, &mut own_noise, most, &mut Nobody);
+    let left = what_is_left(answer, seat, line.other());
+    drop(line);
+    Ok(left)
+}
+
 /// Plays a session of a caller that sends `x`, which has these bytes, and reads so many bytes at most.
 fn play(alloc: Global, bytes: &[u8], manner: Manner, most: u64) -> Result<Left, Fail> {
     let mut seat = caller(alloc, bytes, None)?;
-    let mut line = ScriptedLine::new(called(alloc, None)?, noise()?, manner);
-    let answer = talk(&mut seat, &mut line, &mut noise()?, most, &mut Nobody);
-    Ok(what_is_left(answer, &seat, line.other()))
+    let left = play_at(alloc, &mut seat, manner, most);
+    drop(seat);
+    left
 }
 
 fn what_is_left(answer: Result<(), TurnFault>, seat: &MemorySeat, other: &MemorySeat) -> Left {

@@ -152,17 +152,22 @@ fn end(seat: MemorySeat, fails: (bool, bool)) -> MemoryEnd {
     }
 }
 
-fn make_call(rt: &impl Abort, alloc: Global, call: &Call<'_>) -> Result<(), Fail> {
-    let (mine, theirs, fails, left) = *call;
-    let mut end = end(caller(alloc, b"hi", mine)?, fails);
-    let mut line = ScriptedLine::new(called(alloc, theirs)?, noise()?, CLEAN);
+/// The call itself, and what it leaves of an end, at a line that is its own.
+fn check_call(
+    rt: &impl Abort,
+    alloc: Global,
+    left: &Left<'_>,
+    end: &mut MemoryEnd,
+    line: &mut ScriptedLine,
+) -> Result<(), Fail> {
+    let mut noise = noise()?;
     let mut output = MemoryOutput::new(alloc);
     let answer = call_over(
         alloc,
         Side::Caller,
-        &mut end,
-        &mut line,
-        &mut noise()?,
+        end,
+        line,
+        &mut noise,
         AMPLE,
         &mut Nobody,
         &mut output,
@@ -173,6 +178,29 @@ fn make_call(rt: &impl Abort, alloc: Global, call: &Call<'_>) -> Result<(), Fail
     assert_same(rt, output.bytes(), left.report);
     assert_same(rt, line.other().node().number(), left.other);
     Ok(())
+}
+
+// Each end is made in a function of its own, and lent: a `?` beside both would be dear.
+fn call_over_line(
+    rt: &impl Abort,
+    alloc: Global,
+    call: &Call<'_>,
+    end: &mut MemoryEnd,
+) -> Result<(), Fail> {
+    let (_, theirs, _, left) = call;
+    let noise = noise()?;
+    let mut line = ScriptedLine::new(called(alloc, *theirs)?, noise, CLEAN);
+    let result = check_call(rt, alloc, left, end, &mut line);
+    drop(line);
+    result
+}
+
+fn make_call(rt: &impl Abort, alloc: Global, call: &Call<'_>) -> Result<(), Fail> {
+    let (mine, _, fails, _) = call;
+    let mut end = end(caller(alloc, b"hi", *mine)?, *fails);
+    let result = call_over_line(rt, alloc, call, &mut end);
+    drop(end);
+    result
 }
 
 #[test]
