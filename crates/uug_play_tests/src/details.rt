@@ -126,19 +126,39 @@ const STREAMS: [(&[u8], u8, usize, &[u8], &str); 15] = [
 /// A text, noise, and a packet.
 const LINE: &[u8] = b"\x10Sa\0......\x10\x09\x6f\xaa\x3b\xf7";
 
+fn check_listing(rt: &impl Abort, alloc: Global, bytes: &[u8], most: usize, listing: &str) {
+    let mut input = in_pieces(bytes, most, u32::MAX);
+    let mut output = MemoryOutput::new(alloc);
+    let result = scan_detailed(alloc, &mut input, &mut output);
+    assert_same(rt, result, Ok(()));
+    assert_same(rt, output.bytes(), listing.as_bytes());
+    assert_same(rt, input.bytes.len(), 0);
+}
+
+fn stream_of(
+    alloc: Global,
+    front: &[u8],
+    fill: u8,
+    length: usize,
+    behind: &[u8],
+) -> Result<Vec<u8, Global>, Fail> {
+    let mut bytes = Vec::from_slice(alloc, front)?;
+    bytes.resize(length.max(front.len()), fill)?;
+    bytes.extend_from_slice(behind)?;
+    Ok(bytes)
+}
+
+fn check_in_pieces(rt: &impl Abort, alloc: Global, bytes: &[u8], listing: &str) {
+    for most in [1, 7, 5000] {
+        check_listing(rt, alloc, bytes, most, listing);
+    }
+}
+
 #[test]
 fn lists_streams_in_detail(rt: HostRuntime) -> Result<(), Fail> {
     for (front, fill, length, behind, listing) in STREAMS {
-        let mut bytes = Vec::from_slice(rt.alloc(), front)?;
-        bytes.resize(length.max(front.len()), fill)?;
-        bytes.extend_from_slice(behind)?;
-        for most in [1, 7, 5000] {
-            let mut input = in_pieces(&bytes, most, u32::MAX);
-            let mut output = MemoryOutput::new(rt.alloc());
-            scan_detailed(rt.alloc(), &mut input, &mut output)?;
-            assert_same(&rt, output.bytes(), listing.as_bytes());
-            assert_same(&rt, input.bytes.len(), 0);
-        }
+        let bytes = stream_of(rt.alloc(), front, fill, length, behind)?;
+        check_in_pieces(&rt, rt.alloc(), &bytes, listing);
     }
     Ok(())
 }

@@ -2,6 +2,7 @@
 //! gives up where it need not.
 
 use crate::assertions::{assert_same, assert_so};
+use std::alloc::Global;
 use std::process::Abort;
 use std::test::Fail;
 use uug_remark::play_remarked;
@@ -57,12 +58,7 @@ const REMARKS: [(&[u8], &str); 23] = [
 ];
 
 /// Checks what is said of a script whose line of this number is bad.
-fn check_remark(
-    rt: &(impl Abort + AllocGlobal),
-    script: &[u8],
-    number: usize,
-    expected: &str,
-) -> Result<(), Fail> {
+fn check_remark(rt: &(impl Abort + AllocGlobal), script: &[u8], number: usize, expected: &str) {
     let mut input = MemoryInput::new(script);
     let mut output = MemoryOutput::new(rt.alloc());
     let mut remark = String::new(rt.alloc());
@@ -70,7 +66,6 @@ fn check_remark(
     assert_same(rt, answer, Err(ToolFault::Script(number)));
     assert_same(rt, remark.as_str(), expected);
     assert_same(rt, output.bytes().len(), 0);
-    Ok(())
 }
 
 /// Lines behind two that set up the ends, of sessions that go as far as they can, and what is said of the jobs then.
@@ -111,11 +106,7 @@ const REASONS: [(&[u8], &str); 8] = [
 ];
 
 /// Checks what is said of the jobs of a script, beside the report of it.
-fn check_reasons(
-    rt: &(impl Abort + AllocGlobal),
-    script: &[u8],
-    expected: &str,
-) -> Result<(), Fail> {
+fn check_reasons(rt: &(impl Abort + AllocGlobal), script: &[u8], expected: &str) {
     let mut input = MemoryInput::new(script);
     let mut output = MemoryOutput::new(rt.alloc());
     let mut remark = String::new(rt.alloc());
@@ -123,15 +114,20 @@ fn check_reasons(
     assert_so(rt, answer.is_ok());
     assert_same(rt, remark.as_str(), expected);
     assert_so(rt, output.bytes().ends_with(b"verdict clean\n"));
-    Ok(())
+}
+
+/// A script that sets up both ends, and then has these lines.
+fn with_lines(alloc: Global, lines: &[u8]) -> Result<Vec<u8, Global>, Fail> {
+    let mut script = Vec::from_slice(alloc, b"caller a 2 32\ncalled b 2 32\n")?;
+    script.extend_from_slice(lines)?;
+    Ok(script)
 }
 
 #[test]
 fn says_why_jobs_are_not_done(rt: HostRuntime) -> Result<(), Fail> {
     for (lines, expected) in REASONS {
-        let mut script = Vec::from_slice(rt.alloc(), b"caller a 2 32\ncalled b 2 32\n")?;
-        script.extend_from_slice(lines)?;
-        check_reasons(&rt, &script, expected)?;
+        let script = with_lines(rt.alloc(), lines)?;
+        check_reasons(&rt, &script, expected);
     }
     Ok(())
 }
@@ -139,17 +135,16 @@ fn says_why_jobs_are_not_done(rt: HostRuntime) -> Result<(), Fail> {
 #[test]
 fn says_what_is_wrong(rt: HostRuntime) -> Result<(), Fail> {
     for (line, expected) in REMARKS {
-        let mut script = Vec::from_slice(rt.alloc(), b"caller a 2 32\ncalled b 2 32\n")?;
-        script.extend_from_slice(line)?;
-        check_remark(&rt, &script, 3, expected)?;
+        let script = with_lines(rt.alloc(), line)?;
+        check_remark(&rt, &script, 3, expected);
     }
     Ok(())
 }
 
 #[test]
-fn says_what_is_missing(rt: HostRuntime) -> Result<(), Fail> {
-    check_remark(&rt, b"caller a 2 32\n", 2, "caller or called is missing")?;
-    check_remark(&rt, b"", 1, "caller or called is missing")
+fn says_what_is_missing(rt: HostRuntime) {
+    check_remark(&rt, b"caller a 2 32\n", 2, "caller or called is missing");
+    check_remark(&rt, b"", 1, "caller or called is missing");
 }
 
 #[test]
