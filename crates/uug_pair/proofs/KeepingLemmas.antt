@@ -8,12 +8,14 @@ use Rattle.uug_conversation.specs.Jobs.{Lists}
 use Rattle.uug_conversation.specs.OwnRequests.{KeepsWhatItAskedFor}
 use Rattle.uug_conversation.specs.Sharing.{HaveSameJobs, OnlyMoves, all_jobs}
 use Rattle.uug_session.proofs.CallLemmas.{late_beside}
+use Rattle.uug_session.proofs.NumberStandingLemmas.{late_keeps}
 use Rattle.uug_session.proofs.OwnRequestLemmas.{event_keeps, same_then, takes_all_keeps, then_keeps}
 use Rattle.uug_session.proofs.SameJobsLemmas.{event_moves, goes_on_together, moved_together, takes_all_together}
 use Rattle.uug_session.specs.EndStep.{time_ran_out}
-use Rattle.uug_session.specs.Engine.{HasFailed, end_of}
+use Rattle.uug_session.specs.Engine.{EngineState, HasFailed, end_of, with_outbox}
 use Rattle.uug_session.specs.Node.{NodeState, effect_of, struck_jobs}
 use Rattle.uug_session.specs.NodeArriving.{GoesOn, TakesAll}
+use Rattle.uug_session.specs.NumberStanding.{KeepsNumber}
 use Rattle.uug_pair.specs.Seats.{KeepsJobs, LateStep}
 
 abbrev lists_of : NodeState → Lists
@@ -60,3 +62,7 @@ keeps_late h k a b late =
       same = moved_together (lists_of a) (lists_of b) (subst moved (sym keeper) (event_moves h k time_ran_out a.engine));
       requests = subst asked (sym keeper) (event_keeps h k time_ran_out a.engine);
     }
+
+-- a timeout, behind which nothing but the outbox changes
+pub late_number : (a between b : EngineState) → b ≡ with_outbox b.outbox between → LateStep a between → KeepsNumber a b
+late_number a between b cleared late = subst (λ e. KeepsNumber a e) (sym cleared) (record { stands = (late_keeps a between late).stands })

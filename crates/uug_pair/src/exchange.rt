@@ -83,18 +83,60 @@ where
 {
     match run_turns(&mut caller.seat, &mut called.seat, line, noise, limit) {
         Ok(()) => {
-            let texts = PairTexts::new(alloc, caller.seat.node(), called.seat.node())?;
-            texts.write(&mut caller.jobs, &mut called.jobs, output)?;
+            write_texts(alloc, caller, called, output)?;
             Ok(status(caller.seat.node().phase(), called.seat.node().phase()))
         }
-        Err(TurnFault::Line) => {
-            let texts = PairTexts::new(alloc, caller.seat.node(), called.seat.node())?;
-            // The line's fault came before all that this may meet.
-            let _ = texts.write(&mut caller.jobs, &mut called.jobs, output);
-            Err(ToolFault::Device)
-        }
+        // The line's fault came before all that the writing meets, but without memory nothing is written.
+        Err(TurnFault::Line) => match write_texts(alloc, caller, called, output) {
+            Err(ToolFault::Memory) => Err(ToolFault::Memory),
+            _ => Err(ToolFault::Device),
+        },
         Err(TurnFault::Memory) => Err(ToolFault::Memory),
     }
+}
+
+/// The pending jobs of each end are written to its file, and the report to the output.
+fn write_texts<S, T, J, K, O, A>(
+    alloc: A,
+    caller: &mut PairEnd<S, J, A>,
+    called: &mut PairEnd<T, K, A>,
+    output: &mut O,
+) -> Result<(), ToolFault>
+where
+    S: Spool + Drop,
+    T: Spool + Drop,
+    J: TextFile,
+    K: TextFile,
+    O: Output,
+    A: Allocator + Copy,
+    ensures caller_seat { caller.new.seat ≡ caller.old.seat }
+    ensures called_seat { called.new.seat ≡ called.old.seat }
+    ensures caller_jobs { IsWhole (jobs_text (pending (jobs_of_end (seated caller.old.seat))))
+        (J.text caller.old.jobs) (J.text caller.new.jobs) }
+    ensures called_jobs { IsWhole (jobs_text (pending (jobs_of_end (seated called.old.seat))))
+        (K.text called.old.jobs) (K.text called.new.jobs) }
+    ensures caller_ok { OnOk result (J.text caller.new.jobs
+        ≡ holding (jobs_text (pending (jobs_of_end (seated caller.old.seat))))
+        (J.text caller.old.jobs)) }
+    ensures called_ok { OnOk result (K.text called.new.jobs
+        ≡ holding (jobs_text (pending (jobs_of_end (seated called.old.seat))))
+        (K.text called.old.jobs)) }
+    ensures report { OnOk result
+        (Appends (report_text (seated caller.old.seat) (seated called.old.seat))
+        (O.written output.old) (O.written output.new)) }
+    ensures caller_calm { UnlessDevice result (J.fault_count caller.new.jobs
+        ≡ J.fault_count caller.old.jobs) }
+    ensures called_calm { UnlessDevice result (K.fault_count called.new.jobs
+        ≡ K.fault_count called.old.jobs) }
+    ensures device { result ≡ Err ToolFault.Device
+        → HasFailed u64.MAX (J.fault_count caller.old.jobs) (J.fault_count caller.new.jobs)
+        ⊎ HasFailed u64.MAX (K.fault_count called.old.jobs) (K.fault_count called.new.jobs) }
+    ensures write { result ≡ Err ToolFault.Write
+        → CountsFault (O.fault_count output.old) (O.fault_count output.new) }
+    ensures no_other { IfErr result IsPairFault }
+{
+    let texts = PairTexts::new(alloc, caller.seat.node(), called.seat.node())?;
+    texts.write(&mut caller.jobs, &mut called.jobs, output)
 }
 
 /// 0 where both sessions are done, and 1 where one is not.

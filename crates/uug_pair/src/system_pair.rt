@@ -108,33 +108,87 @@ fn make_ends<'a, A: Allocator + Copy, R: Files + Alloc + Clone + Drop>(
 ) -> Result<(SystemEnd<'a, R, A>, SystemEnd<'a, R, A>), ToolFault>
     ensures { IfErr result IsReadingFault }
 {
-    let caller_jobs = read_queue(alloc, rt, dir_a)?;
-    let called_jobs = read_queue(alloc, rt, dir_b)?;
-    let caller_files = read_send(alloc, rt, dir_a)?;
-    let called_files = read_send(alloc, rt, dir_b)?;
-    let caller = make_end(
-        alloc,
-        rt,
-        Side::Caller,
-        dir_a,
-        caller_jobs,
-        caller_files,
-        noise,
-    )?;
-    let called = make_end(
-        alloc,
-        rt,
-        Side::Called,
-        dir_b,
-        called_jobs,
-        called_files,
-        noise,
-    );
-    match called {
+    let jobs = read_queues(alloc, rt, dir_a, dir_b)?;
+    let files = match read_sends(alloc, rt, dir_a, dir_b) {
+        Ok(files) => files,
+        Err(fault) => {
+            drop(jobs);
+            return Err(fault);
+        }
+    };
+    let (caller, called) = Given::both(jobs, files);
+    let Ok(caller) = make_end(alloc, rt, Side::Caller, dir_a, caller, noise) else {
+        drop(called);
+        return Err(ToolFault::Memory);
+    };
+    match make_end(alloc, rt, Side::Called, dir_b, called, noise) {
         Ok(called) => Ok((caller, called)),
         Err(_) => {
             drop(caller);
             Err(ToolFault::Memory)
+        }
+    }
+}
+
+/// What an end begins with: its jobs, and the files that it has to give.
+#[derive(Drop)]
+struct Given<A: Allocator> {
+    jobs: Queue<A>,
+    files: Vec<Stored<A>, A>,
+}
+
+impl<A: Allocator> Given<A> {
+    /// What the caller begins with, and the called end.
+    fn both(
+        (caller_jobs, called_jobs): (Queue<A>, Queue<A>),
+        (caller_files, called_files): (Vec<Stored<A>, A>, Vec<Stored<A>, A>),
+    ) -> (Self, Self) {
+        let caller = Given {
+            jobs: caller_jobs,
+            files: caller_files,
+        };
+        let called = Given {
+            jobs: called_jobs,
+            files: called_files,
+        };
+        (caller, called)
+    }
+}
+
+/// The jobs of both folders.
+fn read_queues<A: Allocator + Copy, R: Files>(
+    alloc: A,
+    rt: &R,
+    dir_a: &str,
+    dir_b: &str,
+) -> Result<(Queue<A>, Queue<A>), ToolFault>
+    ensures { IfErr result IsReadingFault }
+{
+    let caller = read_queue(alloc, rt, dir_a)?;
+    match read_queue(alloc, rt, dir_b) {
+        Ok(called) => Ok((caller, called)),
+        Err(fault) => {
+            drop(caller);
+            Err(fault)
+        }
+    }
+}
+
+/// The files that both folders have to give.
+fn read_sends<A: Allocator + Copy, R: Files + Alloc + Clone + Drop>(
+    alloc: A,
+    rt: &R,
+    dir_a: &str,
+    dir_b: &str,
+) -> Result<(Vec<Stored<A>, A>, Vec<Stored<A>, A>), ToolFault>
+    ensures { IfErr result IsReadingFault }
+{
+    let caller = read_send(alloc, rt, dir_a)?;
+    match read_send(alloc, rt, dir_b) {
+        Ok(called) => Ok((caller, called)),
+        Err(fault) => {
+            drop(caller);
+            Err(fault)
         }
     }
 }
@@ -157,16 +211,16 @@ pub fn read_queue<A: Allocator + Copy, R: Files>(
     }
 }
 
-/// An end over the folder `dir`, with these jobs and these files to give.
+/// An end over the folder `dir`, which begins with this.
 fn make_end<'a, A: Allocator + Copy, R: Files>(
     alloc: A,
     rt: &'a R,
     side: Side,
     dir: &str,
-    jobs: Queue<A>,
-    files: Vec<Stored<A>, A>,
+    given: Given<A>,
     noise: &mut Noise,
 ) -> Result<SystemEnd<'a, R, A>, AllocError> {
+    let Given { jobs, files } = given;
     let folder = SystemFolder::new(alloc, rt, dir)?;
     let jobs_file = SystemText::new(alloc, rt, dir, "jobs")?;
     let spool = FolderSpool::new(alloc, files, folder);

@@ -3,7 +3,8 @@ use Rattle.uug_session.specs.EndStep.{EndState}
 use Rattle.uug_session.specs.Node.{node_of}
 use Rattle.uug_conversation.specs.DialogueValue.{DialogueValue}
 use Rattle.uug_pair.specs.Seats.{seated}
-use Rattle.uug_pair.proofs.KeepingLemmas.{keeps_late, keeps_later, keeps_same}
+use Rattle.std.proofs.lemmas.Result.{on_ok_weaker}
+use Rattle.uug_pair.proofs.KeepingLemmas.{keeps_late, keeps_later, keeps_same, late_number}
 use Rattle.uug_pair.proofs.seat.Seat.time_out.Goals as goal
 
 pub returns-in_err-on_timeout-clause-jobs : goal.returns-in_err-on_timeout-clause-jobs
@@ -20,3 +21,8 @@ returns-clause-jobs g c =
     c.in_ok-on_timeout.ensures.ok)
     (keeps_same before _ between (seated c.note_emitted.new.self) c.note_emitted.ensures.dialogue
     (ap g.S.Spool.kept (c.note_emitted.ensures.spool ∙ c.on_timeout.ensures.spool)))
+
+pub returns-clause-number : goal.returns-clause-number
+returns-clause-number g c =
+    on_ok_weaker c.note_emitted.result (λ sends. late_number (seated c.args.self.now).engine (node_of c.on_timeout.new.self).engine
+    (seated c.note_emitted.new.self).engine sends.cleared.engine c.in_ok-on_timeout.ensures.ok) c.note_emitted.ensures.sends
