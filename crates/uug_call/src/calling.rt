@@ -80,22 +80,61 @@ where
 {
     match talk(&mut end.seat, line, noise, most, watcher) {
         Ok(()) => {
-            let texts = CallTexts::new(alloc, side, end.seat.node())?;
-            texts.write(&mut end.jobs, &mut end.number, output)?;
+            write_texts(alloc, side, end, output)?;
             Ok(status(end.seat.node().phase()))
         }
-        Err(TurnFault::Line) => {
-            let texts = CallTexts::new(alloc, side, end.seat.node())?;
-            let written = texts.write(&mut end.jobs, &mut end.number, output);
-            // The line's fault came before all that this may meet.
-            if status(end.seat.node().phase()) > 0 {
-                return Err(ToolFault::Device);
+        // The line's fault came before all that the writing meets, but without memory nothing is written.
+        Err(TurnFault::Line) => match write_texts(alloc, side, end, output) {
+            Err(ToolFault::Memory) => Err(ToolFault::Memory),
+            written => {
+                if status(end.seat.node().phase()) > 0 {
+                    return Err(ToolFault::Device);
+                }
+                written?;
+                Ok(0)
             }
-            written?;
-            Ok(0)
-        }
+        },
         Err(TurnFault::Memory) => Err(ToolFault::Memory),
     }
+}
+
+/// The end's pending jobs are written to their file, its number to its own, if it keeps one, and the report to the output.
+fn write_texts<S, J, N, O, A>(
+    alloc: A,
+    side: Side,
+    end: &mut CallEnd<S, J, N, A>,
+    output: &mut O,
+) -> Result<(), ToolFault>
+where
+    S: Spool + Drop,
+    J: TextFile,
+    N: TextFile,
+    O: Output,
+    A: Allocator + Copy,
+    ensures seat { end.new.seat ≡ end.old.seat }
+    ensures jobs { IsWhole (jobs_text (pending (jobs_of_end (seated end.old.seat))))
+        (J.text end.old.jobs) (J.text end.new.jobs) }
+    ensures ok { OnOk result (J.text end.new.jobs
+        ≡ holding (jobs_text (pending (jobs_of_end (seated end.old.seat)))) (J.text end.old.jobs)) }
+    ensures number { IsNumberKept (number_of_end (seated end.old.seat))
+        (N.text end.old.number) (N.text end.new.number) }
+    ensures number_ok { OnOk result (N.text end.new.number
+        ≡ holding_number (number_of_end (seated end.old.seat)) (N.text end.old.number)) }
+    ensures report { OnOk result (Appends (report_of side (seated end.old.seat))
+        (O.written output.old) (O.written output.new)) }
+    ensures jobs_calm { UnlessDevice result (J.fault_count end.new.jobs
+        ≡ J.fault_count end.old.jobs) }
+    ensures number_calm { UnlessDevice result
+        (N.fault_count end.new.number ≡ N.fault_count end.old.number) }
+    ensures device { result ≡ Err ToolFault.Device
+        → HasFailed u64.MAX (J.fault_count end.old.jobs) (J.fault_count end.new.jobs)
+        ⊎ HasFailed u64.MAX (N.fault_count end.old.number) (N.fault_count end.new.number) }
+    ensures write { result ≡ Err ToolFault.Write
+        → CountsFault (O.fault_count output.old) (O.fault_count output.new) }
+    ensures no_other { IfErr result IsPairFault }
+{
+    let texts = CallTexts::new(alloc, side, end.seat.node())?;
+    texts.write(&mut end.jobs, &mut end.number, output)
 }
 
 /// 0 where the session is done, and 1 where it is not.
