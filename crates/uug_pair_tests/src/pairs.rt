@@ -151,6 +151,22 @@ fn assert_left(rt: &impl Abort, ends: &Ends<'_>, plan: Plan, output: &ShortOutpu
     assert_not_lost(rt, ends, output.text());
 }
 
+/// Runs these ends, of which a call fails. Whether there was such a call.
+fn fail_ends<'a>(
+    rt: &impl Abort,
+    heap: Heap<'a>,
+    ends: &mut Ends<'a>,
+    (plan, expected): (Plan, Result<u8, ToolFault>),
+    noise: &mut Noise,
+) -> bool {
+    let mut output = ShortOutput::new(plan.number_of(Call::Print));
+    let outcome = run(heap, ends, (plan, ENOUGH), noise, &mut output);
+    let expected = if outcome.has_failed { expected } else { Ok(0) };
+    assert_same_at(rt, outcome.answer, expected, plan.number);
+    assert_left(rt, ends, plan, &output);
+    outcome.has_failed
+}
+
 /// Runs both ends, of which a call fails. Whether there was such a call.
 fn fail(
     rt: &impl Abort,
@@ -160,12 +176,9 @@ fn fail(
 ) -> Option<bool> {
     let mut noise = Noise::new(None, None)?;
     let mut ends = Ends::new(heap, plan, &mut noise)?;
-    let mut output = ShortOutput::new(plan.number_of(Call::Print));
-    let outcome = run(heap, &mut ends, (plan, ENOUGH), &mut noise, &mut output);
-    let expected = if outcome.has_failed { expected } else { Ok(0) };
-    assert_same_at(rt, outcome.answer, expected, plan.number);
-    assert_left(rt, &ends, plan, &output);
-    Some(outcome.has_failed)
+    let has_failed = fail_ends(rt, heap, &mut ends, (plan, expected), &mut noise);
+    drop(ends);
+    Some(has_failed)
 }
 
 /// Lets each call of a kind fail in turn. How many there are.
@@ -213,15 +226,27 @@ fn assert_refused(
     }
 }
 
+/// Refuses the nth request for memory of these ends.
+fn refuse_ends<'a>(
+    rt: &impl Abort,
+    heap: Heap<'a>,
+    ends: &mut Ends<'a>,
+    nth: u64,
+    noise: &mut Noise,
+) {
+    let mut output = ShortOutput::new(0);
+    heap.refuse(nth);
+    let outcome = run(heap, ends, (NO_FAULT, ENOUGH), noise, &mut output);
+    assert_refused(rt, ends, outcome, heap.was_refused(), output.text());
+}
+
 /// Refuses the nth request for memory of both ends. Whether there was one.
 fn refuse(rt: &impl Abort, heap: Heap<'_>, nth: u64) -> Option<bool> {
     heap.refuse(0);
     let mut noise = Noise::new(None, None)?;
     let mut ends = Ends::new(heap, NO_FAULT, &mut noise)?;
-    let mut output = ShortOutput::new(0);
-    heap.refuse(nth);
-    let outcome = run(heap, &mut ends, (NO_FAULT, ENOUGH), &mut noise, &mut output);
-    assert_refused(rt, &ends, outcome, heap.was_refused(), output.text());
+    refuse_ends(rt, heap, &mut ends, nth, &mut noise);
+    drop(ends);
     Some(heap.was_refused())
 }
 
@@ -243,19 +268,31 @@ fn leaves_all_jobs_when_out_of_memory(rt: HostRuntime) -> Result<(), Fail> {
     Ok(())
 }
 
+/// What is printed where no job is done.
+const BROKEN_OFF: &[u8] =
+    b"caller hungup pending 4 struck 0 failed 0\ncalled hungup pending 2 struck 0 failed 0\n";
+
+/// Lets these ends take so few turns that no job is done.
+fn break_ends_off<'a>(
+    rt: &impl Abort,
+    heap: Heap<'a>,
+    ends: &mut Ends<'a>,
+    limit: u32,
+    noise: &mut Noise,
+) {
+    let mut output = ShortOutput::new(0);
+    let outcome = run(heap, ends, (NO_FAULT, limit), noise, &mut output);
+    assert_same(rt, outcome.answer, Ok(1));
+    assert_as_before(rt, ends);
+    assert_same(rt, output.text(), BROKEN_OFF);
+}
+
 /// Lets two ends take so few turns that no job is done.
 fn break_off(rt: &impl Abort, heap: Heap<'_>, limit: u32) -> Option<()> {
     let mut noise = Noise::new(None, None)?;
     let mut ends = Ends::new(heap, NO_FAULT, &mut noise)?;
-    let mut output = ShortOutput::new(0);
-    let outcome = run(heap, &mut ends, (NO_FAULT, limit), &mut noise, &mut output);
-    assert_same(rt, outcome.answer, Ok(1));
-    assert_as_before(rt, &ends);
-    assert_same(
-        rt,
-        output.text(),
-        b"caller hungup pending 4 struck 0 failed 0\ncalled hungup pending 2 struck 0 failed 0\n".as_slice(),
-    );
+    break_ends_off(rt, heap, &mut ends, limit, &mut noise);
+    drop(ends);
     Some(())
 }
 

@@ -412,19 +412,49 @@ fn folder_path(rt: &HostRuntime, test: &str) -> Result<String, Fail> {
 /// The noise on the line: every Nth packet is lost, and every Nth changed.
 type Every = (Option<u32>, Option<u32>);
 
-/// Runs two ends over the folders `a` and `b` and the socket `socket` in this folder.
+/// The socket, and the folders of the two ends.
+#[derive(Drop)]
+struct Paths {
+    socket: String,
+    a: String,
+    b: String,
+}
+
+impl Paths {
+    /// The paths of `socket`, `a` and `b` in a folder.
+    fn within(alloc: Global, dir: &str) -> Result<Self, AllocError> {
+        Ok(Paths {
+            socket: within(alloc, dir, "socket")?,
+            a: within(alloc, dir, "a")?,
+            b: within(alloc, dir, "b")?,
+        })
+    }
+}
+
+/// Runs two ends over these folders and this socket.
 fn run_ends<A: Allocator + Copy>(
+    alloc: A,
+    rt: &(impl Runtime + Net),
+    paths: &Paths,
+    (drop_every, flip_every): Every,
+    output: &mut ShortOutput,
+) -> Result<u8, ToolFault> {
+    let (socket, a, b) = (paths.socket.as_str(), paths.a.as_str(), paths.b.as_str());
+    pair_run(alloc, rt, socket, a, b, drop_every, flip_every, output)
+}
+
+/// Runs two ends over the folders `a` and `b` and the socket `socket` in this folder.
+fn run_within<A: Allocator + Copy>(
     alloc: A,
     rt: &(impl Runtime + Net + AllocGlobal),
     dir: &str,
-    (drop_every, flip_every): Every,
+    every: Every,
     output: &mut ShortOutput,
 ) -> Result<Result<u8, ToolFault>, AllocError> {
-    let socket = within(rt.alloc(), dir, "socket")?;
-    let a = within(rt.alloc(), dir, "a")?;
-    let b = within(rt.alloc(), dir, "b")?;
-    let (socket, a, b) = (socket.as_str(), a.as_str(), b.as_str());
-    Ok(pair_run(alloc, rt, socket, a, b, drop_every, flip_every, output))
+    let paths = Paths::within(rt.alloc(), dir)?;
+    let answer = run_ends(alloc, rt, &paths, every, output);
+    drop(paths);
+    Ok(answer)
 }
 
 /// Whether the file of this name has these bytes.
@@ -456,7 +486,7 @@ impl Row<'_> {
     ) -> Result<(), AllocError> {
         let mut output = ShortOutput::new(0);
         let every = (self.drop_every, self.flip_every);
-        let answer = run_ends(rt.alloc(), rt, dir, every, &mut output)?;
+        let answer = run_within(rt.alloc(), rt, dir, every, &mut output)?;
         assert_same_at(rt, answer, self.answer, self.printed);
         assert_same(rt, output.text(), self.printed.as_bytes());
         Ok(())
@@ -521,7 +551,7 @@ fn refuse(
 ) -> Result<bool, AllocError> {
     heap.refuse(nth);
     let mut output = ShortOutput::new(0);
-    let answer = run_ends(heap, rt, dir, (None, None), &mut output)?;
+    let answer = run_within(heap, rt, dir, (None, None), &mut output)?;
     assert_refused(rt, heap.was_refused(), answer, output.text());
     Ok(heap.was_refused())
 }

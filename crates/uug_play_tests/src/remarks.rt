@@ -9,7 +9,7 @@ use uug_remark::play_remarked;
 use uug_tool::{MemoryInput, MemoryOutput, ToolFault};
 
 /// Third lines behind two that set up the ends, and what is wrong with them.
-const REMARKS: [(&[u8], &str); 23] = [
+const REMARKS: &[(&[u8], &str)] = &[
     (b"caller a 8 32", "window 8 is not 1 to 7"),
     (b"caller a 0 32", "window 0 is not 1 to 7"),
     (
@@ -57,19 +57,28 @@ const REMARKS: [(&[u8], &str); 23] = [
     (b"call caller", "unexpected word caller"),
 ];
 
+/// Plays the script.
+fn play(
+    alloc: Global,
+    script: &[u8],
+    output: &mut MemoryOutput<Global>,
+    remark: &mut String,
+) -> Result<u8, ToolFault> {
+    play_remarked(alloc, &mut MemoryInput::new(script), output, remark)
+}
+
 /// Checks what is said of a script whose line of this number is bad.
 fn check_remark(rt: &(impl Abort + AllocGlobal), script: &[u8], number: usize, expected: &str) {
-    let mut input = MemoryInput::new(script);
     let mut output = MemoryOutput::new(rt.alloc());
     let mut remark = String::new(rt.alloc());
-    let answer = play_remarked(rt.alloc(), &mut input, &mut output, &mut remark);
+    let answer = play(rt.alloc(), script, &mut output, &mut remark);
     assert_same(rt, answer, Err(ToolFault::Script(number)));
     assert_same(rt, remark.as_str(), expected);
     assert_same(rt, output.bytes().len(), 0);
 }
 
 /// Lines behind two that set up the ends, of sessions that go as far as they can, and what is said of the jobs then.
-const REASONS: [(&[u8], &str); 8] = [
+const REASONS: &[(&[u8], &str)] = &[
     (
         b"send caller x y u\nflow 20",
         "send caller x y u: no such file\n",
@@ -107,10 +116,9 @@ const REASONS: [(&[u8], &str); 8] = [
 
 /// Checks what is said of the jobs of a script, beside the report of it.
 fn check_reasons(rt: &(impl Abort + AllocGlobal), script: &[u8], expected: &str) {
-    let mut input = MemoryInput::new(script);
     let mut output = MemoryOutput::new(rt.alloc());
     let mut remark = String::new(rt.alloc());
-    let answer = play_remarked(rt.alloc(), &mut input, &mut output, &mut remark);
+    let answer = play(rt.alloc(), script, &mut output, &mut remark);
     assert_so(rt, answer.is_ok());
     assert_same(rt, remark.as_str(), expected);
     assert_so(rt, output.bytes().ends_with(b"verdict clean\n"));
@@ -148,13 +156,12 @@ fn says_what_is_missing(rt: HostRuntime) {
 }
 
 #[test]
-fn says_nothing_of_a_good_script(rt: HostRuntime) -> Result<(), Fail> {
-    let mut input = MemoryInput::new(b"caller a 2 32\ncalled b 2 32\nflow 20\n");
+fn says_nothing_of_a_good_script(rt: HostRuntime) {
+    let script = b"caller a 2 32\ncalled b 2 32\nflow 20\n".as_slice();
     let mut output = MemoryOutput::new(rt.alloc());
     let mut remark = String::new(rt.alloc());
-    let answer = play_remarked(rt.alloc(), &mut input, &mut output, &mut remark);
+    let answer = play(rt.alloc(), script, &mut output, &mut remark);
     assert_same(&rt, answer, Ok(0));
     assert_same(&rt, remark.as_str(), "");
     assert_so(&rt, !output.bytes().is_empty());
-    Ok(())
 }

@@ -2,10 +2,10 @@
 //! says that it is out of memory where none was refused.
 
 use crate::assertions::{assert_same, assert_so, assert_so_at};
-use std::alloc::Global;
+use std::alloc::{AllocError, Global};
 use std::process::Abort;
 use std::test::Fail;
-use uug_line::{Event, Side};
+use uug_line::{Event, Setup, Side};
 use uug_refusal::Refusing;
 use uug_script::{ScriptFault, read_script};
 use uug_session::{Job, Spool, Verdict};
@@ -19,7 +19,7 @@ const SENT: &[u8] =
 const ENDS: &[u8] = b"caller a 2 32\ncalled b 2 32\n";
 
 /// Lines that are bad as the third one.
-const BAD_LINES: [&[u8]; 49] = [
+const BAD_LINES: &[&[u8]] = &[
     b"caller a 2 32",
     b"called b 2 32",
     b"caller a 2",
@@ -72,7 +72,7 @@ const BAD_LINES: [&[u8]; 49] = [
 ];
 
 /// Lines that are good, and how many events they add.
-const GOOD_LINES: [(&[u8], usize); 18] = [
+const GOOD_LINES: &[(&[u8], usize)] = &[
     (b"", 0),
     (b"   ", 0),
     (b"# any thing", 0),
@@ -93,62 +93,69 @@ const GOOD_LINES: [(&[u8], usize); 18] = [
     (b"number called 0\nnumber caller 0", 0),
 ];
 
-#[test]
-fn reads_a_script(rt: HostRuntime) -> Result<(), Fail> {
-    let script = read_script(rt.alloc(), SENT)?;
-    let (caller, called) = (&script.setup.caller, &script.setup.called);
-    assert_same(
-        &rt,
-        (caller.name, called.name),
-        (Name::new(b"a")?, Name::new(b"b")?),
-    );
-    assert_same(
-        &rt,
-        (caller.announce.window(), called.announce.size()),
-        (2, 32),
-    );
-    let job = Job::Send {
+/// The job of `SENT`.
+fn sent_job() -> Result<Job, Fail> {
+    Ok(Job::Send {
         source: Name::new(b"x")?,
         target: Name::new(b"y")?,
         user: Name::new(b"u")?,
         temp: None,
-    };
-    assert_same(&rt, caller.queue.pending(), [job].as_slice());
-    assert_same(&rt, called.queue.pending().len(), 0);
-    let file = caller.spool.fetch(&Name::new(b"x")?).ok_or("a file")?;
-    assert_same(&rt, (file.mode, file.bytes.len()), (0o644, 0));
-    assert_so(&rt, script.events.len() == 40);
-    let n = 1_000_000_000;
+    })
+}
+
+/// The ends and the job of `SENT`.
+fn assert_setup(rt: &impl Abort, setup: &Setup<Global>, job: Job) -> Result<(), Fail> {
+    let (caller, called) = (&setup.caller, &setup.called);
+    let (a, b, x) = (Name::new(b"a")?, Name::new(b"b")?, Name::new(b"x")?);
+    assert_same(rt, (caller.name, called.name), (a, b));
     assert_same(
-        &rt,
-        script.events[0],
-        Event::Pass {
-            side: Side::Called,
-            n,
-        },
+        rt,
+        (caller.announce.window(), called.announce.size()),
+        (2, 32),
     );
-    assert_same(
-        &rt,
-        script.events[39],
-        Event::Pass {
-            side: Side::Caller,
-            n,
-        },
-    );
+    assert_same(rt, caller.queue.pending(), [job].as_slice());
+    assert_same(rt, called.queue.pending().len(), 0);
+    let file = caller.spool.fetch(&x).ok_or("a file")?;
+    assert_same(rt, (file.mode, file.bytes.len()), (0o644, 0));
     Ok(())
+}
+
+/// The events of `SENT`: 20 times all that is on the line comes to both ends.
+fn assert_flow(rt: &impl Abort, events: &[Event]) {
+    let n = 1_000_000_000;
+    let (side, other) = (Side::Called, Side::Caller);
+    assert_same(rt, events.len(), 40);
+    assert_same(rt, events.first(), Some(&Event::Pass { side, n }));
+    assert_same(rt, events.last(), Some(&Event::Pass { side: other, n }));
+}
+
+#[test]
+fn reads_a_script(rt: HostRuntime) -> Result<(), Fail> {
+    let job = sent_job()?;
+    let script = read_script(rt.alloc(), SENT)?;
+    assert_flow(&rt, script.events.as_slice());
+    let checked = assert_setup(&rt, &script.setup, job);
+    drop(script);
+    checked
+}
+
+/// What the ends say of files of these names, and their numbers.
+fn assert_verdicts(rt: &impl Abort, setup: &Setup<Global>, y: Name, z: Name) {
+    let (caller, called) = (&setup.caller, &setup.called);
+    assert_same(rt, called.spool.may_keep(&y), Verdict::Never);
+    assert_same(rt, caller.spool.may_keep(&z), Verdict::Later);
+    assert_same(rt, caller.spool.may_keep(&y), Verdict::Yes);
+    assert_same(rt, (caller.number, called.number), (None, Some(7)));
 }
 
 #[test]
 fn reads_verdicts_and_numbers_anywhere(rt: HostRuntime) -> Result<(), Fail> {
     let text =
         b"deny called y\nlater caller z\ncalled b 7 4096\nimmovable called w\ncaller a 1 64\nnumber called 7";
-    let script = read_script(rt.alloc(), text)?;
     let (y, z) = (Name::new(b"y")?, Name::new(b"z")?);
-    assert_same(&rt, script.setup.called.spool.may_keep(&y), Verdict::Never);
-    assert_same(&rt, script.setup.caller.spool.may_keep(&z), Verdict::Later);
-    assert_same(&rt, script.setup.caller.spool.may_keep(&y), Verdict::Yes);
-    assert_same(&rt, script.setup.called.number, Some(7));
-    assert_same(&rt, script.setup.caller.number, None);
+    let script = read_script(rt.alloc(), text)?;
+    assert_verdicts(&rt, &script.setup, y, z);
+    drop(script);
     Ok(())
 }
 
@@ -172,25 +179,39 @@ fn answers_the_line_behind_the_last(rt: HostRuntime) {
     }
 }
 
+/// Both ends, this line, and one that is bad.
+fn script_with(alloc: Global, line: &[u8]) -> Result<Vec<u8>, AllocError> {
+    let mut text = ENDS.to_vec(alloc)?;
+    text.extend_from_slice(line)?;
+    text.extend_from_slice(b"\nflip caller 1\n")?;
+    Ok(text)
+}
+
 #[test]
 fn answers_the_first_bad_line(rt: HostRuntime) -> Result<(), Fail> {
     for line in BAD_LINES {
-        let mut text = ENDS.to_vec(rt.alloc())?;
-        text.extend_from_slice(line)?;
-        text.extend_from_slice(b"\nflip caller 1\n")?;
+        let text = script_with(rt.alloc(), line)?;
         let fault = read_script(rt.alloc(), text.as_slice()).err();
-        assert_same(&rt, (line, fault), (line, Some(ScriptFault::Bad(3))));
+        assert_same(&rt, (*line, fault), (*line, Some(ScriptFault::Bad(3))));
     }
     Ok(())
+}
+
+/// How many events there are in a script with this line.
+fn events_with(alloc: Global, line: &[u8]) -> Result<usize, Fail> {
+    let mut text = ENDS.to_vec(alloc)?;
+    text.extend_from_slice(line)?;
+    let script = read_script(alloc, text.as_slice())?;
+    let events = script.events.len();
+    drop(script);
+    Ok(events)
 }
 
 #[test]
 fn takes_good_lines(rt: HostRuntime) -> Result<(), Fail> {
     for (line, events) in GOOD_LINES {
-        let mut text = ENDS.to_vec(rt.alloc())?;
-        text.extend_from_slice(line)?;
-        let script = read_script(rt.alloc(), text.as_slice())?;
-        assert_same(&rt, (line, script.events.len()), (line, events));
+        let seen = events_with(rt.alloc(), line)?;
+        assert_same(&rt, (*line, seen), (*line, *events));
     }
     Ok(())
 }

@@ -49,7 +49,9 @@ fn standing(end: &Node<MemorySpool<Global>, Global>) -> (Phase, usize) {
 /// Where the caller and the called end stand after the script.
 fn standings_after(alloc: Global, text: &str) -> Result<((Phase, usize), (Phase, usize)), Fail> {
     let report = report_of(alloc, text)?;
-    Ok((standing(report.caller()), standing(report.called())))
+    let standings = (standing(report.caller()), standing(report.called()));
+    drop(report);
+    Ok(standings)
 }
 
 #[test]

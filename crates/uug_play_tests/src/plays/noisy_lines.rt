@@ -125,11 +125,14 @@ fn report_with(
 ) -> Result<Report<Global>, Fail> {
     let (caller, called) = windows_of_list(list as usize);
     let (small, large) = (SIZES[list as usize % 2], SIZES[list as usize / 2 % 2]);
-    let mut text = String::new(alloc);
-    write!(
-        text,
+    let text = format!(in alloc;
         "caller a {caller} {small}\ncalled b {called} {large}\n{quiet}{JOBS}"
     )?;
+    report_of(alloc, text.as_str(), events)
+}
+
+/// The report of these events between the ends that the text sets up.
+fn report_of(alloc: Global, text: &str, events: &[Event]) -> Result<Report<Global>, Fail> {
     let script = read_script(alloc, text.as_bytes())?;
     Ok(run(alloc, script.setup, events)?)
 }
@@ -235,10 +238,10 @@ fn keeps_promises(report: &Report<Global>, caller: u8, called: u8) -> bool {
 fn play_list(alloc: Global, list: u32) -> Result<(bool, usize), Fail> {
     let (caller, called) = windows_of_list(list as usize);
     let report = report_of_list(alloc, list)?;
-    Ok((
-        keeps_promises(&report, caller, called),
-        report.caller().queue().struck().len(),
-    ))
+    let is_right = keeps_promises(&report, caller, called);
+    let struck = report.caller().queue().struck().len();
+    drop(report);
+    Ok((is_right, struck))
 }
 
 /// How many jobs of the caller were done in the list of this number.
@@ -276,13 +279,16 @@ fn settles_well(alloc: Global, report: Report<Global>, list: u32) -> Result<bool
 {
     let (caller, called) = windows_of_list(list as usize);
     let settled = settle(alloc, report)?;
-    Ok(is_over(&settled, caller, called))
+    let is_over = is_over(&settled, caller, called);
+    drop(settled);
+    Ok(is_over)
 }
 
 /// Settles the list of this number where it may. Whether all is over then, as it should be.
 fn settle_list(alloc: Global, list: u32) -> Result<Option<bool>, Fail> {
     let report = report_up_to_silence(alloc, list, "")?;
     if !report.can_settle() {
+        drop(report);
         return Ok(None);
     }
     Ok(Some(settles_well(alloc, report, list)?))
@@ -326,13 +332,17 @@ fn may_finish(report: &Report<Global>) -> bool {
 /// Whether both ends talk where the list of this number ends in silence.
 fn may_finish_list(alloc: Global, list: u32, quiet: &str) -> Result<bool, Fail> {
     let report = report_up_to_silence(alloc, list, quiet)?;
-    Ok(may_finish(&report))
+    let may_finish = may_finish(&report);
+    drop(report);
+    Ok(may_finish)
 }
 
 /// Whether both ends are done where the line is clean behind the list of this number.
 fn is_done_behind_list(alloc: Global, list: u32, quiet: &str) -> Result<bool, Fail> {
     let report = report_up_to_the_end(alloc, list, quiet)?;
-    Ok(is_done(report.caller()) && is_done(report.called()))
+    let is_done = is_done(report.caller()) && is_done(report.called());
+    drop(report);
+    Ok(is_done)
 }
 
 /// Goes on from the list of this number on a line that is clean, where both ends talk. Whether they do.

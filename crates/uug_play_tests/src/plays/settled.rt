@@ -2,7 +2,7 @@
 //! round, and a `settle` that always returns out of memory.
 
 use crate::assertions::{assert_same, assert_same_at, assert_so_at};
-use std::alloc::Global;
+use std::alloc::{Allocator, Global};
 use std::process::Abort;
 use std::test::Fail;
 use uug_line::{EndReport, Report, RunFault, Side, run, settle};
@@ -23,7 +23,7 @@ const LOST_SEVEN_TIMES: &str =
     timeout caller\ndrop called 1000\ntimeout caller\ndrop called 1000\ntimeout caller\ndrop called 1000\n";
 
 /// Scripts, and why their runs may not settle, if so.
-const SCRIPTS: [(&str, Option<Unsettled>); 9] = [
+const SCRIPTS: &[(&str, Option<Unsettled>)] = &[
     (LOST, None),
     (LOST_SEVEN_TIMES, None),
     // seven times
@@ -68,17 +68,24 @@ const SCRIPTS: [(&str, Option<Unsettled>); 9] = [
 ];
 
 /// What is reported of the script.
-fn report_of(alloc: Global, text: &str) -> Result<Report<Global>, Fail> {
+fn report_of<A: Allocator + Copy>(alloc: A, text: &str) -> Result<Report<A>, Fail> {
     let script = read_script(alloc, text.as_bytes())?;
     Ok(run(alloc, script.setup, script.events.as_slice())?)
+}
+
+/// Why the run of the script may not settle, and whether it may.
+fn why_of(alloc: Global, text: &str) -> Result<(Option<Unsettled>, bool), Fail> {
+    let report = report_of(alloc, text)?;
+    let seen = (why_unsettled(&report), report.can_settle());
+    drop(report);
+    Ok(seen)
 }
 
 #[test]
 fn settles_only_where_nothing_waits(rt: HostRuntime) -> Result<(), Fail> {
     for (text, why) in SCRIPTS {
-        let report = report_of(rt.alloc(), text)?;
-        assert_same_at(&rt, why_unsettled(&report), why, text);
-        assert_same_at(&rt, report.can_settle(), why.is_none(), text);
+        let seen = why_of(rt.alloc(), text)?;
+        assert_same_at(&rt, seen, (*why, why.is_none()), *text);
     }
     Ok(())
 }
@@ -128,9 +135,18 @@ fn numbers(end: &EndReport<Global>) -> (usize, usize, usize, Phase) {
 fn settled_from(alloc: Global, text: &str) -> Result<Report<Global>, Fail> {
     let report = report_of(alloc, text)?;
     if !report.can_settle() {
+        drop(report);
         return Err("it may not settle".into());
     }
     Ok(settle(alloc, report)?)
+}
+
+/// Whether the script settles to what it does on a line that never lost anything.
+fn settles(alloc: Global, text: &str) -> Result<bool, Fail> {
+    let report = settled_from(alloc, text)?;
+    let has_sent = has_sent(&report);
+    drop(report);
+    Ok(has_sent)
 }
 
 /// Whether the caller's file was sent and stored in the one session, as on a line that never lost anything.
@@ -153,8 +169,7 @@ fn has_sent(report: &Report<Global>) -> bool {
 #[test]
 fn settles_what_was_lost(rt: HostRuntime) -> Result<(), Fail> {
     for text in [LOST, LOST_SEVEN_TIMES] {
-        let report = settled_from(rt.alloc(), text)?;
-        assert_so_at(&rt, has_sent(&report), text);
+        assert_so_at(&rt, settles(rt.alloc(), text)?, text);
     }
     Ok(())
 }
@@ -162,9 +177,9 @@ fn settles_what_was_lost(rt: HostRuntime) -> Result<(), Fail> {
 /// Settles the run with the nth request for memory refused. Why it gave up, if it did.
 fn refuse(heap: &Refusing<Global>, nth: u64) -> Result<Option<RunFault>, Fail> {
     heap.refuse(0);
-    let script = read_script(heap, LOST.as_bytes())?;
-    let report = run(heap, script.setup, script.events.as_slice())?;
+    let report = report_of(heap, LOST)?;
     if !report.can_settle() {
+        drop(report);
         return Err("it may not settle".into());
     }
     heap.refuse(nth);
