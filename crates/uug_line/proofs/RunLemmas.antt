@@ -29,7 +29,7 @@ use Rattle.uug_line.specs.LineEndValue.{AreWritten, BeginsAgain, HasBegun, IsCal
 use Rattle.uug_line.specs.Report.{end_now, report_of_end}
 use Rattle.uug_line.specs.Run.{Run, flipped, after_event, after_hearing, calls, end_at, first_run, goes_through, hears_next, hung_up, participant, unless_fooled, with_end_at, with_line_to}
 use Rattle.uug_line.specs.RunKeeper.{by_themselves}
-use Rattle.uug_line.specs.RunValue.{CallsAgain, ChangesLine, EndsAs, Happens, HappensAt, IsEnd, IsLastEnd, IsReady, IsSteady, Passes, RunValue, StandsAs, hearing_side, held_parts, owned_parts, parts_now, standing_at, told_in_all, with_line}
+use Rattle.uug_line.specs.RunValue.{CallsAgain, ChangesLine, EndsAs, Happens, HappensAt, IsEnd, IsLastEnd, IsSteadyEnd, IsSteady, Passes, RunValue, StandsAs, hearing_side, held_parts, owned_parts, parts_now, standing_at, told_in_all, with_line}
 use Rattle.uug_line.specs.Shown.{end_shown, session_shown}
 use Rattle.uug_line.specs.Sides.{AtBoth, at, at_each}
 use Rattle.uug_line.specs.Spelled.{GiveAsSetUp, spelled, spelled_end, spelled_session}
@@ -53,17 +53,17 @@ who_is setup run Called e standing = ap player_by standing
 
 -- ---- between two events
 
-ready_at : (r : RunValue) → IsSteady r → (side : Side) → IsReady (at side r.ends)
-ready_at r steady = each (λ side. IsReady (at side r.ends)) steady.at_caller steady.at_called
+ready_at : (r : RunValue) → IsSteady r → (side : Side) → IsSteadyEnd (at side r.ends)
+ready_at r steady = each (λ side. IsSteadyEnd (at side r.ends)) steady.at_caller steady.at_called
 
-both_ready : (side : Side) (r : RunValue) → IsReady (at side r.ends) → IsReady (at (other side) r.ends) → IsSteady r
+both_ready : (side : Side) (r : RunValue) → IsSteadyEnd (at side r.ends) → IsSteadyEnd (at (other side) r.ends) → IsSteady r
 both_ready Caller r here there = record { at_caller = here; at_called = there }
 both_ready Called r here there = record { at_caller = there; at_called = here }
 
-line_ready : (change : List ℕ → List ℕ) (old new : LineEndValue) → new ≡ with_line change old → IsReady old → IsReady new
+line_ready : (change : List ℕ → List ℕ) (old new : LineEndValue) → new ≡ with_line change old → IsSteadyEnd old → IsSteadyEnd new
 line_ready change old new is ready =
     let ordered = ready.ordered in
-    subst IsReady (sym is) (record {
+    subst IsSteadyEnd (sym is) (record {
       ordered = record {
         cleared = ordered.cleared;
         in_range = ordered.in_range;
@@ -74,9 +74,9 @@ line_ready change old new is ready =
       room = ready.room;
     })
 
-one_ready : (side : Side) (old new : RunValue) → IsSteady old → IsReady (at side new.ends) → at (other side) new.ends ≡ at (other side) old.ends
+one_ready : (side : Side) (old new : RunValue) → IsSteady old → IsSteadyEnd (at side new.ends) → at (other side) new.ends ≡ at (other side) old.ends
     → IsSteady new
-one_ready side old new steady ready same = both_ready side new ready (subst IsReady (sym same) (ready_at old steady (other side)))
+one_ready side old new steady ready same = both_ready side new ready (subst IsSteadyEnd (sym same) (ready_at old steady (other side)))
 
 steady_changed : (change : List ℕ → List ℕ) (side : Side) (old new : RunValue) → IsSteady old → HappensAt side (ChangesLine change) old new
     → IsSteady new
@@ -97,7 +97,7 @@ happens_steady (Insert side byte) old new steady happens = steady_changed (λ li
 happens_steady (Timeout side) old new steady happens = steady_called time_ran_out side old new steady happens.1
 happens_steady (HangUp side) old new steady happens = steady_called line_lost side old new steady happens.1
 happens_steady Call old new steady happens =
-    let ready : (side : Side) → IsReady (at side new.ends) =
+    let ready : (side : Side) → IsSteadyEnd (at side new.ends) =
     λ side. record { ordered = (happens.1.begins side).ordered; room = (happens.1.begins side).room } in
     both_ready Caller new (ready Caller) (ready Called)
 

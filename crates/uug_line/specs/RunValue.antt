@@ -34,13 +34,13 @@ run_value r = record {
 }
 
 -- between two events
-pub record IsReady (e : LineEndValue) : Type 0 where
+pub record IsSteadyEnd (e : LineEndValue) : Type 0 where
   pub ordered : IsOrdered e
   pub room : HasRoom e
 
 pub record IsSteady (r : RunValue) : Type 0 where
-  pub at_caller : IsReady r.ends.at_caller
-  pub at_called : IsReady r.ends.at_called
+  pub at_caller : IsSteadyEnd r.ends.at_caller
+  pub at_called : IsSteadyEnd r.ends.at_called
 
 -- ---- what happens
 

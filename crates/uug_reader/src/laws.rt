@@ -70,8 +70,8 @@ pub fn items_joined()
         → items_of (parts ++ more) ≡ items_of parts ++ items_of more }
 {}
 
-/// What stands first still does with more bytes behind it, and is found again: a further search passes over nothing,
-/// finds the same item, and doesn't find nothing.
+/// What stands first still does with more bytes after it, and is found again: a further search skips no byte and finds
+/// the same item, and it never finds that there is none.
 pub fn found_again()
     ensures first { (s t : List ℕ) (item : Item) (n : ℕ) → StandsFirst item n s
         → StandsFirst item n (s ++ t) }

@@ -4,7 +4,7 @@ ghost use Rattle.uug_talk.specs.declared.answer.Answer.{Answer};
 ghost use Rattle.uug_talk.specs.declared.answer.TheConstants.{DEFAULT_MODE};
 ghost use Rattle.uug_talk.specs.declared.chunks.TheConstants.{MESSAGE_MAX};
 ghost use Rattle.uug_talk.specs.declared.gather.TheConstants.{FILE_MAX};
-ghost use Rattle.uug_talk.specs.declared.hail.TheConstants.{HAIL_MAX};
+ghost use Rattle.uug_talk.specs.declared.hail.TheConstants.{HAIL_MAX, TEXT_START};
 ghost use Rattle.uug_talk.specs.declared.mode.TheConstants.{MODE_MAX, MODE_DIGITS_MAX};
 ghost use Rattle.uug_talk.specs.declared.name.TheConstants.{NAME_MAX};
 ghost use Rattle.uug_talk.specs.declared.words.TheConstants.{COMMAND_MAX};
@@ -18,7 +18,8 @@ ghost use Rattle.uug_talk.specs.StreamTexts.{StreamTexts, HasTexts, Rest, TooLon
 ghost use Rattle.uug_talk.specs.Texts.{IsFirstText, IsTooLong, Heard, Passing, Whole, Holds, is_whole, left_to_hear, used_before, hear};
 
 /// Each limit is this number: of the bytes of a name, a command, a handshake text, a message and a file; of
-/// a mode, of the octal digits in which one is read, and the mode of a file that is given without one.
+/// a mode, of the octal digits in which one is read, and the mode of a file that is given without one. So is the byte
+/// with which a handshake text begins.
 pub fn limits()
     ensures name { NAME_MAX ≡ 200 }
     ensures command { COMMAND_MAX ≡ 4096 }
@@ -28,6 +29,7 @@ pub fn limits()
     ensures mode { MODE_MAX ≡ 4095 }
     ensures mode_digits { MODE_DIGITS_MAX ≡ 7 }
     ensures default_mode { DEFAULT_MODE ≡ 438 }
+    ensures text_start { TEXT_START ≡ 16 }
 {}
 
 /// What is written of a command is read as the command.
