@@ -25,6 +25,7 @@ pub mod NumberLemmas
 pub mod NumberStandingLemmas
 mod NextItemLemmas
 pub mod PiecesLemmas
+pub mod ResultLemmas
 pub mod RoomLemmas
 pub mod OverLemmas
 pub mod SpeakLemmas

@@ -11,14 +11,14 @@ hello = written_text (codes "Shere=b")
 pub record AreWaiting : Type 0 where
   pub nothing : search_text [] ≡ text_waits []
   pub noise : search_text (codes "login:" ++ 0 ∷ 10 ∷ []) ≡ text_waits []
-  pub TEXT_START : search_text (codes "login:" ++ 16 ∷ []) ≡ text_waits (16 ∷ [])
+  pub start_byte : search_text (codes "login:" ++ 16 ∷ []) ≡ text_waits (16 ∷ [])
   pub cut : search_text (codes "login:" ++ 16 ∷ codes "Sher") ≡ text_waits (16 ∷ codes "Sher")
   -- a start byte inside a text begins it anew
   pub begun_anew : search_text (16 ∷ codes "Sher" ++ 16 ∷ codes "Sh") ≡ text_waits (16 ∷ codes "Sh")
   pub longest : search_text (16 ∷ replicate HAIL_MAX 120) ≡ text_waits (16 ∷ replicate HAIL_MAX 120)
 
 pub waiting : AreWaiting
-waiting = record { nothing = refl; noise = refl; TEXT_START = refl; cut = refl; begun_anew = refl; longest = refl }
+waiting = record { nothing = refl; noise = refl; start_byte = refl; cut = refl; begun_anew = refl; longest = refl }
 
 -- a text stands
 pub record AreStanding : Type 0 where

@@ -106,3 +106,12 @@ returns-in-Ok-Closed-clause-does g c =
     done.stage (done.link ∙ told.state) (ap (dialogue_of h kept) done.dialogue)
     (done.emitted ∙ ap (λ x. x ++ map entry_of (leave c.has_parted-has_parted.result b.identity.side)) told.emitted)
     done.identity done.own done.number)))
+
+pub returns-in-Ok-Nothing-clause-says : goal.returns-in-Ok-Nothing-clause-says
+returns-in-Ok-Nothing-clause-says g c = c.speak.ensures.says
+
+pub returns-in-Err-Halted-clause-says : goal.returns-in-Err-Halted-clause-says
+returns-in-Err-Halted-clause-says g c = c.speak-in-Err-Halted.ensures.says
+
+pub returns-in-Ok-Up-clause-says : goal.returns-in-Ok-Up-clause-says
+returns-in-Ok-Up-clause-says g c = c.speak-in-Ok-Up.ensures.says

@@ -7,6 +7,7 @@ use Rattle.uug_session.specs.Engine.{Does, EngineState, end_of}
 use Rattle.uug_conversation.specs.DialogueState.{end_keeper}
 use Rattle.uug_conversation.specs.DialogueValue.{dialogue_of}
 use Rattle.uug_session.proofs.EngineLemmas.{by_outcome, goes_on_does, shown_by}
+use Rattle.uug_session.proofs.ResultLemmas.{err_says_nothing}
 use Rattle.uug_session.proofs.engine.Engine.on_bad.Goals as goal
 
 pub returns-in-Ok-Nothing-clause-ok : goal.returns-in-Ok-Nothing-clause-ok
@@ -25,3 +26,24 @@ returns-in-Ok-Nothing-clause-ok g c =
     (by_outcome (end_keeper b.identity.side h) b.identity false nothing e [] (dialogue_of h kept b.dialogue) (end_of h kept after) b after told.outcome
     (goes_on_does h kept false e b m after told.state (told.emitted ∙ ap (λ x. x ++ map written e.emitted) c.reserve.ensures.entries)
     (ap (λ (x : EngineState). x.stage) c.self.view_is ∙ c.requires.linked) refl refl refl c.speak.ensures.spoken c.speak.ensures.still))
+
+pub invariant_of-self : goal.invariant_of-self
+invariant_of-self g c = c.self.invariant
+
+pub returns-in-Err-Halted-clause-err : goal.returns-in-Err-Halted-clause-err
+returns-in-Err-Halted-clause-err g c = tt
+
+pub returns-in_err-reserve-clause-ok : goal.returns-in_err-reserve-clause-ok
+returns-in_err-reserve-clause-ok g c = err_says_nothing _ c.from_residual.result c.from_residual.ensures.0
+
+pub returns-in_err-reserve-clause-says : goal.returns-in_err-reserve-clause-says
+returns-in_err-reserve-clause-says g c = err_says_nothing _ c.from_residual.result c.from_residual.ensures.0
+
+pub returns-in-Ok-Nothing-clause-says : goal.returns-in-Ok-Nothing-clause-says
+returns-in-Ok-Nothing-clause-says g c = c.speak.ensures.says
+
+pub returns-in-Err-Halted-clause-says : goal.returns-in-Err-Halted-clause-says
+returns-in-Err-Halted-clause-says g c = c.speak-in-Err-Halted.ensures.says
+
+pub returns-in-Ok-Nothing-clause-err : goal.returns-in-Ok-Nothing-clause-err
+returns-in-Ok-Nothing-clause-err g c = tt

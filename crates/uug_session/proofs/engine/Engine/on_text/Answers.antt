@@ -6,6 +6,7 @@ use Rattle.uug_session.specs.Engine.{Does, EngineState, bare}
 use Rattle.uug_session.specs.Greeting.{GreetingStep, number_by, text_came}
 use Rattle.uug_session.specs.Says.{entry_of_text}
 use Rattle.uug_session.proofs.EngineLemmas.{greeted_does, shown_by}
+use Rattle.uug_session.proofs.ResultLemmas.{err_says_nothing}
 use Rattle.uug_session.proofs.engine.Engine.on_text.Goals as goal
 
 pub returns-clause-ok : goal.returns-clause-ok
@@ -24,3 +25,30 @@ returns-clause-ok g c =
     (greeted_does b.identity c.in_ok-led.led.greeted came.says i.link i.dialogue (bare after) b m after
     (c.in_ok-led.ensures.says.added ∙ ap (λ (x : List EntryValue). x ++ map entry_of_text came.says) c.reserve.ensures.entries)
     refl refl c.lead_to.ensures.does)))
+
+pub invariant_of-self : goal.invariant_of-self
+invariant_of-self g c = c.self.invariant
+
+pub invariant_of-self-in_err-led : goal.invariant_of-self-in_err-led
+invariant_of-self-in_err-led g c = c.self.invariant
+
+pub invariant_of-self-2 : goal.invariant_of-self-2
+invariant_of-self-2 g c = c.self.invariant
+
+pub returns-clause-err : goal.returns-clause-err
+returns-clause-err g c = tt
+
+pub returns-in_err-reserve-clause-ok : goal.returns-in_err-reserve-clause-ok
+returns-in_err-reserve-clause-ok g c = err_says_nothing _ c.from_residual.result c.from_residual.ensures.0
+
+pub returns-in_err-reserve-clause-says : goal.returns-in_err-reserve-clause-says
+returns-in_err-reserve-clause-says g c = err_says_nothing _ c.from_residual.result c.from_residual.ensures.0
+
+pub returns-in_err-led-clause-ok : goal.returns-in_err-led-clause-ok
+returns-in_err-led-clause-ok g c = err_says_nothing _ c.from_residual-in_err-led.result c.from_residual-in_err-led.ensures.0
+
+pub returns-in_err-led-clause-says : goal.returns-in_err-led-clause-says
+returns-in_err-led-clause-says g c = err_says_nothing _ c.from_residual-in_err-led.result c.from_residual-in_err-led.ensures.0
+
+pub returns-clause-says : goal.returns-clause-says
+returns-clause-says g c = c.lead_to.ensures.says
