@@ -3,7 +3,7 @@
 use super::greetings::CALLER_STARTS;
 use super::script::Act::{CallAgain, Hear, Timeout};
 use super::script::Wire::{Close, Command, Data, InitA, InitB, InitC, Rr, Text};
-use super::script::{Row, SILENCE, Script, Wire};
+use super::script::{Row, SILENCE, Script, Wire, play_all};
 use super::{Given, Left, NO_WORK, NOTHING, SEND, SENDER, Task};
 use uug_session::{End, Phase};
 
@@ -102,7 +102,5 @@ const SCRIPTS: &[Script<'static>] = &[
 // session, or never again; an answer out of turn that ends the session
 #[test]
 fn understands_other_answers(rt: HostRuntime) {
-    for script in SCRIPTS {
-        script.play(&rt, rt.alloc());
-    }
+    play_all(&rt, rt.alloc(), SCRIPTS);
 }

@@ -86,8 +86,13 @@ fn assert_called_ended(rt: &impl Abort, called: &FaultyNode, how: End, left: &[L
 }
 
 /// The device fails at the file's end; the ends call again, and it does not.
-fn recover(rt: &impl Abort, log: Global, caller: &mut MemoryNode<Global>, called: &mut FaultyNode) {
-    let mut line = Line::new(log, Hand::Whole);
+fn recover(
+    rt: &impl Abort,
+    log: Global,
+    caller: &mut MemoryNode<Global>,
+    called: &mut FaultyNode,
+    line: &mut Line,
+) {
     line.play(rt, &[Event::Flow(6), Event::ToCalled], caller, called);
     assert_says(rt, log, called, &[Rr(2), Close]);
     assert_called_ended(rt, called, End::SpoolFault, NOTHING);
@@ -100,7 +105,8 @@ fn recover(rt: &impl Abort, log: Global, caller: &mut MemoryNode<Global>, called
 
 fn recover_from(rt: &impl Abort, alloc: Global, caller: &mut MemoryNode<Global>) {
     let mut called = called(rt, alloc);
-    recover(rt, alloc, caller, &mut called);
+    let mut line = Line::new(alloc, Hand::Whole);
+    recover(rt, alloc, caller, &mut called, &mut line);
     drop(called);
 }
 

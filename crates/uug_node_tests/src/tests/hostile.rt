@@ -3,7 +3,7 @@
 use super::greetings::{CALLED_STARTS, CALLER_STARTS};
 use super::script::Act::Hear;
 use super::script::Wire::{Bytes, Close, Command, Data, Flood, InitC, Rj, Rr, RrFlood};
-use super::script::{Row, SILENCE, Script, Wire};
+use super::script::{Row, SILENCE, Script, Wire, play_all};
 use super::{Given, Left, NO_WORK, NOTHING, SEND, wide_peers};
 use uug_session::{End, Phase};
 
@@ -106,7 +106,5 @@ const SCRIPTS: &[Script<'static>] = &[
 // broken packet that ends the session
 #[test]
 fn ends_where_no_rule_is_kept(rt: HostRuntime) {
-    for script in SCRIPTS {
-        script.play(&rt, rt.alloc());
-    }
+    play_all(&rt, rt.alloc(), SCRIPTS);
 }

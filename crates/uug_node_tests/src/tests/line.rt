@@ -142,16 +142,28 @@ impl Line {
         for _ in 0..2_000_000 {
             let used = to.offer(&rest[..rest.len().min(size)]);
             rest = &rest[used..];
-            if to.next_found().is_some() {
-                if to.take_found().is_err() {
-                    self.refused.items = self.refused.items.saturating_add(1);
-                    to.take_found().expect(rt, "memory");
-                }
-            } else if rest.is_empty() {
+            let is_found = self.take_up(rt, to);
+            if !is_found && rest.is_empty() {
                 return;
             }
         }
         panic!(rt; "no end of the items");
+    }
+
+    /// The end takes up the next item, if there is one. Whether there is.
+    fn take_up<S: Spool, A: Allocator + Copy>(
+        &mut self,
+        rt: &impl Abort,
+        to: &mut Node<S, A>,
+    ) -> bool {
+        if to.next_found().is_some() {
+            if to.take_found().is_err() {
+                self.refused.items = self.refused.items.saturating_add(1);
+                to.take_found().expect(rt, "memory");
+            }
+            return true;
+        }
+        false
     }
 
     /// A timeout.

@@ -122,12 +122,20 @@ fn keeping(rt: &impl Abort, alloc: Global, side: Side, number: Option<u32>) -> M
 }
 
 fn converse(rt: &impl Abort, alloc: Global, conversation: &Conversation<'_>) {
-    let (side, number, rows, phase, then) = *conversation;
-    let mut node = keeping(rt, alloc, side, number);
-    follow(rt, alloc, &mut node, rows);
-    let seen = (node.phase(), node.number());
+    let mut node = keeping(rt, alloc, conversation.0, conversation.1);
+    assert_converses(rt, alloc, &mut node, conversation);
     drop(node);
-    assert_same(rt, seen, (phase, then));
+}
+
+fn assert_converses(
+    rt: &impl Abort,
+    log: Global,
+    node: &mut MemoryNode<Global>,
+    conversation: &Conversation<'_>,
+) {
+    let (_, _, rows, phase, number) = *conversation;
+    follow(rt, log, node, rows);
+    assert_same(rt, (node.phase(), node.number()), (phase, number));
 }
 
 // a number that is not said, not looked at, or that rises where it must not
@@ -138,19 +146,19 @@ fn keeps_its_number(rt: HostRuntime) {
     }
 }
 
-fn call_with_number(rt: &impl Abort, node: &mut MemoryNode<Global>) {
+fn call_with_7(rt: &impl Abort, log: Global, node: &mut MemoryNode<Global>) {
     assert_same(rt, node.number(), None);
     node.hang_up();
     node.set_number(7);
     assert_same(rt, node.number(), Some(7));
-    node.call_again().expect(rt, "memory for a session");
+    node.call_again().expect(rt, "memory");
+    follow(rt, log, node, &[CALLER_SAYS_7]);
 }
 
 // a number that is given between two sessions and not said in the next
 #[test]
 fn says_the_number_that_it_was_given(rt: HostRuntime) {
     let mut node = keeping(&rt, rt.alloc(), Side::Caller, None);
-    call_with_number(&rt, &mut node);
-    follow(&rt, rt.alloc(), &mut node, &[CALLER_SAYS_7]);
+    call_with_7(&rt, rt.alloc(), &mut node);
     drop(node);
 }

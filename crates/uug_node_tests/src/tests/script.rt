@@ -2,7 +2,7 @@
 
 use super::line::{Hand, Line};
 use super::{Given, Left, MemoryNode, Side, assert_lists, end, place};
-use crate::tests::assertions::{assert_same, assert_so};
+use crate::tests::assertions::assert_same;
 use arrayvec::ArrayVec;
 use std::alloc::{Allocator, Global};
 use std::process::Abort;
@@ -122,20 +122,18 @@ type Front = (u8, u8, u8);
 /// A text, and zeros behind it that fill the field.
 fn spell_command(rt: &impl Abort, front: Front, text: &[u8], line: &mut Vec<u8>) {
     let k = front.0;
-    assert_so(
-        rt,
-        1 <= k && k <= FIELD_CODE_MAX && text.len() < field_size(k),
-    );
+    if k < 1 || k > FIELD_CODE_MAX || text.len() >= field_size(k) {
+        panic!(rt; "a text that is too long");
+    }
     let mut field = [0; 4096];
     field[..text.len()].copy_from_slice(text);
     spell_data(rt, front, &field[..field_size(k)], line);
 }
 
 fn spell_data(rt: &impl Abort, (k, seq, ack): Front, message: &[u8], line: &mut Vec<u8>) {
-    assert_so(
-        rt,
-        1 <= k && k <= FIELD_CODE_MAX && message.len() <= field_size(k),
-    );
+    if k < 1 || k > FIELD_CODE_MAX || message.len() > field_size(k) {
+        panic!(rt; "a message that is too long");
+    }
     let packet = Packet::Carry {
         seq: number(seq),
         ack: number(ack),
@@ -148,7 +146,9 @@ fn spell_data(rt: &impl Abort, (k, seq, ack): Front, message: &[u8], line: &mut 
 }
 
 fn spell_flood(rt: &impl Abort, count: u16, (k, seq, ack): Front, line: &mut Vec<u8>) {
-    assert_so(rt, 1 <= k && k <= FIELD_CODE_MAX);
+    if k < 1 || k > FIELD_CODE_MAX {
+        panic!(rt; "no code of a size");
+    }
     let message = &[b'f'; 4096][..field_size(k)];
     for i in 0..count {
         let front = (k, seq.wrapping_add((i % 8) as u8), ack);
@@ -216,6 +216,12 @@ pub(super) fn follow(
 ) {
     let mut line = Line::new(log, Hand::Pieces(usize::MAX));
     follow_on(rt, log, node, &mut line, rows);
+}
+
+pub(super) fn play_all(rt: &impl Abort, alloc: Global, scripts: &[Script<'_>]) {
+    for script in scripts {
+        script.play(rt, alloc);
+    }
 }
 
 impl Script<'_> {

@@ -36,14 +36,10 @@ impl Session<'_> {
         let number = self.numbers.1;
         line.play(rt, self.events, caller, called);
         assert_same(rt, (caller.number(), called.number()), (number, number));
-        assert_done(rt, caller, self.caller_left);
-        assert_done(rt, called, self.called_left);
+        let (left, right) = (caller.spool().stored(), called.spool().stored());
+        assert_ended(rt, caller, left, End::Done, self.caller_left);
+        assert_ended(rt, called, right, End::Done, self.called_left);
     }
-}
-
-/// All was done, and just this is left.
-fn assert_done<A: Allocator + Copy>(rt: &impl Abort, node: &MemoryNode<A>, left: &[Left<'_>]) {
-    assert_ended(rt, node, node.spool().stored(), End::Done, left);
 }
 
 const REQUEST: Task<'static> = Task::Request(b"q", b"y");

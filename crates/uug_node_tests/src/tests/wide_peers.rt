@@ -4,7 +4,7 @@
 use super::greetings::CALLED_GREETS;
 use super::script::Act::Hear;
 use super::script::Wire::{Close, Command, Data, InitA, InitB, InitC, Rr, Text, Wide, WideCommand};
-use super::script::{Row, Script, Start};
+use super::script::{Row, Script, Start, play_all};
 use super::{Given, Left, NO_WORK, SEND, Side};
 use uug_session::{End, Phase};
 
@@ -90,7 +90,5 @@ const SCRIPTS: &[Script<'static>] = &[
 // an end that understands no field but the smallest
 #[test]
 fn understands_fields_of_the_announced_size(rt: HostRuntime) {
-    for script in SCRIPTS {
-        script.play(&rt, rt.alloc());
-    }
+    play_all(&rt, rt.alloc(), SCRIPTS);
 }
