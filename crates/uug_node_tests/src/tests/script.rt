@@ -1,8 +1,9 @@
 //! An end over whose line a script speaks.
+ghost use Rattle.std.specs.Prelude.{◌≤◌};
 
 use super::line::{Hand, Line};
 use super::{Given, Left, MemoryNode, Side, assert_lists, end, place};
-use crate::tests::assertions::assert_same;
+use crate::tests::assertions::{assert_same, assert_so};
 use arrayvec::ArrayVec;
 use std::alloc::{Allocator, Global};
 use std::process::Abort;
@@ -119,15 +120,24 @@ fn spell_text(rt: &impl Abort, text: &[u8], line: &mut Vec<u8>) {
 /// What stands before a message: the code of its field's size, its number, and the number that it acknowledges.
 type Front = (u8, u8, u8);
 
+/// The size of a field of this code.
+fn size_of(rt: &impl Abort, k: u8) -> usize
+    ensures most { result ≤ 4096 }
+{
+    if k < 1 || k > FIELD_CODE_MAX {
+        panic!(rt; "no code of a size");
+    }
+    field_size(k)
+}
+
 /// A text, and zeros behind it that fill the field.
 fn spell_command(rt: &impl Abort, front: Front, text: &[u8], line: &mut Vec<u8>) {
-    let k = front.0;
-    if k < 1 || k > FIELD_CODE_MAX || text.len() >= field_size(k) {
-        panic!(rt; "a text that is too long");
-    }
+    let size = size_of(rt, front.0);
+    assert_so(rt, text.len() < size);
+    let len = text.len().min(4096);
     let mut field = [0; 4096];
-    field[..text.len()].copy_from_slice(text);
-    spell_data(rt, front, &field[..field_size(k)], line);
+    field[..len].copy_from_slice(&text[..len]);
+    spell_data(rt, front, &field[..size], line);
 }
 
 fn spell_data(rt: &impl Abort, (k, seq, ack): Front, message: &[u8], line: &mut Vec<u8>) {
@@ -146,10 +156,7 @@ fn spell_data(rt: &impl Abort, (k, seq, ack): Front, message: &[u8], line: &mut 
 }
 
 fn spell_flood(rt: &impl Abort, count: u16, (k, seq, ack): Front, line: &mut Vec<u8>) {
-    if k < 1 || k > FIELD_CODE_MAX {
-        panic!(rt; "no code of a size");
-    }
-    let message = &[b'f'; 4096][..field_size(k)];
+    let message = &[b'f'; 4096][..size_of(rt, k)];
     for i in 0..count {
         let front = (k, seq.wrapping_add((i % 8) as u8), ack);
         spell_data(rt, front, message, line);
