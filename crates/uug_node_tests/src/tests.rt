@@ -15,9 +15,8 @@ mod sessions;
 mod wide_peers;
 
 use crate::tests::assertions::{assert_same, assert_so};
-use std::alloc::Allocator;
+use std::alloc::{AllocError, Allocator};
 use std::process::Abort;
-use std::test::Fail;
 use uug_link::Announce;
 use uug_session::{End, Job, MemorySpool, Node, NotMade, Phase, Place, Queue, Spool, Stored};
 use uug_talk::Name;
@@ -70,68 +69,70 @@ const SEND: Task<'static> = Task::Send(b"x", b"y");
 /// What the end has that does so, the file being empty.
 const SENDER: &[Given<'static>] = &[Given::File(b"x", b""), Given::Job(SEND)];
 
-fn name(text: &[u8]) -> Result<Name, Fail> {
-    Ok(Name::new(text)?)
+fn name(rt: &impl Abort, text: &[u8]) -> Name {
+    Name::new(text).expect(rt, "a name")
 }
 
-fn job(task: Task<'_>) -> Result<Job, Fail> {
-    let user = name(b"u")?;
-    Ok(match task {
+fn job(rt: &impl Abort, task: Task<'_>) -> Job {
+    let user = name(rt, b"u");
+    match task {
         Task::Send(source, target) => Job::Send {
-            source: name(source)?,
-            target: name(target)?,
+            source: name(rt, source),
+            target: name(rt, target),
             user,
             temp: None,
         },
         Task::Request(source, target) => Job::Request {
-            source: name(source)?,
-            target: name(target)?,
+            source: name(rt, source),
+            target: name(rt, target),
             user,
         },
-    })
+    }
 }
 
 /// Where an end of window 2 stands.
-fn place(side: Side, size: usize) -> Result<Place, Fail> {
-    let (a, b) = (name(b"a")?, name(b"b")?);
+fn place(rt: &impl Abort, side: Side, size: usize) -> Place {
+    let (a, b) = (name(rt, b"a"), name(rt, b"b"));
     let (me, peer) = match side {
         Side::Caller => (a, b),
         Side::Called => (b, a),
     };
-    let announce = Announce::new(2, size)?;
-    Ok(Place {
+    Place {
         me,
         peer,
-        announce,
+        announce: Announce::new(2, size).expect(rt, "a size"),
         number: None,
-    })
+    }
 }
 
-fn give<A: Allocator + Copy>(
-    queue: &mut Queue<A>,
+fn give_to_spool<A: Allocator + Copy>(
+    rt: &impl Abort,
     spool: &mut MemorySpool<A>,
     one: Given<'_>,
-) -> Result<(), Fail> {
+) -> Result<(), AllocError> {
     match one {
-        Given::File(file, bytes) => spool.add_file(name(file)?, 0o644, bytes)?,
-        Given::Deny(file) => spool.deny(name(file)?)?,
-        Given::Later(file) => spool.later(name(file)?)?,
-        Given::Immovable(file) => spool.immovable(name(file)?)?,
-        Given::Job(task) => queue.add(job(task)?)?,
+        Given::File(file, bytes) => spool.add_file(name(rt, file), 0o644, bytes),
+        Given::Deny(file) => spool.deny(name(rt, file)),
+        Given::Later(file) => spool.later(name(rt, file)),
+        Given::Immovable(file) => spool.immovable(name(rt, file)),
+        Given::Job(_) => Ok(()),
     }
-    Ok(())
 }
 
 fn stock<A: Allocator + Copy>(
+    rt: &impl Abort,
     alloc: A,
     given: &[Given<'_>],
-) -> Result<(Queue<A>, MemorySpool<A>), Fail> {
+) -> (Queue<A>, MemorySpool<A>) {
     let mut queue = Queue::new(alloc);
     let mut spool = MemorySpool::new(alloc);
     for one in given {
-        give(&mut queue, &mut spool, *one)?;
+        give_to_spool(rt, &mut spool, *one).expect(rt, "memory for a file");
+        if let Given::Job(task) = one {
+            queue.add(job(rt, *task)).expect(rt, "room for a job");
+        }
     }
-    Ok((queue, spool))
+    (queue, spool)
 }
 
 fn make<S: Spool, A: Allocator + Copy>(
@@ -148,15 +149,14 @@ fn make<S: Spool, A: Allocator + Copy>(
 }
 
 fn end<A: Allocator + Copy>(
+    rt: &impl Abort,
     alloc: A,
     side: Side,
-    size: usize,
+    place: Place,
     given: &[Given<'_>],
-) -> Result<MemoryNode<A>, Fail> {
-    let place = place(side, size)?;
-    let (queue, spool) = stock(alloc, given)?;
-    let node = make(alloc, side, place, queue, spool);
-    Ok(node.ok().ok_or("an end")?)
+) -> MemoryNode<A> {
+    let (queue, spool) = stock(rt, alloc, given);
+    make(alloc, side, place, queue, spool).expect(rt, "an end")
 }
 
 /// The session has ended so, and just this is left.
@@ -166,9 +166,9 @@ fn assert_ended<S: Spool, A: Allocator + Copy>(
     stored: &[Stored<A>],
     how: End,
     left: &[Left<'_>],
-) -> Result<(), Fail> {
+) {
     assert_same(rt, node.phase(), Phase::Ended(how));
-    assert_lists(rt, node.queue(), stored, left)
+    assert_lists(rt, node.queue(), stored, left);
 }
 
 /// The lists hold just what is left.
@@ -177,30 +177,27 @@ fn assert_lists<A: Allocator>(
     queue: &Queue<A>,
     stored: &[Stored<A>],
     left: &[Left<'_>],
-) -> Result<(), Fail> {
+) {
     let mut pending = queue.pending().iter();
     let mut struck = queue.struck().iter();
     let mut failed = queue.failed().iter();
     let mut stored = stored.iter();
     for one in left {
         match one {
-            Left::Pending(task) => assert_job(rt, pending.next(), *task)?,
-            Left::Struck(task) => assert_job(rt, struck.next(), *task)?,
-            Left::Failed(task) => assert_job(rt, failed.next(), *task)?,
-            Left::Stored(target, bytes) => assert_file(rt, stored.next(), target, bytes)?,
+            Left::Pending(task) => assert_job(rt, pending.next(), *task),
+            Left::Struck(task) => assert_job(rt, struck.next(), *task),
+            Left::Failed(task) => assert_job(rt, failed.next(), *task),
+            Left::Stored(target, bytes) => assert_file(rt, stored.next(), target, bytes),
         }
     }
     assert_so(rt, pending.next().is_none());
     assert_so(rt, struck.next().is_none());
     assert_so(rt, failed.next().is_none());
     assert_so(rt, stored.next().is_none());
-    Ok(())
 }
 
-fn assert_job(rt: &impl Abort, found: Option<&Job>, task: Task<'_>) -> Result<(), Fail> {
-    let found = found.ok_or("a job")?;
-    assert_same(rt, *found, job(task)?);
-    Ok(())
+fn assert_job(rt: &impl Abort, found: Option<&Job>, task: Task<'_>) {
+    assert_same(rt, found, Some(&job(rt, task)));
 }
 
 fn assert_file<A: Allocator>(
@@ -208,9 +205,8 @@ fn assert_file<A: Allocator>(
     found: Option<&Stored<A>>,
     target: &[u8],
     bytes: &[u8],
-) -> Result<(), Fail> {
-    let found = found.ok_or("a file")?;
-    assert_same(rt, (found.name, found.mode), (name(target)?, 0o644));
+) {
+    let found = found.expect(rt, "a file");
+    assert_same(rt, (found.name, found.mode), (name(rt, target), 0o644));
     assert_same(rt, found.bytes.as_slice(), bytes);
-    Ok(())
 }

@@ -2,7 +2,7 @@
 //! which lends both values, compares them, and has their texts at hand.
 ghost use Rattle.std.specs.Prelude.{IsTrue};
 
-use std::fmt::{Debug, Display};
+use std::fmt::Debug;
 use std::process::Abort;
 
 /// Both are the same.
@@ -10,26 +10,9 @@ pub fn assert_same<T: PartialEq + Debug + Copy>(rt: &impl Abort, seen: T, expect
     assert_eq!(rt; seen, expected);
 }
 
-/// Both are the same, at this place of a table or a loop.
-pub fn assert_same_at<T: PartialEq + Debug + Copy, P: Display + Copy>(
-    rt: &impl Abort,
-    seen: T,
-    expected: T,
-    place: P,
-) {
-    assert_eq!(rt; seen, expected, "at {place}");
-}
-
 /// This is so.
 pub fn assert_so(rt: &impl Abort, fact: bool)
     ensures { IsTrue fact }
 {
     assert!(rt; fact);
-}
-
-/// This is so, at this place of a table or a loop.
-pub fn assert_so_at<P: Display + Copy>(rt: &impl Abort, fact: bool, place: P)
-    ensures { IsTrue fact }
-{
-    assert!(rt; fact, "at {place}");
 }

@@ -12,7 +12,6 @@ use crate::assertions::{assert_same, assert_so};
 use crate::packets::number;
 use std::alloc::{Allocator, Global};
 use std::process::Abort;
-use std::test::Fail;
 use uug_link::{Announce, Entry, Link, LinkFault, Outbox, Outcome};
 use uug_packet::{Control, Packet, decode};
 use uug_refusal::Refusing;
@@ -151,12 +150,8 @@ fn follow_row(rt: &impl Abort, heap: &Refusing<Global>, link: &mut Link, row: Ro
         assert_same(rt, link.speaks_when_late(), !emits.is_empty());
     }
     let requests = if emits.is_empty() { 0 } else { 2 };
-    assert_same(
-        rt,
-        insist(rt, heap, call, link, &mut out),
-        (answer, requests),
-    );
-    assert_same(rt, link.unacked(), unacked);
+    let seen = insist(rt, heap, call, link, &mut out);
+    assert_same(rt, (seen, link.unacked()), ((answer, requests), unacked));
     assert_holds(rt, &out, emits, matches!(call, Call::Send(_)));
 }
 
@@ -168,6 +163,19 @@ fn follow(rt: &impl Abort, alloc: Global, link: &mut Link, rows: &[Row<'_>]) {
     }
 }
 
-fn announce(window: u8, size: usize) -> Result<Announce, Fail> {
-    Ok(Announce::new(window, size)?)
+/// Does to a called end's link what two tables say.
+fn follow_called(
+    rt: &impl Abort,
+    alloc: Global,
+    own: Announce,
+    rows: &[Row<'_>],
+    then: &[Row<'_>],
+) {
+    let mut link = Link::called(own);
+    follow(rt, alloc, &mut link, rows);
+    follow(rt, alloc, &mut link, then);
+}
+
+fn announce(rt: &impl Abort, window: u8, size: usize) -> Announce {
+    Announce::new(window, size).expect(rt, "a window and a size")
 }

@@ -1,8 +1,8 @@
 //! What no clause says of a reader: that it does its work on bytes from outside, and running out of memory.
 
-use crate::assertions::{assert_same, assert_same_at, assert_so};
+use crate::assertions::{assert_same, assert_so};
 use crate::packets::number;
-use std::alloc::{AllocError, Allocator};
+use std::alloc::{Allocator, Global};
 use std::process::Abort;
 use uug_packet::{Control, Packet};
 use uug_reader::{Found, READER_SIZE, Reader};
@@ -46,7 +46,8 @@ fn take_piece<A: Allocator>(
     assert_same(rt, reader.push(piece), piece.len());
     for item in items {
         assert_same(rt, reader.find(), Some(*item));
-        assert_same_at(rt, reader.showing(), Some(*item), "shown again");
+        // it is shown again
+        assert_same(rt, reader.showing(), Some(*item));
         assert_so(rt, reader.search());
         reader.drop_found();
     }
@@ -54,27 +55,30 @@ fn take_piece<A: Allocator>(
     assert_same(rt, reader.waiting(), waiting);
 }
 
+/// A reader, with memory for it.
+fn reader(rt: &impl Abort, alloc: Global) -> Reader<Global> {
+    Reader::new(alloc).expect(rt, "memory")
+}
+
+fn control(control: Control) -> Found<'static> {
+    Found::Packet(Packet::Control(control))
+}
+
+fn take_pieces(rt: &impl Abort, reader: &mut Reader<Global>) {
+    let init = control(Control::InitA(number(3)));
+    let ready = control(Control::Rr(number(1)));
+    take_piece(rt, reader, &FRONT, &[init], 2);
+    take_piece(rt, reader, &HEADER, &[ready], 6);
+    take_piece(rt, reader, &[0; 31], &[], 37);
+    take_piece(rt, reader, &[0], &[zeros()], 0);
+    take_piece(rt, reader, &BROKEN_FRONT, &[], 12);
+    take_piece(rt, reader, &[0; 26], &[Found::Bad, ready], 0);
+}
+
 #[test]
-fn finds_what_comes_in_pieces(rt: HostRuntime) -> Result<(), AllocError> {
-    let ready = Found::Packet(Packet::Control(Control::Rr(number(1))));
-    let none: &[Found<'_>] = &[];
-    let rows: [(&[u8], &[Found<'_>], usize); 6] = [
-        (
-            &FRONT,
-            &[Found::Packet(Packet::Control(Control::InitA(number(3))))],
-            2,
-        ),
-        (&HEADER, &[ready], 6),
-        (&[0; 31], none, 37),
-        (&[0], &[zeros()], 0),
-        (&BROKEN_FRONT, none, 12),
-        (&[0; 26], &[Found::Bad, ready], 0),
-    ];
-    let mut reader = Reader::new(rt.alloc())?;
-    for (piece, items, waiting) in rows {
-        take_piece(&rt, &mut reader, piece, items, waiting);
-    }
-    Ok(())
+fn finds_what_comes_in_pieces(rt: HostRuntime) {
+    let mut reader = reader(&rt, rt.alloc());
+    take_pieces(&rt, &mut reader);
 }
 
 /// As many bytes are accepted as there is room for, and those that are noise give room again.
@@ -106,20 +110,21 @@ fn drop_packets<A: Allocator>(rt: &impl Abort, reader: &mut Reader<A>) {
 }
 
 #[test]
-fn finds_a_packet_across_the_end(rt: HostRuntime) -> Result<(), AllocError> {
-    let mut reader = Reader::new(rt.alloc())?;
+fn finds_a_packet_across_the_end(rt: HostRuntime) {
+    let mut reader = reader(&rt, rt.alloc());
     fill_with_packets(&rt, &mut reader);
     drop_packets(&rt, &mut reader);
     take_piece(&rt, &mut reader, &PACKET[36..], &[zeros()], 0);
-    Ok(())
 }
 
 // a reader that takes memory for more than itself
 #[test]
-fn is_full_at_the_longest_packet(rt: HostRuntime) -> Result<(), AllocError> {
+fn is_full_at_the_longest_packet(rt: HostRuntime) {
     let heap = Refusing::new(rt.alloc(), 1);
     assert_so(&rt, Reader::new(&heap).is_err());
-    fill(&rt, &mut Reader::new(&heap)?);
-    assert_same_at(&rt, heap.requests(), 2, "the one refused, and the other");
-    Ok(())
+    let mut reader = Reader::new(&heap).expect(&rt, "memory");
+    fill(&rt, &mut reader);
+    drop(reader);
+    // the one refused, and the other
+    assert_same(&rt, heap.requests(), 2);
 }

@@ -5,23 +5,23 @@ mod memory;
 mod pieces;
 mod stores;
 
-use std::test::Fail;
+use std::process::Abort;
 use uug_link::Announce;
 use uug_session::{Job, Place};
-use uug_talk::{BadText, Name};
+use uug_talk::Name;
 
-fn name(text: &[u8]) -> Result<Name, BadText> {
-    Name::new(text)
+fn name(rt: &impl Abort, text: &[u8]) -> Name {
+    Name::new(text).expect(rt, "a name")
 }
 
 /// An end of this name, whose other end has that name, and which keeps no number.
-fn place(me: &[u8], peer: &[u8]) -> Result<Place, Fail> {
-    Ok(Place {
-        me: name(me)?,
-        peer: name(peer)?,
-        announce: Announce::new(2, 32)?,
+fn place(rt: &impl Abort, me: &[u8], peer: &[u8]) -> Place {
+    Place {
+        me: name(rt, me),
+        peer: name(rt, peer),
+        announce: Announce::new(2, 32).expect(rt, "a window and a size"),
         number: None,
-    })
+    }
 }
 
 /// A job that sends `x`, to be kept under the same name.

@@ -1,10 +1,9 @@
 //! The texts of a session, each call once with ample memory: no clause says that a file finds its memory. What is read,
 //! written and heard is computed by the theorems of `uug_talk` on worked texts.
 
-use crate::assertions::{assert_same, assert_so, assert_so_at};
+use crate::assertions::{assert_same, assert_so};
 use std::alloc::{Allocator, Global};
 use std::process::Abort;
-use std::test::Fail;
 use uug_refusal::Refusing;
 use uug_talk::{
     Answer, BadText, Chunks, Gather, Hail, Name, Order, Progress, caller_number, is_command_text,
@@ -21,21 +20,21 @@ fn is_answer_written_as(answer: &Answer, text: &[u8]) -> bool {
 }
 
 #[test]
-fn what_is_read_is_written(rt: HostRuntime) -> Result<(), Fail> {
-    assert_same(&rt, Name::new(b"x~!")?.as_bytes(), b"x~!".as_slice());
+fn what_is_read_is_written(rt: HostRuntime) {
+    let name = Name::new(b"x~!").expect(&rt, "a name");
+    assert_same(&rt, name.as_bytes(), b"x~!".as_slice());
     match read_order(b"S x y u -C q 0644 n 12") {
         Ok(order) => assert_so(&rt, is_order_written_as(&order, b"S x y u -C q 0644")),
-        Err(fault) => assert_so_at(&rt, false, fault),
+        Err(fault) => panic!(rt; "{fault}"),
     }
     match read_answer(b"RY 0644 x") {
         Ok(answer) => assert_so(&rt, is_answer_written_as(&answer, b"RY 0644")),
-        Err(fault) => assert_so_at(&rt, false, fault),
+        Err(fault) => panic!(rt; "{fault}"),
     }
-    Ok(())
 }
 
 /// Numbers that the caller `a` keeps, and what it says.
-const SAID: [(Option<u32>, &[u8]); 4] = [
+const SAID: &[(Option<u32>, &[u8])] = &[
     (None, b"Sa"),
     (Some(0), b"Sa -Q0"),
     (Some(7), b"Sa -Q7"),
@@ -43,7 +42,7 @@ const SAID: [(Option<u32>, &[u8]); 4] = [
 ];
 
 /// Texts of a caller, and the number that a called end reads in them.
-const CALLS: [(&[u8], Option<u32>); 12] = [
+const CALLS: &[(&[u8], Option<u32>)] = &[
     (b"Sa", None),
     (b"Sa -p -Q7 -Q8", Some(7)),
     (b"Sa  -Q0000000007", Some(7)),
@@ -59,22 +58,25 @@ const CALLS: [(&[u8], Option<u32>); 12] = [
     (b"", None),
 ];
 
-#[test]
-fn a_caller_writes_its_number_and_a_called_end_reads_it(rt: HostRuntime) -> Result<(), Fail> {
-    let name = Name::new(b"a")?;
+fn write_and_read_numbers(rt: &impl Abort) {
+    let name = Name::new(b"a").expect(rt, "a name");
     for (number, text) in SAID {
-        assert_same(&rt, write_call(&name, number).as_slice(), text);
-        assert_same(&rt, caller_number(text), number);
+        assert_same(rt, write_call(&name, *number).as_slice(), *text);
+        assert_same(rt, caller_number(text), *number);
     }
+}
+
+#[test]
+fn a_caller_writes_its_number_and_a_called_end_reads_it(rt: HostRuntime) {
+    write_and_read_numbers(&rt);
     for (text, number) in CALLS {
-        assert_same(&rt, (text, caller_number(text)), (text, number));
+        assert_same(&rt, (*text, caller_number(text)), (*text, *number));
     }
     assert_same(&rt, read_number(b"007", 6), None);
-    Ok(())
 }
 
 /// Pieces of a stream, how many bytes of each are used, how many wait then, and whether a text is whole.
-const HEARD: [(&[u8], usize, usize, bool); 3] = [
+const HEARD: &[(&[u8], usize, usize, bool)] = &[
     (b"login:\x10S\x10S", 10, 2, false),
     (b"a\nzz", 2, 0, true),
     (b"zz", 0, 0, true),
@@ -82,8 +84,9 @@ const HEARD: [(&[u8], usize, usize, bool); 3] = [
 
 fn hear(rt: &impl Abort, hail: &mut Hail) {
     for (piece, used, waiting, is_whole) in HEARD {
-        assert_same(rt, hail.push(piece).map(|heard| heard.0), Ok(used));
-        assert_same(rt, (hail.waiting(), hail.is_whole()), (waiting, is_whole));
+        let heard = hail.push(piece).expect(rt, "room for a text");
+        let seen = (heard.0, hail.waiting(), hail.is_whole());
+        assert_same(rt, seen, (*used, *waiting, *is_whole));
     }
     assert_so(rt, hail.is_whole() && hail.text() == b"Sa".as_slice());
     hail.clear();
@@ -158,9 +161,10 @@ fn refuse_a_message(
     gather: &mut Gather<&Refusing<Global>>,
 ) {
     heap.refuse(1);
-    for answer in [Err(BadText::Memory), Ok(Progress::More), Ok(Progress::More)] {
-        assert_same(rt, push(gather, b"0123456789"), Some(answer));
-    }
+    let bytes = b"0123456789";
+    assert_same(rt, push(gather, bytes), Some(Err(BadText::Memory)));
+    assert_same(rt, push(gather, bytes), Some(Ok(Progress::More)));
+    assert_same(rt, push(gather, bytes), Some(Ok(Progress::More)));
     assert_same(rt, push(gather, b""), Some(Ok(Progress::Whole)));
     assert_same(rt, gather.bytes(), b"01234567890123456789".as_slice());
     assert_same(rt, heap.requests(), 3);

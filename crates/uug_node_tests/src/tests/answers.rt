@@ -3,9 +3,8 @@
 use super::greetings::CALLER_STARTS;
 use super::script::Act::{CallAgain, Hear, Timeout};
 use super::script::Wire::{Close, Command, Data, InitA, InitB, InitC, Rr, Text};
-use super::script::{Row, SILENCE, Script, Wire};
+use super::script::{Row, SILENCE, Script, Wire, play_all};
 use super::{Given, Left, NO_WORK, NOTHING, SEND, SENDER, Task};
-use std::test::Fail;
 use uug_session::{End, Phase};
 
 const SEND_Z: Task<'static> = Task::Send(b"x", b"z");
@@ -102,9 +101,6 @@ const SCRIPTS: &[Script<'static>] = &[
 // a command that is not repeated; a job that is struck or failed though it was to stay, or that stays though it was done; a job that is offered twice in a
 // session, or never again; an answer out of turn that ends the session
 #[test]
-fn understands_other_answers(rt: HostRuntime) -> Result<(), Fail> {
-    for script in SCRIPTS {
-        script.play(&rt, rt.alloc())?;
-    }
-    Ok(())
+fn understands_other_answers(rt: HostRuntime) {
+    play_all(&rt, rt.alloc(), SCRIPTS);
 }

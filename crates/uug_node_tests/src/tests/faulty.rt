@@ -10,7 +10,6 @@ use super::script::assert_says;
 use super::{Left, MemoryNode, NOTHING, SEND, SENDER, Side, assert_ended, end, place};
 use std::alloc::{Allocator, Global};
 use std::process::Abort;
-use std::test::Fail;
 use uug_session::{End, FileView, KeepFault, Node, Queue, Spool, Stored, Verdict};
 use uug_talk::Name;
 
@@ -75,11 +74,15 @@ impl<A: Allocator + Copy> Spool for FaultySpool<A> {
 
 type FaultyNode = Node<FaultySpool<Global>, Global>;
 
-fn called(alloc: Global) -> Result<FaultyNode, Fail> {
-    let place = place(Side::Called, 32)?;
+fn called(rt: &impl Abort, alloc: Global) -> FaultyNode {
+    let place = place(rt, Side::Called, 32);
     let spool = FaultySpool::new(alloc);
-    let node = Node::called(alloc, place, Queue::new(alloc), spool);
-    Ok(node.ok().ok_or("an end")?)
+    Node::called(alloc, place, Queue::new(alloc), spool).expect(rt, "an end")
+}
+
+fn assert_called_ended(rt: &impl Abort, called: &FaultyNode, how: End, left: &[Left<'_>]) {
+    let files = called.spool().stored.as_slice();
+    assert_ended(rt, called, files, how, left);
 }
 
 /// The device fails at the file's end; the ends call again, and it does not.
@@ -88,34 +91,30 @@ fn recover(
     log: Global,
     caller: &mut MemoryNode<Global>,
     called: &mut FaultyNode,
-) -> Result<(), Fail> {
-    let mut line = Line::new(log, Hand::Whole);
-    line.play(&[Event::Flow(6), Event::ToCalled], caller, called)?;
-    assert_says(rt, log, called, &[Rr(2), Close])?;
-    let files = called.spool().stored.as_slice();
-    assert_ended(rt, called, files, End::SpoolFault, NOTHING)?;
-    line.play(&[Event::ToCaller, Event::LostToCalled], caller, called)?;
-    let pending = [Left::Pending(SEND)];
-    assert_ended(rt, caller, &[], End::PeerClosed, &pending)?;
-    line.play(&[Event::Call, Event::Flow(20)], caller, called)?;
-    assert_ended(rt, caller, &[], End::Done, &[Left::Struck(SEND)])?;
-    let files = called.spool().stored.as_slice();
-    let stored = [Left::Stored(b"y", b"")];
-    assert_ended(rt, called, files, End::Done, &stored)
+    line: &mut Line,
+) {
+    line.play(rt, &[Event::Flow(6), Event::ToCalled], caller, called);
+    assert_says(rt, log, called, &[Rr(2), Close]);
+    assert_called_ended(rt, called, End::SpoolFault, NOTHING);
+    line.play(rt, &[Event::ToCaller, Event::LostToCalled], caller, called);
+    assert_ended(rt, caller, &[], End::PeerClosed, &[Left::Pending(SEND)]);
+    line.play(rt, &[Event::Call, Event::Flow(20)], caller, called);
+    assert_ended(rt, caller, &[], End::Done, &[Left::Struck(SEND)]);
+    assert_called_ended(rt, called, End::Done, &[Left::Stored(b"y", b"")]);
 }
 
-fn recover_from(
-    rt: &impl Abort,
-    alloc: Global,
-    caller: &mut MemoryNode<Global>,
-) -> Result<(), Fail> {
-    let mut called = called(alloc)?;
-    recover(rt, alloc, caller, &mut called)
+fn recover_from(rt: &impl Abort, alloc: Global, caller: &mut MemoryNode<Global>) {
+    let mut called = called(rt, alloc);
+    let mut line = Line::new(alloc, Hand::Whole);
+    recover(rt, alloc, caller, &mut called, &mut line);
+    drop(called);
 }
 
 // a fault after which the job is gone, or is not offered again; a file that is stored all the same
 #[test]
-fn recovers_from_a_fault_of_the_device(rt: HostRuntime) -> Result<(), Fail> {
-    let mut caller = end(rt.alloc(), Side::Caller, 32, SENDER)?;
-    recover_from(&rt, rt.alloc(), &mut caller)
+fn recovers_from_a_fault_of_the_device(rt: HostRuntime) {
+    let place = place(&rt, Side::Caller, 32);
+    let mut caller = end(&rt, rt.alloc(), Side::Caller, place, SENDER);
+    recover_from(&rt, rt.alloc(), &mut caller);
+    drop(caller);
 }

@@ -6,7 +6,6 @@ use super::script::{Row, SILENCE, Script, Start};
 use super::{NO_WORK, NOTHING, Side};
 use std::alloc::Global;
 use std::process::Abort;
-use std::test::Fail;
 use uug_session::{End, Phase};
 
 /// A caller says its name when it has heard that of the called end.
@@ -108,7 +107,7 @@ const GREETINGS: &[Greeting<'static>] = &[
     (Side::Caller, &[LATE; 8], Phase::Ended(End::GaveUp)),
 ];
 
-fn greet(rt: &impl Abort, alloc: Global, greeting: &Greeting<'_>) -> Result<(), Fail> {
+fn greet(rt: &impl Abort, alloc: Global, greeting: &Greeting<'_>) {
     let (side, rows, phase) = *greeting;
     let start = Start {
         side,
@@ -122,15 +121,14 @@ fn greet(rt: &impl Abort, alloc: Global, greeting: &Greeting<'_>) -> Result<(), 
         phase,
         left: NOTHING,
     };
-    script.play(rt, alloc)
+    script.play(rt, alloc);
 }
 
 // a session that goes on or ends where it must not; an end that says more or less than it must, or waits too long or not
 // long enough
 #[test]
-fn greets(rt: HostRuntime) -> Result<(), Fail> {
+fn greets(rt: HostRuntime) {
     for greeting in GREETINGS {
-        greet(&rt, rt.alloc(), greeting)?;
+        greet(&rt, rt.alloc(), greeting);
     }
-    Ok(())
 }

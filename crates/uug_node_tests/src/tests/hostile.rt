@@ -3,9 +3,8 @@
 use super::greetings::{CALLED_STARTS, CALLER_STARTS};
 use super::script::Act::Hear;
 use super::script::Wire::{Bytes, Close, Command, Data, Flood, InitC, Rj, Rr, RrFlood};
-use super::script::{Row, SILENCE, Script, Wire};
+use super::script::{Row, SILENCE, Script, Wire, play_all};
 use super::{Given, Left, NO_WORK, NOTHING, SEND, wide_peers};
-use std::test::Fail;
 use uug_session::{End, Phase};
 
 /// Two messages and more.
@@ -106,9 +105,6 @@ const SCRIPTS: &[Script<'static>] = &[
 // a part of a file that is stored; a job that is gone with the link; an order or an answer that is taken out of turn; a
 // broken packet that ends the session
 #[test]
-fn ends_where_no_rule_is_kept(rt: HostRuntime) -> Result<(), Fail> {
-    for script in SCRIPTS {
-        script.play(&rt, rt.alloc())?;
-    }
-    Ok(())
+fn ends_where_no_rule_is_kept(rt: HostRuntime) {
+    play_all(&rt, rt.alloc(), SCRIPTS);
 }

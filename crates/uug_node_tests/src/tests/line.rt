@@ -1,7 +1,7 @@
 //! A line between two ends.
 
 use std::alloc::{Allocator, Global};
-use std::test::Fail;
+use std::process::Abort;
 use uug_session::{Node, Spool};
 
 /// What happens to two ends.
@@ -54,124 +54,140 @@ impl Line {
 
     pub(super) fn play<S: Spool, T: Spool, A: Allocator + Copy>(
         &mut self,
+        rt: &impl Abort,
         events: &[Event],
         caller: &mut Node<S, A>,
         called: &mut Node<T, A>,
-    ) -> Result<(), Fail> {
+    ) {
         for event in events {
             match event {
-                Event::Flow(times) => self.flow(*times, caller, called)?,
-                Event::ToCalled => self.carry(caller, called)?,
-                Event::ToCaller => self.carry(called, caller)?,
-                Event::LostToCalled => self.lose(caller)?,
-                Event::TimeoutOfCaller => self.time_out(caller)?,
+                Event::Flow(times) => self.flow(rt, *times, caller, called),
+                Event::ToCalled => self.carry(rt, caller, called),
+                Event::ToCaller => self.carry(rt, called, caller),
+                Event::LostToCalled => self.lose(rt, caller),
+                Event::TimeoutOfCaller => self.time_out(rt, caller),
                 Event::Call => {
-                    self.call_again(caller)?;
-                    self.call_again(called)?;
+                    self.call_again(rt, caller);
+                    self.call_again(rt, called);
                 }
             }
         }
-        Ok(())
     }
 
     fn flow<S: Spool, T: Spool, A: Allocator + Copy>(
         &mut self,
+        rt: &impl Abort,
         times: u8,
         caller: &mut Node<S, A>,
         called: &mut Node<T, A>,
-    ) -> Result<(), Fail> {
+    ) {
         for _ in 0..times {
-            self.carry(caller, called)?;
-            self.carry(called, caller)?;
+            self.carry(rt, caller, called);
+            self.carry(rt, called, caller);
         }
-        Ok(())
     }
 
     /// All that one end has emitted comes to the other.
     fn carry<S: Spool, T: Spool, A: Allocator + Copy>(
         &mut self,
+        rt: &impl Abort,
         from: &mut Node<S, A>,
         to: &mut Node<T, A>,
-    ) -> Result<(), Fail> {
-        self.bring(from.outbox().bytes(), to)?;
-        self.lose(from)
+    ) {
+        self.bring(rt, from.outbox().bytes(), to);
+        self.lose(rt, from);
     }
 
     /// All that an end has emitted is taken away.
-    fn lose<S: Spool, A: Allocator + Copy>(&mut self, from: &mut Node<S, A>) -> Result<(), Fail> {
-        self.said.extend_from_slice(from.outbox().bytes())?;
+    fn lose<S: Spool, A: Allocator + Copy>(&mut self, rt: &impl Abort, from: &mut Node<S, A>) {
+        let bytes = from.outbox().bytes();
+        self.said.extend_from_slice(bytes).expect(rt, "memory");
         from.clear_outbox();
-        Ok(())
     }
 
     /// The end takes up all of these bytes.
     pub(super) fn bring<S: Spool, A: Allocator + Copy>(
         &mut self,
+        rt: &impl Abort,
         bytes: &[u8],
         to: &mut Node<S, A>,
-    ) -> Result<(), Fail> {
+    ) {
         match self.hand {
-            Hand::Whole => self.bring_whole(bytes, to),
-            Hand::Pieces(size) => self.bring_in_pieces(size, bytes, to),
+            Hand::Whole => self.bring_whole(rt, bytes, to),
+            Hand::Pieces(size) => self.bring_in_pieces(rt, size, bytes, to),
         }
     }
 
     fn bring_whole<S: Spool, A: Allocator + Copy>(
         &mut self,
+        rt: &impl Abort,
         bytes: &[u8],
         to: &mut Node<S, A>,
-    ) -> Result<(), Fail> {
+    ) {
         if let Err(unfinished) = to.arrive(bytes) {
             self.refused.items = self.refused.items.saturating_add(1);
-            to.arrive(&bytes[unfinished.used..])?;
+            let rest = &bytes[unfinished.used..];
+            to.arrive(rest).expect(rt, "memory");
         }
-        Ok(())
     }
 
     fn bring_in_pieces<S: Spool, A: Allocator + Copy>(
         &mut self,
+        rt: &impl Abort,
         size: usize,
         bytes: &[u8],
         to: &mut Node<S, A>,
-    ) -> Result<(), Fail> {
+    ) {
         let mut rest = bytes;
         for _ in 0..2_000_000 {
             let used = to.offer(&rest[..rest.len().min(size)]);
             rest = &rest[used..];
-            if to.next_found().is_some() {
-                if to.take_found().is_err() {
-                    self.refused.items = self.refused.items.saturating_add(1);
-                    to.take_found()?;
-                }
-            } else if rest.is_empty() {
-                return Ok(());
+            let is_found = self.take_up(rt, to);
+            if !is_found && rest.is_empty() {
+                return;
             }
         }
-        Err("an end of the items".into())
+        panic!(rt; "no end of the items");
+    }
+
+    /// The end takes up the next item, if there is one. Whether there is.
+    fn take_up<S: Spool, A: Allocator + Copy>(
+        &mut self,
+        rt: &impl Abort,
+        to: &mut Node<S, A>,
+    ) -> bool {
+        if to.next_found().is_some() {
+            if to.take_found().is_err() {
+                self.refused.items = self.refused.items.saturating_add(1);
+                to.take_found().expect(rt, "memory");
+            }
+            return true;
+        }
+        false
     }
 
     /// A timeout.
     pub(super) fn time_out<S: Spool, A: Allocator + Copy>(
         &mut self,
+        rt: &impl Abort,
         node: &mut Node<S, A>,
-    ) -> Result<(), Fail> {
+    ) {
         if node.on_timeout().is_err() {
             self.refused.timeouts = self.refused.timeouts.saturating_add(1);
-            node.on_timeout()?;
+            node.on_timeout().expect(rt, "memory");
         }
-        Ok(())
     }
 
     /// The line is gone, and a session begins.
     pub(super) fn call_again<S: Spool, A: Allocator + Copy>(
         &mut self,
+        rt: &impl Abort,
         node: &mut Node<S, A>,
-    ) -> Result<(), Fail> {
+    ) {
         node.hang_up();
         if node.call_again().is_err() {
             self.refused.calls = self.refused.calls.saturating_add(1);
-            node.call_again()?;
+            node.call_again().expect(rt, "memory");
         }
-        Ok(())
     }
 }

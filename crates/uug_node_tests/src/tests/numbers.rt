@@ -4,11 +4,10 @@ use super::greetings::CALLED_GREETS;
 use super::script::Act::{CallAgain, Hear};
 use super::script::Wire::{InitA, Text};
 use super::script::{Row, SILENCE, follow};
-use super::{MemoryNode, NO_WORK, Side, make, place, stock};
+use super::{MemoryNode, NO_WORK, Side, end, place};
 use crate::tests::assertions::assert_same;
 use std::alloc::Global;
 use std::process::Abort;
-use std::test::Fail;
 use uug_session::{End, Phase};
 
 /// An end, the number that it keeps, what it hears and says, how far it is then, and its number.
@@ -116,41 +115,50 @@ const CONVERSATIONS: &[Conversation<'static>] = &[
     ),
 ];
 
-fn keeping(alloc: Global, side: Side, number: Option<u32>) -> Result<MemoryNode<Global>, Fail> {
-    let mut place = place(side, 32)?;
+fn keeping(rt: &impl Abort, alloc: Global, side: Side, number: Option<u32>) -> MemoryNode<Global> {
+    let mut place = place(rt, side, 32);
     place.number = number;
-    let (queue, spool) = stock(alloc, NO_WORK)?;
-    let node = make(alloc, side, place, queue, spool);
-    Ok(node.ok().ok_or("an end")?)
+    end(rt, alloc, side, place, NO_WORK)
 }
 
-fn converse(rt: &impl Abort, alloc: Global, conversation: &Conversation<'_>) -> Result<(), Fail> {
-    let (side, number, rows, phase, then) = *conversation;
-    let mut node = keeping(alloc, side, number)?;
-    follow(rt, alloc, &mut node, rows)?;
-    assert_same(rt, node.phase(), phase);
-    assert_same(rt, node.number(), then);
-    Ok(())
+fn converse(rt: &impl Abort, alloc: Global, conversation: &Conversation<'_>) {
+    let mut node = keeping(rt, alloc, conversation.0, conversation.1);
+    assert_converses(rt, alloc, &mut node, conversation);
+    drop(node);
+}
+
+fn assert_converses(
+    rt: &impl Abort,
+    log: Global,
+    node: &mut MemoryNode<Global>,
+    conversation: &Conversation<'_>,
+) {
+    let (_, _, rows, phase, number) = *conversation;
+    follow(rt, log, node, rows);
+    assert_same(rt, (node.phase(), node.number()), (phase, number));
 }
 
 // a number that is not said, not looked at, or that rises where it must not
 #[test]
-fn keeps_its_number(rt: HostRuntime) -> Result<(), Fail> {
+fn keeps_its_number(rt: HostRuntime) {
     for conversation in CONVERSATIONS {
-        converse(&rt, rt.alloc(), conversation)?;
+        converse(&rt, rt.alloc(), conversation);
     }
-    Ok(())
+}
+
+fn call_with_7(rt: &impl Abort, log: Global, node: &mut MemoryNode<Global>) {
+    assert_same(rt, node.number(), None);
+    node.hang_up();
+    node.set_number(7);
+    assert_same(rt, node.number(), Some(7));
+    node.call_again().expect(rt, "memory");
+    follow(rt, log, node, &[CALLER_SAYS_7]);
 }
 
 // a number that is given between two sessions and not said in the next
 #[test]
-fn says_the_number_that_it_was_given(rt: HostRuntime) -> Result<(), Fail> {
-    let alloc = rt.alloc();
-    let mut node = keeping(alloc, Side::Caller, None)?;
-    assert_same(&rt, node.number(), None);
-    node.hang_up();
-    node.set_number(7);
-    assert_same(&rt, node.number(), Some(7));
-    node.call_again()?;
-    follow(&rt, alloc, &mut node, &[CALLER_SAYS_7])
+fn says_the_number_that_it_was_given(rt: HostRuntime) {
+    let mut node = keeping(&rt, rt.alloc(), Side::Caller, None);
+    call_with_7(&rt, rt.alloc(), &mut node);
+    drop(node);
 }

@@ -1,12 +1,12 @@
 //! An end over whose line a script speaks.
+ghost use Rattle.std.specs.Prelude.{◌≤◌};
 
 use super::line::{Hand, Line};
-use super::{Given, Left, MemoryNode, Side, assert_lists, end};
-use crate::tests::assertions::assert_same;
+use super::{Given, Left, MemoryNode, Side, assert_lists, end, place};
+use crate::tests::assertions::{assert_same, assert_so};
 use arrayvec::ArrayVec;
 use std::alloc::{Allocator, Global};
 use std::process::Abort;
-use std::test::Fail;
 use uug_packet::{Control, FIELD_CODE_MAX, Packet, Seq, encode, field_size};
 use uug_session::{Node, Phase, Spool};
 
@@ -74,16 +74,16 @@ fn number(value: u8) -> Seq {
     }
 }
 
-fn spell(wire: Wire<'_>, line: &mut Vec<u8, Global>) -> Result<(), Fail> {
+fn spell(rt: &impl Abort, wire: Wire<'_>, line: &mut Vec<u8>) {
     let control = match wire {
-        Wire::Bytes(bytes) => return Ok(line.extend_from_slice(bytes)?),
-        Wire::Text(text) => return spell_text(text, line),
-        Wire::Data(seq, ack, message) => return spell_data(1, seq, ack, message, line),
-        Wire::Flood(count, k, seq, ack) => return spell_flood(count, k, seq, ack, line),
-        Wire::RrFlood(count, seq) => return spell_answers(count, seq, line),
-        Wire::Command(seq, ack, text) => return spell_command(1, seq, ack, text, line),
-        Wire::Wide(seq, ack, message) => return spell_data(8, seq, ack, message, line),
-        Wire::WideCommand(seq, ack, text) => return spell_command(8, seq, ack, text, line),
+        Wire::Bytes(bytes) => return add(rt, bytes, line),
+        Wire::Text(text) => return spell_text(rt, text, line),
+        Wire::Data(seq, ack, message) => return spell_data(rt, (1, seq, ack), message, line),
+        Wire::Flood(count, k, seq, ack) => return spell_flood(rt, count, (k, seq, ack), line),
+        Wire::RrFlood(count, seq) => return spell_answers(rt, count, seq, line),
+        Wire::Command(seq, ack, text) => return spell_command(rt, (1, seq, ack), text, line),
+        Wire::Wide(seq, ack, message) => return spell_data(rt, (8, seq, ack), message, line),
+        Wire::WideCommand(seq, ack, text) => return spell_command(rt, (8, seq, ack), text, line),
         Wire::InitA(window) => Control::InitA(number(window)),
         Wire::InitB(size_code) => Control::InitB(number(size_code)),
         Wire::InitC(window) => Control::InitC(number(window)),
@@ -91,54 +91,58 @@ fn spell(wire: Wire<'_>, line: &mut Vec<u8, Global>) -> Result<(), Fail> {
         Wire::Rr(value) => Control::Rr(number(value)),
         Wire::Rj(value) => Control::Rj(number(value)),
     };
-    spell_control(control, line)
+    spell_control(rt, control, line);
 }
 
-fn spell_control(control: Control, line: &mut Vec<u8, Global>) -> Result<(), Fail> {
+fn add(rt: &impl Abort, bytes: &[u8], line: &mut Vec<u8>) {
+    line.extend_from_slice(bytes).expect(rt, "memory for bytes");
+}
+
+fn spell_control(rt: &impl Abort, control: Control, line: &mut Vec<u8>) {
     let mut bytes = ArrayVec::new();
     encode(&Packet::Control(control), &mut bytes);
-    Ok(line.extend_from_slice(&bytes)?)
+    add(rt, &bytes, line);
 }
 
-fn spell_answers(count: u16, seq: u8, line: &mut Vec<u8, Global>) -> Result<(), Fail> {
+fn spell_answers(rt: &impl Abort, count: u16, seq: u8, line: &mut Vec<u8>) {
     for i in 0..count {
         let value = seq.wrapping_add((i % 8) as u8);
-        spell_control(Control::Rr(number(value)), line)?;
+        spell_control(rt, Control::Rr(number(value)), line);
     }
-    Ok(())
 }
 
-fn spell_text(text: &[u8], line: &mut Vec<u8, Global>) -> Result<(), Fail> {
-    line.push(0x10)?;
-    line.extend_from_slice(text)?;
-    Ok(line.push(0)?)
+fn spell_text(rt: &impl Abort, text: &[u8], line: &mut Vec<u8>) {
+    add(rt, &[0x10], line);
+    add(rt, text, line);
+    add(rt, &[0], line);
+}
+
+/// What stands before a message: the code of its field's size, its number, and the number that it acknowledges.
+type Front = (u8, u8, u8);
+
+/// The size of a field of this code.
+fn size_of(rt: &impl Abort, k: u8) -> usize
+    ensures most { result ≤ 4096 }
+{
+    if k < 1 || k > FIELD_CODE_MAX {
+        panic!(rt; "no code of a size");
+    }
+    field_size(k)
 }
 
 /// A text, and zeros behind it that fill the field.
-fn spell_command(
-    k: u8,
-    seq: u8,
-    ack: u8,
-    text: &[u8],
-    line: &mut Vec<u8, Global>,
-) -> Result<(), Fail> {
-    if k < 1 || k > FIELD_CODE_MAX || text.len() >= field_size(k) {
-        return Err("a short text".into());
-    }
+fn spell_command(rt: &impl Abort, front: Front, text: &[u8], line: &mut Vec<u8>) {
+    let size = size_of(rt, front.0);
+    assert_so(rt, text.len() < size);
+    let len = text.len().min(4096);
     let mut field = [0; 4096];
-    field[..text.len()].copy_from_slice(text);
-    spell_data(k, seq, ack, &field[..field_size(k)], line)
+    field[..len].copy_from_slice(&text[..len]);
+    spell_data(rt, front, &field[..size], line);
 }
 
-fn spell_data(
-    k: u8,
-    seq: u8,
-    ack: u8,
-    message: &[u8],
-    line: &mut Vec<u8, Global>,
-) -> Result<(), Fail> {
+fn spell_data(rt: &impl Abort, (k, seq, ack): Front, message: &[u8], line: &mut Vec<u8>) {
     if k < 1 || k > FIELD_CODE_MAX || message.len() > field_size(k) {
-        return Err("a message that fits".into());
+        panic!(rt; "a message that is too long");
     }
     let packet = Packet::Carry {
         seq: number(seq),
@@ -148,32 +152,23 @@ fn spell_data(
     };
     let mut bytes = ArrayVec::new();
     encode(&packet, &mut bytes);
-    Ok(line.extend_from_slice(&bytes)?)
+    add(rt, &bytes, line);
 }
 
-fn spell_flood(
-    count: u16,
-    k: u8,
-    seq: u8,
-    ack: u8,
-    line: &mut Vec<u8, Global>,
-) -> Result<(), Fail> {
-    if k < 1 || k > FIELD_CODE_MAX {
-        return Err("a code of a size".into());
-    }
-    let message = &[b'f'; 4096][..field_size(k)];
+fn spell_flood(rt: &impl Abort, count: u16, (k, seq, ack): Front, line: &mut Vec<u8>) {
+    let message = &[b'f'; 4096][..size_of(rt, k)];
     for i in 0..count {
-        spell_data(k, seq.wrapping_add((i % 8) as u8), ack, message, line)?;
+        let front = (k, seq.wrapping_add((i % 8) as u8), ack);
+        spell_data(rt, front, message, line);
     }
-    Ok(())
 }
 
-fn spelled(log: Global, wires: &[Wire<'_>]) -> Result<Vec<u8, Global>, Fail> {
+fn spelled(rt: &impl Abort, log: Global, wires: &[Wire<'_>]) -> Vec<u8> {
     let mut line = Vec::new(log);
     for wire in wires {
-        spell(*wire, &mut line)?;
+        spell(rt, *wire, &mut line);
     }
-    Ok(line)
+    line
 }
 
 /// The end has emitted just this.
@@ -182,50 +177,72 @@ pub(super) fn assert_says<S: Spool, A: Allocator + Copy>(
     log: Global,
     node: &Node<S, A>,
     wires: &[Wire<'_>],
-) -> Result<(), Fail> {
-    let line = spelled(log, wires)?;
+) {
+    let line = spelled(rt, log, wires);
     assert_same(rt, node.outbox().bytes(), line.as_slice());
-    Ok(())
+}
+
+fn hear(
+    rt: &impl Abort,
+    log: Global,
+    node: &mut MemoryNode<Global>,
+    line: &mut Line,
+    wires: &[Wire<'_>],
+) {
+    let bytes = spelled(rt, log, wires);
+    line.bring(rt, bytes.as_slice(), node);
 }
 
 /// Does what the rows say, and takes away what the end says in each.
+fn follow_on(
+    rt: &impl Abort,
+    log: Global,
+    node: &mut MemoryNode<Global>,
+    line: &mut Line,
+    rows: &[Row<'_>],
+) {
+    for (comes, says) in rows {
+        match comes {
+            Act::Hear(wires) => hear(rt, log, node, line, wires),
+            Act::Timeout(counted) => {
+                line.time_out(rt, node);
+                assert_same(rt, node.timeouts(), *counted);
+            }
+            Act::CallAgain => line.call_again(rt, node),
+        }
+        assert_says(rt, log, node, says);
+        node.clear_outbox();
+    }
+}
+
 pub(super) fn follow(
     rt: &impl Abort,
     log: Global,
     node: &mut MemoryNode<Global>,
     rows: &[Row<'_>],
-) -> Result<(), Fail> {
+) {
     let mut line = Line::new(log, Hand::Pieces(usize::MAX));
-    for (comes, says) in rows {
-        match comes {
-            Act::Hear(wires) => line.bring(&spelled(log, wires)?, node)?,
-            Act::Timeout(counted) => {
-                line.time_out(node)?;
-                assert_same(rt, node.timeouts(), *counted);
-            }
-            Act::CallAgain => line.call_again(node)?,
-        }
-        assert_says(rt, log, node, says)?;
-        node.clear_outbox();
+    follow_on(rt, log, node, &mut line, rows);
+}
+
+pub(super) fn play_all(rt: &impl Abort, alloc: Global, scripts: &[Script<'_>]) {
+    for script in scripts {
+        script.play(rt, alloc);
     }
-    Ok(())
 }
 
 impl Script<'_> {
-    pub(super) fn play(&self, rt: &impl Abort, alloc: Global) -> Result<(), Fail> {
-        let mut node = end(alloc, self.start.side, self.start.size, self.has)?;
-        self.play_on(rt, alloc, &mut node)
+    pub(super) fn play(&self, rt: &impl Abort, alloc: Global) {
+        let place = place(rt, self.start.side, self.start.size);
+        let mut node = end(rt, alloc, self.start.side, place, self.has);
+        self.play_on(rt, alloc, &mut node);
+        drop(node);
     }
 
-    fn play_on(
-        &self,
-        rt: &impl Abort,
-        log: Global,
-        node: &mut MemoryNode<Global>,
-    ) -> Result<(), Fail> {
-        follow(rt, log, node, self.start.rows)?;
-        follow(rt, log, node, self.rows)?;
+    fn play_on(&self, rt: &impl Abort, log: Global, node: &mut MemoryNode<Global>) {
+        follow(rt, log, node, self.start.rows);
+        follow(rt, log, node, self.rows);
         assert_same(rt, node.phase(), self.phase);
-        assert_lists(rt, node.queue(), node.spool().stored(), self.left)
+        assert_lists(rt, node.queue(), node.spool().stored(), self.left);
     }
 }

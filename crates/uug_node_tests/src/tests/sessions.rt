@@ -8,9 +8,8 @@ use super::{
 use crate::tests::assertions::{assert_same, assert_so};
 use std::alloc::{Allocator, Global};
 use std::process::Abort;
-use std::test::Fail;
 use uug_refusal::Refusing;
-use uug_session::{End, NotMade};
+use uug_session::{End, MemorySpool, NotMade, Place};
 
 type HeapNode<'a> = MemoryNode<&'a Refusing<Global>>;
 
@@ -33,15 +32,13 @@ impl Session<'_> {
         line: &mut Line,
         caller: &mut MemoryNode<A>,
         called: &mut MemoryNode<A>,
-    ) -> Result<(), Fail> {
-        line.play(self.events, caller, called)?;
+    ) {
+        let number = self.numbers.1;
+        line.play(rt, self.events, caller, called);
+        assert_same(rt, (caller.number(), called.number()), (number, number));
         let (left, right) = (caller.spool().stored(), called.spool().stored());
-        assert_eq!(rt;
-            (caller.number(), called.number()),
-            (self.numbers.1, self.numbers.1)
-        );
-        assert_ended(rt, caller, left, End::Done, self.caller_left)?;
-        assert_ended(rt, called, right, End::Done, self.called_left)
+        assert_ended(rt, caller, left, End::Done, self.caller_left);
+        assert_ended(rt, called, right, End::Done, self.called_left);
     }
 }
 
@@ -154,27 +151,40 @@ const SESSIONS: &[Session<'static>] = &[
 
 /// An end whose nth request for memory is refused. It is made again of all that was given back.
 fn insist<'a>(
+    rt: &impl Abort,
     heap: &'a Refusing<Global>,
     side: Side,
-    number: Option<u32>,
+    place: Place,
     given: &[Given<'_>],
     nth: u64,
-) -> Result<HeapNode<'a>, Fail> {
-    let mut place = place(side, 32)?;
-    place.number = number;
+) -> HeapNode<'a> {
     heap.refuse(0);
-    let (queue, spool) = stock(heap, given)?;
+    let (queue, spool) = stock(rt, heap, given);
     heap.refuse(nth);
     match make(heap, side, place, queue, spool) {
-        Ok(node) => Ok(node),
-        Err(
-            NotMade {
-                place,
-                queue,
-                spool,
-            },
-        ) => Ok(make(heap, side, place, queue, spool).ok().ok_or("an end")?),
+        Ok(node) => node,
+        Err(refused) => make_again(rt, heap, side, refused),
     }
+}
+
+fn make_again<'a>(
+    rt: &impl Abort,
+    heap: &'a Refusing<Global>,
+    side: Side,
+    refused: NotMade<MemorySpool<&'a Refusing<Global>>, &'a Refusing<Global>>,
+) -> HeapNode<'a> {
+    let NotMade {
+        place,
+        queue,
+        spool,
+    } = refused;
+    make(heap, side, place, queue, spool).expect(rt, "an end")
+}
+
+fn place_of(rt: &impl Abort, side: Side, session: &Session<'_>) -> Place {
+    let mut place = place(rt, side, 32);
+    place.number = session.numbers.0;
+    place
 }
 
 /// Plays the session, in which the nth request for memory of each end, and then of both, is refused. Whether there was
@@ -185,15 +195,12 @@ fn follow(
     session: &Session<'_>,
     line: &mut Line,
     nth: u64,
-) -> Result<bool, Fail> {
-    let mut caller = insist(
-        heap,
-        Side::Caller,
-        session.numbers.0,
-        session.caller_has,
-        nth,
-    )?;
-    follow_from(rt, heap, session, line, nth, &mut caller)
+) -> bool {
+    let place = place_of(rt, Side::Caller, session);
+    let mut caller = insist(rt, heap, Side::Caller, place, session.caller_has, nth);
+    follow_from(rt, heap, session, line, nth, &mut caller);
+    drop(caller);
+    heap.was_refused()
 }
 
 fn follow_from<'a>(
@@ -203,77 +210,88 @@ fn follow_from<'a>(
     line: &mut Line,
     nth: u64,
     caller: &mut HeapNode<'a>,
-) -> Result<bool, Fail> {
-    let mut called = insist(
-        heap,
-        Side::Called,
-        session.numbers.0,
-        session.called_has,
-        nth,
-    )?;
+) {
+    let place = place_of(rt, Side::Called, session);
+    let mut called = insist(rt, heap, Side::Called, place, session.called_has, nth);
     heap.refuse(nth);
-    session.play(rt, line, caller, &mut called)?;
-    Ok(heap.was_refused())
+    session.play(rt, line, caller, &mut called);
+    drop(called);
+}
+
+/// Plays the session with bytes handed over in pieces of this size. This is then said.
+fn assert_says_in_pieces(
+    rt: &impl Abort,
+    heap: &Refusing<Global>,
+    session: &Session<'_>,
+    line: &mut Line,
+    said: &[u8],
+) {
+    follow(rt, heap, session, line, 0);
+    assert_same(rt, line.said.as_slice(), said);
 }
 
 /// Plays the session with bytes handed over whole and in pieces.
-fn follow_in_pieces(rt: &impl Abort, alloc: Global, session: &Session<'_>) -> Result<(), Fail> {
+fn follow_in_pieces(rt: &impl Abort, alloc: Global, session: &Session<'_>) {
     let heap = Refusing::new(alloc, 0);
     let mut whole = Line::new(alloc, Hand::Whole);
-    follow(rt, &heap, session, &mut whole, 0)?;
+    follow(rt, &heap, session, &mut whole, 0);
     for size in [1, 7, usize::MAX] {
         let mut line = Line::new(alloc, Hand::Pieces(size));
-        follow(rt, &heap, session, &mut line, 0)?;
-        assert_same(rt, line.said.as_slice(), whole.said.as_slice());
+        assert_says_in_pieces(rt, &heap, session, &mut line, whole.said.as_slice());
     }
-    Ok(())
 }
 
 // an end that loses what comes in pieces, or says more for it; one that never begins, or that does not come to an end
 #[test]
-fn hands_over_in_any_pieces(rt: HostRuntime) -> Result<(), Fail> {
+fn hands_over_in_any_pieces(rt: HostRuntime) {
     for session in SESSIONS {
-        follow_in_pieces(&rt, rt.alloc(), session)?;
+        follow_in_pieces(&rt, rt.alloc(), session);
     }
-    Ok(())
+}
+
+/// Plays the session with each request for memory refused in turn. This is said each time.
+fn refuse_each(
+    rt: &impl Abort,
+    heap: &Refusing<Global>,
+    session: &Session<'_>,
+    line: &mut Line,
+    said: &[u8],
+) {
+    for nth in 1..1000 {
+        line.said.clear();
+        let is_refused = follow(rt, heap, session, line, nth);
+        assert_same(rt, line.said.as_slice(), said);
+        if !is_refused {
+            return;
+        }
+    }
+    panic!(rt; "no end of the requests");
 }
 
 /// Plays the session with no request for memory refused, and then with each in turn.
-fn refuse_each(
-    rt: &impl Abort,
-    alloc: Global,
-    session: &Session<'_>,
-    line: &mut Line,
-) -> Result<(), Fail> {
+fn refuse_none_and_each(rt: &impl Abort, alloc: Global, session: &Session<'_>, line: &mut Line) {
     let heap = Refusing::new(alloc, 0);
     let mut whole = Line::new(alloc, Hand::Whole);
-    follow(rt, &heap, session, &mut whole, 0)?;
-    for nth in 1..1000 {
-        line.said.clear();
-        let is_refused = follow(rt, &heap, session, line, nth)?;
-        assert_same(rt, line.said.as_slice(), whole.said.as_slice());
-        if !is_refused {
-            return Ok(());
-        }
-    }
-    Err("an end of the requests".into())
+    follow(rt, &heap, session, &mut whole, 0);
+    refuse_each(rt, &heap, session, line, whole.said.as_slice());
 }
 
-fn refuse_each_of_all(rt: &impl Abort, alloc: Global, hand: Hand) -> Result<(), Fail> {
-    let mut line = Line::new(alloc, hand);
+fn refuse_each_of_all(rt: &impl Abort, alloc: Global, line: &mut Line) {
     for session in SESSIONS {
-        refuse_each(rt, alloc, session, &mut line)?;
+        refuse_none_and_each(rt, alloc, session, line);
     }
     assert_so(rt, line.refused.items > 0);
     assert_so(rt, line.refused.timeouts > 0);
     assert_so(rt, line.refused.calls > 0);
-    Ok(())
 }
 
 // a call that says that it is out of memory where none was refused; a refused call that leaves something behind, or that can't be
 // made again; one that tells wrongly how much of a piece it has used
 #[test]
-fn makes_refused_calls_good(rt: HostRuntime) -> Result<(), Fail> {
-    refuse_each_of_all(&rt, rt.alloc(), Hand::Pieces(usize::MAX))?;
-    refuse_each_of_all(&rt, rt.alloc(), Hand::Whole)
+fn makes_refused_calls_good(rt: HostRuntime) {
+    let alloc = rt.alloc();
+    let mut pieces = Line::new(alloc, Hand::Pieces(usize::MAX));
+    refuse_each_of_all(&rt, alloc, &mut pieces);
+    let mut whole = Line::new(alloc, Hand::Whole);
+    refuse_each_of_all(&rt, alloc, &mut whole);
 }

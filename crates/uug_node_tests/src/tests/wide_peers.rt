@@ -4,9 +4,8 @@
 use super::greetings::CALLED_GREETS;
 use super::script::Act::Hear;
 use super::script::Wire::{Close, Command, Data, InitA, InitB, InitC, Rr, Text, Wide, WideCommand};
-use super::script::{Row, Script, Start};
+use super::script::{Row, Script, Start, play_all};
 use super::{Given, Left, NO_WORK, SEND, Side};
-use std::test::Fail;
 use uug_session::{End, Phase};
 
 /// The file that goes over the line: one byte.
@@ -90,9 +89,6 @@ const SCRIPTS: &[Script<'static>] = &[
 
 // an end that understands no field but the smallest
 #[test]
-fn understands_fields_of_the_announced_size(rt: HostRuntime) -> Result<(), Fail> {
-    for script in SCRIPTS {
-        script.play(&rt, rt.alloc())?;
-    }
-    Ok(())
+fn understands_fields_of_the_announced_size(rt: HostRuntime) {
+    play_all(&rt, rt.alloc(), SCRIPTS);
 }

@@ -4,7 +4,6 @@ use super::{Wire, announce, is_packet};
 use crate::assertions::{assert_same, assert_so};
 use std::alloc::Global;
 use std::process::Abort;
-use std::test::Fail;
 use uug_link::{Announce, Entry, Link, Outbox};
 use uug_refusal::Refusing;
 
@@ -17,17 +16,25 @@ fn fill(rt: &impl Abort, own: Announce, out: &mut Outbox<&Refusing<Global>>) {
     assert_so(rt, is_packet(&out.entry(1), Wire::InitA(3), false));
 }
 
+/// Makes room for both, and fills it though the next request is refused.
+fn reserve_and_fill(
+    rt: &impl Abort,
+    heap: &Refusing<Global>,
+    own: Announce,
+    out: &mut Outbox<&Refusing<Global>>,
+) {
+    assert_so(rt, out.reserve(2).is_ok());
+    assert_so(rt, out.spare() >= 2);
+    heap.refuse(1);
+    fill(rt, own, out);
+    out.clear();
+    assert_so(rt, out.bytes().is_empty());
+}
+
 // two entries for which there is room, and that ask for memory all the same
 #[test]
-fn outboxes_hold_what_they_have_room_for(rt: HostRuntime) -> Result<(), Fail> {
-    let own = announce(3, 32)?;
+fn outboxes_hold_what_they_have_room_for(rt: HostRuntime) {
     let heap = Refusing::new(rt.alloc(), 0);
     let mut out = Outbox::new(&heap);
-    assert_so(&rt, out.reserve(2).is_ok());
-    assert_so(&rt, out.spare() >= 2);
-    heap.refuse(1);
-    fill(&rt, own, &mut out);
-    out.clear();
-    assert_so(&rt, out.bytes().is_empty());
-    Ok(())
+    reserve_and_fill(&rt, &heap, announce(&rt, 3, 32), &mut out);
 }

@@ -1,8 +1,7 @@
 //! A link that is quiet on repeats, and one that is not.
 
-use super::{Answer, Call, NOTHING, Row, SILENCE, Wire, announce, follow};
-use std::test::Fail;
-use uug_link::{Link, Outcome};
+use super::{Answer, Call, NOTHING, Row, SILENCE, Wire, announce, follow_called};
+use uug_link::Outcome;
 
 const TAKEN: Answer = Ok(Outcome::Taken);
 
@@ -77,17 +76,13 @@ const IS_PLAIN: &[Row<'static>] = &[
 ];
 
 #[test]
-fn passes_repeats_where_it_is_quiet(rt: HostRuntime) -> Result<(), Fail> {
-    let mut link = Link::called(announce(2, 32)?.with_quiet(true));
-    follow(&rt, rt.alloc(), &mut link, TAKES_TWO);
-    follow(&rt, rt.alloc(), &mut link, IS_QUIET);
-    Ok(())
+fn passes_repeats_where_it_is_quiet(rt: HostRuntime) {
+    let own = announce(&rt, 2, 32).with_quiet(true);
+    follow_called(&rt, rt.alloc(), own, TAKES_TWO, IS_QUIET);
 }
 
 #[test]
-fn answers_each_repeat_where_it_is_not(rt: HostRuntime) -> Result<(), Fail> {
-    let mut link = Link::called(announce(2, 32)?);
-    follow(&rt, rt.alloc(), &mut link, TAKES_TWO);
-    follow(&rt, rt.alloc(), &mut link, IS_PLAIN);
-    Ok(())
+fn answers_each_repeat_where_it_is_not(rt: HostRuntime) {
+    let own = announce(&rt, 2, 32);
+    follow_called(&rt, rt.alloc(), own, TAKES_TWO, IS_PLAIN);
 }

@@ -1,10 +1,11 @@
 //! Links from their first packet to their end.
 
-use super::{Answer, Call, NOTHING, Row, SILENCE, Wire, announce, assert_holds, follow};
+use super::{
+    Answer, Call, NOTHING, Row, SILENCE, Wire, announce, assert_holds, follow, follow_called,
+};
 use crate::assertions::{assert_same, assert_so};
-use std::alloc::{AllocError, Global};
+use std::alloc::Global;
 use std::process::Abort;
-use std::test::Fail;
 use uug_link::{Announce, BadAnnounce, Link, LinkFault, Outbox, Outcome};
 use uug_refusal::Refusing;
 
@@ -17,12 +18,11 @@ const CLOSED: Answer = Ok(Outcome::Closed);
 const HALTED: Answer = Err(LinkFault::Halted);
 
 #[test]
-fn announces_windows_and_sizes(rt: HostRuntime) -> Result<(), Fail> {
+fn announces_windows_and_sizes(rt: HostRuntime) {
     assert_same(&rt, Announce::new(0, 48), Err(BadAnnounce::BadWindow));
     assert_same(&rt, Announce::new(7, 48), Err(BadAnnounce::BadSize));
-    let greatest = announce(7, 4096)?;
+    let greatest = announce(&rt, 7, 4096);
     assert_same(&rt, (greatest.window(), greatest.size()), (7, 4096));
-    Ok(())
 }
 
 /// A caller that has begun comes up. The other end's INITC tells a smaller window than its INITA.
@@ -73,33 +73,49 @@ const CLOSES: &[Row<'static>] = &[
     (Call::Hear(Wire::Close), SILENCE, HALTED, 1),
 ];
 
-/// A called end comes up and is closed by the other.
-const IS_CALLED: &[Row<'static>] = &[
+/// A called end comes up.
+const COMES_UP_CALLED: &[Row<'static>] = &[
     (Call::Hear(Wire::InitA(3)), &[Wire::InitA(2)], NOTHING, 0),
     (Call::Hear(Wire::InitB(1)), &[Wire::InitB(0)], NOTHING, 0),
     (Call::Hear(Wire::InitC(3)), &[Wire::InitC(2)], UP, 0),
+];
+
+/// The other end closes it.
+const IS_CLOSED: &[Row<'static>] = &[
     (Call::Hear(Wire::Close), &[Wire::Close], CLOSED, 0),
     (Call::Bad, SILENCE, HALTED, 0),
 ];
 
-/// The last timeouts of a caller of which nothing is heard.
+/// A timeout of a caller of which nothing is heard, and the last ones.
+const LATE: Row<'static> = (Call::Timeout, &[Wire::InitA(3)], NOTHING, 0);
+
 const GIVES_UP: &[Row<'static>] = &[
     (Call::Timeout, &[Wire::Close], Err(LinkFault::GaveUp), 0),
     (Call::Timeout, SILENCE, HALTED, 0),
 ];
 
 /// A caller's link that has begun, each request for memory refused once.
-fn begun(rt: &impl Abort, alloc: Global, own: Announce) -> Result<Link, AllocError> {
-    let heap = Refusing::new(alloc, 1);
-    let mut out = Outbox::new(&heap);
+fn begin(
+    rt: &impl Abort,
+    heap: &Refusing<Global>,
+    out: &mut Outbox<&Refusing<Global>>,
+    own: Announce,
+) -> Link {
     let mut link = Link::caller(own);
-    assert_so(rt, link.begin(&mut out).is_err());
+    heap.refuse(1);
+    assert_so(rt, link.begin(out).is_err());
     heap.refuse(2);
-    assert_so(rt, link.begin(&mut out).is_err());
+    assert_so(rt, link.begin(out).is_err());
     heap.refuse(3);
-    link.begin(&mut out)?;
-    assert_holds(rt, &out, &[Wire::InitA(3)], false);
-    Ok(link)
+    link.begin(out).expect(rt, "memory");
+    assert_holds(rt, out, &[Wire::InitA(3)], false);
+    link
+}
+
+fn begun(rt: &impl Abort, alloc: Global) -> Link {
+    let heap = Refusing::new(alloc, 0);
+    let mut out = Outbox::new(&heap);
+    begin(rt, &heap, &mut out, announce(rt, 3, 32))
 }
 
 /// The link is up, with that window and size.
@@ -109,8 +125,8 @@ fn assert_up(rt: &impl Abort, link: &Link, window: usize, size: usize) {
 }
 
 #[test]
-fn a_caller_sends_and_closes(rt: HostRuntime) -> Result<(), Fail> {
-    let mut link = begun(&rt, rt.alloc(), announce(3, 32)?)?;
+fn a_caller_sends_and_closes(rt: HostRuntime) {
+    let mut link = begun(&rt, rt.alloc());
     follow(&rt, rt.alloc(), &mut link, COMES_UP);
     assert_up(&rt, &link, 3, 64);
     follow(&rt, rt.alloc(), &mut link, FILLS);
@@ -118,22 +134,18 @@ fn a_caller_sends_and_closes(rt: HostRuntime) -> Result<(), Fail> {
     follow(&rt, rt.alloc(), &mut link, GOES_ON);
     assert_so(&rt, link.is_closing());
     follow(&rt, rt.alloc(), &mut link, CLOSES);
-    Ok(())
 }
 
 #[test]
-fn a_called_end_is_closed(rt: HostRuntime) -> Result<(), Fail> {
-    let mut link = Link::called(announce(2, 32)?);
-    follow(&rt, rt.alloc(), &mut link, IS_CALLED);
-    Ok(())
+fn a_called_end_is_closed(rt: HostRuntime) {
+    let own = announce(&rt, 2, 32);
+    follow_called(&rt, rt.alloc(), own, COMES_UP_CALLED, IS_CLOSED);
 }
 
 // a timeout that is counted though memory was refused
 #[test]
-fn a_caller_gives_up(rt: HostRuntime) -> Result<(), Fail> {
-    let mut link = begun(&rt, rt.alloc(), announce(3, 32)?)?;
-    let row: Row<'_> = (Call::Timeout, &[Wire::InitA(3)], NOTHING, 0);
-    follow(&rt, rt.alloc(), &mut link, &[row; 7]);
+fn a_caller_gives_up(rt: HostRuntime) {
+    let mut link = begun(&rt, rt.alloc());
+    follow(&rt, rt.alloc(), &mut link, &[LATE; 7]);
     follow(&rt, rt.alloc(), &mut link, GIVES_UP);
-    Ok(())
 }

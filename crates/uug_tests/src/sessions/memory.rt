@@ -2,15 +2,15 @@
 //! of memory where none was refused, or that cannot be made again.
 
 use super::{place, send_job};
+use crate::assertions::assert_same;
 use std::alloc::{Allocator, Global};
-use std::test::Fail;
 use uug_link::{ENTRIES_MAX, Outbox};
 use uug_refusal::Refusing;
 use uug_session::{AwaitedText, Greeting, MemorySpool, Place, Queue, Spool, Verdict};
 use uug_talk::Name;
 
 /// A call that takes memory.
-#[derive(Clone, Copy, Debug)]
+#[derive(Clone, Copy)]
 enum Call<'a> {
     Add,
     AddFile,
@@ -73,11 +73,14 @@ impl<A: Allocator + Copy> Stores<A> {
     }
 }
 
-/// Refuses the nth request of the call, if there is one. Whether one was refused, and whether all is well: the refused
-/// call leaves nothing behind, and is done when it is made again; one that is not refused is done.
-fn refuse(heap: &Refusing<Global>, call: Call<'_>, place: &Place, nth: u64) -> (bool, bool) {
-    let mut stores = Stores::new(heap);
-    heap.refuse(nth);
+/// Makes a call of which a request may be refused. Whether one was, and whether all is well: the refused call leaves
+/// nothing behind, and is done when it is made again; one that is not refused is done.
+fn make_twice<'a>(
+    heap: &'a Refusing<Global>,
+    call: Call<'_>,
+    place: &Place,
+    stores: &mut Stores<&'a Refusing<Global>>,
+) -> (bool, bool) {
     let is_done = stores.make(call, place);
     if !heap.was_refused() {
         return (false, is_done);
@@ -86,31 +89,42 @@ fn refuse(heap: &Refusing<Global>, call: Call<'_>, place: &Place, nth: u64) -> (
     (true, is_as_before && stores.make(call, place))
 }
 
+/// Refuses the nth request of the call, if there is one.
+fn refuse(heap: &Refusing<Global>, call: Call<'_>, place: &Place, nth: u64) -> (bool, bool) {
+    let mut stores = Stores::new(heap);
+    heap.refuse(nth);
+    let seen = make_twice(heap, call, place, &mut stores);
+    drop(stores);
+    seen
+}
+
+/// Calls with their names, and how many requests each makes.
+const CALLS: &[(&str, Call<'static>, u64)] = &[
+    ("add", Call::Add, 3),
+    ("add a file", Call::AddFile, 2),
+    ("keep", Call::Keep, 2),
+    ("deny", Call::Deny, 1),
+    ("later", Call::Later, 1),
+    ("immovable", Call::Immovable, 1),
+    ("reserve", Call::Reserve, 2),
+    ("add a text", Call::AddText, 2),
+    ("say the name", Call::SayName, 2),
+    ("Shere", Call::Hear(AwaitedText::CalledName, b"Shere"), 2),
+    ("Sa", Call::Hear(AwaitedText::CallerName, b"Sa"), 2),
+    ("Sz", Call::Hear(AwaitedText::CallerName, b"Sz"), 2),
+    ("Pg", Call::Hear(AwaitedText::Protocols, b"Pg"), 2),
+    ("Pt", Call::Hear(AwaitedText::Protocols, b"Pt"), 2),
+];
+
 #[test]
-fn makes_refused_calls_good(rt: HostRuntime) -> Result<(), Fail> {
-    let place = place(b"x", b"x")?;
-    let calls = [
-        (Call::Add, 3),
-        (Call::AddFile, 2),
-        (Call::Keep, 2),
-        (Call::Deny, 1),
-        (Call::Later, 1),
-        (Call::Immovable, 1),
-        (Call::Reserve, 2),
-        (Call::AddText, 2),
-        (Call::SayName, 2),
-        (Call::Hear(AwaitedText::CalledName, b"Shere"), 2),
-        (Call::Hear(AwaitedText::CallerName, b"Sa"), 2),
-        (Call::Hear(AwaitedText::CallerName, b"Sz"), 2),
-        (Call::Hear(AwaitedText::Protocols, b"Pg"), 2),
-        (Call::Hear(AwaitedText::Protocols, b"Pt"), 2),
-    ];
+fn makes_refused_calls_good(rt: HostRuntime) {
+    let place = place(&rt, b"x", b"x");
     let heap = Refusing::new(rt.alloc(), 0);
-    for (call, requests) in calls {
+    for (name, call, requests) in CALLS {
         for nth in 1..6 {
-            let seen = refuse(&heap, call, &place, nth);
-            assert_eq!(rt; seen, (nth <= requests, true), "{call:?} at {nth}");
+            let seen = refuse(&heap, *call, &place, nth);
+            let expected = (nth <= *requests, true);
+            assert_same(&rt, (*name, nth, seen), (*name, nth, expected));
         }
     }
-    Ok(())
 }

@@ -4,23 +4,25 @@ use super::{name, send_job};
 use crate::assertions::{assert_same, assert_so};
 use std::alloc::{AllocError, Global};
 use std::process::Abort;
-use std::test::Fail;
 use uug_session::{
-    FileView, JOBS_MAX, KeepFault, MemorySpool, Queue, QueueFault, Spool, Stored, Verdict,
+    FileView, JOBS_MAX, Job, KeepFault, MemorySpool, Queue, QueueFault, Spool, Stored, Verdict,
 };
 use uug_talk::Name;
 
-#[test]
-fn takes_jobs_up_to_the_limit(rt: HostRuntime) -> Result<(), Fail> {
-    let job = send_job(name(b"x")?);
-    let mut queue = Queue::new(rt.alloc());
+fn fill_up(rt: &impl Abort, queue: &mut Queue<Global>, job: &Job) {
     for _ in 0..JOBS_MAX {
-        assert_same(&rt, queue.add(job), Ok(()));
+        assert_same(rt, queue.add(*job), Ok(()));
     }
-    assert_same(&rt, queue.add(job), Err(QueueFault::Full));
-    assert_same(&rt, queue.pending().len(), 1024);
-    assert_same(&rt, queue.struck().len() + queue.failed().len(), 0);
-    Ok(())
+    assert_same(rt, queue.add(*job), Err(QueueFault::Full));
+    assert_same(rt, queue.pending().len(), 1024);
+    assert_same(rt, (queue.struck().len(), queue.failed().len()), (0, 0));
+}
+
+#[test]
+fn takes_jobs_up_to_the_limit(rt: HostRuntime) {
+    let job = send_job(name(&rt, b"x"));
+    let mut queue = Queue::new(rt.alloc());
+    fill_up(&rt, &mut queue, &job);
 }
 
 /// Two files of the first name, and for the others each its own verdict.
@@ -41,12 +43,10 @@ fn is_file(file: Option<FileView<'_>>, mode: u16, bytes: &[u8]) -> bool {
 fn assert_gives(rt: &impl Abort, spool: &MemorySpool<Global>, names: &[Name; 4]) {
     assert_so(rt, is_file(spool.fetch(&names[0]), 0o644, b""));
     assert_so(rt, spool.fetch(&names[1]).is_none());
-    let verdicts = names.map(|name| spool.may_keep(&name));
-    assert_same(
-        rt,
-        verdicts,
-        [Verdict::Yes, Verdict::Later, Verdict::Never, Verdict::Yes],
-    );
+    assert_same(rt, spool.may_keep(&names[0]), Verdict::Yes);
+    assert_same(rt, spool.may_keep(&names[1]), Verdict::Later);
+    assert_same(rt, spool.may_keep(&names[2]), Verdict::Never);
+    assert_same(rt, spool.may_keep(&names[3]), Verdict::Yes);
 }
 
 fn is_stored(file: &Stored<Global>, name: Name, mode: u16, bytes: &[u8]) -> bool {
@@ -66,16 +66,15 @@ fn assert_keeps(rt: &impl Abort, spool: &mut MemorySpool<Global>, names: &[Name;
 }
 
 #[test]
-fn gives_and_keeps_files(rt: HostRuntime) -> Result<(), Fail> {
+fn gives_and_keeps_files(rt: HostRuntime) {
     let names = [
-        name(b"y")?,
-        name(b"later")?,
-        name(b"never")?,
-        name(b"fixed")?,
+        name(&rt, b"y"),
+        name(&rt, b"later"),
+        name(&rt, b"never"),
+        name(&rt, b"fixed"),
     ];
     let mut spool = MemorySpool::new(rt.alloc());
-    fill(&mut spool, &names)?;
+    assert_so(&rt, fill(&mut spool, &names).is_ok());
     assert_gives(&rt, &spool, &names);
     assert_keeps(&rt, &mut spool, &names);
-    Ok(())
 }
