@@ -1,5 +1,5 @@
 //! What is written of an end when its session is over.
-ghost use Rattle.std.specs.Prelude.{◌≡◌, ◌≤◌, ◌⊎◌, IfErr, IfOk, OnErr, OnOk, string_bytes};
+ghost use Rattle.std.specs.Prelude.{◌≡◌, ◌≤◌, ◌⊎◌, ◌++◌, IfErr, IfOk, OnErr, OnOk, string_bytes};
 ghost use Rattle.uug_session.specs.Engine.{HasFailed};
 ghost use Rattle.uug_conversation.specs.Jobs.{pending};
 ghost use Rattle.uug_session.specs.Node.{node_of};
@@ -100,7 +100,20 @@ fn report<S: Spool, A: Allocator + Copy>(
     ensures { IfOk result (λ text. string_bytes text ≡ report_of side (node_of end.now)) }
 {
     let mut text = String::new(alloc);
-    add_state(alloc, &mut text, side, end.phase(), end.queue())?;
-    add_failed(alloc, &mut text, side, end.queue())?;
+    add_report(alloc, &mut text, side, end)?;
     Ok(text)
+}
+
+/// Appends the report.
+fn add_report<S: Spool, A: Allocator + Copy>(
+    alloc: A,
+    text: &mut String<A>,
+    side: Side,
+    end: &Node<S, A>,
+) -> Result<(), AllocError>
+    ensures { OnOk result
+        (string_bytes text.new ≡ string_bytes text.old ++ report_of side (node_of end.now)) }
+{
+    add_state(alloc, text, side, end.phase(), end.queue())?;
+    add_failed(alloc, text, side, end.queue())
 }

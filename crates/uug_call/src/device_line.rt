@@ -30,6 +30,18 @@ struct Waiting<A: Allocator> {
 }
 
 impl<A: Allocator + Copy> Waiting<A> {
+    /// What is needed to wait for this device for so long.
+    fn new<R: Net>(alloc: A, rt: &R, file: &File, patience: Duration) -> io::Result<Self> {
+        let poll = Poll::new(rt)?;
+        let events = Events::with_capacity(alloc, 1)?;
+        make_ready(file, &poll)?;
+        Ok(Waiting {
+            poll,
+            events,
+            patience,
+        })
+    }
+
     /// Waits for the device, and says whether it became ready.
     fn wait(&mut self, file: &File, interest: Interest) -> io::Result<bool> {
         let fd = file.as_raw_fd();
@@ -60,16 +72,10 @@ impl<A: Allocator + Copy> DeviceLine<A> {
         ensures { IfOk result (λ line. ⟦<DeviceLine<A> as EndLine>⟧.fault_count line ≡ 0) }
     {
         let file = OpenOptions::new().read(true).write(true).open(rt, path)?;
-        let poll = Poll::new(rt)?;
-        let events = Events::with_capacity(alloc, 1)?;
-        make_ready(&file, &poll)?;
+        let waiting = Waiting::new(alloc, rt, &file, patience)?;
         Ok(DeviceLine {
             file,
-            waiting: Waiting {
-                poll,
-                events,
-                patience,
-            },
+            waiting,
             faults: 0,
         })
     }

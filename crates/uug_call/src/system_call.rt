@@ -59,9 +59,12 @@ pub struct CallTask<'a> {
     pub is_loud: bool,
 }
 
+/// The files of an end in a folder of the system.
+type SystemSpool<'a, R, A> = LocalNames<SystemFolder<'a, R, A>, A>;
+
 /// An end over a folder of the system.
 type SystemEnd<'a, R, A> = CallEnd<
-    LocalNames<SystemFolder<'a, R, A>, A>,
+    SystemSpool<'a, R, A>,
     SystemText<'a, R, A>,
     SystemText<'a, R, A>,
     A,
@@ -254,56 +257,100 @@ fn make_end<'a, A: Allocator + Copy, R: Files>(
     jobs: Queue<A>,
     files: Vec<Stored<A>, A>,
 ) -> Result<SystemEnd<'a, R, A>, AllocError> {
+    let spool = make_spool(alloc, rt, dir, files)?;
+    let node = make_node(alloc, side, place, jobs, spool)?;
+    let seat = make_seat(alloc, node)?;
+    let (jobs, number) = make_texts(alloc, rt, dir)?;
+    Ok(CallEnd { seat, jobs, number })
+}
+
+/// The spool over the folder `dir`, with these files to give.
+fn make_spool<'a, A: Allocator + Copy, R: Files>(
+    alloc: A,
+    rt: &'a R,
+    dir: &str,
+    files: Vec<Stored<A>, A>,
+) -> Result<SystemSpool<'a, R, A>, AllocError> {
     let folder = SystemFolder::new(alloc, rt, dir)?;
-    let jobs_file = SystemText::new(alloc, rt, dir, "jobs")?;
-    let number_file = SystemText::new(alloc, rt, dir, "number")?;
-    let spool = LocalNames::new(alloc, FolderSpool::new(alloc, files, folder));
+    let files = FolderSpool::new(alloc, files, folder);
+    Ok(LocalNames::new(alloc, files))
+}
+
+/// The end itself, with these jobs.
+fn make_node<'a, A: Allocator + Copy, R: Files>(
+    alloc: A,
+    side: Side,
+    place: Place,
+    jobs: Queue<A>,
+    spool: SystemSpool<'a, R, A>,
+) -> Result<Node<SystemSpool<'a, R, A>, A>, AllocError> {
     let made = match side {
         Side::Caller => Node::caller(alloc, place, jobs, spool),
         Side::Called => Node::called(alloc, place, jobs, spool),
     };
-    let node = match made {
-        Ok(node) => node,
+    match made {
+        Ok(node) => Ok(node),
         Err(refused) => {
             drop(refused);
-            return Err(AllocError);
+            Err(AllocError)
         }
-    };
+    }
+}
+
+/// The end at a line that loses nothing.
+fn make_seat<'a, A: Allocator + Copy, R: Files>(
+    alloc: A,
+    node: Node<SystemSpool<'a, R, A>, A>,
+) -> Result<Seat<SystemSpool<'a, R, A>, A>, AllocError> {
     let Some(mut noise) = Noise::new(None, None) else {
         unreachable!();
     };
-    let seat = Seat::new(alloc, node, &mut noise)?;
-    Ok(CallEnd {
-        seat,
-        jobs: jobs_file,
-        number: number_file,
-    })
+    Seat::new(alloc, node, &mut noise)
 }
 
-/// The stream over the Unix socket at this path. The end that calls connects to it. The one that is called makes it, takes
-/// the first that connects, and removes it, also where none does.
+/// The files of the jobs and of the number in the folder `dir`.
+fn make_texts<'a, A: Allocator + Copy, R: Files>(
+    alloc: A,
+    rt: &'a R,
+    dir: &str,
+) -> Result<(SystemText<'a, R, A>, SystemText<'a, R, A>), AllocError> {
+    let jobs = SystemText::new(alloc, rt, dir, "jobs")?;
+    let number = SystemText::new(alloc, rt, dir, "number")?;
+    Ok((jobs, number))
+}
+
+/// The stream over the Unix socket at this path, whose calls wait for so long.
 fn open_unix<R: Files + Net>(
     rt: &R,
     side: Side,
     path: &str,
     patience: Duration,
 ) -> io::Result<UnixStream> {
-    let stream = match side {
-        Side::Caller => UnixStream::connect(rt, path)?,
+    let stream = join_unix(rt, side, path)?;
+    set_patience(&stream, patience)?;
+    Ok(stream)
+}
+
+/// The end that calls connects to the socket. The one that is called makes it, takes the first that connects, and removes
+/// it, also where none does.
+fn join_unix<R: Files + Net>(rt: &R, side: Side, path: &str) -> io::Result<UnixStream> {
+    match side {
+        Side::Caller => UnixStream::connect(rt, path),
         Side::Called => {
             let listener = UnixListener::bind(rt, path)?;
             let accepted = listener.accept();
             let _ = fs::remove_file(rt, path);
-            accepted?.0
+            Ok(accepted?.0)
         }
-    };
-    stream.set_read_timeout(Some(patience))?;
-    stream.set_write_timeout(Some(patience))?;
-    Ok(stream)
+    }
 }
 
-/// The stream over TCP to this port of this host. The end that calls connects to it. The one that is called listens there,
-/// and takes the first that connects.
+fn set_patience(stream: &UnixStream, patience: Duration) -> io::Result<()> {
+    stream.set_read_timeout(Some(patience))?;
+    stream.set_write_timeout(Some(patience))
+}
+
+/// The stream over TCP to this port of this host, whose calls wait for so long.
 fn open_tcp<R: Net>(
     rt: &R,
     side: Side,
@@ -311,12 +358,21 @@ fn open_tcp<R: Net>(
     port: u16,
     patience: Duration,
 ) -> io::Result<R::Stream> {
-    let stream = match side {
-        Side::Caller => TcpStream::connect(rt, (host, port))?,
-        Side::Called => TcpListener::bind(rt, (host, port))?.accept()?.0,
-    };
+    let stream = join_tcp(rt, side, host, port)?;
+    set_up_tcp(&stream, patience)?;
+    Ok(stream)
+}
+
+/// The end that calls connects. The one that is called listens there, and takes the first that connects.
+fn join_tcp<R: Net>(rt: &R, side: Side, host: &str, port: u16) -> io::Result<R::Stream> {
+    match side {
+        Side::Caller => TcpStream::connect(rt, (host, port)),
+        Side::Called => Ok(TcpListener::bind(rt, (host, port))?.accept()?.0),
+    }
+}
+
+fn set_up_tcp<T: OpenStream>(stream: &T, patience: Duration) -> io::Result<()> {
     stream.set_nodelay(true)?;
     stream.set_read_timeout(Some(patience))?;
-    stream.set_write_timeout(Some(patience))?;
-    Ok(stream)
+    stream.set_write_timeout(Some(patience))
 }

@@ -1,4 +1,4 @@
-ghost use Rattle.std.specs.Prelude.{◌≡◌, ◌<◌, ◌≤◌, [], ◌∷◌, ◌++◌, map, vec_len, vec_capacity};
+ghost use Rattle.std.specs.Prelude.{◌≡◌, ◌≢◌, ◌<◌, ◌≤◌, ◌⊎◌, [], ◌∷◌, ◌++◌, map, vec_len, vec_capacity, IfOk, OnErr, OnOk};
 ghost use Rattle.uug_conversation.specs.FileView.{shown_file};
 ghost use Rattle.uug_conversation.specs.Holdings.{kept_file};
 ghost use Rattle.uug_conversation.specs.MemoryHoldings.{first_named, kept_of};
@@ -6,7 +6,7 @@ ghost use Rattle.uug_conversation.specs.Code.StoredModes.{modes_in_range};
 ghost use Rattle.uug_pair.specs.Folders.{EndsWith, folder_holdings, is_hidden, placed_of};
 
 use crate::folder::Folder;
-use std::alloc::Allocator;
+use std::alloc::{AllocError, Allocator};
 use std::marker::Model;
 use uug_session::{FileView, KeepFault, Spool, Stored, Verdict};
 use uug_talk::{MODE_MAX, Name};
@@ -90,18 +90,14 @@ impl<F: Folder, A: Allocator + Copy> Spool for FolderSpool<F, A> {
         if is_hidden(name) {
             return Err(KeepFault::Refused);
         }
-        // All memory is taken before the folder is touched.
-        if self.stored.reserve(1).is_err() {
-            return Err(KeepFault::Memory);
-        }
-        let Ok(kept) = bytes.to_vec(self.alloc) else {
-            return Err(KeepFault::Memory);
-        };
-        if self.folder.put(name, bytes).is_err() {
-            return Err(KeepFault::Device);
-        }
-        push_stored(&mut self.stored, *name, mode, kept);
-        Ok(())
+        put_and_store(
+            &mut self.folder,
+            &mut self.stored,
+            self.alloc,
+            name,
+            mode,
+            bytes,
+        )
     }
 
     fn faults(&self) -> u64 {
@@ -123,6 +119,54 @@ fn is_hidden(name: &Name) -> bool
         [first, ..] => *first == b'.',
         [] => false,
     }
+}
+
+/// Puts a file in the folder, and adds it to those that were kept.
+fn put_and_store<F: Folder, A: Allocator + Copy>(
+    folder: &mut F,
+    stored: &mut Vec<Stored<A>, A>,
+    alloc: A,
+    name: &Name,
+    mode: u16,
+    bytes: &[u8],
+) -> Result<(), KeepFault>
+    requires mode { mode ≤ MODE_MAX }
+    requires ends { EndsWith (F.placed folder.old) (map placed_of (map kept_of stored.old.items)) }
+    ensures ends { EndsWith (F.placed folder.new) (map placed_of (map kept_of stored.new.items)) }
+    ensures ok { OnOk result (map kept_of stored.new.items
+        ≡ map kept_of stored.old.items ++ kept_file name.now mode bytes.now ∷ []) }
+    ensures err { OnErr result (map kept_of stored.new.items ≡ map kept_of stored.old.items) }
+    ensures no_refusal { result ≢ Err KeepFault.Refused }
+    ensures stands { result ≢ Err KeepFault.Device
+        → F.fault_count folder.new ≡ F.fault_count folder.old }
+    ensures device { result ≡ Err KeepFault.Device
+        → (F.fault_count folder.old < F.fault_count folder.new)
+        ⊎ (F.fault_count folder.old ≡ u64.MAX) }
+    ensures count { F.fault_count folder.old ≤ F.fault_count folder.new }
+{
+    // All memory is taken before the folder is touched.
+    let Ok(copy) = copy_beside_room(stored, alloc, bytes) else {
+        return Err(KeepFault::Memory);
+    };
+    if folder.put(name, bytes).is_err() {
+        return Err(KeepFault::Device);
+    }
+    push_stored(stored, *name, mode, copy);
+    Ok(())
+}
+
+/// Makes room for one file more, and copies these bytes.
+fn copy_beside_room<A: Allocator + Copy>(
+    stored: &mut Vec<Stored<A>, A>,
+    alloc: A,
+    bytes: &[u8],
+) -> Result<Vec<u8, A>, AllocError>
+    ensures stored { stored.new.items ≡ stored.old.items }
+    ensures room { OnOk result (vec_len stored.new < vec_capacity stored.new) }
+    ensures copy { IfOk result (λ copy. copy.items ≡ bytes.now) }
+{
+    stored.reserve(1)?;
+    bytes.to_vec(alloc)
 }
 
 /// Adds a file to those that were kept, in room that is there.

@@ -154,8 +154,16 @@ pub fn write_jobs<A: Allocator>(alloc: A, jobs: &[Job]) -> Result<String<A>, All
     ensures { IfOk result (λ text. string_bytes text ≡ jobs_text jobs.now) }
 {
     let mut text = String::new(alloc);
-    for job in jobs {
-        add_job_line(&mut text, job)?;
-    }
+    add_job_lines(&mut text, jobs)?;
     Ok(text)
+}
+
+/// Appends a line for each of these jobs.
+fn add_job_lines<A: Allocator>(text: &mut String<A>, jobs: &[Job]) -> Result<(), AllocError>
+    ensures { OnOk result (string_bytes text.new ≡ string_bytes text.old ++ jobs_text jobs.now) }
+{
+    for job in jobs {
+        add_job_line(text, job)?;
+    }
+    Ok(())
 }

@@ -1,5 +1,5 @@
 //! What is written of two ends when their turns are over.
-ghost use Rattle.std.specs.Prelude.{◌≡◌, ◌⊎◌, IfErr, IfOk, OnOk, string_bytes};
+ghost use Rattle.std.specs.Prelude.{◌≡◌, ◌⊎◌, ◌++◌, IfErr, IfOk, OnOk, string_bytes};
 ghost use Rattle.uug_session.specs.Engine.{HasFailed};
 ghost use Rattle.uug_conversation.specs.Jobs.{pending};
 ghost use Rattle.uug_session.specs.Node.{node_of};
@@ -93,21 +93,22 @@ fn report<S: Spool, T: Spool, A: Allocator + Copy>(
         string_bytes text ≡ report_text (node_of caller.now) (node_of called.now)) }
 {
     let mut text = String::new(alloc);
-    add_state(
-        alloc,
-        &mut text,
-        Side::Caller,
-        caller.phase(),
-        caller.queue(),
-    )?;
-    add_state(
-        alloc,
-        &mut text,
-        Side::Called,
-        called.phase(),
-        called.queue(),
-    )?;
-    add_failed(alloc, &mut text, Side::Caller, caller.queue())?;
-    add_failed(alloc, &mut text, Side::Called, called.queue())?;
+    add_report(alloc, &mut text, caller, called)?;
     Ok(text)
+}
+
+/// Appends the report.
+fn add_report<S: Spool, T: Spool, A: Allocator + Copy>(
+    alloc: A,
+    text: &mut String<A>,
+    caller: &Node<S, A>,
+    called: &Node<T, A>,
+) -> Result<(), AllocError>
+    ensures { OnOk result (string_bytes text.new
+        ≡ string_bytes text.old ++ report_text (node_of caller.now) (node_of called.now)) }
+{
+    add_state(alloc, text, Side::Caller, caller.phase(), caller.queue())?;
+    add_state(alloc, text, Side::Called, called.phase(), called.queue())?;
+    add_failed(alloc, text, Side::Caller, caller.queue())?;
+    add_failed(alloc, text, Side::Called, called.queue())
 }

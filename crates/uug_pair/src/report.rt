@@ -51,10 +51,23 @@ fn failed_text<A: Allocator>(alloc: A, side: Side, jobs: &[Job]) -> Result<Strin
     ensures { IfOk result (λ text. string_bytes text ≡ failed_lines side jobs.now) }
 {
     let mut text = String::new(alloc);
-    for job in jobs {
-        add_failed_line(&mut text, side, job)?;
-    }
+    add_failed_lines(&mut text, side, jobs)?;
     Ok(text)
+}
+
+/// Appends the lines of jobs that were given up.
+fn add_failed_lines<A: Allocator>(
+    text: &mut String<A>,
+    side: Side,
+    jobs: &[Job],
+) -> Result<(), AllocError>
+    ensures { OnOk result (string_bytes text.new
+        ≡ string_bytes text.old ++ failed_lines side jobs.now) }
+{
+    for job in jobs {
+        add_failed_line(text, side, job)?;
+    }
+    Ok(())
 }
 
 /// Appends a line for each job that an end has given up, in order. Out of memory leaves the text as it was.

@@ -1,9 +1,9 @@
 //! What is in the folder of an end at the start: its jobs, and the files that it has to give.
-ghost use Rattle.std.specs.Prelude.{◌≡◌, ◌+◌, ◌<◌, ◌≤◌, IfOk, IfErr, IfSome, length};
+ghost use Rattle.std.specs.Prelude.{◌≡◌, ◌+◌, ◌<◌, ◌≤◌, IfOk, IfErr, IfSome, OnOk, length};
 ghost use Rattle.uug_pair.specs.Sending.{IsFolderFault};
 
 use std::alloc::Allocator;
-use std::fs::File;
+use std::fs::{DirEntry, File, ReadDir};
 use std::io::{ErrorKind, Read};
 use std::rt::Files;
 use std::{fs, io};
@@ -111,9 +111,21 @@ pub fn read_text<A: Allocator + Copy, R: Files>(
     ensures no_other { IfErr result IsFolderFault }
 {
     let path = format!(in alloc; "{dir}/{name}")?;
-    match fs::metadata(rt, path.as_str()) {
+    read_text_at(alloc, rt, path.as_str())
+}
+
+/// The text of the file at a path, if there is one.
+fn read_text_at<A: Allocator + Copy, R: Files>(
+    alloc: A,
+    rt: &R,
+    path: &str,
+) -> Result<Option<Vec<u8, A>>, ToolFault>
+    ensures within { IfOk result (λ found. IfSome found (λ text. length text.items ≤ TEXT_MAX)) }
+    ensures no_other { IfErr result IsFolderFault }
+{
+    match fs::metadata(rt, path) {
         Ok(metadata) if metadata.is_file() => {
-            let text = read_file(alloc, rt, path.as_str(), TEXT_MAX).map_err(fault_of)?;
+            let text = read_file(alloc, rt, path, TEXT_MAX).map_err(fault_of)?;
             Ok(Some(text.ok_or(ToolFault::Device)?))
         }
         Err(error) if error.kind() == ErrorKind::NotFound => Ok(None),
@@ -133,26 +145,71 @@ pub fn read_send<A: Allocator + Copy, R: Files + Alloc + Clone + Drop>(
     ensures no_other { IfErr result IsFolderFault }
 {
     let mut files = Vec::new(alloc);
+    add_sends(&mut files, alloc, rt, dir)?;
+    Ok(files)
+}
+
+/// Adds the files in the folder `send` below `dir` to those that are given, of which there are none.
+fn add_sends<A: Allocator + Copy, R: Files + Alloc + Clone + Drop>(
+    files: &mut Vec<Stored<A>, A>,
+    alloc: A,
+    rt: &R,
+    dir: &str,
+) -> Result<(), ToolFault>
+    requires { length files.old.items ≡ 0 }
+    ensures within { OnOk result (length files.new.items ≤ FILES_MAX) }
+    ensures no_other { IfErr result IsFolderFault }
+{
     let path = format!(in alloc; "{dir}/send")?;
-    let entries = match fs::read_dir(rt, path.as_str()) {
-        Ok(entries) => entries,
-        Err(error) if error.kind() == ErrorKind::NotFound => return Ok(files),
-        Err(error) => return Err(fault_of(error)),
-    };
+    match fs::read_dir(rt, path.as_str()) {
+        Ok(entries) => add_entries(files, alloc, rt, entries),
+        Err(error) if error.kind() == ErrorKind::NotFound => Ok(()),
+        Err(error) => Err(fault_of(error)),
+    }
+}
+
+/// Adds the files of these entries to those that are given, of which there are none.
+fn add_entries<A: Allocator + Copy, R: Files + Alloc + Clone + Drop>(
+    files: &mut Vec<Stored<A>, A>,
+    alloc: A,
+    rt: &R,
+    entries: ReadDir<R, R::A>,
+) -> Result<(), ToolFault>
+    requires { length files.old.items ≡ 0 }
+    ensures within { OnOk result (length files.new.items ≤ FILES_MAX) }
+    ensures no_other { IfErr result IsFolderFault }
+{
     let mut count = 0;
     for entry in entries {
         let entry = entry.map_err(fault_of)?;
-        let Ok(name) = Name::new(entry.file_name().as_bytes()) else {
-            continue;
-        };
-        if !is_file(rt, entry.path().as_str()).map_err(fault_of)? {
-            continue;
-        }
-        if count >= FILES_MAX {
-            return Err(ToolFault::Device);
-        }
-        count += 1;
-        add_given(&mut files, alloc, rt, name, entry.path().as_str())?;
+        add_entry(files, alloc, rt, &entry, &mut count)?;
     }
-    Ok(files)
+    Ok(())
+}
+
+/// Adds the file of an entry, if it has one that may be given. Each of them is counted.
+fn add_entry<A: Allocator + Copy, R: Files + Alloc + Clone + Drop>(
+    files: &mut Vec<Stored<A>, A>,
+    alloc: A,
+    rt: &R,
+    entry: &DirEntry<R, R::A>,
+    count: &mut usize,
+) -> Result<(), ToolFault>
+    requires counted { length files.old.items ≤ count.old }
+    requires within { count.old ≤ FILES_MAX }
+    ensures counted { OnOk result (length files.new.items ≤ count.new) }
+    ensures within { OnOk result (count.new ≤ FILES_MAX) }
+    ensures no_other { IfErr result IsFolderFault }
+{
+    let Ok(name) = Name::new(entry.file_name().as_bytes()) else {
+        return Ok(());
+    };
+    if !is_file(rt, entry.path().as_str()).map_err(fault_of)? {
+        return Ok(());
+    }
+    if *count >= FILES_MAX {
+        return Err(ToolFault::Device);
+    }
+    *count += 1;
+    add_given(files, alloc, rt, name, entry.path().as_str())
 }

@@ -37,8 +37,11 @@ const WINDOW: u8 = 7;
 /// The packet size that both ends announce.
 const SIZE: usize = 64;
 
+/// The files of an end in a folder of the system.
+type SystemSpool<'a, R, A> = FolderSpool<SystemFolder<'a, R, A>, A>;
+
 /// An end over a folder of the system.
-type SystemEnd<'a, R, A> = PairEnd<FolderSpool<SystemFolder<'a, R, A>, A>, SystemText<'a, R, A>, A>;
+type SystemEnd<'a, R, A> = PairEnd<SystemSpool<'a, R, A>, SystemText<'a, R, A>, A>;
 
 /// Runs the caller `a` over the folder `dir_a` and the called end `b` over `dir_b`, over a Unix socket that is made at the
 /// path `socket`. Every Nth packet is lost, and every Nth changed, for an N of its own each, if one is given. What stands
@@ -63,16 +66,27 @@ pub fn pair_run<A: Allocator + Copy, R: Files + Net + Alloc + Clone + Drop, O: O
     let Some(mut noise) = Noise::new(drop_every, flip_every) else {
         return Err(ToolFault::Usage);
     };
-    let (mut caller, mut called) = make_ends(alloc, rt, dir_a, dir_b, &mut noise)?;
-    let result = run_ends(
-        alloc,
-        rt,
-        socket,
-        &mut caller,
-        &mut called,
-        &mut noise,
-        output,
-    );
+    run_folders(alloc, rt, socket, dir_a, dir_b, &mut noise, output)
+}
+
+/// Makes both ends over their folders, and runs them.
+fn run_folders<A: Allocator + Copy, R: Files + Net + Alloc + Clone + Drop, O: Output>(
+    alloc: A,
+    rt: &R,
+    socket: &str,
+    dir_a: &str,
+    dir_b: &str,
+    noise: &mut Noise,
+    output: &mut O,
+) -> Result<u8, ToolFault>
+    ensures status { IfOk result (λ status. status ≤ 1) }
+    ensures write { result ≡ Err ToolFault.Write
+        → CountsFault (O.fault_count output.old) (O.fault_count output.new) }
+    ensures no_other { IfErr result IsRunFault }
+    ensures no_usage { result ≢ Err ToolFault.Usage }
+{
+    let (mut caller, mut called) = make_ends(alloc, rt, dir_a, dir_b, noise)?;
+    let result = run_ends(alloc, rt, socket, &mut caller, &mut called, noise, output);
     drop(caller);
     drop(called);
     result
@@ -221,25 +235,42 @@ fn make_end<'a, A: Allocator + Copy, R: Files>(
     noise: &mut Noise,
 ) -> Result<SystemEnd<'a, R, A>, AllocError> {
     let Given { jobs, files } = given;
+    let spool = make_spool(alloc, rt, dir, files)?;
+    let node = make_node(alloc, side, jobs, spool)?;
+    let seat = Seat::new(alloc, node, noise)?;
+    let jobs = SystemText::new(alloc, rt, dir, "jobs")?;
+    Ok(PairEnd { seat, jobs })
+}
+
+/// The spool over the folder `dir`, with these files to give.
+fn make_spool<'a, A: Allocator + Copy, R: Files>(
+    alloc: A,
+    rt: &'a R,
+    dir: &str,
+    files: Vec<Stored<A>, A>,
+) -> Result<SystemSpool<'a, R, A>, AllocError> {
     let folder = SystemFolder::new(alloc, rt, dir)?;
-    let jobs_file = SystemText::new(alloc, rt, dir, "jobs")?;
-    let spool = FolderSpool::new(alloc, files, folder);
+    Ok(FolderSpool::new(alloc, files, folder))
+}
+
+/// The caller `a`, or the called end `b`, with these jobs.
+fn make_node<'a, A: Allocator + Copy, R: Files>(
+    alloc: A,
+    side: Side,
+    jobs: Queue<A>,
+    spool: SystemSpool<'a, R, A>,
+) -> Result<Node<SystemSpool<'a, R, A>, A>, AllocError> {
     let made = match side {
         Side::Caller => Node::caller(alloc, place(b"a", b"b"), jobs, spool),
         Side::Called => Node::called(alloc, place(b"b", b"a"), jobs, spool),
     };
-    let node = match made {
-        Ok(node) => node,
+    match made {
+        Ok(node) => Ok(node),
         Err(refused) => {
             drop(refused);
-            return Err(AllocError);
+            Err(AllocError)
         }
-    };
-    let seat = Seat::new(alloc, node, noise)?;
-    Ok(PairEnd {
-        seat,
-        jobs: jobs_file,
-    })
+    }
 }
 
 /// Where an end of this name stands, whose other end has that name. It keeps no number of its conversations.
