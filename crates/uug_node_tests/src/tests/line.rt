@@ -140,8 +140,7 @@ impl Line {
     ) {
         let mut rest = bytes;
         for _ in 0..2_000_000 {
-            let used = to.offer(&rest[..rest.len().min(size)]);
-            rest = &rest[used..];
+            rest = offer(to, rest, size);
             let is_found = self.take_up(rt, to);
             if !is_found && rest.is_empty() {
                 return;
@@ -190,4 +189,14 @@ impl Line {
             node.call_again().expect(rt, "memory");
         }
     }
+}
+
+/// Offers a piece of at most so many bytes. What is left of them.
+fn offer<'a, S: Spool, A: Allocator + Copy>(
+    to: &mut Node<S, A>,
+    bytes: &'a [u8],
+    size: usize,
+) -> &'a [u8] {
+    let used = to.offer(&bytes[..bytes.len().min(size)]);
+    &bytes[used..]
 }
