@@ -25,8 +25,9 @@ pub mod NumberLemmas
 pub mod NumberStandingLemmas
 mod NextItemLemmas
 pub mod PiecesLemmas
-pub mod ResultLemmas
+mod ResultLemmas
 pub mod RoomLemmas
+mod SaidTextsLemmas
 pub mod OverLemmas
 pub mod SpeakLemmas
 pub mod StepKeeps

@@ -144,3 +144,8 @@ all_pushed old new rest count empty counted pushed most =
 pub shows_packet : (packets : Reading) (texts : TextsHeld) (f : Found) (p : Packet) → f ≡ founds.Packet p → Shows (item_of f) packets
     → ShowsItem linked texts packets (packet_item (shown p))
 shows_packet packets texts f p is shows = subst (λ (x : Found). Shows (item_of x) packets) is shows
+
+pub shows_packet_at : (stage : Stage) (texts : TextsHeld) (packets : Reading) (f : Found) (p : Packet) → linked ≡ stage → f ≡ founds.Packet p
+    → Shows (item_of f) packets → ShowsItem stage texts packets (packet_item (shown p))
+shows_packet_at stage texts packets f p at is shows =
+    subst (λ (x : Stage). ShowsItem x texts packets (packet_item (shown p))) at (shows_packet packets texts f p is shows)

@@ -1,4 +1,4 @@
-use Rattle.std.proofs.Common.{◌≡◌, ℕ, Bool, List, Option, ◌++◌, map, subst, ap, ◌∙◌, refl}
+use Rattle.std.proofs.Common.{◌≡◌, ℕ, Bool, List, Option, ◌++◌, map, arith, subst, ap, ◌∙◌, refl}
 use Rattle.uug_link.specs.Entries.{EntryValue}
 use Rattle.uug_session.specs.declared.greeting.Greeted.{Greeted}
 use Rattle.uug_session.specs.EndStep.{behind_greeting, greeted_so, says_text}
@@ -7,6 +7,7 @@ use Rattle.uug_session.specs.Greeting.{GreetingStep, number_by, text_came}
 use Rattle.uug_session.specs.Says.{entry_of_text}
 use Rattle.uug_session.proofs.EngineLemmas.{greeted_does, shown_by}
 use Rattle.uug_session.proofs.ResultLemmas.{err_says_nothing}
+use Rattle.uug_session.proofs.SaidTextsLemmas.{says_few}
 use Rattle.uug_session.proofs.engine.Engine.on_text.Goals as goal
 
 pub returns-clause-ok : goal.returns-clause-ok
@@ -52,3 +53,14 @@ returns-in_err-led-clause-says g c = err_says_nothing _ c.from_residual-in_err-l
 
 pub returns-clause-says : goal.returns-clause-says
 returns-clause-says g c = c.lead_to.ensures.says
+
+pub lead_to-requires-clause-spare : goal.lead_to-requires-clause-spare
+lead_to-requires-clause-spare g c =
+    let i = c.self.inside in
+    λ begins. omega (
+      arith,
+      c.reserve.ensures,
+      c.in_ok-reserve.ensures,
+      c.in_ok-led.ensures.says.spare,
+      says_few i.place.me i.place.peer i.place.number c.args.greeting c.args.text.now,
+    )
