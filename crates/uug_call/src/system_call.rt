@@ -257,11 +257,15 @@ fn make_end<'a, A: Allocator + Copy, R: Files>(
     jobs: Queue<A>,
     files: Vec<Stored<A>, A>,
 ) -> Result<SystemEnd<'a, R, A>, AllocError> {
+    let (jobs_file, number) = make_texts(alloc, rt, dir)?;
     let spool = make_spool(alloc, rt, dir, files)?;
     let node = make_node(alloc, side, place, jobs, spool)?;
     let seat = make_seat(alloc, node)?;
-    let (jobs, number) = make_texts(alloc, rt, dir)?;
-    Ok(CallEnd { seat, jobs, number })
+    Ok(CallEnd {
+        seat,
+        jobs: jobs_file,
+        number,
+    })
 }
 
 /// The spool over the folder `dir`, with these files to give.

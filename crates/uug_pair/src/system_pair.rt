@@ -66,27 +66,16 @@ pub fn pair_run<A: Allocator + Copy, R: Files + Net + Alloc + Clone + Drop, O: O
     let Some(mut noise) = Noise::new(drop_every, flip_every) else {
         return Err(ToolFault::Usage);
     };
-    run_folders(alloc, rt, socket, dir_a, dir_b, &mut noise, output)
-}
-
-/// Makes both ends over their folders, and runs them.
-fn run_folders<A: Allocator + Copy, R: Files + Net + Alloc + Clone + Drop, O: Output>(
-    alloc: A,
-    rt: &R,
-    socket: &str,
-    dir_a: &str,
-    dir_b: &str,
-    noise: &mut Noise,
-    output: &mut O,
-) -> Result<u8, ToolFault>
-    ensures status { IfOk result (λ status. status ≤ 1) }
-    ensures write { result ≡ Err ToolFault.Write
-        → CountsFault (O.fault_count output.old) (O.fault_count output.new) }
-    ensures no_other { IfErr result IsRunFault }
-    ensures no_usage { result ≢ Err ToolFault.Usage }
-{
-    let (mut caller, mut called) = make_ends(alloc, rt, dir_a, dir_b, noise)?;
-    let result = run_ends(alloc, rt, socket, &mut caller, &mut called, noise, output);
+    let (mut caller, mut called) = make_ends(alloc, rt, dir_a, dir_b, &mut noise)?;
+    let result = run_ends(
+        alloc,
+        rt,
+        socket,
+        &mut caller,
+        &mut called,
+        &mut noise,
+        output,
+    );
     drop(caller);
     drop(called);
     result
@@ -235,11 +224,14 @@ fn make_end<'a, A: Allocator + Copy, R: Files>(
     noise: &mut Noise,
 ) -> Result<SystemEnd<'a, R, A>, AllocError> {
     let Given { jobs, files } = given;
+    let jobs_file = SystemText::new(alloc, rt, dir, "jobs")?;
     let spool = make_spool(alloc, rt, dir, files)?;
     let node = make_node(alloc, side, jobs, spool)?;
     let seat = Seat::new(alloc, node, noise)?;
-    let jobs = SystemText::new(alloc, rt, dir, "jobs")?;
-    Ok(PairEnd { seat, jobs })
+    Ok(PairEnd {
+        seat,
+        jobs: jobs_file,
+    })
 }
 
 /// The spool over the folder `dir`, with these files to give.
