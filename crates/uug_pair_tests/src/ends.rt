@@ -4,11 +4,12 @@ use crate::memory_folder::MemoryFolder;
 use crate::memory_jobs::MemoryJobs;
 use crate::tasks::{CALLED, CALLER, Given};
 use std::alloc::Global;
+use std::process::Abort;
 use uug_line::Side;
 use uug_link::Announce;
 use uug_pair::{FolderSpool, GIVEN_MODE, Noise, PairEnd, Seat, read_jobs};
 use uug_refusal::Refusing;
-use uug_session::{Node, Place, Queue, Stored};
+use uug_session::{Node, Place, Stored};
 use uug_talk::Name;
 
 pub type Heap<'a> = &'a Refusing<Global>;
@@ -49,6 +50,16 @@ impl Plan {
     pub fn number_of(self, call: Call) -> u32 {
         if self.call == call { self.number } else { 0 }
     }
+
+    fn of_caller(self) -> Failing {
+        let puts = self.number_of(Call::PutOfCaller);
+        (CALLER, puts, self.number_of(Call::JobsOfCaller))
+    }
+
+    fn of_called(self) -> Failing {
+        let puts = self.number_of(Call::PutOfCalled);
+        (CALLED, puts, self.number_of(Call::JobsOfCalled))
+    }
 }
 
 /// Both ends.
@@ -59,80 +70,82 @@ pub struct Ends<'a> {
 }
 
 impl<'a> Ends<'a> {
-    pub fn new(heap: Heap<'a>, plan: Plan, noise: &mut Noise) -> Option<Self> {
-        let caller = caller(heap, plan, noise)?;
-        let called = called(heap, plan, noise)?;
-        Some(Ends { caller, called })
+    pub fn new(rt: &impl Abort, heap: Heap<'a>, plan: Plan, noise: &mut Noise) -> Self {
+        Ends {
+            caller: end(rt, heap, plan.of_caller(), noise),
+            called: end(rt, heap, plan.of_called(), noise),
+        }
     }
 }
 
-fn caller<'a>(heap: Heap<'a>, plan: Plan, noise: &mut Noise) -> Option<End<'a>> {
-    let folder = MemoryFolder::new(Side::Caller, plan.number_of(Call::PutOfCaller));
-    let seat = seat(heap, &CALLER, folder, noise)?;
-    let jobs = MemoryJobs::new(CALLER.jobs, plan.number_of(Call::JobsOfCaller))?;
-    Some(PairEnd { seat, jobs })
-}
+/// An end, and the numbers of the file and of the text of jobs that it fails to keep.
+type Failing = (Given<'static>, u32, u32);
 
-fn called<'a>(heap: Heap<'a>, plan: Plan, noise: &mut Noise) -> Option<End<'a>> {
-    let folder = MemoryFolder::new(Side::Called, plan.number_of(Call::PutOfCalled));
-    let seat = seat(heap, &CALLED, folder, noise)?;
-    let jobs = MemoryJobs::new(CALLED.jobs, plan.number_of(Call::JobsOfCalled))?;
-    Some(PairEnd { seat, jobs })
+fn end<'a>(
+    rt: &impl Abort,
+    heap: Heap<'a>,
+    (given, puts, texts): Failing,
+    noise: &mut Noise,
+) -> End<'a> {
+    let folder = MemoryFolder::new(given.side, puts);
+    PairEnd {
+        seat: seat(rt, heap, &given, folder, noise),
+        jobs: MemoryJobs::new(rt, given.jobs, texts),
+    }
 }
 
 fn seat<'a>(
+    rt: &impl Abort,
     heap: Heap<'a>,
     given: &Given<'_>,
     folder: MemoryFolder,
     noise: &mut Noise,
-) -> Option<Seat<Spool<'a>, Heap<'a>>> {
-    let place = place(given)?;
-    let files = files(heap, given)?;
-    let queue = queue(heap, given)?;
-    let spool = FolderSpool::new(heap, files, folder);
-    let node = node(heap, given.side, place, queue, spool)?;
-    Seat::new(heap, node, noise).ok()
-}
-
-fn place(given: &Given<'_>) -> Option<Place> {
-    Some(Place {
-        me: Name::new(given.me).ok()?,
-        peer: Name::new(given.peer).ok()?,
-        announce: Announce::new(7, 64).ok()?,
-        number: None,
-    })
-}
-
-fn queue<'a>(heap: Heap<'a>, given: &Given<'_>) -> Option<Queue<Heap<'a>>> {
-    read_jobs(heap, given.jobs.as_bytes()).ok()
+) -> Seat<Spool<'a>, Heap<'a>> {
+    let node = node(rt, heap, given, folder);
+    Seat::new(heap, node, noise).expect(rt, "memory for a seat")
 }
 
 fn node<'a>(
+    rt: &impl Abort,
     heap: Heap<'a>,
-    side: Side,
-    place: Place,
-    queue: Queue<Heap<'a>>,
-    spool: Spool<'a>,
-) -> Option<Node<Spool<'a>, Heap<'a>>> {
-    let made = match side {
+    given: &Given<'_>,
+    folder: MemoryFolder,
+) -> Node<Spool<'a>, Heap<'a>> {
+    let place = place(rt, given);
+    let queue = read_jobs(heap, given.jobs.as_bytes()).expect(rt, "jobs");
+    let spool = FolderSpool::new(heap, files(rt, heap, given), folder);
+    let made = match given.side {
         Side::Caller => Node::caller(heap, place, queue, spool),
         Side::Called => Node::called(heap, place, queue, spool),
     };
-    made.ok()
+    made.expect(rt, "an end")
+}
+
+fn place(rt: &impl Abort, given: &Given<'_>) -> Place {
+    Place {
+        me: name(rt, given.me),
+        peer: name(rt, given.peer),
+        announce: Announce::new(7, 64).expect(rt, "a window and a size"),
+        number: None,
+    }
+}
+
+fn name(rt: &impl Abort, text: &[u8]) -> Name {
+    Name::new(text).expect(rt, "a name")
 }
 
 /// The one file that an end has to give.
-fn files<'a>(heap: Heap<'a>, given: &Given<'_>) -> Option<Files<'a>> {
+fn files<'a>(rt: &impl Abort, heap: Heap<'a>, given: &Given<'_>) -> Files<'a> {
     let mut files = Vec::new(heap);
-    files.reserve(1).ok()?;
-    files.push_reserved(file(heap, given)?);
-    Some(files)
+    files.reserve(1).expect(rt, "memory for a file");
+    files.push_reserved(file(rt, heap, given));
+    files
 }
 
-fn file<'a>(heap: Heap<'a>, given: &Given<'_>) -> Option<Stored<Heap<'a>>> {
-    let name = Name::new(given.source).ok()?;
-    let bytes = given.bytes.to_vec(heap).ok()?;
-    Some(stored(name, bytes))
+fn file<'a>(rt: &impl Abort, heap: Heap<'a>, given: &Given<'_>) -> Stored<Heap<'a>> {
+    let name = name(rt, given.source);
+    let bytes = given.bytes.to_vec(heap).expect(rt, "memory for bytes");
+    stored(name, bytes)
 }
 
 fn stored<'a>(name: Name, bytes: Vec<u8, Heap<'a>>) -> Stored<Heap<'a>> {

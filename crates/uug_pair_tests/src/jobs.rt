@@ -2,9 +2,8 @@
 //! definition, and a call that answers that memory ran out where none was refused, or that cannot be made again.
 
 use crate::assertions::{assert_same, assert_same_at, assert_so, assert_so_at};
-use std::alloc::{AllocError, Global};
+use std::alloc::Global;
 use std::process::Abort;
-use std::test::Fail;
 use uug_line::Side;
 use uug_pair::{JobsFault, add_failed, add_state, read_jobs, write_jobs};
 use uug_refusal::Refusing;
@@ -51,46 +50,60 @@ const LONG_TEXTS: [(&str, &str, usize, &str, Result<usize, usize>); 8] = [
     ("send ", "x", 201, " y u", Err(1)),
 ];
 
-/// The jobs `send x y u` and `request q y u`.
-fn two_jobs() -> Option<[Job; 2]> {
-    let (x, y) = (Name::new(b"x").ok()?, Name::new(b"y").ok()?);
-    let (q, u) = (Name::new(b"q").ok()?, Name::new(b"u").ok()?);
+fn name(rt: &impl Abort, text: &[u8]) -> Name {
+    Name::new(text).expect(rt, "a name")
+}
+
+/// These are the jobs `send x y u` and `request q y u`.
+fn assert_two_jobs(rt: &impl Abort, jobs: &[Job]) {
+    let (target, user) = (name(rt, b"y"), name(rt, b"u"));
     let send = Job::Send {
-        source: x,
-        target: y,
-        user: u,
+        source: name(rt, b"x"),
+        target,
+        user,
         temp: None,
     };
     let request = Job::Request {
-        source: q,
-        target: y,
-        user: u,
+        source: name(rt, b"q"),
+        target,
+        user,
     };
-    Some([send, request])
+    assert_same(rt, jobs, [send, request].as_slice());
+}
+
+fn two_jobs(rt: &impl Abort, alloc: Global) -> Queue<Global> {
+    read_jobs(alloc, TWO_JOBS).expect(rt, "two jobs")
+}
+
+fn assert_only_two_jobs(rt: &impl Abort, queue: &Queue<Global>) {
+    assert_two_jobs(rt, queue.pending());
+    assert_same(rt, queue.struck().len(), 0);
+    assert_same(rt, queue.failed().len(), 0);
 }
 
 #[test]
-fn reads_jobs(rt: HostRuntime) -> Result<(), Fail> {
-    let jobs = two_jobs().ok_or("names")?;
-    let queue = read_jobs(rt.alloc(), TWO_JOBS)?;
-    assert_same(&rt, queue.pending(), jobs.as_slice());
-    assert_same(&rt, queue.struck().len(), 0);
-    assert_same(&rt, queue.failed().len(), 0);
-    Ok(())
+fn reads_jobs(rt: HostRuntime) {
+    let queue = two_jobs(&rt, rt.alloc());
+    assert_only_two_jobs(&rt, &queue);
 }
 
-/// The text of the jobs that a text has.
-fn read_and_write(alloc: Global, text: &str) -> Result<String, JobsFault> {
-    let queue = read_jobs(alloc, text.as_bytes())?;
-    write_jobs(alloc, queue.pending()).map_err(|_| JobsFault::Memory)
+/// Writes the jobs of a text as this one.
+fn assert_writes(
+    rt: &impl Abort,
+    alloc: Global,
+    text: &str,
+    jobs: &[Job],
+    expected: Result<&str, usize>,
+) {
+    let written = write_jobs(alloc, jobs).expect(rt, "memory for a text");
+    assert_same_at(rt, Ok(written.as_str()), expected, text);
 }
 
 /// Reads a text that has these jobs, or this bad line.
 fn assert_reads(rt: &impl Abort, alloc: Global, text: &str, jobs: Result<&str, usize>) {
-    match (read_and_write(alloc, text), jobs) {
-        (Ok(written), Ok(expected)) => assert_same_at(rt, written.as_str(), expected, text),
-        (Err(fault), Err(line)) => assert_same_at(rt, fault, JobsFault::Bad(line), text),
-        _ => assert_so_at(rt, false, text),
+    match read_jobs(alloc, text.as_bytes()) {
+        Ok(queue) => assert_writes(rt, alloc, text, queue.pending(), jobs),
+        Err(fault) => assert_same_at(rt, Err(fault), jobs.map_err(JobsFault::Bad), text),
     }
 }
 
@@ -103,16 +116,18 @@ fn writes_what_it_reads(rt: HostRuntime) {
 
 type LongText<'a> = (&'a str, &'a str, usize, &'a str);
 
-fn long_text(
-    alloc: Global,
-    (front, part, times, back): LongText<'_>,
-) -> Result<String<Global>, AllocError> {
-    let mut text = String::from_str(alloc, front)?;
+fn add(rt: &impl Abort, text: &mut String, part: &str) {
+    text.push_str(part).expect(rt, "memory for a text");
+}
+
+fn long_text(rt: &impl Abort, alloc: Global, (front, part, times, back): LongText<'_>) -> String {
+    let mut text = String::new(alloc);
+    add(rt, &mut text, front);
     for _ in 0..times {
-        text.push_str(part)?;
+        add(rt, &mut text, part);
     }
-    text.push_str(back)?;
-    Ok(text)
+    add(rt, &mut text, back);
+    text
 }
 
 /// How many jobs a text has.
@@ -121,14 +136,17 @@ fn count_jobs(alloc: Global, text: &str) -> Result<usize, JobsFault> {
     Ok(queue.pending().len())
 }
 
+fn count_long(rt: &impl Abort, alloc: Global, long: LongText<'_>) -> Result<usize, JobsFault> {
+    let text = long_text(rt, alloc, long);
+    count_jobs(alloc, text.as_str())
+}
+
 #[test]
-fn keeps_to_the_limits(rt: HostRuntime) -> Result<(), Fail> {
+fn keeps_to_the_limits(rt: HostRuntime) {
     for (front, part, times, back, jobs) in LONG_TEXTS {
-        let text = long_text(rt.alloc(), (front, part, times, back))?;
-        let found = count_jobs(rt.alloc(), text.as_str());
+        let found = count_long(&rt, rt.alloc(), (front, part, times, back));
         assert_same_at(&rt, found, jobs.map_err(JobsFault::Bad), times);
     }
-    Ok(())
 }
 
 /// A call that takes memory.
@@ -155,43 +173,48 @@ fn make(
     }
 }
 
-/// Refuses the nth request of the call, which then changes nothing and can be made again. Whether one was refused.
-fn refuse(
+/// The call, whose nth request is refused, changes nothing then, and can be made again. Whether one was refused.
+fn refuse_with(
     rt: &impl Abort,
     heap: &Refusing<Global>,
-    call: Call,
+    (call, nth): (Call, u64),
     queue: &Queue<Global>,
-    nth: u64,
-) -> Result<bool, AllocError> {
-    heap.refuse(0);
-    let mut text = String::from_str(heap, "in front")?;
+    text: &mut String<&Refusing<Global>>,
+) -> bool {
     heap.refuse(nth);
-    let is_done = make(call, heap, queue, &mut text);
+    let is_done = make(call, heap, queue, text);
     let was_refused = heap.was_refused();
     assert_same_at(rt, is_done, !was_refused, nth);
     if was_refused {
         assert_same(rt, text.as_str(), "in front");
-        assert_so(rt, make(call, heap, queue, &mut text));
+        assert_so(rt, make(call, heap, queue, text));
     }
-    Ok(was_refused)
+    was_refused
+}
+
+/// Refuses the nth request of the call. Whether there was one.
+fn refuse(
+    rt: &impl Abort,
+    heap: &Refusing<Global>,
+    refused: (Call, u64),
+    queue: &Queue<Global>,
+) -> bool {
+    heap.refuse(0);
+    let mut text = String::from_str(heap, "in front").expect(rt, "memory for a text");
+    refuse_with(rt, heap, refused, queue, &mut text)
 }
 
 /// More requests than any of the calls makes.
 const ENOUGH: u64 = 100;
 
 /// Refuses each request of the call in turn. How many it makes.
-fn requests(
-    rt: &impl Abort,
-    heap: &Refusing<Global>,
-    call: Call,
-    queue: &Queue<Global>,
-) -> Result<u64, AllocError> {
+fn requests(rt: &impl Abort, heap: &Refusing<Global>, call: Call, queue: &Queue<Global>) -> u64 {
     for nth in 1..ENOUGH {
-        if !refuse(rt, heap, call, queue, nth)? {
-            return Ok(nth - 1);
+        if !refuse(rt, heap, (call, nth), queue) {
+            return nth - 1;
         }
     }
-    Ok(ENOUGH)
+    ENOUGH
 }
 
 const CALLS: [(Call, u64); 4] = [
@@ -201,50 +224,41 @@ const CALLS: [(Call, u64); 4] = [
     (Call::Failed, 0),
 ];
 
-fn refuse_calls(
-    rt: &impl Abort,
-    heap: &Refusing<Global>,
-    queue: &Queue<Global>,
-) -> Result<(), AllocError> {
+fn refuse_calls(rt: &impl Abort, heap: &Refusing<Global>, queue: &Queue<Global>) {
     for (call, least) in CALLS {
-        let count = requests(rt, heap, call, queue)?;
+        let count = requests(rt, heap, call, queue);
         assert_so_at(rt, count >= least && count < ENOUGH, count);
     }
-    Ok(())
 }
 
 #[test]
-fn makes_refused_calls_good(rt: HostRuntime) -> Result<(), Fail> {
+fn makes_refused_calls_good(rt: HostRuntime) {
     let heap = Refusing::new(rt.alloc(), 0);
-    let queue = read_jobs(rt.alloc(), TWO_JOBS)?;
-    Ok(refuse_calls(&rt, &heap, &queue)?)
+    let queue = two_jobs(&rt, rt.alloc());
+    refuse_calls(&rt, &heap, &queue);
 }
 
-/// Appends what is printed of the caller.
-fn add_caller(
-    alloc: Global,
-    text: &mut String<Global>,
-    queue: &Queue<Global>,
-) -> Result<(), AllocError> {
-    add_state(alloc, text, Side::Caller, Phase::Hail, queue)?;
-    add_failed(alloc, text, Side::Caller, queue)
+/// Appends what is printed of the caller with two jobs, before its first turn.
+fn add_caller(rt: &impl Abort, alloc: Global, text: &mut String, queue: &Queue<Global>) {
+    let state = add_state(alloc, text, Side::Caller, Phase::Hail, queue);
+    state.expect(rt, "memory for its state");
+    let failed = add_failed(alloc, text, Side::Caller, queue);
+    failed.expect(rt, "memory for its failed jobs");
 }
 
-/// What is printed of the caller with two jobs, before its first turn.
-fn caller_text(alloc: Global) -> Result<String<Global>, Fail> {
-    let queue = read_jobs(alloc, TWO_JOBS)?;
-    let mut text = String::from_str(alloc, "in front\n")?;
-    add_caller(alloc, &mut text, &queue)?;
-    Ok(text)
+fn add_two_jobs(rt: &impl Abort, alloc: Global, text: &mut String) {
+    let queue = two_jobs(rt, alloc);
+    add_caller(rt, alloc, text, &queue);
 }
 
 #[test]
-fn tells_how_an_end_stands(rt: HostRuntime) -> Result<(), Fail> {
-    let text = caller_text(rt.alloc())?;
+fn tells_how_an_end_stands(rt: HostRuntime) {
+    let mut text = String::new(rt.alloc());
+    add(&rt, &mut text, "in front\n");
+    add_two_jobs(&rt, rt.alloc(), &mut text);
     assert_same(
         &rt,
         text.as_str(),
         "in front\ncaller hail pending 2 struck 0 failed 0\n",
     );
-    Ok(())
 }

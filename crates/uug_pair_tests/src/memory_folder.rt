@@ -55,7 +55,7 @@ impl Folder for MemoryFolder {
 /// Notes for which tasks this is the file that the end on this side takes.
 fn note(taken: &mut [bool], side: Side, name: &[u8], bytes: &[u8]) {
     for (is_taken, task) in taken.iter_mut().zip(TASKS.iter()) {
-        if task.taker == side && task.target == name && task.bytes == bytes {
+        if task.is_done_by(side, name, bytes) {
             *is_taken = true;
         }
     }

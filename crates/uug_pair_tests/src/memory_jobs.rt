@@ -1,8 +1,10 @@
 //! A file of jobs in memory.
 ghost use Rattle.std.specs.Prelude.{None};
 
+use crate::assertions::assert_so;
 use crate::failing::fails;
 use arrayvec::ArrayVec;
+use std::process::Abort;
 use uug_pair::{FolderFailed, TextFile};
 
 /// The most bytes of a text.
@@ -18,19 +20,24 @@ pub struct MemoryJobs {
 
 impl MemoryJobs {
     /// Holds this text, and refuses the one of this number.
-    pub fn new(text: &str, texts: u32) -> Option<Self> {
-        let mut jobs = MemoryJobs {
-            text: ArrayVec::new(),
+    pub fn new(rt: &impl Abort, text: &str, texts: u32) -> Self {
+        MemoryJobs {
+            text: held(rt, text),
             texts,
             faults: 0,
-        };
-        jobs.text.try_extend_from_slice(text.as_bytes()).ok()?;
-        Some(jobs)
+        }
     }
 
     pub fn text(&self) -> &[u8] {
         self.text.as_slice()
     }
+}
+
+fn held(rt: &impl Abort, text: &str) -> ArrayVec<u8, TEXT_MAX> {
+    let mut held = ArrayVec::new();
+    let is_held = held.try_extend_from_slice(text.as_bytes()).is_ok();
+    assert_so(rt, is_held);
+    held
 }
 
 impl TextFile for MemoryJobs {

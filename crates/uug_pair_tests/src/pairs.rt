@@ -9,7 +9,6 @@ use crate::memory_line::MemoryLine;
 use crate::short_output::ShortOutput;
 use crate::tasks::{CALLED, CALLER, REPORT, TASKS, Task};
 use std::process::Abort;
-use std::test::Fail;
 use uug_line::Side;
 use uug_pair::{Folder, Line, Noise, TextFile, pair_over};
 use uug_refusal::Refusing;
@@ -44,15 +43,17 @@ fn run<'a>(
         limit,
         output,
     );
-    let has_failed = line.faults() > 0 || output.faults() > 0 || has_failed(ends);
-    Outcome { answer, has_failed }
+    let at_line = line.faults().max(output.faults());
+    let at_ends = faults(&ends.caller).max(faults(&ends.called));
+    Outcome {
+        answer,
+        has_failed: at_line.max(at_ends) > 0,
+    }
 }
 
-fn has_failed(ends: &Ends<'_>) -> bool {
-    folder(&ends.caller).faults() > 0
-        || folder(&ends.called).faults() > 0
-        || ends.caller.jobs.faults() > 0
-        || ends.called.jobs.faults() > 0
+/// The faults of an end's folder, or of its file of jobs.
+fn faults(end: &End<'_>) -> u64 {
+    folder(end).faults().max(end.jobs.faults())
 }
 
 fn folder<'e>(end: &'e End<'_>) -> &'e MemoryFolder {
@@ -167,45 +168,25 @@ fn fail_ends<'a>(
     outcome.has_failed
 }
 
-/// Runs both ends, of which a call fails. Whether there was such a call.
-fn fail(
-    rt: &impl Abort,
-    heap: Heap<'_>,
-    plan: Plan,
-    expected: Result<u8, ToolFault>,
-) -> Option<bool> {
-    let mut noise = Noise::new(None, None)?;
-    let mut ends = Ends::new(heap, plan, &mut noise)?;
-    let has_failed = fail_ends(rt, heap, &mut ends, (plan, expected), &mut noise);
-    drop(ends);
-    Some(has_failed)
-}
-
 /// Lets each call of a kind fail in turn. How many there are.
-fn fail_each(
-    rt: &impl Abort,
-    heap: Heap<'_>,
-    call: Call,
-    expected: Result<u8, ToolFault>,
-) -> Option<u32> {
+fn fail_each(rt: &impl Abort, heap: Heap<'_>, call: Call, expected: Result<u8, ToolFault>) -> u32 {
     for number in 1..10_000 {
-        if !fail(rt, heap, Plan { call, number }, expected)? {
-            return Some(number - 1);
+        if !play(rt, heap, Trial::Fault(Plan { call, number }, expected)) {
+            return number - 1;
         }
     }
-    None
+    panic!(rt; "no end of the calls");
 }
 
 // a fault that is skipped; a job that is gone though its file did not come; a fault after which the other jobs stay as
 // they were, or nothing is printed
 #[test]
-fn loses_no_job_by_a_fault(rt: HostRuntime) -> Result<(), Fail> {
+fn loses_no_job_by_a_fault(rt: HostRuntime) {
     let heap = Refusing::new(rt.alloc(), 0);
     for (call, least, answer) in FAULTS {
-        let count = fail_each(&rt, &heap, call, answer).ok_or("two ends that come to an end")?;
+        let count = fail_each(&rt, &heap, call, answer);
         assert_so_at(&rt, count >= least, count);
     }
-    Ok(())
 }
 
 /// What a run leaves of which a request for memory was refused, or none.
@@ -226,46 +207,37 @@ fn assert_refused(
     }
 }
 
-/// Refuses the nth request for memory of these ends.
+/// Refuses the nth request for memory of these ends. Whether there was one.
 fn refuse_ends<'a>(
     rt: &impl Abort,
     heap: Heap<'a>,
     ends: &mut Ends<'a>,
     nth: u64,
     noise: &mut Noise,
-) {
+) -> bool {
     let mut output = ShortOutput::new(0);
     heap.refuse(nth);
     let outcome = run(heap, ends, (NO_FAULT, ENOUGH), noise, &mut output);
-    assert_refused(rt, ends, outcome, heap.was_refused(), output.text());
-}
-
-/// Refuses the nth request for memory of both ends. Whether there was one.
-fn refuse(rt: &impl Abort, heap: Heap<'_>, nth: u64) -> Option<bool> {
-    heap.refuse(0);
-    let mut noise = Noise::new(None, None)?;
-    let mut ends = Ends::new(heap, NO_FAULT, &mut noise)?;
-    refuse_ends(rt, heap, &mut ends, nth, &mut noise);
-    drop(ends);
-    Some(heap.was_refused())
+    let was_refused = heap.was_refused();
+    assert_refused(rt, ends, outcome, was_refused, output.text());
+    was_refused
 }
 
 /// Refuses each request for memory in turn. How many there are.
-fn refuse_each(rt: &impl Abort, heap: Heap<'_>) -> Option<u64> {
+fn refuse_each(rt: &impl Abort, heap: Heap<'_>) -> u64 {
     for nth in 1..10_000 {
-        if !refuse(rt, heap, nth)? {
-            return Some(nth - 1);
+        if !play(rt, heap, Trial::Refusal(nth)) {
+            return nth - 1;
         }
     }
-    None
+    panic!(rt; "no end of the requests");
 }
 
 #[test]
-fn leaves_all_jobs_when_out_of_memory(rt: HostRuntime) -> Result<(), Fail> {
+fn leaves_all_jobs_when_out_of_memory(rt: HostRuntime) {
     let heap = Refusing::new(rt.alloc(), 0);
-    let requests = refuse_each(&rt, &heap).ok_or("two ends that come to an end")?;
+    let requests = refuse_each(&rt, &heap);
     assert_so_at(&rt, requests > 30, requests);
-    Ok(())
 }
 
 /// What is printed where no job is done.
@@ -279,28 +251,64 @@ fn break_ends_off<'a>(
     ends: &mut Ends<'a>,
     limit: u32,
     noise: &mut Noise,
-) {
+) -> bool {
     let mut output = ShortOutput::new(0);
     let outcome = run(heap, ends, (NO_FAULT, limit), noise, &mut output);
     assert_same(rt, outcome.answer, Ok(1));
     assert_as_before(rt, ends);
     assert_same(rt, output.text(), BROKEN_OFF);
-}
-
-/// Lets two ends take so few turns that no job is done.
-fn break_off(rt: &impl Abort, heap: Heap<'_>, limit: u32) -> Option<()> {
-    let mut noise = Noise::new(None, None)?;
-    let mut ends = Ends::new(heap, NO_FAULT, &mut noise)?;
-    break_ends_off(rt, heap, &mut ends, limit, &mut noise);
-    drop(ends);
-    Some(())
+    outcome.has_failed
 }
 
 #[test]
-fn ends_at_the_limit_of_turns(rt: HostRuntime) -> Result<(), Fail> {
+fn ends_at_the_limit_of_turns(rt: HostRuntime) {
     let heap = Refusing::new(rt.alloc(), 0);
     for limit in [0, 5] {
-        break_off(&rt, &heap, limit).ok_or("two ends")?;
+        play(&rt, &heap, Trial::Limit(limit));
     }
-    Ok(())
+}
+
+/// What is tried with two ends.
+#[derive(Clone, Copy)]
+enum Trial {
+    /// A call fails, and this is answered.
+    Fault(Plan, Result<u8, ToolFault>),
+    /// The request for memory of this number is refused.
+    Refusal(u64),
+    /// They take so few turns that no job is done.
+    Limit(u32),
+}
+
+impl Trial {
+    fn plan(self) -> Plan {
+        match self {
+            Trial::Fault(plan, _) => plan,
+            _ => NO_FAULT,
+        }
+    }
+}
+
+/// Plays it with these ends. Whether there was such a call or such a request.
+fn play_with<'a>(
+    rt: &impl Abort,
+    heap: Heap<'a>,
+    ends: &mut Ends<'a>,
+    trial: Trial,
+    noise: &mut Noise,
+) -> bool {
+    match trial {
+        Trial::Fault(plan, expected) => fail_ends(rt, heap, ends, (plan, expected), noise),
+        Trial::Refusal(nth) => refuse_ends(rt, heap, ends, nth, noise),
+        Trial::Limit(limit) => break_ends_off(rt, heap, ends, limit, noise),
+    }
+}
+
+// The one place where two ends are made and dropped, since that is dear to prove.
+fn play(rt: &impl Abort, heap: Heap<'_>, trial: Trial) -> bool {
+    heap.refuse(0);
+    let mut noise = Noise::new(None, None).expect(rt, "no noise");
+    let mut ends = Ends::new(rt, heap, trial.plan(), &mut noise);
+    let was_met = play_with(rt, heap, &mut ends, trial, &mut noise);
+    drop(ends);
+    was_met
 }

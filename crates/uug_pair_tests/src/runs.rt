@@ -3,13 +3,12 @@
 
 use crate::assertions::{assert_same, assert_same_at, assert_so, assert_so_at};
 use crate::short_output::ShortOutput;
-use std::alloc::{AllocError, Allocator, Global};
+use std::alloc::{Allocator, Global};
 use std::net::Net;
 use std::os::unix::fs::symlink;
 use std::os::unix::net::UnixListener;
 use std::process::Abort;
-use std::rt::Runtime;
-use std::test::Fail;
+use std::rt::{Env, Files};
 use std::{env, fs, io, process};
 use uug_pair::pair_run;
 use uug_refusal::Refusing;
@@ -340,40 +339,58 @@ const ROWS: &[Row<'static>] = &[
 ];
 
 /// The path of this name in a folder.
-fn within(alloc: Global, dir: &str, name: &str) -> Result<String, AllocError> {
-    format!(in alloc; "{dir}/{name}")
+fn within(rt: &(impl Abort + AllocGlobal), dir: &str, name: &str) -> String {
+    let path = format!(in rt.alloc(); "{dir}/{name}");
+    path.expect(rt, "memory for a path")
+}
+
+fn filled(rt: &(impl Abort + AllocGlobal), byte: u8, count: usize) -> Vec<u8> {
+    let mut bytes = Vec::new(rt.alloc());
+    bytes.resize(count, byte).expect(rt, "memory for bytes");
+    bytes
 }
 
 fn fill_file(
-    rt: &(impl Runtime + AllocGlobal),
+    rt: &(impl Files + Abort + AllocGlobal),
     path: &str,
     byte: u8,
     count: usize,
 ) -> io::Result<()> {
-    let mut bytes = Vec::new(rt.alloc());
-    bytes.resize(count, byte)?;
+    let bytes = filled(rt, byte, count);
     fs::write(rt, path, bytes.as_slice())
 }
 
-fn write_numbered(rt: &(impl Runtime + AllocGlobal), front: &str, number: usize) -> io::Result<()> {
-    let path = format!(in rt.alloc(); "{front}{number}")?;
+fn write_numbered(
+    rt: &(impl Files + Abort + AllocGlobal),
+    front: &str,
+    number: usize,
+) -> io::Result<()> {
+    let path = format!(in rt.alloc(); "{front}{number}").expect(rt, "memory for a path");
     fs::write(rt, path.as_str(), b"")
 }
 
-fn write_files(rt: &(impl Runtime + AllocGlobal), front: &str, count: usize) -> io::Result<()> {
+fn write_files(
+    rt: &(impl Files + Abort + AllocGlobal),
+    front: &str,
+    count: usize,
+) -> io::Result<()> {
     for number in 0..count {
-        write_numbered(rt, front, number)?;
+        write_numbered(rt, front, number).expect(rt, "a numbered file");
     }
     Ok(())
 }
 
-fn make_socket(rt: &(impl Runtime + Net + AllocGlobal), path: &str) -> io::Result<()> {
+fn make_socket(rt: &(impl Files + Net), path: &str) -> io::Result<()> {
     let _listener = UnixListener::bind(rt, path)?;
     Ok(())
 }
 
 /// Makes what is given, of which this is the path.
-fn make(rt: &(impl Runtime + Net + AllocGlobal), path: &str, given: Given<'_>) -> io::Result<()> {
+fn make(
+    rt: &(impl Files + Net + Abort + AllocGlobal),
+    path: &str,
+    given: Given<'_>,
+) -> io::Result<()> {
     match given {
         Given::Folder(_) => fs::create_dir_all(rt, path),
         Given::File(_, bytes) => fs::write(rt, path, bytes),
@@ -384,29 +401,28 @@ fn make(rt: &(impl Runtime + Net + AllocGlobal), path: &str, given: Given<'_>) -
     }
 }
 
-fn place(rt: &(impl Runtime + Net + AllocGlobal), dir: &str, given: Given<'_>) -> io::Result<()> {
-    let path = within(rt.alloc(), dir, given.name())?;
-    make(rt, path.as_str(), given)
+fn place(rt: &(impl Files + Net + Abort + AllocGlobal), dir: &str, given: Given<'_>) {
+    let path = within(rt, dir, given.name());
+    make(rt, path.as_str(), given).expect(rt, "what is given");
 }
 
 /// Makes what is given in a new folder.
-fn place_all(
-    rt: &(impl Runtime + Net + AllocGlobal),
-    dir: &str,
-    given: &[Given<'_>],
-) -> io::Result<()> {
-    place(rt, dir, Given::Folder("a/send"))?;
+fn place_all(rt: &(impl Files + Net + Abort + AllocGlobal), dir: &str, given: &[Given<'_>]) {
+    place(rt, dir, Given::Folder("a/send"));
     for one in given {
-        place(rt, dir, *one)?;
+        place(rt, dir, *one);
     }
-    Ok(())
 }
 
-/// The path of a folder of its own for each test.
-fn folder_path(rt: &HostRuntime, test: &str) -> Result<String, Fail> {
-    let temporary = env::temp_dir(rt)?;
-    let id = process::id(rt.process());
-    Ok(format!(in rt.alloc(); "{}/uug_pair_{id}_{test}", temporary.as_str())?)
+fn remove(rt: &(impl Files + Abort + AllocGlobal), dir: &str) {
+    fs::remove_dir_all(rt, dir).expect(rt, "a folder to remove");
+}
+
+/// The path of a folder of its own for each test, in a process of this number.
+fn folder_path(rt: &(impl Env + Abort + AllocGlobal), id: u32, test: &str) -> String {
+    let temporary = env::temp_dir(rt).expect(rt, "a folder for temporary files");
+    let path = format!(in rt.alloc(); "{}/uug_pair_{id}_{test}", temporary.as_str());
+    path.expect(rt, "memory for a path")
 }
 
 /// The noise on the line: every Nth packet is lost, and every Nth changed.
@@ -422,19 +438,19 @@ struct Paths {
 
 impl Paths {
     /// The paths of `socket`, `a` and `b` in a folder.
-    fn within(alloc: Global, dir: &str) -> Result<Self, AllocError> {
-        Ok(Paths {
-            socket: within(alloc, dir, "socket")?,
-            a: within(alloc, dir, "a")?,
-            b: within(alloc, dir, "b")?,
-        })
+    fn within(rt: &(impl Abort + AllocGlobal), dir: &str) -> Self {
+        Paths {
+            socket: within(rt, dir, "socket"),
+            a: within(rt, dir, "a"),
+            b: within(rt, dir, "b"),
+        }
     }
 }
 
 /// Runs two ends over these folders and this socket.
 fn run_ends<A: Allocator + Copy>(
     alloc: A,
-    rt: &(impl Runtime + Net),
+    rt: &(impl Files + Net + Alloc + Clone + Drop),
     paths: &Paths,
     (drop_every, flip_every): Every,
     output: &mut ShortOutput,
@@ -446,85 +462,71 @@ fn run_ends<A: Allocator + Copy>(
 /// Runs two ends over the folders `a` and `b` and the socket `socket` in this folder.
 fn run_within<A: Allocator + Copy>(
     alloc: A,
-    rt: &(impl Runtime + Net + AllocGlobal),
+    rt: &(impl Files + Net + Abort + AllocGlobal + Clone + Drop),
     dir: &str,
     every: Every,
     output: &mut ShortOutput,
-) -> Result<Result<u8, ToolFault>, AllocError> {
-    let paths = Paths::within(rt.alloc(), dir)?;
-    let answer = run_ends(alloc, rt, &paths, every, output);
-    drop(paths);
-    Ok(answer)
+) -> Result<u8, ToolFault> {
+    let paths = Paths::within(rt, dir);
+    run_ends(alloc, rt, &paths, every, output)
 }
 
-/// Whether the file of this name has these bytes.
-fn has_file(
-    rt: &(impl Runtime + AllocGlobal),
-    dir: &str,
-    name: &str,
-    bytes: &[u8],
-) -> io::Result<bool> {
-    let path = within(rt.alloc(), dir, name)?;
-    is_file_of(rt, path.as_str(), bytes)
+/// The file of this name has these bytes.
+fn assert_file(rt: &(impl Files + Abort + AllocGlobal), dir: &str, name: &str, bytes: &[u8]) {
+    let path = within(rt, dir, name);
+    assert_bytes(rt, path.as_str(), name, bytes);
 }
 
-fn is_file_of(rt: &(impl Runtime + AllocGlobal), path: &str, bytes: &[u8]) -> io::Result<bool> {
-    let found = fs::read(rt, path)?;
-    Ok(found.as_slice() == bytes)
+fn assert_bytes(rt: &(impl Files + Abort + AllocGlobal), path: &str, name: &str, bytes: &[u8]) {
+    let found = fs::read(rt, path).expect(rt, name);
+    assert_so_at(rt, found.as_slice() == bytes, name);
 }
 
-fn has_socket(rt: &(impl Runtime + AllocGlobal), dir: &str) -> io::Result<bool> {
-    let path = within(rt.alloc(), dir, "socket")?;
-    fs::exists(rt, path.as_str())
+fn has_socket(rt: &(impl Files + Abort + AllocGlobal), dir: &str) -> bool {
+    let path = within(rt, dir, "socket");
+    fs::exists(rt, path.as_str()).expect(rt, "a folder to look into")
 }
 
 impl Row<'_> {
-    fn run(
-        &self,
-        rt: &(impl Runtime + Net + Abort + AllocGlobal),
-        dir: &str,
-    ) -> Result<(), AllocError> {
+    fn run(&self, rt: &(impl Files + Net + Abort + AllocGlobal + Clone + Drop), dir: &str) {
         let mut output = ShortOutput::new(0);
         let every = (self.drop_every, self.flip_every);
-        let answer = run_within(rt.alloc(), rt, dir, every, &mut output)?;
+        let answer = run_within(rt.alloc(), rt, dir, every, &mut output);
         assert_same_at(rt, answer, self.answer, self.printed);
         assert_same(rt, output.text(), self.printed.as_bytes());
-        Ok(())
     }
 
     /// All files are there that are to be left.
-    fn assert_left(&self, rt: &(impl Runtime + Abort + AllocGlobal), dir: &str) -> io::Result<()> {
+    fn assert_left(&self, rt: &(impl Files + Abort + AllocGlobal), dir: &str) {
         for (name, bytes) in self.left {
-            assert_so_at(rt, has_file(rt, dir, name, bytes)?, name);
+            assert_file(rt, dir, name, bytes);
         }
-        Ok(())
     }
 
     /// Runs the ends in this folder. The socket is gone then, unless it was there before.
-    fn play(&self, rt: &(impl Runtime + Net + Abort + AllocGlobal), dir: &str) -> io::Result<()> {
-        place_all(rt, dir, self.given)?;
-        let had_socket = has_socket(rt, dir)?;
-        self.run(rt, dir)?;
-        self.assert_left(rt, dir)?;
-        assert_same(rt, has_socket(rt, dir)?, had_socket);
-        fs::remove_dir_all(rt, dir)
+    fn play(&self, rt: &(impl Files + Net + Abort + AllocGlobal + Clone + Drop), dir: &str) {
+        place_all(rt, dir, self.given);
+        let had_socket = has_socket(rt, dir);
+        self.run(rt, dir);
+        self.assert_left(rt, dir);
+        assert_same(rt, has_socket(rt, dir), had_socket);
+        remove(rt, dir);
     }
 }
 
 /// Plays the rows, each in a new folder.
-fn play_rows(rt: &(impl Runtime + Net + Abort + AllocGlobal), dir: &str) -> io::Result<()> {
+fn play_rows(rt: &(impl Files + Net + Abort + AllocGlobal + Clone + Drop), dir: &str) {
     for row in ROWS {
-        row.play(rt, dir)?;
+        row.play(rt, dir);
     }
-    Ok(())
 }
 
 // a file that does not come, or comes to another place; a fault that is skipped, or after which a job is gone; a
 // folder that makes a run wait, or end before its time
 #[test]
-fn moves_files_between_folders(rt: HostRuntime) -> Result<(), Fail> {
-    let dir = folder_path(&rt, "rows")?;
-    Ok(play_rows(&rt, dir.as_str())?)
+fn moves_files_between_folders(rt: HostRuntime) {
+    let dir = folder_path(&rt, process::id(rt.process()), "rows");
+    play_rows(&rt, dir.as_str());
 }
 
 /// The nth request for memory was refused, after which nothing is printed; or none was.
@@ -544,44 +546,45 @@ fn assert_refused(
 
 /// Runs two ends with the nth request for memory refused. Whether one was.
 fn refuse(
-    rt: &(impl Runtime + Net + Abort + AllocGlobal),
+    rt: &(impl Files + Net + Abort + AllocGlobal + Clone + Drop),
     heap: &Refusing<Global>,
     dir: &str,
     nth: u64,
-) -> Result<bool, AllocError> {
+) -> bool {
     heap.refuse(nth);
     let mut output = ShortOutput::new(0);
-    let answer = run_within(heap, rt, dir, (None, None), &mut output)?;
-    assert_refused(rt, heap.was_refused(), answer, output.text());
-    Ok(heap.was_refused())
+    let answer = run_within(heap, rt, dir, (None, None), &mut output);
+    let was_refused = heap.was_refused();
+    assert_refused(rt, was_refused, answer, output.text());
+    was_refused
 }
 
 /// Refuses each request for memory in turn. How many there are.
 fn refuse_each(
-    rt: &(impl Runtime + Net + Abort + AllocGlobal),
+    rt: &(impl Files + Net + Abort + AllocGlobal + Clone + Drop),
     heap: &Refusing<Global>,
     dir: &str,
-) -> io::Result<u64> {
+) -> u64 {
     for nth in 1..10_000 {
-        if !refuse(rt, heap, dir, nth)? {
-            return Ok(nth - 1);
+        if !refuse(rt, heap, dir, nth) {
+            return nth - 1;
         }
-        assert_so_at(rt, !has_socket(rt, dir)?, nth);
-        assert_so_at(rt, has_file(rt, dir, "a/jobs", b"send x y u\n")?, nth);
+        assert_so_at(rt, !has_socket(rt, dir), nth);
+        assert_file(rt, dir, "a/jobs", b"send x y u\n");
     }
-    Ok(0)
+    panic!(rt; "no end of the requests");
 }
 
-fn refuse_in_folder(rt: &(impl Runtime + Net + Abort + AllocGlobal), dir: &str) -> io::Result<()> {
-    place_all(rt, dir, &[SEND, X, Given::Folder("b/got")])?;
+fn refuse_in_folder(rt: &(impl Files + Net + Abort + AllocGlobal + Clone + Drop), dir: &str) {
+    place_all(rt, dir, &[SEND, X, Given::Folder("b/got")]);
     let heap = Refusing::new(rt.alloc(), 0);
-    let requests = refuse_each(rt, &heap, dir)?;
+    let requests = refuse_each(rt, &heap, dir);
     assert_so_at(rt, requests > 30, requests);
-    fs::remove_dir_all(rt, dir)
+    remove(rt, dir);
 }
 
 #[test]
-fn leaves_all_jobs_when_out_of_memory(rt: HostRuntime) -> Result<(), Fail> {
-    let dir = folder_path(&rt, "memory")?;
-    Ok(refuse_in_folder(&rt, dir.as_str())?)
+fn leaves_all_jobs_when_out_of_memory(rt: HostRuntime) {
+    let dir = folder_path(&rt, process::id(rt.process()), "memory");
+    refuse_in_folder(&rt, dir.as_str());
 }

@@ -46,6 +46,13 @@ pub struct Task<'a> {
     pub failed: &'a str,
 }
 
+impl Task<'_> {
+    /// Whether its file is the one of this name and these bytes, which the end on this side took.
+    pub fn is_done_by(&self, side: Side, name: &[u8], bytes: &[u8]) -> bool {
+        self.taker == side && self.target == name && self.bytes == bytes
+    }
+}
+
 /// How many jobs both ends have.
 pub const TASKS_LEN: usize = 6;
 
