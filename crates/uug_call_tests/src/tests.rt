@@ -11,12 +11,14 @@ mod scripted_line;
 
 use scripted_line::ScriptedLine;
 use std::alloc::Global;
-use std::test::Fail;
+use std::process::Abort;
 use uug_call::{Heard, Standing, Watcher, talk};
 use uug_link::Announce;
 use uug_pair::{Noise, Seat, TurnFault};
 use uug_session::{Job, MemorySpool, Node, Phase, Place, Queue};
 use uug_talk::Name;
+
+type MemoryNode = Node<MemorySpool<Global>, Global>;
 
 type MemorySeat = Seat<MemorySpool<Global>, Global>;
 
@@ -57,57 +59,65 @@ impl Watcher for Nobody {
     fn is_over(&mut self, _standing: Standing) {}
 }
 
-fn name(text: &[u8]) -> Result<Name, Fail> {
-    Ok(Name::new(text)?)
+fn name(rt: &impl Abort, text: &[u8]) -> Name {
+    Name::new(text).expect(rt, "a name")
 }
 
 /// Where an end of window 7 and size 32 stands that keeps this number, or none.
-fn place(me: &[u8], peer: &[u8], number: Option<u32>) -> Result<Place, Fail> {
-    Ok(Place {
-        me: name(me)?,
-        peer: name(peer)?,
-        announce: Announce::new(7, 32)?,
+fn place(rt: &impl Abort, me: &[u8], peer: &[u8], number: Option<u32>) -> Place {
+    Place {
+        me: name(rt, me),
+        peer: name(rt, peer),
+        announce: Announce::new(7, 32).expect(rt, "a window and a size"),
         number,
-    })
+    }
 }
 
 /// The jobs of an end that sends `x` as `y`.
-fn queue(alloc: Global) -> Result<Queue<Global>, Fail> {
-    let (source, target, user) = (name(b"x")?, name(b"y")?, name(b"u")?);
-    let mut queue = Queue::new(alloc);
-    queue.add(Job::Send {
-        source,
-        target,
-        user,
+fn queue(rt: &impl Abort, alloc: Global) -> Queue<Global> {
+    let job = Job::Send {
+        source: name(rt, b"x"),
+        target: name(rt, b"y"),
+        user: name(rt, b"u"),
         temp: None,
-    })?;
-    Ok(queue)
+    };
+    let mut queue = Queue::new(alloc);
+    queue.add(job).expect(rt, "room for a job");
+    queue
 }
 
-fn spool(alloc: Global, bytes: &[u8]) -> Result<MemorySpool<Global>, Fail> {
+fn spool(rt: &impl Abort, alloc: Global, bytes: &[u8]) -> MemorySpool<Global> {
     let mut spool = MemorySpool::new(alloc);
-    spool.add_file(name(b"x")?, 0o644, bytes)?;
-    Ok(spool)
+    let added = spool.add_file(name(rt, b"x"), 0o644, bytes);
+    added.expect(rt, "memory for a file");
+    spool
 }
 
-fn noise() -> Result<Noise, Fail> {
-    Ok(Noise::new(None, None).ok_or("no noise")?)
+fn noise(rt: &impl Abort) -> Noise {
+    Noise::new(None, None).expect(rt, "no noise")
 }
 
-fn caller(alloc: Global, bytes: &[u8], number: Option<u32>) -> Result<MemorySeat, Fail> {
-    let spool = spool(alloc, bytes)?;
-    let node = Node::caller(alloc, place(b"a", b"b", number)?, queue(alloc)?, spool);
-    Ok(Seat::new(alloc, node.ok().ok_or("an end")?, &mut noise()?)?)
+fn seat(rt: &impl Abort, alloc: Global, node: MemoryNode) -> MemorySeat {
+    let mut noise = noise(rt);
+    Seat::new(alloc, node, &mut noise).expect(rt, "memory for a seat")
 }
 
-fn called(alloc: Global, number: Option<u32>) -> Result<MemorySeat, Fail> {
-    let node = Node::called(
-        alloc,
-        place(b"b", b"a", number)?,
-        Queue::new(alloc),
-        MemorySpool::new(alloc),
-    );
-    Ok(Seat::new(alloc, node.ok().ok_or("an end")?, &mut noise()?)?)
+fn caller(rt: &impl Abort, alloc: Global, bytes: &[u8], number: Option<u32>) -> MemorySeat {
+    let place = place(rt, b"a", b"b", number);
+    let spool = spool(rt, alloc, bytes);
+    let made = Node::caller(alloc, place, queue(rt, alloc), spool);
+    seat(rt, alloc, made.expect(rt, "an end"))
+}
+
+fn called(rt: &impl Abort, alloc: Global, number: Option<u32>) -> MemorySeat {
+    let place = place(rt, b"b", b"a", number);
+    let made = Node::called(alloc, place, Queue::new(alloc), MemorySpool::new(alloc));
+    seat(rt, alloc, made.expect(rt, "an end"))
+}
+
+/// A line of this manner to a called end that keeps this number, or none.
+fn line(rt: &impl Abort, alloc: Global, number: Option<u32>, manner: Manner) -> ScriptedLine {
+    ScriptedLine::new(called(rt, alloc, number), noise(rt), manner)
 }
 
 /// What is left of a session: how it ended, how many jobs are pending and done, and how many files are kept at the other
@@ -121,21 +131,26 @@ struct Left {
     kept: usize,
 }
 
-// Each end is made in a function of its own, and lent: a `?` beside both would be dear.
-fn play_at(alloc: Global, seat: &mut MemorySeat, manner: Manner, most: u64) -> Result<Left, Fail> {
-    let mut own_noise = noise()?;
-    let other_noise = noise()?;
-    let mut line = ScriptedLine::new(called(alloc, None)?, other_noise, manner);
+// Each end is made in a function of its own, and lent.
+fn play_at(
+    rt: &impl Abort,
+    alloc: Global,
+    seat: &mut MemorySeat,
+    manner: Manner,
+    most: u64,
+) -> Left {
+    let mut own_noise = noise(rt);
+    let mut line = line(rt, alloc, None, manner);
     let answer = talk(seat, &mut line, &mut own_noise, most, &mut Nobody);
     let left = what_is_left(answer, seat, line.other());
     drop(line);
-    Ok(left)
+    left
 }
 
 /// Plays a session of a caller that sends `x`, which has these bytes, and reads so many bytes at most.
-fn play(alloc: Global, bytes: &[u8], manner: Manner, most: u64) -> Result<Left, Fail> {
-    let mut seat = caller(alloc, bytes, None)?;
-    let left = play_at(alloc, &mut seat, manner, most);
+fn play(rt: &impl Abort, alloc: Global, bytes: &[u8], manner: Manner, most: u64) -> Left {
+    let mut seat = caller(rt, alloc, bytes, None);
+    let left = play_at(rt, alloc, &mut seat, manner, most);
     drop(seat);
     left
 }

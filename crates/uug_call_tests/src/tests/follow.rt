@@ -4,7 +4,7 @@
 use crate::tests::assertions::assert_same_at;
 use arrayvec::ArrayVec;
 use std::alloc::Global;
-use std::test::Fail;
+use std::process::Abort;
 use uug_follow::{Journal, News, Observer, Outcome, Way};
 use uug_packet::{PACKET_MAX, Packet, Seq, encode};
 
@@ -127,21 +127,21 @@ const ROWS: &[(&[Said], Notes)] = &[
     ),
 ];
 
-/// Follows these messages, each of them in a packet of its own.
-fn follow(alloc: Global, said: &[Said]) -> Result<Notes, Fail> {
-    let mut observer = Observer::new(alloc)?;
-    let mut notes = NOTHING;
-    let (mut outward, mut inward) = (FIRST, FIRST);
-    let mut packet = ArrayVec::new();
-    for (way, message) in said {
-        let seq = match way {
-            Way::Out => step(&mut outward),
-            Way::In => step(&mut inward),
-        };
-        write_packet(seq, message, &mut packet);
-        observer.see(*way, packet.as_slice(), &mut notes);
+/// The numbers of the next packets, one each way.
+#[derive(Drop)]
+struct Next {
+    outward: u8,
+    inward: u8,
+}
+
+impl Next {
+    /// The number of a packet that goes this way.
+    fn step(&mut self, way: Way) -> u8 {
+        match way {
+            Way::Out => step(&mut self.outward),
+            Way::In => step(&mut self.inward),
+        }
     }
-    Ok(notes)
 }
 
 /// The first data packet of a link has this number.
@@ -154,27 +154,46 @@ fn step(next: &mut u8) -> u8 {
     seq
 }
 
+fn number(rt: &impl Abort, value: u8) -> Seq {
+    Seq::new(value).expect(rt, "a number")
+}
+
 /// Writes the packet of this number, with the smallest field. A longer message is cut.
-fn write_packet(seq: u8, message: &[u8], out: &mut ArrayVec<u8, PACKET_MAX>) {
-    let (Some(seq), Some(ack)) = (Seq::new(seq % 8), Seq::new(0)) else {
-        return;
+fn write_packet(rt: &impl Abort, seq: u8, message: &[u8], out: &mut ArrayVec<u8, PACKET_MAX>) {
+    let packet = Packet::Carry {
+        seq: number(rt, seq),
+        ack: number(rt, 0),
+        k: 1,
+        message: &message[..message.len().min(32)],
     };
-    let message = &message[..message.len().min(32)];
-    encode(
-        &Packet::Carry {
-            seq,
-            ack,
-            k: 1,
-            message,
-        },
-        out,
-    );
+    encode(&packet, out);
+}
+
+/// Shows these messages, each of them in a packet of its own.
+fn show(rt: &impl Abort, said: &[Said], observer: &mut Observer<Global>, notes: &mut Notes) {
+    let mut next = Next {
+        outward: FIRST,
+        inward: FIRST,
+    };
+    let mut packet = ArrayVec::new();
+    for (way, message) in said {
+        write_packet(rt, next.step(*way), message, &mut packet);
+        observer.see(*way, packet.as_slice(), notes);
+    }
+}
+
+fn follow(rt: &impl Abort, alloc: Global, said: &[Said]) -> Notes {
+    let mut observer = Observer::new(alloc).expect(rt, "memory for both ways");
+    let mut notes = NOTHING;
+    show(rt, said, &mut observer, &mut notes);
+    drop(observer);
+    notes
 }
 
 #[test]
-fn jobs_are_told_as_they_begin_and_end(rt: HostRuntime) -> Result<(), Fail> {
+fn jobs_are_told_as_they_begin_and_end(rt: HostRuntime) {
     for (place, (said, notes)) in ROWS.iter().enumerate() {
-        assert_same_at(&rt, follow(rt.alloc(), said)?, *notes, place);
+        let seen = follow(&rt, rt.alloc(), said);
+        assert_same_at(&rt, seen, *notes, place);
     }
-    Ok(())
 }

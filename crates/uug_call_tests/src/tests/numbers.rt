@@ -4,11 +4,10 @@
 use super::memory_text::MemoryText;
 use super::scenes::{AMPLE, CLEAN};
 use super::scripted_line::ScriptedLine;
-use super::{MemorySeat, Nobody, called, caller, noise};
+use super::{Nobody, caller, line, noise};
 use crate::tests::assertions::{assert_same, assert_same_at};
 use std::alloc::Global;
 use std::process::Abort;
-use std::test::Fail;
 use uug_call::{CallEnd, call_over, number_at_start, number_line, read_number_text};
 use uug_line::Side;
 use uug_session::MemorySpool;
@@ -144,23 +143,30 @@ const TEXTS: [(&[u8], Option<u32>); 11] = [
     (b"-7\n", None),
 ];
 
-fn end(seat: MemorySeat, fails: (bool, bool)) -> MemoryEnd {
+/// The caller, which keeps this number.
+fn end(rt: &impl Abort, alloc: Global, number: Option<u32>, fails: (bool, bool)) -> MemoryEnd {
     CallEnd {
-        seat,
+        seat: caller(rt, alloc, b"hi", number),
         jobs: MemoryText::new(fails.0),
         number: MemoryText::new(fails.1),
     }
 }
 
-/// The call itself, and what it leaves of an end, at a line that is its own.
-fn check_call(
+/// What both files of an end have.
+fn assert_files(rt: &impl Abort, end: &MemoryEnd, left: &Left<'_>) {
+    assert_same(rt, end.jobs.text(), left.jobs);
+    assert_same(rt, end.number.text(), left.number);
+}
+
+/// The call itself, at a line that is the end's own.
+fn assert_call(
     rt: &impl Abort,
     alloc: Global,
     left: &Left<'_>,
     end: &mut MemoryEnd,
     line: &mut ScriptedLine,
-) -> Result<(), Fail> {
-    let mut noise = noise()?;
+) {
+    let mut noise = noise(rt);
     let mut output = MemoryOutput::new(alloc);
     let answer = call_over(
         alloc,
@@ -173,42 +179,32 @@ fn check_call(
         &mut output,
     );
     assert_same(rt, answer, left.answer);
-    assert_same(rt, end.jobs.text(), left.jobs);
-    assert_same(rt, end.number.text(), left.number);
     assert_same(rt, output.bytes(), left.report);
-    assert_same(rt, line.other().node().number(), left.other);
-    Ok(())
 }
 
-// Each end is made in a function of its own, and lent: a `?` beside both would be dear.
-fn call_over_line(
-    rt: &impl Abort,
-    alloc: Global,
-    call: &Call<'_>,
-    end: &mut MemoryEnd,
-) -> Result<(), Fail> {
+// Each end is made in a function of its own, and lent.
+fn call_over_line(rt: &impl Abort, alloc: Global, call: &Call<'_>, end: &mut MemoryEnd) {
     let (_, theirs, _, left) = call;
-    let noise = noise()?;
-    let mut line = ScriptedLine::new(called(alloc, *theirs)?, noise, CLEAN);
-    let result = check_call(rt, alloc, left, end, &mut line);
+    let mut line = line(rt, alloc, *theirs, CLEAN);
+    assert_call(rt, alloc, left, end, &mut line);
+    let other = line.other().node().number();
     drop(line);
-    result
+    assert_same(rt, other, left.other);
 }
 
-fn make_call(rt: &impl Abort, alloc: Global, call: &Call<'_>) -> Result<(), Fail> {
-    let (mine, _, fails, _) = call;
-    let mut end = end(caller(alloc, b"hi", *mine)?, *fails);
-    let result = call_over_line(rt, alloc, call, &mut end);
+fn make_call(rt: &impl Abort, alloc: Global, call: &Call<'_>) {
+    let (mine, _, fails, left) = call;
+    let mut end = end(rt, alloc, *mine, *fails);
+    call_over_line(rt, alloc, call, &mut end);
+    assert_files(rt, &end, left);
     drop(end);
-    result
 }
 
 #[test]
-fn calls_keep_their_number(rt: HostRuntime) -> Result<(), Fail> {
+fn calls_keep_their_number(rt: HostRuntime) {
     for call in CALLS {
-        make_call(&rt, rt.alloc(), call)?;
+        make_call(&rt, rt.alloc(), call);
     }
-    Ok(())
 }
 
 #[test]

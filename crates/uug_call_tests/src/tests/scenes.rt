@@ -4,7 +4,6 @@ use super::{Left, Manner, Other, play};
 use crate::tests::assertions::{assert_same, assert_same_at, assert_so};
 use std::alloc::Global;
 use std::process::Abort;
-use std::test::Fail;
 use uug_pair::TurnFault;
 use uug_session::{End, Phase};
 
@@ -99,32 +98,34 @@ const SCENES: &[(&[u8], Manner, u64, Left)] = &[
 
 /// All of the table.
 #[test]
-fn sessions_end_as_they_should(rt: HostRuntime) -> Result<(), Fail> {
-    let alloc = rt.alloc();
+fn sessions_end_as_they_should(rt: HostRuntime) {
     for (place, (bytes, manner, most, expected)) in SCENES.iter().enumerate() {
-        assert_same_at(&rt, play(alloc, bytes, *manner, *most)?, *expected, place);
+        let left = play(&rt, rt.alloc(), bytes, *manner, *most);
+        assert_same_at(&rt, left, *expected, place);
     }
-    Ok(())
 }
 
 /// A call of the line fails: the job is still pending, or done, and then the other end has its file.
-fn assert_failing(rt: &impl Abort, alloc: Global, fails_at: usize) -> Result<(), Fail> {
+fn assert_failing(rt: &impl Abort, alloc: Global, fails_at: usize) {
     let manner = Manner {
         other: Other::Speaks,
         at_once: NEVER,
         ends_behind: NEVER,
         fails_at,
     };
-    let left = play(alloc, LONG, manner, AMPLE)?;
+    let left = play(rt, alloc, LONG, manner, AMPLE);
     assert_same(rt, left.answer, Err(TurnFault::Line));
     assert_same(rt, left.pending.saturating_add(left.struck), 1);
     assert_so(rt, left.struck <= left.kept);
-    let is_over = match left.phase {
+    assert_so(rt, is_over(left.phase));
+}
+
+/// Whether the session was done, or the line was gone.
+fn is_over(phase: Phase) -> bool {
+    match phase {
         Phase::Ended(End::Done | End::HungUp) => true,
         _ => false,
-    };
-    assert_so(rt, is_over);
-    Ok(())
+    }
 }
 
 /// A whole session of the caller takes more calls than that: it writes at least its greeting, three packets of the
@@ -132,10 +133,8 @@ fn assert_failing(rt: &impl Abort, alloc: Global, fails_at: usize) -> Result<(),
 const CALLS: usize = 16;
 
 #[test]
-fn each_call_fails_in_turn(rt: HostRuntime) -> Result<(), Fail> {
-    let alloc = rt.alloc();
+fn each_call_fails_in_turn(rt: HostRuntime) {
     for fails_at in 0..CALLS {
-        assert_failing(&rt, alloc, fails_at)?;
+        assert_failing(&rt, rt.alloc(), fails_at);
     }
-    Ok(())
 }
