@@ -1,12 +1,14 @@
 #!/usr/bin/env bash
-# Kills `uucpair pair` with signal 9 at random moments, while it moves 64 files, 32 from each folder to the other, some
-# sent and some requested, over a line on which each 7th packet is lost and each 11th changed.
+# Kills `uucpair pair`, `call` or `answer` with signal 9 at random moments, while it moves 64 files, 32 from each folder to
+# the other, some sent and some requested: `pair` over a line on which each 7th packet is lost and each 11th changed, and
+# the other two over a socket to each other, of which the one that is named is killed.
 #
-#   tools/pair_kill.sh [KILLS [PROGRAM]]
+#   tools/pair_kill.sh [KILLS [PROGRAM [pair|call|answer]]]
 #
 # After each kill: a job that is gone from its `jobs` has its whole file in `got` of the end that takes it; `jobs` has no
 # other line than those that were given; and each file in `got` is whole. Then a second run must end with status 0, all
-# files in place and no job left. The socket that a killed run may leave is removed before.
+# files in place, no job left, and nothing of files that were not whole. The socket that a killed run may leave is removed
+# before.
 #
 # Half of the moments lie anywhere in a run, the other half in the part in which the `jobs` are replaced, or what is near
 # to it: the last tenth of the time that a run takes. A run that has ended before its moment is not counted, and is made
@@ -15,6 +17,7 @@ set -eu
 export LC_ALL=C
 kills=${1:-200}
 program=${2:-}
+kind=${3:-pair}
 files=64
 root=$(dirname "$(dirname "$(readlink -f "$0")")")
 work=$(mktemp -d)
@@ -44,14 +47,14 @@ make_folders() {
     done
 }
 
-# Both folders as they were before the first run, with a pipe where a file and the jobs are written before they are whole.
+# Both folders as they were before the first run, with a pipe of a name that files and jobs have before they are whole.
 reset_folders() {
     local end
     rm -f "$socket"
     for end in a b; do
-        rm -rf "$work/$end/got" "$work/$end/jobs.new"
+        rm -rf "$work/$end/got" "$work/$end"/.part.*
         mkdir "$work/$end/got"
-        mkfifo "$work/$end/got/.part" "$work/$end/jobs.new"
+        mkfifo "$work/$end/got/.part.1.0" "$work/$end/.part.1.0"
         cp "$work/$end.jobs" "$work/$end/jobs"
     done
 }
@@ -108,26 +111,84 @@ check_folders() {
     [ "$left_b" -eq $((files / 2)) ] || stage=late
 }
 
+pause() {
+    read -rt "$1" -u "$never" || true
+}
+
+# Waits until an end listens.
+wait_for_socket() {
+    local i
+    for ((i = 0; i < 1000; i++)); do
+        [ ! -S "$socket" ] || return 0
+        pause 0.01
+    done
+    fail "nobody listens"
+}
+
+# Begins a run. Sets `main` to the process that is looked at, and `partner` to the one at the line's other end, if there is
+# one.
+begin() {
+    partner=
+    case $kind in
+    pair)
+        "$program" pair "$socket" "$work/a" "$work/b" "${options[@]}" >"$work/report" 2>"$work/errors" &
+        main=$!
+        ;;
+    call)
+        "$program" answer "unix:$socket" "$work/b" --me b --peer a >"$work/partner" 2>&1 &
+        partner=$!
+        wait_for_socket
+        "$program" call "unix:$socket" "$work/a" --me a --peer b >"$work/report" 2>"$work/errors" &
+        main=$!
+        ;;
+    answer)
+        "$program" answer "unix:$socket" "$work/a" --me a --peer b >"$work/report" 2>"$work/errors" &
+        main=$!
+        wait_for_socket
+        "$program" call "unix:$socket" "$work/b" --me b --peer a >"$work/partner" 2>&1 &
+        partner=$!
+        ;;
+    esac
+}
+
+# Waits for the partner, which notices that the other one is gone, unless that never came to it.
+end_partner() {
+    local i
+    [ -n "$partner" ] || return 0
+    for ((i = 0; i < 1500; i++)); do
+        kill -0 "$partner" 2>/dev/null || break
+        [ ! -S "$socket" ] || break
+        pause 0.01
+    done
+    kill -9 "$partner" 2>/dev/null || true
+    wait "$partner" 2>/dev/null || true
+}
+
 # Runs the program to its end: all is done that the `jobs` ask for. Sets `took` to its microseconds.
 run_to_end() {
-    local begun=${EPOCHREALTIME/./} status=0
+    local begun status=0
     rm -f "$socket"
-    timeout 60 "$program" pair "$socket" "$work/a" "$work/b" "${options[@]}" >"$work/report" 2>"$work/errors" || status=$?
+    begun=${EPOCHREALTIME/./}
+    begin
+    wait "$main" || status=$?
+    [ -z "$partner" ] || wait "$partner" || status=$?
     took=$((${EPOCHREALTIME/./} - begun))
     [ "$status" -eq 0 ] || fail "status $status: $(cat "$work/errors" "$work/report")"
     check_folders
     [ "$(cat "$work/a/jobs" "$work/b/jobs" | wc -c)" -eq 0 ] || fail "jobs are left"
     [ "$(find "$work"/{a,b}/got -name 'got*' -type f | wc -l)" -eq $files ] || fail "files are missing"
+    [ -z "$(find "$work"/{a,b} -name '.part*')" ] || fail "something is left of files that were not whole"
 }
 
 # kill_at MICROSECONDS: whether the run was killed before it ended.
 kill_at() {
-    local status=0 pause
-    printf -v pause '%d.%06d' $(($1 / 1000000)) $(($1 % 1000000))
-    "$program" pair "$socket" "$work/a" "$work/b" "${options[@]}" >"$work/report" 2>"$work/errors" &
-    read -rt "$pause" -u "$never" || true
-    kill -9 $! 2>/dev/null || true
-    wait $! 2>/dev/null || status=$?
+    local status=0 moment
+    printf -v moment '%d.%06d' $(($1 / 1000000)) $(($1 % 1000000))
+    begin
+    pause "$moment"
+    kill -9 "$main" 2>/dev/null || true
+    wait "$main" 2>/dev/null || status=$?
+    end_partner
     [ "$status" -eq 137 ]
 }
 
@@ -136,6 +197,10 @@ random() {
     echo $(((RANDOM * 32768 + RANDOM) % $1))
 }
 
+case $kind in
+pair | call | answer) ;;
+*) fail "no $kind is known" ;;
+esac
 if [ -n "$program" ]; then
     program=$(readlink -f "$program")
 else
@@ -172,7 +237,7 @@ while [ "$killed" -lt "$kills" ]; do
     stages[$stage]=$((stages[$stage] + 1))
     run_to_end
 done
-echo "a run takes $((whole / 1000)) ms; of $tries runs $killed were killed before their end:"
+echo "$kind: a run takes $((whole / 1000)) ms; of $tries runs $killed were killed before their end:"
 echo "  ${stages[early]} before a file was kept, ${stages[turns]} with files kept and both jobs as before,"
 echo "  ${stages[between]} with the jobs of a replaced, ${stages[late]} with both"
 echo "no job was gone without its file, and each second run did the rest"

@@ -7,7 +7,7 @@ ghost use Rattle.uug_play.specs.Played.{BeforeReport, IsPlayFault};
 ghost use Rattle.uug_tool.specs.Scan.{IsScanFault};
 ghost use Rattle.uug_tool.specs.Streams.{Appends};
 ghost use Rattle.uucpair.specs.Performed.{Does, Performs, Scans, ScansVerbose, streams, version_line};
-ghost use Rattle.uucpair.specs.Stop.{EndsSo, NamesFile, SaysTooMuch, StopsAs, StopsOnDrawing, StopsOnDrawingFile, StopsOnFile, StopsOnScript, StopsOnScriptFile, status_of_stop};
+ghost use Rattle.uucpair.specs.Stop.{EndsSo, NamesFile, NamesFolder, SaysTooMuch, StopsAs, StopsOnDrawing, StopsOnDrawingFile, StopsOnFile, StopsOnFolders, StopsOnScript, StopsOnScriptFile, status_of_stop};
 
 use crate::command_line::{Task, VERSION, task_of};
 use crate::stop::Stop;
@@ -247,6 +247,28 @@ fn stop_of_script_file(alloc: Global, path: &str, fault: ToolFault, remark: Stri
     }
 }
 
+/// That another run works in the folder of this name, where there is memory to say so.
+fn names_folder(alloc: Global, dir: &str) -> Stop
+    ensures { NamesFolder dir.now result }
+{
+    match String::from_str(alloc, dir) {
+        Ok(name) => Stop::InUse(name),
+        Err(_) => Stop::Fault(ToolFault::Memory),
+    }
+}
+
+/// Why a task gave up that works in these folders, of which the second may be the first again: the folder is named where
+/// another run holds it.
+fn stop_of_folders(alloc: Global, first: &str, second: &str, fault: ToolFault) -> Stop
+    ensures { StopsOnFolders first.now second.now fault result }
+{
+    match fault {
+        ToolFault::InUse(0) => names_folder(alloc, first),
+        ToolFault::InUse(_) => names_folder(alloc, second),
+        fault => Stop::Fault(fault),
+    }
+}
+
 /// Why the program ends where a task gave up.
 fn stop_of(alloc: Global, task: Task<'_>, fault: ToolFault, remark: String) -> Stop
     ensures { StopsAs task.entry fault (string_bytes remark) result }
@@ -260,6 +282,8 @@ fn stop_of(alloc: Global, task: Task<'_>, fault: ToolFault, remark: String) -> S
         Task::PlayDrawn(_, None) => stop_of_drawing(alloc, fault),
         Task::PlayDrawn(_, Some(path)) => stop_of_drawing_file(alloc, path, fault),
         Task::PlayVerbose(Some(path)) => stop_of_script_file(alloc, path, fault, remark),
+        Task::Pair(pair) => stop_of_folders(alloc, pair.dir_a, pair.dir_b, fault),
+        Task::Call(call) => stop_of_folders(alloc, call.dir, call.dir, fault),
         _ => Stop::Fault(fault),
     }
 }

@@ -19,6 +19,9 @@ pub enum Stop {
     /// The file of this name can't be opened or read.
     #[error("uucpair: device fault\nuucpair: can't read {0}\n")]
     File(String),
+    /// Another run works in the folder of this name.
+    #[error("uucpair: device fault\nuucpair: {0} is in use\n")]
+    InUse(String),
     /// The command line asks for no task: the usage, or the help where it was asked for.
     #[error("{0}")]
     CommandLine(clap::error::Error),
@@ -32,6 +35,7 @@ impl Stop {
         match self {
             Stop::Fault(fault) | Stop::Remarked(fault, _) => fault.status(),
             Stop::File(_) => ToolFault::Read.status(),
+            Stop::InUse(_) => ToolFault::InUse(0).status(),
             Stop::CommandLine(_) => ToolFault::Usage.status(),
         }
     }

@@ -1,6 +1,7 @@
 -- How one end at a real line finishes (this project's profile).
-use Rattle.std.specs.Prelude.{◌++◌, ℕ, List, Result, Ok, Err, if◌then◌else◌, ⊤}
+use Rattle.std.specs.Prelude.{◌≡◌, ◌++◌, ℕ, List, Result, Ok, Err, if◌then◌else◌, ⊤}
 use Rattle.uug_conversation.specs.declared.side.Side.{Side}
+use Rattle.uug_session.specs.Engine.{HasFailed, faults_max}
 use Rattle.uug_session.specs.Node.{NodeState}
 use Rattle.uug_session.specs.declared.phase.Phase.{Phase}
 use Rattle.uug_tool.specs.declared.fault.ToolFault.{ToolFault}
@@ -17,6 +18,12 @@ abbrev pub status_of_phase : Phase → ℕ
 status_of_phase phase = if is_done phase then 0 else 1
 
 -- ---- the faults
+
+-- before anything was written: memory ran out, or the file's device has failed as its text was read
+abbrev pub IsPlanFault : ToolFault → (count count_after : ℕ) → Type 0
+IsPlanFault faults.Memory count count_after = count_after ≡ count
+IsPlanFault faults.Device count count_after = HasFailed faults_max count count_after
+IsPlanFault _ count count_after = ⊥
 
 -- those before the first turn: also a text of a number that is none
 abbrev pub IsStartFault : ToolFault → Type 0

@@ -1,6 +1,7 @@
 //! One end over a folder, and the line to the other one.
 ghost use Rattle.std.specs.Prelude.{◌≡◌, ◌≤◌, IfErr, IfOk};
 ghost use Rattle.uug_tool.specs.Streams.{CountsFault};
+ghost use Rattle.uug_pair.specs.Sending.{IsLockFault};
 ghost use Rattle.uug_call.specs.Calling.{IsCallFault, IsStartFault};
 
 use crate::call_end::CallEnd;
@@ -23,7 +24,8 @@ use std::{fs, io};
 use uug_line::Side;
 use uug_link::Announce;
 use uug_pair::{
-    FolderSpool, Noise, Seat, SystemFolder, SystemText, read_queue, read_send, read_text,
+    DirLock, FolderSpool, Noise, OpenJobs, Seat, SystemFolder, SystemText, lock_dir, open_jobs,
+    read_send, read_text,
 };
 use uug_session::{Node, Place, Queue, Stored};
 use uug_talk::Name;
@@ -98,7 +100,9 @@ fn read_terms<'a>(task: &CallTask<'a>) -> Option<Terms<'a>> {
 }
 
 /// Runs one end over its folder and its line, for one session. What stands in a folder is said in `docs/PROTOCOL.md`. The
-/// answer is the program's status.
+/// folder is locked before anything in it is read: `InUse` says that another run holds it. An end that is called lets it go
+/// while it waits, and locks it again when its line is up. The jobs, the number and the files are read then; whether the
+/// jobs and the number can be read is seen before the line opens. The answer is the program's status.
 pub fn call_run<A, R, W, O>(
     alloc: A,
     rt: &R,
@@ -119,35 +123,49 @@ where
     let Some(terms) = read_terms(task) else {
         return Err(ToolFault::Usage);
     };
-    let mut end = read_end(alloc, rt, task, terms.place)?;
-    let result = talk_at(
-        alloc,
-        rt,
-        task.side,
-        terms.line,
-        terms.patience,
-        &mut end,
-        watcher,
-        output,
-    );
-    drop(end);
-    result
+    let lock = lock_dir(alloc, rt, task.dir, 0)?;
+    if let Err(fault) = look(alloc, rt, task) {
+        drop(lock);
+        return Err(fault);
+    }
+    match task.side {
+        Side::Caller => {
+            let result = talk_at(alloc, rt, task, terms, watcher, output);
+            drop(lock);
+            result
+        }
+        Side::Called => {
+            drop(lock);
+            talk_at(alloc, rt, task, terms, watcher, output)
+        }
+    }
+}
+
+/// Whether the number and the jobs can be read.
+fn look<A: Allocator + Copy, R: Files>(
+    alloc: A,
+    rt: &R,
+    task: &CallTask<'_>,
+) -> Result<(), ToolFault>
+    ensures { IfErr result IsStartFault }
+{
+    read_number_at_start(alloc, rt, task.dir, task.is_numbered)?;
+    drop(open_jobs(alloc, rt, task.dir)?);
+    Ok(())
 }
 
 /// The end opens its line, and talks over it.
-fn talk_at<'a, A, R, W, O>(
+fn talk_at<A, R, W, O>(
     alloc: A,
     rt: &R,
-    side: Side,
-    line: LineName<'_>,
-    patience: Duration,
-    end: &mut SystemEnd<'a, R, A>,
+    task: &CallTask<'_>,
+    terms: Terms<'_>,
     watcher: &mut W,
     output: &mut O,
 ) -> Result<u8, ToolFault>
 where
     A: Allocator + Copy,
-    R: Files<File = File> + Net,
+    R: Files<File = File> + Net + Alloc + Clone + Drop,
     W: Watcher,
     O: Output,
     ensures status { IfOk result (λ status. status ≤ 1) }
@@ -155,48 +173,38 @@ where
         → CountsFault (O.fault_count output.old) (O.fault_count output.new) }
     ensures no_other { IfErr result IsCallFault }
 {
-    match line {
+    let place = terms.place;
+    match terms.line {
         LineName::Unix(path) => {
-            let stream = open_unix(rt, side, path, patience);
-            talk_over(
-                alloc,
-                side,
-                end,
-                stream.map(StreamLine::new),
-                watcher,
-                output,
-            )
+            let stream = open_unix(rt, task.side, path, terms.patience);
+            let line = stream.map(StreamLine::new);
+            talk_over(alloc, rt, task, place, line, watcher, output)
         }
         LineName::Tcp(host, port) => {
-            let stream = open_tcp(rt, side, host, port, patience);
-            talk_over(
-                alloc,
-                side,
-                end,
-                stream.map(StreamLine::new),
-                watcher,
-                output,
-            )
+            let stream = open_tcp(rt, task.side, host, port, terms.patience);
+            let line = stream.map(StreamLine::new);
+            talk_over(alloc, rt, task, place, line, watcher, output)
         }
         LineName::Device(path) => {
-            let line = DeviceLine::open(alloc, rt, path, patience);
-            talk_over(alloc, side, end, line, watcher, output)
+            let line = DeviceLine::open(alloc, rt, path, terms.patience);
+            talk_over(alloc, rt, task, place, line, watcher, output)
         }
     }
 }
 
-/// The end talks over its line, if it has one.
-fn talk_over<'a, A, R, L, W, O>(
+/// The end talks over its line, if it has one, with its folder locked.
+fn talk_over<A, R, L, W, O>(
     alloc: A,
-    side: Side,
-    end: &mut SystemEnd<'a, R, A>,
+    rt: &R,
+    task: &CallTask<'_>,
+    place: Place,
     line: io::Result<L>,
     watcher: &mut W,
     output: &mut O,
 ) -> Result<u8, ToolFault>
 where
     A: Allocator + Copy,
-    R: Files,
+    R: Files<File = File> + Alloc + Clone + Drop,
     L: EndLine + Drop,
     W: Watcher,
     O: Output,
@@ -208,12 +216,61 @@ where
     let Ok(mut line) = line else {
         return Err(ToolFault::Device);
     };
+    match lock_again(alloc, rt, task) {
+        Ok(lock) => {
+            let result = talk_locked(alloc, rt, task, place, &mut line, watcher, output);
+            drop(lock);
+            result
+        }
+        Err(fault) => Err(fault),
+    }
+}
+
+/// The lock on the folder of an end that let it go while it waited.
+fn lock_again<A: Allocator + Copy, R: Files<File = File> + Alloc + Clone + Drop>(
+    alloc: A,
+    rt: &R,
+    task: &CallTask<'_>,
+) -> Result<Option<DirLock>, ToolFault>
+    ensures { IfErr result IsLockFault }
+{
+    match task.side {
+        Side::Caller => Ok(None),
+        Side::Called => Ok(Some(lock_dir(alloc, rt, task.dir, 0)?)),
+    }
+}
+
+/// The end is made over its folder as it stands now, and talks over its line.
+fn talk_locked<A, R, L, W, O>(
+    alloc: A,
+    rt: &R,
+    task: &CallTask<'_>,
+    place: Place,
+    line: &mut L,
+    watcher: &mut W,
+    output: &mut O,
+) -> Result<u8, ToolFault>
+where
+    A: Allocator + Copy,
+    R: Files + Alloc + Clone + Drop,
+    L: EndLine,
+    W: Watcher,
+    O: Output,
+    ensures status { IfOk result (λ status. status ≤ 1) }
+    ensures write { result ≡ Err ToolFault.Write
+        → CountsFault (O.fault_count output.old) (O.fault_count output.new) }
+    ensures no_other { IfErr result IsCallFault }
+{
+    let mut end = read_end(alloc, rt, task, place)?;
     let Some(mut noise) = Noise::new(None, None) else {
         unreachable!();
     };
-    call_over(
-        alloc, side, end, &mut line, &mut noise, BYTES_MAX, watcher, output,
-    )
+    let side = task.side;
+    let result = call_over(
+        alloc, side, &mut end, line, &mut noise, BYTES_MAX, watcher, output,
+    );
+    drop(end);
+    result
 }
 
 /// An end over the folder `dir`, as it stands.
@@ -226,10 +283,18 @@ fn read_end<'a, A: Allocator + Copy, R: Files + Alloc + Clone + Drop>(
     ensures { IfErr result IsStartFault }
 {
     place.number = read_number_at_start(alloc, rt, task.dir, task.is_numbered)?;
-    let jobs = read_queue(alloc, rt, task.dir)?;
-    let files = read_send(alloc, rt, task.dir)?;
-    let end = make_end(alloc, rt, task.side, task.dir, place, jobs, files)?;
-    Ok(end)
+    let jobs = open_jobs(alloc, rt, task.dir)?;
+    let files = match read_send(alloc, rt, task.dir) {
+        Ok(files) => files,
+        Err(fault) => {
+            drop(jobs);
+            return Err(fault);
+        }
+    };
+    match make_end(alloc, rt, task.side, task.dir, place, jobs, files) {
+        Ok(end) => Ok(end),
+        Err(_) => Err(ToolFault::Memory),
+    }
 }
 
 /// The number that the end over the folder `dir` keeps.
@@ -254,16 +319,17 @@ fn make_end<'a, A: Allocator + Copy, R: Files>(
     side: Side,
     dir: &str,
     place: Place,
-    jobs: Queue<A>,
+    jobs: OpenJobs<'a, R, A>,
     files: Vec<Stored<A>, A>,
 ) -> Result<SystemEnd<'a, R, A>, AllocError> {
-    let (jobs_file, number) = make_texts(alloc, rt, dir)?;
+    let OpenJobs { file, queue } = jobs;
+    let number = SystemText::new(alloc, rt, dir, "number")?;
     let spool = make_spool(alloc, rt, dir, files)?;
-    let node = make_node(alloc, side, place, jobs, spool)?;
+    let node = make_node(alloc, side, place, queue, spool)?;
     let seat = make_seat(alloc, node)?;
     Ok(CallEnd {
         seat,
-        jobs: jobs_file,
+        jobs: file,
         number,
     })
 }
@@ -310,17 +376,6 @@ fn make_seat<'a, A: Allocator + Copy, R: Files>(
         unreachable!();
     };
     Seat::new(alloc, node, &mut noise)
-}
-
-/// The files of the jobs and of the number in the folder `dir`.
-fn make_texts<'a, A: Allocator + Copy, R: Files>(
-    alloc: A,
-    rt: &'a R,
-    dir: &str,
-) -> Result<(SystemText<'a, R, A>, SystemText<'a, R, A>), AllocError> {
-    let jobs = SystemText::new(alloc, rt, dir, "jobs")?;
-    let number = SystemText::new(alloc, rt, dir, "number")?;
-    Ok((jobs, number))
 }
 
 /// The stream over the Unix socket at this path, whose calls wait for so long.

@@ -1,4 +1,5 @@
 pub mod FolderLemmas
+mod JobsAfterLemmas
 pub mod JobsTextLemmas
 pub mod KeepingLemmas
 pub mod NameLemmas

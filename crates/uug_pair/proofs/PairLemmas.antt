@@ -11,6 +11,7 @@ run_fault (Ok status) h = h
 run_fault (Err faults.Write) h = h
 run_fault (Err faults.Memory) h = h
 run_fault (Err faults.Device) h = h
+run_fault (Err (faults.InUse folder)) h = absurd h
 run_fault (Err faults.Usage) h = absurd h
 run_fault (Err faults.Read) h = absurd h
 run_fault (Err (faults.Script line)) h = absurd h
@@ -36,6 +37,7 @@ reading_is_run : (fault : ToolFault) → IsReadingFault fault → IsRunFault fau
 reading_is_run (faults.Jobs line) h = h
 reading_is_run faults.Memory h = h
 reading_is_run faults.Device h = h
+reading_is_run (faults.InUse folder) h = absurd h
 reading_is_run faults.Usage h = absurd h
 reading_is_run faults.Read h = absurd h
 reading_is_run faults.Write h = absurd h

@@ -39,6 +39,12 @@ says_of_words (first ∷ ws) = if is_comment first then Some no_job else job_of 
 abbrev pub says_of : List ℕ → Option LineSays
 says_of line = if nat_le (length line) LINE_MAX then says_of_words (words line) else None
 
+-- the job of a line that says one
+abbrev pub job_said : Option LineSays → Option Job
+job_said None = None
+job_said (Some no_job) = None
+job_said (Some (one_job job)) = Some job
+
 -- a line is bad where the most jobs are there that may be pending, and it has one more
 abbrev pub with_line : LineSays → List Job → Option (List Job)
 with_line no_job jobs = Some jobs

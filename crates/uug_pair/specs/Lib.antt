@@ -1,5 +1,8 @@
 pub mod FolderFiles
 pub mod Folders
+pub mod JobsAfter
+pub mod JobsFile
+pub mod JobsPlan
 pub mod JobsText
 pub mod Noise
 pub mod Outgoing

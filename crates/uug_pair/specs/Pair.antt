@@ -2,6 +2,7 @@
 use Rattle.std.specs.Prelude.{◌≡◌, ◌⊎◌, ◌++◌, ◌&&◌, ℕ, Bool, true, false, List, Option, Result, Ok, Err, ⊤, if◌then◌else◌}
 use Rattle.uug_conversation.specs.declared.side.Side.TheVariants.{Caller, Called}
 use Rattle.uug_conversation.specs.Jobs.{Lists}
+use Rattle.uug_session.specs.Engine.{HasFailed, faults_max}
 use Rattle.uug_session.specs.Node.{NodeState}
 use Rattle.uug_session.specs.Phases.{phase_at}
 use Rattle.uug_session.specs.declared.end.End.TheVariants.{Done}
@@ -58,6 +59,12 @@ IfWritten (Ok value) P = P
 IfWritten (Err faults.Write) P = P
 IfWritten (Err _) P = ⊤
 
+-- before anything was written: memory ran out, or one of the devices has failed as a text was read
+abbrev pub IsPlanFault : ToolFault → (caller caller_after called called_after : ℕ) → Type 0
+IsPlanFault faults.Memory a b c d = (b ≡ a) × (d ≡ c)
+IsPlanFault faults.Device a b c d = HasFailed faults_max a b ⊎ HasFailed faults_max c d
+IsPlanFault _ a b c d = ⊥
+
 -- the faults of two ends that are made: the line's and the files', the output's, and memory
 abbrev pub IsPairFault : ToolFault → Type 0
 IsPairFault faults.Write = ⊤
@@ -72,11 +79,12 @@ IsReadingFault faults.Memory = ⊤
 IsReadingFault faults.Device = ⊤
 IsReadingFault _ = ⊥
 
--- all of them, and a number that is out of its range
+-- all of them, a number that is out of its range, and a folder in which another run works
 abbrev pub IsRunFault : ToolFault → Type 0
 IsRunFault faults.Usage = ⊤
 IsRunFault (faults.Jobs line) = ⊤
 IsRunFault faults.Write = ⊤
 IsRunFault faults.Memory = ⊤
 IsRunFault faults.Device = ⊤
+IsRunFault (faults.InUse folder) = ⊤
 IsRunFault _ = ⊥

@@ -8,3 +8,10 @@ abbrev pub IsFolderFault : ToolFault → Type 0
 IsFolderFault faults.Memory = ⊤
 IsFolderFault faults.Device = ⊤
 IsFolderFault _ = ⊥
+
+-- the faults of locking a folder: also that another run holds it
+abbrev pub IsLockFault : ToolFault → Type 0
+IsLockFault faults.Memory = ⊤
+IsLockFault faults.Device = ⊤
+IsLockFault (faults.InUse folder) = ⊤
+IsLockFault _ = ⊥

@@ -1,11 +1,9 @@
 //! Two ends over a line, from their first turn to the report.
 ghost use Rattle.std.specs.Prelude.{◌≡◌, ◌≤◌, ◌⊎◌, IfErr, IfOk, OnOk};
 ghost use Rattle.uug_session.specs.Engine.{HasFailed, IsEnded};
-ghost use Rattle.uug_conversation.specs.Jobs.{pending};
 ghost use Rattle.uug_tool.specs.Streams.{Appends, CountsFault};
-ghost use Rattle.uug_pair.specs.Folders.{holding};
-ghost use Rattle.uug_pair.specs.JobsText.{jobs_text};
-ghost use Rattle.uug_pair.specs.Pair.{IfWritten, IsPairFault, IsWhole, UnlessDevice, jobs_of_end, phase_of_end, report_text, status_of_phases};
+ghost use Rattle.uug_pair.specs.JobsFile.{IsSettled, settled};
+ghost use Rattle.uug_pair.specs.Pair.{IfWritten, IsPairFault, UnlessDevice, jobs_of_end, phase_of_end, report_text, status_of_phases};
 ghost use Rattle.uug_pair.specs.Seats.{seated, spool_in, KeepsJobs};
 ghost use Rattle.uug_pair.specs.Turns.{HasRoom};
 
@@ -20,10 +18,10 @@ use std::alloc::Allocator;
 use uug_session::{End, Phase, Spool};
 use uug_tool::{Output, ToolFault};
 
-/// Two ends take at most so many turns at a line. Then the pending jobs of each are written to its file, and the report
-/// to the output. The answer is the program's status: 0 where both sessions are done, and 1 where one is not. Of several
-/// faults the first is answered, and none of them keeps what comes behind it from being done, except running out of memory before
-/// the first write.
+/// Two ends take at most so many turns at a line. Then the file of jobs of each is read again, and what is to stay of it
+/// is written: the jobs that are pending, and what was put into it meanwhile. The report goes to the output. The answer is
+/// the program's status: 0 where both sessions are done, and 1 where one is not. Of several faults the first is answered,
+/// and none of them keeps what comes behind it from being done, except running out of memory before the first write.
 pub fn pair_over<S, T, L, J, K, O, A>(
     alloc: A,
     caller: &mut PairEnd<S, J, A>,
@@ -50,17 +48,19 @@ where
         (seated called.old.seat) (seated called.new.seat) }
     ensures caller_over { IsEnded (seated caller.new.seat).engine.stage }
     ensures called_over { IsEnded (seated called.new.seat).engine.stage }
-    // A file of jobs is as before, or has exactly those that are pending.
-    ensures caller_jobs { IsWhole (jobs_text (pending (jobs_of_end (seated caller.new.seat))))
-        (J.text caller.old.jobs) (J.text caller.new.jobs) }
-    ensures called_jobs { IsWhole (jobs_text (pending (jobs_of_end (seated called.new.seat))))
-        (K.text called.old.jobs) (K.text called.new.jobs) }
-    ensures caller_ok { OnOk result (J.text caller.new.jobs
-        ≡ holding (jobs_text (pending (jobs_of_end (seated caller.new.seat))))
-        (J.text caller.old.jobs)) }
-    ensures called_ok { OnOk result (K.text called.new.jobs
-        ≡ holding (jobs_text (pending (jobs_of_end (seated called.new.seat))))
-        (K.text called.old.jobs)) }
+    // A file of jobs is as before, or has what is to stay of it.
+    ensures caller_jobs { IsSettled caller.old.jobs.before.items
+        (jobs_of_end (seated caller.new.seat))
+        (J.text caller.old.jobs.file) (J.text caller.new.jobs.file) }
+    ensures called_jobs { IsSettled called.old.jobs.before.items
+        (jobs_of_end (seated called.new.seat))
+        (K.text called.old.jobs.file) (K.text called.new.jobs.file) }
+    ensures caller_ok { OnOk result (J.text caller.new.jobs.file
+        ≡ settled caller.old.jobs.before.items (jobs_of_end (seated caller.new.seat))
+        (J.text caller.old.jobs.file)) }
+    ensures called_ok { OnOk result (K.text called.new.jobs.file
+        ≡ settled called.old.jobs.before.items (jobs_of_end (seated called.new.seat))
+        (K.text called.old.jobs.file)) }
     ensures report { OnOk result
         (Appends (report_text (seated caller.new.seat) (seated called.new.seat))
         (O.written output.old) (O.written output.new)) }
@@ -69,14 +69,14 @@ where
         (phase_of_end (seated called.new.seat))) }
     // Where the line or a file has failed, that is answered, whatever fails later but memory.
     ensures line_calm { IfWritten result (L.fault_count line.new ≡ L.fault_count line.old) }
-    ensures caller_calm { UnlessDevice result (J.fault_count caller.new.jobs
-        ≡ J.fault_count caller.old.jobs) }
-    ensures called_calm { UnlessDevice result (K.fault_count called.new.jobs
-        ≡ K.fault_count called.old.jobs) }
+    ensures caller_calm { UnlessDevice result (J.fault_count caller.new.jobs.file
+        ≡ J.fault_count caller.old.jobs.file) }
+    ensures called_calm { UnlessDevice result (K.fault_count called.new.jobs.file
+        ≡ K.fault_count called.old.jobs.file) }
     ensures device { result ≡ Err ToolFault.Device
         → HasFailed u64.MAX (L.fault_count line.old) (L.fault_count line.new)
-        ⊎ (HasFailed u64.MAX (J.fault_count caller.old.jobs) (J.fault_count caller.new.jobs)
-        ⊎ HasFailed u64.MAX (K.fault_count called.old.jobs) (K.fault_count called.new.jobs)) }
+        ⊎ (HasFailed u64.MAX (J.fault_count caller.old.jobs.file) (J.fault_count caller.new.jobs.file)
+        ⊎ HasFailed u64.MAX (K.fault_count called.old.jobs.file) (K.fault_count called.new.jobs.file)) }
     ensures write { result ≡ Err ToolFault.Write
         → CountsFault (O.fault_count output.old) (O.fault_count output.new) }
     ensures no_other { IfErr result IsPairFault }
@@ -95,7 +95,7 @@ where
     }
 }
 
-/// The pending jobs of each end are written to its file, and the report to the output.
+/// What is to stay of the jobs of each end is written to its file, and the report to the output.
 fn write_texts<S, T, J, K, O, A>(
     alloc: A,
     caller: &mut PairEnd<S, J, A>,
@@ -111,32 +111,34 @@ where
     A: Allocator + Copy,
     ensures caller_seat { caller.new.seat ≡ caller.old.seat }
     ensures called_seat { called.new.seat ≡ called.old.seat }
-    ensures caller_jobs { IsWhole (jobs_text (pending (jobs_of_end (seated caller.old.seat))))
-        (J.text caller.old.jobs) (J.text caller.new.jobs) }
-    ensures called_jobs { IsWhole (jobs_text (pending (jobs_of_end (seated called.old.seat))))
-        (K.text called.old.jobs) (K.text called.new.jobs) }
-    ensures caller_ok { OnOk result (J.text caller.new.jobs
-        ≡ holding (jobs_text (pending (jobs_of_end (seated caller.old.seat))))
-        (J.text caller.old.jobs)) }
-    ensures called_ok { OnOk result (K.text called.new.jobs
-        ≡ holding (jobs_text (pending (jobs_of_end (seated called.old.seat))))
-        (K.text called.old.jobs)) }
+    ensures caller_jobs { IsSettled caller.old.jobs.before.items
+        (jobs_of_end (seated caller.old.seat))
+        (J.text caller.old.jobs.file) (J.text caller.new.jobs.file) }
+    ensures called_jobs { IsSettled called.old.jobs.before.items
+        (jobs_of_end (seated called.old.seat))
+        (K.text called.old.jobs.file) (K.text called.new.jobs.file) }
+    ensures caller_ok { OnOk result (J.text caller.new.jobs.file
+        ≡ settled caller.old.jobs.before.items (jobs_of_end (seated caller.old.seat))
+        (J.text caller.old.jobs.file)) }
+    ensures called_ok { OnOk result (K.text called.new.jobs.file
+        ≡ settled called.old.jobs.before.items (jobs_of_end (seated called.old.seat))
+        (K.text called.old.jobs.file)) }
     ensures report { OnOk result
         (Appends (report_text (seated caller.old.seat) (seated called.old.seat))
         (O.written output.old) (O.written output.new)) }
-    ensures caller_calm { UnlessDevice result (J.fault_count caller.new.jobs
-        ≡ J.fault_count caller.old.jobs) }
-    ensures called_calm { UnlessDevice result (K.fault_count called.new.jobs
-        ≡ K.fault_count called.old.jobs) }
+    ensures caller_calm { UnlessDevice result (J.fault_count caller.new.jobs.file
+        ≡ J.fault_count caller.old.jobs.file) }
+    ensures called_calm { UnlessDevice result (K.fault_count called.new.jobs.file
+        ≡ K.fault_count called.old.jobs.file) }
     ensures device { result ≡ Err ToolFault.Device
-        → HasFailed u64.MAX (J.fault_count caller.old.jobs) (J.fault_count caller.new.jobs)
-        ⊎ HasFailed u64.MAX (K.fault_count called.old.jobs) (K.fault_count called.new.jobs) }
+        → HasFailed u64.MAX (J.fault_count caller.old.jobs.file) (J.fault_count caller.new.jobs.file)
+        ⊎ HasFailed u64.MAX (K.fault_count called.old.jobs.file) (K.fault_count called.new.jobs.file) }
     ensures write { result ≡ Err ToolFault.Write
         → CountsFault (O.fault_count output.old) (O.fault_count output.new) }
     ensures no_other { IfErr result IsPairFault }
 {
-    let texts = PairTexts::new(alloc, caller.seat.node(), called.seat.node())?;
-    texts.write(&mut caller.jobs, &mut called.jobs, output)
+    let texts = PairTexts::new(alloc, caller, called)?;
+    texts.write(&mut caller.jobs.file, &mut called.jobs.file, output)
 }
 
 /// 0 where both sessions are done, and 1 where one is not.

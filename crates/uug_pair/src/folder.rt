@@ -12,14 +12,15 @@ pub struct FolderFailed;
 
 /// A folder that takes whole files.
 pub trait Folder {
-    /// The files that were put in it, in the order in which they were, where the folder tells them.
+    /// The files that were put in it and seen on its device, in the order in which they were, where the folder tells
+    /// them.
     ghost placed: { Self → Option (List Placed) };
 
     /// How many faults its device had.
     ghost fault_count: { Self → ℕ };
 
-    /// Puts a whole file in the folder under this name, in the place of one that had it. After a fault there is none
-    /// of this file under its name.
+    /// Puts a whole file in the folder under this name, in the place of one that had it, and sees both on the device.
+    /// After a fault the name has the old file or this one as a whole, but this one does not count as put.
     fn put(&mut self, name: &Name, bytes: &[u8]) -> Result<(), FolderFailed>
         ensures ok { OnOk result (placed self.new
             ≡ also_placed (placed_file name.now bytes.now) (placed self.old)) }

@@ -2,8 +2,9 @@
 ghost use Rattle.std.specs.Prelude.{◌≡◌, ◌∷◌, [], ◌++◌, OnOk, IfOk, IfErr, Ok, Some, string_bytes};
 ghost use Rattle.uug_conversation.specs.Jobs.{at_start, pending};
 ghost use Rattle.uug_talk.specs.Words.{words, joined};
+ghost use Rattle.uug_script.specs.Fields.{is_comment};
 ghost use Rattle.uug_script.specs.ReportText.{ended};
-ghost use Rattle.uug_pair.specs.JobsText.{Faults, RefusesLine, one_job, with_line, job_of, job_line, jobs_of, jobs_text, line_added};
+ghost use Rattle.uug_pair.specs.JobsText.{Faults, RefusesLine, one_job, with_line, job_of, job_line, job_said, jobs_of, jobs_text, line_added, says_of};
 
 use std::alloc::{AllocError, Allocator};
 use thiserror::Error;
@@ -48,6 +49,27 @@ fn read_job(first: &[u8], rest: &[u8]) -> Option<Job>
     }
 }
 
+/// Whether a line with this first word is a comment.
+fn is_comment(first: &[u8]) -> bool
+    ensures { result ≡ is_comment first.now }
+{
+    first.starts_with(b"#")
+}
+
+/// The job that a line says, if it says one.
+pub(crate) fn job_in(line: &[u8]) -> Option<Job>
+    ensures { result ≡ job_said (says_of line.now) }
+{
+    if line.len() > LINE_MAX {
+        return None;
+    }
+    let (first, rest) = split_word(line)?;
+    if is_comment(first) {
+        return None;
+    }
+    read_job(first, rest)
+}
+
 /// Adds a job of the line of this number. `JOBS_MAX` jobs make the line bad.
 fn add_job<A: Allocator>(queue: &mut Queue<A>, number: usize, job: Job) -> Result<(), JobsFault>
     requires fresh { queue.old ≡ at_start queue.old.ahead [] [] }
@@ -77,7 +99,7 @@ fn add_line<A: Allocator>(queue: &mut Queue<A>, number: usize, line: &[u8]) -> R
     let Some((first, rest)) = split_word(line) else {
         return Ok(());
     };
-    if first.starts_with(b"#") {
+    if is_comment(first) {
         return Ok(());
     }
     match read_job(first, rest) {

@@ -1,3 +1,4 @@
+use crate::jobs_file::JobsFile;
 use crate::seat::Seat;
 use std::alloc::Allocator;
 use uug_session::Spool;
@@ -8,5 +9,5 @@ pub struct PairEnd<S: Spool, J, A: Allocator> {
     /// The end at the line.
     pub seat: Seat<S, A>,
     /// Where its pending jobs are written in the end.
-    pub jobs: J,
+    pub jobs: JobsFile<J, A>,
 }

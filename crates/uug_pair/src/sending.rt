@@ -115,7 +115,7 @@ pub fn read_text<A: Allocator + Copy, R: Files>(
 }
 
 /// The text of the file at a path, if there is one.
-fn read_text_at<A: Allocator + Copy, R: Files>(
+pub(crate) fn read_text_at<A: Allocator + Copy, R: Files>(
     alloc: A,
     rt: &R,
     path: &str,

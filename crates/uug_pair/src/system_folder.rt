@@ -2,6 +2,7 @@ ghost use Rattle.std.specs.Prelude.{◌≡◌, ◌+◌, ◌≤◌, ◌++◌, len
 ghost use Rattle.uug_talk.specs.declared.name.TheConstants.{NAME_MAX};
 
 use crate::folder::{Folder, FolderFailed};
+use crate::part_path::PartPath;
 use crate::replacing::replace_file;
 use std::alloc::{AllocError, Allocator};
 use std::rt::Files;
@@ -12,7 +13,9 @@ use uug_talk::{NAME_MAX, Name};
 pub struct SystemFolder<'a, R: Files, A: Allocator> {
     rt: &'a R,
     /// Where a file is written before it is whole.
-    part: String<A>,
+    part: PartPath<A>,
+    /// The folder.
+    dir: String<A>,
     /// What stands in front of a name.
     front: String<A>,
     /// A file's path, with room for every name.
@@ -27,13 +30,15 @@ impl<'a, R: Files, A: Allocator + Copy> SystemFolder<'a, R, A> {
         ensures { IfOk result (λ folder.
             ⟦<SystemFolder<'a, R, A> as Folder>⟧.fault_count folder ≡ 0) }
     {
-        let front = format!(in alloc; "{dir}/got/")?;
-        let part = format!(in alloc; "{dir}/got/.part")?;
+        let dir = format!(in alloc; "{dir}/got")?;
+        let front = format!(in alloc; "{dir}/")?;
+        let part = PartPath::new(alloc, rt, dir.as_str())?;
         let mut path = String::new(alloc);
         path.reserve(front.len() + NAME_MAX)?;
         Ok(SystemFolder {
             rt,
             part,
+            dir,
             front,
             path,
             faults: 0,
@@ -48,7 +53,9 @@ impl<R: Files, A: Allocator> Folder for SystemFolder<'_, R, A> {
 
     fn put(&mut self, name: &Name, bytes: &[u8]) -> Result<(), FolderFailed> {
         set_path(&mut self.path, self.front.as_str(), name);
-        if replace_file(self.rt, self.part.as_str(), self.path.as_str(), bytes).is_ok() {
+        let dir = self.dir.as_str();
+        let path = self.path.as_str();
+        if replace_file(self.rt, &mut self.part, dir, path, bytes, None).is_ok() {
             return Ok(());
         }
         self.faults = self.faults.saturating_add(1);

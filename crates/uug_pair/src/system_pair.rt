@@ -6,18 +6,20 @@ ghost use Rattle.uug_pair.specs.Noise.{is_in_range};
 ghost use Rattle.uug_pair.specs.Pair.{IsReadingFault, IsRunFault};
 ghost use Rattle.uug_pair.specs.Turns.{HasRoom};
 
+use crate::dir_lock::lock_dir;
 use crate::exchange::pair_over;
 use crate::folder_spool::FolderSpool;
-use crate::jobs_text::{JobsFault, read_jobs};
 use crate::line::Line;
 use crate::noise::Noise;
+use crate::opened::{OpenJobs, open_jobs};
 use crate::pair_end::PairEnd;
 use crate::seat::Seat;
-use crate::sending::{read_send, read_text};
+use crate::sending::read_send;
 use crate::system_folder::SystemFolder;
 use crate::system_text::SystemText;
 use crate::wire_line::WireLine;
 use std::alloc::{AllocError, Allocator};
+use std::fs::File;
 use std::net::Net;
 use std::os::unix::net::{UnixListener, UnixStream};
 use std::rt::Files;
@@ -45,8 +47,9 @@ type SystemEnd<'a, R, A> = PairEnd<SystemSpool<'a, R, A>, SystemText<'a, R, A>, 
 
 /// Runs the caller `a` over the folder `dir_a` and the called end `b` over `dir_b`, over a Unix socket that is made at the
 /// path `socket`. Every Nth packet is lost, and every Nth changed, for an N of its own each, if one is given. What stands
-/// in a folder is said in `docs/PROTOCOL.md`. The answer is the program's status.
-pub fn pair_run<A: Allocator + Copy, R: Files + Net + Alloc + Clone + Drop, O: Output>(
+/// in a folder is said in `docs/PROTOCOL.md`. Both folders are locked before anything in them is read: `InUse` says which
+/// of them another run holds. The answer is the program's status.
+pub fn pair_run<A: Allocator + Copy, R: Files<File = File> + Net + Alloc + Clone + Drop, O: Output>(
     alloc: A,
     rt: &R,
     socket: &str,
@@ -66,16 +69,37 @@ pub fn pair_run<A: Allocator + Copy, R: Files + Net + Alloc + Clone + Drop, O: O
     let Some(mut noise) = Noise::new(drop_every, flip_every) else {
         return Err(ToolFault::Usage);
     };
-    let (mut caller, mut called) = make_ends(alloc, rt, dir_a, dir_b, &mut noise)?;
-    let result = run_ends(
-        alloc,
-        rt,
-        socket,
-        &mut caller,
-        &mut called,
-        &mut noise,
-        output,
-    );
+    let lock_a = lock_dir(alloc, rt, dir_a, 0)?;
+    let result = match lock_dir(alloc, rt, dir_b, 1) {
+        Ok(lock_b) => {
+            let result = run_locked(alloc, rt, socket, dir_a, dir_b, &mut noise, output);
+            drop(lock_b);
+            result
+        }
+        Err(fault) => Err(fault),
+    };
+    drop(lock_a);
+    result
+}
+
+/// Runs both ends over their folders, which are locked.
+fn run_locked<A: Allocator + Copy, R: Files + Net + Alloc + Clone + Drop, O: Output>(
+    alloc: A,
+    rt: &R,
+    socket: &str,
+    dir_a: &str,
+    dir_b: &str,
+    noise: &mut Noise,
+    output: &mut O,
+) -> Result<u8, ToolFault>
+    ensures status { IfOk result (λ status. status ≤ 1) }
+    ensures write { result ≡ Err ToolFault.Write
+        → CountsFault (O.fault_count output.old) (O.fault_count output.new) }
+    ensures no_other { IfErr result IsRunFault }
+    ensures no_usage { result ≢ Err ToolFault.Usage }
+{
+    let (mut caller, mut called) = make_ends(alloc, rt, dir_a, dir_b, noise)?;
+    let result = run_ends(alloc, rt, socket, &mut caller, &mut called, noise, output);
     drop(caller);
     drop(called);
     result
@@ -111,7 +135,7 @@ fn make_ends<'a, A: Allocator + Copy, R: Files + Alloc + Clone + Drop>(
 ) -> Result<(SystemEnd<'a, R, A>, SystemEnd<'a, R, A>), ToolFault>
     ensures { IfErr result IsReadingFault }
 {
-    let jobs = read_queues(alloc, rt, dir_a, dir_b)?;
+    let jobs = open_both(alloc, rt, dir_a, dir_b)?;
     let files = match read_sends(alloc, rt, dir_a, dir_b) {
         Ok(files) => files,
         Err(fault) => {
@@ -135,15 +159,15 @@ fn make_ends<'a, A: Allocator + Copy, R: Files + Alloc + Clone + Drop>(
 
 /// What an end begins with: its jobs, and the files that it has to give.
 #[derive(Drop)]
-struct Given<A: Allocator> {
-    jobs: Queue<A>,
+struct Given<'a, R: Files, A: Allocator> {
+    jobs: OpenJobs<'a, R, A>,
     files: Vec<Stored<A>, A>,
 }
 
-impl<A: Allocator> Given<A> {
+impl<'a, R: Files, A: Allocator> Given<'a, R, A> {
     /// What the caller begins with, and the called end.
     fn both(
-        (caller_jobs, called_jobs): (Queue<A>, Queue<A>),
+        (caller_jobs, called_jobs): (OpenJobs<'a, R, A>, OpenJobs<'a, R, A>),
         (caller_files, called_files): (Vec<Stored<A>, A>, Vec<Stored<A>, A>),
     ) -> (Self, Self) {
         let caller = Given {
@@ -159,16 +183,16 @@ impl<A: Allocator> Given<A> {
 }
 
 /// The jobs of both folders.
-fn read_queues<A: Allocator + Copy, R: Files>(
+fn open_both<'a, A: Allocator + Copy, R: Files>(
     alloc: A,
-    rt: &R,
+    rt: &'a R,
     dir_a: &str,
     dir_b: &str,
-) -> Result<(Queue<A>, Queue<A>), ToolFault>
+) -> Result<(OpenJobs<'a, R, A>, OpenJobs<'a, R, A>), ToolFault>
     ensures { IfErr result IsReadingFault }
 {
-    let caller = read_queue(alloc, rt, dir_a)?;
-    match read_queue(alloc, rt, dir_b) {
+    let caller = open_jobs(alloc, rt, dir_a)?;
+    match open_jobs(alloc, rt, dir_b) {
         Ok(called) => Ok((caller, called)),
         Err(fault) => {
             drop(caller);
@@ -196,42 +220,21 @@ fn read_sends<A: Allocator + Copy, R: Files + Alloc + Clone + Drop>(
     }
 }
 
-/// The jobs of the folder `dir`.
-pub fn read_queue<A: Allocator + Copy, R: Files>(
-    alloc: A,
-    rt: &R,
-    dir: &str,
-) -> Result<Queue<A>, ToolFault>
-    ensures no_other { IfErr result IsReadingFault }
-{
-    let Some(text) = read_text(alloc, rt, dir, "jobs")? else {
-        return Ok(Queue::new(alloc));
-    };
-    match read_jobs(alloc, text.as_slice()) {
-        Ok(queue) => Ok(queue),
-        Err(JobsFault::Bad(line)) => Err(ToolFault::Jobs(line)),
-        Err(JobsFault::Memory) => Err(ToolFault::Memory),
-    }
-}
-
 /// An end over the folder `dir`, which begins with this.
 fn make_end<'a, A: Allocator + Copy, R: Files>(
     alloc: A,
     rt: &'a R,
     side: Side,
     dir: &str,
-    given: Given<A>,
+    given: Given<'a, R, A>,
     noise: &mut Noise,
 ) -> Result<SystemEnd<'a, R, A>, AllocError> {
     let Given { jobs, files } = given;
-    let jobs_file = SystemText::new(alloc, rt, dir, "jobs")?;
+    let OpenJobs { file, queue } = jobs;
     let spool = make_spool(alloc, rt, dir, files)?;
-    let node = make_node(alloc, side, jobs, spool)?;
+    let node = make_node(alloc, side, queue, spool)?;
     let seat = Seat::new(alloc, node, noise)?;
-    Ok(PairEnd {
-        seat,
-        jobs: jobs_file,
-    })
+    Ok(PairEnd { seat, jobs: file })
 }
 
 /// The spool over the folder `dir`, with these files to give.

@@ -1,8 +1,12 @@
-ghost use Rattle.std.specs.Prelude.{◌≡◌, ℕ, ◌≤◌, List, Option, OnOk, OnErr};
+ghost use Rattle.std.specs.Prelude.{◌≡◌, ℕ, ◌≤◌, List, Option, IfOk, IfErr, OnOk, OnErr};
 ghost use Rattle.uug_session.specs.Engine.{HasFailed};
 ghost use Rattle.uug_pair.specs.Folders.{holding};
+ghost use Rattle.uug_pair.specs.JobsFile.{IsReadFault};
+ghost use Rattle.uug_pair.specs.Pair.{IsWhole};
 
 use crate::folder::FolderFailed;
+use std::alloc::Allocator;
+use uug_tool::ToolFault;
 
 /// A file of an end whose text is replaced as a whole: that of its jobs, or that of its number.
 pub trait TextFile {
@@ -12,11 +16,20 @@ pub trait TextFile {
     /// How many faults its device had.
     ghost fault_count: { Self → ℕ };
 
-    /// Puts this text in the place of the one that is in the file. After a fault the file is as before.
+    /// The text that is in it now. A file that is not there has an empty one.
+    fn read<B: Allocator + Copy>(&mut self, alloc: B) -> Result<Vec<u8, B>, ToolFault>
+        ensures same { text self.new ≡ text self.old }
+        ensures told { IfOk result (λ found. holding found.items (text self.old) ≡ text self.old) }
+        ensures stands { OnOk result (fault_count self.new ≡ fault_count self.old) }
+        ensures fault { IfErr result (λ fault.
+            IsReadFault fault (fault_count self.old) (fault_count self.new)) };
+
+    /// Puts this text in the place of the one that is in the file. After a fault the file is as before, or has this text,
+    /// which may be gone again with the power.
     fn replace(&mut self, bytes: &[u8]) -> Result<(), FolderFailed>
         ensures ok { OnOk result (text self.new ≡ holding bytes.now (text self.old)) }
         ensures stands { OnOk result (fault_count self.new ≡ fault_count self.old) }
-        ensures err { OnErr result (text self.new ≡ text self.old) }
+        ensures err { OnErr result (IsWhole bytes.now (text self.old) (text self.new)) }
         ensures fault { OnErr result
             (HasFailed u64.MAX (fault_count self.old) (fault_count self.new)) }
         ensures grows { fault_count self.old ≤ fault_count self.new };

@@ -7,7 +7,7 @@ use std::alloc::Global;
 use std::process::Abort;
 use uug_line::Side;
 use uug_link::Announce;
-use uug_pair::{FolderSpool, GIVEN_MODE, Noise, PairEnd, Seat, read_jobs};
+use uug_pair::{FolderSpool, GIVEN_MODE, JobsFile, Noise, PairEnd, Seat, read_jobs};
 use uug_refusal::Refusing;
 use uug_session::{Node, Place, Stored};
 use uug_talk::Name;
@@ -27,6 +27,8 @@ pub enum Call {
     Write,
     PutOfCaller,
     PutOfCalled,
+    ReadingOfCaller,
+    ReadingOfCalled,
     JobsOfCaller,
     JobsOfCalled,
     Print,
@@ -52,13 +54,21 @@ impl Plan {
     }
 
     fn of_caller(self) -> Failing {
-        let puts = self.number_of(Call::PutOfCaller);
-        (CALLER, puts, self.number_of(Call::JobsOfCaller))
+        Failing {
+            given: CALLER,
+            puts: self.number_of(Call::PutOfCaller),
+            readings: self.number_of(Call::ReadingOfCaller),
+            texts: self.number_of(Call::JobsOfCaller),
+        }
     }
 
     fn of_called(self) -> Failing {
-        let puts = self.number_of(Call::PutOfCalled);
-        (CALLED, puts, self.number_of(Call::JobsOfCalled))
+        Failing {
+            given: CALLED,
+            puts: self.number_of(Call::PutOfCalled),
+            readings: self.number_of(Call::ReadingOfCalled),
+            texts: self.number_of(Call::JobsOfCalled),
+        }
     }
 }
 
@@ -70,27 +80,57 @@ pub struct Ends<'a> {
 }
 
 impl<'a> Ends<'a> {
-    pub fn new(rt: &impl Abort, heap: Heap<'a>, plan: Plan, noise: &mut Noise) -> Self {
+    /// Both ends, of which the files of jobs have these texts when the session is over.
+    pub fn new(
+        rt: &impl Abort,
+        heap: Heap<'a>,
+        plan: Plan,
+        (caller_now, called_now): (&str, &str),
+        noise: &mut Noise,
+    ) -> Self {
         Ends {
-            caller: end(rt, heap, plan.of_caller(), noise),
-            called: end(rt, heap, plan.of_called(), noise),
+            caller: end(rt, heap, plan.of_caller(), caller_now, noise),
+            called: end(rt, heap, plan.of_called(), called_now, noise),
         }
     }
 }
 
-/// An end, and the numbers of the file and of the text of jobs that it fails to keep.
-type Failing = (Given<'static>, u32, u32);
+/// An end, and the numbers of the file and of the text of jobs that it fails to keep, and of the reading of jobs that fails.
+#[derive(Clone, Copy)]
+struct Failing {
+    given: Given<'static>,
+    puts: u32,
+    readings: u32,
+    texts: u32,
+}
 
 fn end<'a>(
     rt: &impl Abort,
     heap: Heap<'a>,
-    (given, puts, texts): Failing,
+    failing: Failing,
+    now: &str,
     noise: &mut Noise,
 ) -> End<'a> {
-    let folder = MemoryFolder::new(given.side, puts);
+    let given = failing.given;
+    let folder = MemoryFolder::new(given.side, failing.puts);
+    let file = MemoryJobs::new(rt, now, (failing.readings, failing.texts));
     PairEnd {
         seat: seat(rt, heap, &given, folder, noise),
-        jobs: MemoryJobs::new(rt, given.jobs, texts),
+        jobs: jobs_file(rt, heap, &given, file),
+    }
+}
+
+/// The file of jobs of an end, which had its jobs when the session began.
+fn jobs_file<'a>(
+    rt: &impl Abort,
+    heap: Heap<'a>,
+    given: &Given<'_>,
+    file: MemoryJobs,
+) -> JobsFile<MemoryJobs, Heap<'a>> {
+    let before = given.jobs.as_bytes().to_vec(heap);
+    JobsFile {
+        file,
+        before: before.expect(rt, "memory for the jobs"),
     }
 }
 

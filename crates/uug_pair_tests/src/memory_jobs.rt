@@ -4,25 +4,29 @@ ghost use Rattle.std.specs.Prelude.{None};
 use crate::assertions::assert_so;
 use crate::failing::fails;
 use arrayvec::ArrayVec;
+use std::alloc::Allocator;
 use std::process::Abort;
 use uug_pair::{FolderFailed, TextFile};
+use uug_tool::ToolFault;
 
 /// The most bytes of a text.
-const TEXT_MAX: usize = 128;
+const TEXT_MAX: usize = 256;
 
-/// Holds a text, and refuses one.
+/// Holds a text, and refuses a reading or a text.
 #[derive(Drop)]
 pub struct MemoryJobs {
     text: ArrayVec<u8, TEXT_MAX>,
+    readings: u32,
     texts: u32,
     faults: u64,
 }
 
 impl MemoryJobs {
-    /// Holds this text, and refuses the one of this number.
-    pub fn new(rt: &impl Abort, text: &str, texts: u32) -> Self {
+    /// Holds this text, and refuses the reading of this number and the text of that number.
+    pub fn new(rt: &impl Abort, text: &str, (readings, texts): (u32, u32)) -> Self {
         MemoryJobs {
             text: held(rt, text),
+            readings,
             texts,
             faults: 0,
         }
@@ -44,6 +48,15 @@ impl TextFile for MemoryJobs {
     ghost text = { λ _. None };
 
     ghost fault_count = { λ jobs. jobs.faults };
+
+    fn read<B: Allocator + Copy>(&mut self, alloc: B) -> Result<Vec<u8, B>, ToolFault> {
+        if fails(&mut self.readings) {
+            self.faults = self.faults.saturating_add(1);
+            return Err(ToolFault::Device);
+        }
+        let text = self.text.as_slice().to_vec(alloc)?;
+        Ok(text)
+    }
 
     fn replace(&mut self, jobs: &[u8]) -> Result<(), FolderFailed> {
         if jobs.len() > TEXT_MAX || fails(&mut self.texts) {

@@ -53,7 +53,7 @@ fn run<'a>(
 
 /// The faults of an end's folder, or of its file of jobs.
 fn faults(end: &End<'_>) -> u64 {
-    folder(end).faults().max(end.jobs.faults())
+    folder(end).faults().max(end.jobs.file.faults())
 }
 
 fn folder<'e>(end: &'e End<'_>) -> &'e MemoryFolder {
@@ -68,8 +68,8 @@ fn has(text: &[u8], line: &str) -> bool {
 /// The text of the jobs of the end on a side.
 fn jobs<'e>(ends: &'e Ends<'_>, side: Side) -> &'e [u8] {
     match side {
-        Side::Caller => ends.caller.jobs.text(),
-        Side::Called => ends.called.jobs.text(),
+        Side::Caller => ends.caller.jobs.file.text(),
+        Side::Called => ends.called.jobs.file.text(),
     }
 }
 
@@ -97,19 +97,22 @@ fn assert_not_lost(rt: &impl Abort, ends: &Ends<'_>, printed: &[u8]) {
 }
 
 /// The calls that fail, how many of them there are at least, and what is answered.
-const FAULTS: [(Call, u32, Result<u8, ToolFault>); 7] = [
+const FAULTS: [(Call, u32, Result<u8, ToolFault>); 9] = [
     (Call::Read, 40, Err(ToolFault::Device)),
     (Call::Write, 40, Err(ToolFault::Device)),
     (Call::PutOfCaller, 2, Ok(1)),
     (Call::PutOfCalled, 2, Ok(1)),
+    (Call::ReadingOfCaller, 1, Err(ToolFault::Device)),
+    (Call::ReadingOfCalled, 1, Err(ToolFault::Device)),
     (Call::JobsOfCaller, 1, Err(ToolFault::Device)),
     (Call::JobsOfCalled, 1, Err(ToolFault::Device)),
     (Call::Print, 8, Err(ToolFault::Write)),
 ];
 
-/// The text of the jobs of an end where the sessions come to their end: it is empty, unless this text was refused.
-fn left_jobs<'a>(given: &'a str, plan: Plan, call: Call) -> &'a [u8] {
-    if plan.number_of(call) == 1 {
+/// The text of the jobs of an end where the sessions come to their end: it is empty, unless it could not be read, or the
+/// new one was refused.
+fn left_jobs<'a>(given: &'a str, plan: Plan, reading: Call, text: Call) -> &'a [u8] {
+    if plan.number_of(reading) == 1 || plan.number_of(text) == 1 {
         given.as_bytes()
     } else {
         b""
@@ -118,8 +121,8 @@ fn left_jobs<'a>(given: &'a str, plan: Plan, call: Call) -> &'a [u8] {
 
 /// What is in the files of jobs where the sessions come to their end.
 fn assert_done(rt: &impl Abort, ends: &Ends<'_>, plan: Plan) {
-    let caller = left_jobs(CALLER.jobs, plan, Call::JobsOfCaller);
-    let called = left_jobs(CALLED.jobs, plan, Call::JobsOfCalled);
+    let caller = left_jobs(CALLER.jobs, plan, Call::ReadingOfCaller, Call::JobsOfCaller);
+    let called = left_jobs(CALLED.jobs, plan, Call::ReadingOfCalled, Call::JobsOfCalled);
     assert_same(rt, jobs(ends, Side::Caller), caller);
     assert_same(rt, jobs(ends, Side::Called), called);
 }
@@ -133,7 +136,11 @@ fn assert_as_before(rt: &impl Abort, ends: &Ends<'_>) {
 /// Whether the sessions come to their end whatever call of this kind fails.
 fn is_done(call: Call) -> bool {
     match call {
-        Call::JobsOfCaller | Call::JobsOfCalled | Call::Print => true,
+        Call::ReadingOfCaller
+        | Call::ReadingOfCalled
+        | Call::JobsOfCaller
+        | Call::JobsOfCalled
+        | Call::Print => true,
         _ => false,
     }
 }
@@ -268,6 +275,76 @@ fn ends_at_the_limit_of_turns(rt: HostRuntime) {
     }
 }
 
+/// What both files of jobs have when the session is over, the most turns that it takes, and what is left then.
+#[derive(Clone, Copy)]
+struct Change<'a> {
+    caller: &'a str,
+    called: &'a str,
+    limit: u32,
+    caller_left: &'a str,
+    called_left: &'a str,
+}
+
+const CHANGES: &[Change<'static>] = &[
+    // jobs were appended, one of them the same as one that is done
+    Change {
+        caller: "send x y u\nrequest q z u\nsend x .hidden u\nsend none n u\nsend x y u\n",
+        called: "request x again u\nsend q back u\n# more\nsend q new u",
+        limit: ENOUGH,
+        caller_left: "send x y u\n",
+        called_left: "# more\nsend q new u",
+    },
+    // the text is another: each job that is over is taken out once, whatever spaces its line has, and one that has gone
+    // already is not missed
+    Change {
+        caller: "# first\nsend x w u\n send  x y u \nsend x y u\nsend none n u\nbad\n",
+        called: "",
+        limit: ENOUGH,
+        caller_left: "# first\nsend x w u\nsend x y u\nbad\n",
+        called_left: "",
+    },
+    // two lines for a job, of which one stays, and a line without a line feed
+    Change {
+        caller: "\nrequest q z u\nrequest q z u\nsend q z u\nrequest q z w",
+        called: "send q back u\nrequest x again u",
+        limit: ENOUGH,
+        caller_left: "\nrequest q z u\nsend q z u\nrequest q z w\n",
+        called_left: "",
+    },
+    // no job is over: what is pending stays, and what was appended stays behind it
+    Change {
+        caller: "send x y u\nrequest q z u\nsend x .hidden u\nsend none n u\nsend x new u\n",
+        called: "send q back u\nrequest x again u\n",
+        limit: 5,
+        caller_left: "send x y u\nrequest q z u\nsend x .hidden u\nsend none n u\nsend x new u\n",
+        called_left: "send q back u\nrequest x again u\n",
+    },
+];
+
+/// Runs these ends, whose files of jobs are changed meanwhile. No call fails.
+fn change_jobs<'a>(
+    rt: &impl Abort,
+    heap: Heap<'a>,
+    ends: &mut Ends<'a>,
+    change: Change<'_>,
+    noise: &mut Noise,
+) -> bool {
+    let mut output = ShortOutput::new(0);
+    let outcome = run(heap, ends, (NO_FAULT, change.limit), noise, &mut output);
+    assert_same(rt, jobs(ends, Side::Caller), change.caller_left.as_bytes());
+    assert_same(rt, jobs(ends, Side::Called), change.called_left.as_bytes());
+    outcome.has_failed
+}
+
+// what was appended is dropped; a job that is pending is taken out; two lines go for one job, or none does
+#[test]
+fn keeps_what_came_into_the_jobs_meanwhile(rt: HostRuntime) {
+    let heap = Refusing::new(rt.alloc(), 0);
+    for change in CHANGES {
+        play(&rt, &heap, Trial::Change(*change));
+    }
+}
+
 /// What is tried with two ends.
 #[derive(Clone, Copy)]
 enum Trial {
@@ -277,6 +354,8 @@ enum Trial {
     Refusal(u64),
     /// They take so few turns that no job is done.
     Limit(u32),
+    /// Both files of jobs are changed meanwhile.
+    Change(Change<'static>),
 }
 
 impl Trial {
@@ -284,6 +363,14 @@ impl Trial {
         match self {
             Trial::Fault(plan, _) => plan,
             _ => NO_FAULT,
+        }
+    }
+
+    /// What both files of jobs have when the session is over.
+    fn texts(self) -> (&'static str, &'static str) {
+        match self {
+            Trial::Change(change) => (change.caller, change.called),
+            _ => (CALLER.jobs, CALLED.jobs),
         }
     }
 }
@@ -300,6 +387,7 @@ fn play_with<'a>(
         Trial::Fault(plan, expected) => fail_ends(rt, heap, ends, (plan, expected), noise),
         Trial::Refusal(nth) => refuse_ends(rt, heap, ends, nth, noise),
         Trial::Limit(limit) => break_ends_off(rt, heap, ends, limit, noise),
+        Trial::Change(change) => change_jobs(rt, heap, ends, change, noise),
     }
 }
 
@@ -307,7 +395,7 @@ fn play_with<'a>(
 fn play(rt: &impl Abort, heap: Heap<'_>, trial: Trial) -> bool {
     heap.refuse(0);
     let mut noise = Noise::new(None, None).expect(rt, "no noise");
-    let mut ends = Ends::new(rt, heap, trial.plan(), &mut noise);
+    let mut ends = Ends::new(rt, heap, trial.plan(), trial.texts(), &mut noise);
     let was_met = play_with(rt, heap, &mut ends, trial, &mut noise);
     drop(ends);
     was_met

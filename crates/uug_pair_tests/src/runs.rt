@@ -4,13 +4,14 @@
 use crate::assertions::{assert_same, assert_same_at, assert_so, assert_so_at};
 use crate::short_output::ShortOutput;
 use std::alloc::{Allocator, Global};
+use std::fs::File;
 use std::net::Net;
 use std::os::unix::fs::symlink;
 use std::os::unix::net::UnixListener;
 use std::process::Abort;
 use std::rt::{Env, Files};
 use std::{env, fs, io, process};
-use uug_pair::pair_run;
+use uug_pair::{SystemText, TextFile, lock_dir, pair_run};
 use uug_refusal::Refusing;
 use uug_tool::ToolFault;
 
@@ -104,14 +105,13 @@ const ROWS: &[Row<'static>] = &[
             called spoolfault pending 0 struck 0 failed 0\n",
         left: &[("a/jobs", b"send x y u\n")],
     },
-    // a folder is missing, into which no jobs can be written
+    // a folder is missing
     Row {
         given: &[SEND, X],
         drop_every: None,
         flip_every: None,
         answer: Err(ToolFault::Device),
-        printed: "caller peerclosed pending 1 struck 0 failed 0\n\
-            called spoolfault pending 0 struck 0 failed 0\n",
+        printed: "",
         left: &[("a/jobs", b"send x y u\n")],
     },
     // files and links in the place of what is kept, and of what is written before it is whole
@@ -123,8 +123,8 @@ const ROWS: &[Row<'static>] = &[
             Given::File("b/got/y", b"old"),
             Given::File("b/target", b"t"),
             Given::Link("b/got/link", "../target"),
-            Given::Link("b/got/.part", "../target"),
-            Given::Link("a/jobs.new", "../b/target"),
+            Given::Link("b/got/.part.1.0", "../target"),
+            Given::Link("a/.part.1.0", "../b/target"),
         ],
         drop_every: None,
         flip_every: None,
@@ -450,7 +450,7 @@ impl Paths {
 /// Runs two ends over these folders and this socket.
 fn run_ends<A: Allocator + Copy>(
     alloc: A,
-    rt: &(impl Files + Net + Alloc + Clone + Drop),
+    rt: &(impl Files<File = File> + Net + Alloc + Clone + Drop),
     paths: &Paths,
     (drop_every, flip_every): Every,
     output: &mut ShortOutput,
@@ -462,7 +462,7 @@ fn run_ends<A: Allocator + Copy>(
 /// Runs two ends over the folders `a` and `b` and the socket `socket` in this folder.
 fn run_within<A: Allocator + Copy>(
     alloc: A,
-    rt: &(impl Files + Net + Abort + AllocGlobal + Clone + Drop),
+    rt: &(impl Files<File = File> + Net + Abort + AllocGlobal + Clone + Drop),
     dir: &str,
     every: Every,
     output: &mut ShortOutput,
@@ -482,13 +482,22 @@ fn assert_bytes(rt: &(impl Files + Abort + AllocGlobal), path: &str, name: &str,
     assert_so_at(rt, found.as_slice() == bytes, name);
 }
 
+fn has_file(rt: &(impl Files + Abort + AllocGlobal), dir: &str, name: &str) -> bool {
+    let path = within(rt, dir, name);
+    fs::symlink_metadata(rt, path.as_str()).is_ok()
+}
+
 fn has_socket(rt: &(impl Files + Abort + AllocGlobal), dir: &str) -> bool {
     let path = within(rt, dir, "socket");
     fs::exists(rt, path.as_str()).expect(rt, "a folder to look into")
 }
 
 impl Row<'_> {
-    fn run(&self, rt: &(impl Files + Net + Abort + AllocGlobal + Clone + Drop), dir: &str) {
+    fn run(
+        &self,
+        rt: &(impl Files<File = File> + Net + Abort + AllocGlobal + Clone + Drop),
+        dir: &str,
+    ) {
         let mut output = ShortOutput::new(0);
         let every = (self.drop_every, self.flip_every);
         let answer = run_within(rt.alloc(), rt, dir, every, &mut output);
@@ -504,7 +513,11 @@ impl Row<'_> {
     }
 
     /// Runs the ends in this folder. The socket is gone then, unless it was there before.
-    fn play(&self, rt: &(impl Files + Net + Abort + AllocGlobal + Clone + Drop), dir: &str) {
+    fn play(
+        &self,
+        rt: &(impl Files<File = File> + Net + Abort + AllocGlobal + Clone + Drop),
+        dir: &str,
+    ) {
         place_all(rt, dir, self.given);
         let had_socket = has_socket(rt, dir);
         self.run(rt, dir);
@@ -515,7 +528,7 @@ impl Row<'_> {
 }
 
 /// Plays the rows, each in a new folder.
-fn play_rows(rt: &(impl Files + Net + Abort + AllocGlobal + Clone + Drop), dir: &str) {
+fn play_rows(rt: &(impl Files<File = File> + Net + Abort + AllocGlobal + Clone + Drop), dir: &str) {
     for row in ROWS {
         row.play(rt, dir);
     }
@@ -527,6 +540,89 @@ fn play_rows(rt: &(impl Files + Net + Abort + AllocGlobal + Clone + Drop), dir: 
 fn moves_files_between_folders(rt: HostRuntime) {
     let dir = folder_path(&rt, process::id(rt.process()), "rows");
     play_rows(&rt, dir.as_str());
+}
+
+/// Two ends of which another run holds a folder: nothing is read or sent, and what a run that was killed left stays.
+fn assert_held(
+    rt: &(impl Files<File = File> + Net + Abort + AllocGlobal + Clone + Drop),
+    dir: &str,
+    name: &str,
+    number: usize,
+) {
+    let path = within(rt, dir, name);
+    let lock = lock_dir(rt.alloc(), rt, path.as_str(), 0).expect(rt, "a lock");
+    place(rt, dir, PART);
+    let mut output = ShortOutput::new(0);
+    let answer = run_within(rt.alloc(), rt, dir, (None, None), &mut output);
+    drop(lock);
+    assert_same(rt, answer, Err(ToolFault::InUse(number)));
+    assert_same(rt, output.text(), b"");
+    assert_file(rt, dir, "a/jobs", b"send x y u\n");
+    assert_so(rt, has_file(rt, dir, "b/got/.part.7.0") || number == 1);
+    assert_so(rt, !has_socket(rt, dir));
+}
+
+/// What a run that was killed left of a file that was not whole.
+const PART: Given<'static> = Given::File("b/got/.part.7.0", b"p");
+
+/// What it left of the jobs.
+const PART_OF_JOBS: Given<'static> = Given::File("a/.part.7.1", b"p");
+
+/// Runs both ends, whose folders nobody holds.
+fn assert_free(
+    rt: &(impl Files<File = File> + Net + Abort + AllocGlobal + Clone + Drop),
+    dir: &str,
+) {
+    place(rt, dir, PART);
+    place(rt, dir, PART_OF_JOBS);
+    let mut output = ShortOutput::new(0);
+    let answer = run_within(rt.alloc(), rt, dir, (None, None), &mut output);
+    assert_same(rt, answer, Ok(0));
+    assert_file(rt, dir, "b/got/y", b"");
+    assert_so(rt, !has_file(rt, dir, "b/got/.part.7.0"));
+    assert_so(rt, !has_file(rt, dir, "a/.part.7.1"));
+}
+
+fn hold_folders(
+    rt: &(impl Files<File = File> + Net + Abort + AllocGlobal + Clone + Drop),
+    dir: &str,
+) {
+    place_all(rt, dir, &[SEND, X, Given::Folder("b/got")]);
+    assert_held(rt, dir, "a", 0);
+    assert_held(rt, dir, "b", 1);
+    assert_free(rt, dir);
+    remove(rt, dir);
+}
+
+// two runs in one folder; a lock that is kept; a file that was not whole and stays
+#[test]
+fn works_in_a_folder_alone(rt: HostRuntime) {
+    let dir = folder_path(&rt, process::id(rt.process()), "held");
+    hold_folders(&rt, dir.as_str());
+}
+
+/// Reads a file of jobs, appends to it, and replaces it: what was appended stays behind the new text.
+fn append_between(
+    rt: &(impl Files<File = File> + Net + Abort + AllocGlobal + Clone + Drop),
+    dir: &str,
+) {
+    place_all(rt, dir, &[SEND]);
+    let folder = within(rt, dir, "a");
+    let mut file = SystemText::new(rt.alloc(), rt, folder.as_str(), "jobs").expect(rt, "memory");
+    let text = file.read(rt.alloc()).expect(rt, "a text");
+    assert_so(rt, text.as_slice() == b"send x y u\n".as_slice());
+    place(rt, dir, Given::File("a/jobs", b"send x y u\nsend x z u\n"));
+    assert_so(rt, file.replace(b"send x w u\n").is_ok());
+    drop(file);
+    assert_file(rt, dir, "a/jobs", b"send x w u\nsend x z u\n");
+    remove(rt, dir);
+}
+
+// what is appended at the last moment is dropped
+#[test]
+fn keeps_what_is_appended_at_the_last_moment(rt: HostRuntime) {
+    let dir = folder_path(&rt, process::id(rt.process()), "appended");
+    append_between(&rt, dir.as_str());
 }
 
 /// The nth request for memory was refused, after which nothing is printed; or none was.
@@ -546,7 +642,7 @@ fn assert_refused(
 
 /// Runs two ends with the nth request for memory refused. Whether one was.
 fn refuse(
-    rt: &(impl Files + Net + Abort + AllocGlobal + Clone + Drop),
+    rt: &(impl Files<File = File> + Net + Abort + AllocGlobal + Clone + Drop),
     heap: &Refusing<Global>,
     dir: &str,
     nth: u64,
@@ -561,7 +657,7 @@ fn refuse(
 
 /// Refuses each request for memory in turn. How many there are.
 fn refuse_each(
-    rt: &(impl Files + Net + Abort + AllocGlobal + Clone + Drop),
+    rt: &(impl Files<File = File> + Net + Abort + AllocGlobal + Clone + Drop),
     heap: &Refusing<Global>,
     dir: &str,
 ) -> u64 {
@@ -575,7 +671,10 @@ fn refuse_each(
     panic!(rt; "no end of the requests");
 }
 
-fn refuse_in_folder(rt: &(impl Files + Net + Abort + AllocGlobal + Clone + Drop), dir: &str) {
+fn refuse_in_folder(
+    rt: &(impl Files<File = File> + Net + Abort + AllocGlobal + Clone + Drop),
+    dir: &str,
+) {
     place_all(rt, dir, &[SEND, X, Given::Folder("b/got")]);
     let heap = Refusing::new(rt.alloc(), 0);
     let requests = refuse_each(rt, &heap, dir);

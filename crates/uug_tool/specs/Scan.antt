@@ -25,4 +25,5 @@ IsScanFault faults.Device = ⊤
 IsScanFault (faults.Script line) = ⊥
 IsScanFault (faults.Jobs line) = ⊥
 IsScanFault faults.Number = ⊥
+IsScanFault (faults.InUse folder) = ⊥
 IsScanFault faults.Usage = ⊥

@@ -31,6 +31,9 @@ pub enum ToolFault {
     /// A device gave more than the program takes, or failed otherwise.
     #[error("device fault")]
     Device,
+    /// Another run works in the folder of this number, counted from 0 in the order of the arguments.
+    #[error("device fault")]
+    InUse(usize),
     /// An argument is out of its range.
     #[error("bad usage")]
     Usage,
@@ -43,7 +46,7 @@ impl ToolFault {
     {
         match self {
             ToolFault::Script(_) | ToolFault::Jobs(_) | ToolFault::Number | ToolFault::Usage => 2,
-            ToolFault::Device | ToolFault::Read | ToolFault::Write => 3,
+            ToolFault::Device | ToolFault::InUse(_) | ToolFault::Read | ToolFault::Write => 3,
             ToolFault::Memory => 4,
         }
     }

@@ -2,7 +2,9 @@
 ghost use Rattle.std.specs.Prelude.{None};
 
 use arrayvec::ArrayVec;
+use std::alloc::Allocator;
 use uug_pair::{FolderFailed, TextFile};
+use uug_tool::ToolFault;
 
 /// The most bytes of a text.
 const TEXT_MAX: usize = 64;
@@ -16,9 +18,12 @@ pub(super) struct MemoryText {
 }
 
 impl MemoryText {
-    pub(super) fn new(fails: bool) -> Self {
+    /// Holds this text, as far as there is room.
+    pub(super) fn new(text: &[u8], fails: bool) -> Self {
+        let mut held = ArrayVec::new();
+        let _ = held.try_extend_from_slice(text);
         MemoryText {
-            text: ArrayVec::new(),
+            text: held,
             fails,
             faults: 0,
         }
@@ -33,6 +38,11 @@ impl TextFile for MemoryText {
     ghost text = { λ _. None };
 
     ghost fault_count = { λ file. file.faults };
+
+    fn read<B: Allocator + Copy>(&mut self, alloc: B) -> Result<Vec<u8, B>, ToolFault> {
+        let text = self.text.as_slice().to_vec(alloc)?;
+        Ok(text)
+    }
 
     fn replace(&mut self, bytes: &[u8]) -> Result<(), FolderFailed> {
         if self.fails || bytes.len() > TEXT_MAX {

@@ -10,6 +10,7 @@ use std::alloc::Global;
 use std::process::Abort;
 use uug_call::{CallEnd, call_over, number_at_start, number_line, read_number_text};
 use uug_line::Side;
+use uug_pair::JobsFile;
 use uug_session::MemorySpool;
 use uug_tool::{MemoryOutput, ToolFault};
 
@@ -26,8 +27,8 @@ struct Left<'a> {
 }
 
 /// The numbers that the caller and the called end keep, which file of the caller can't be written (that of its jobs, that
-/// of its number), and what is left.
-type Call<'a> = (Option<u32>, Option<u32>, (bool, bool), Left<'a>);
+/// of its number), what the file of its jobs has when the session is over, and what is left.
+type Call<'a> = (Option<u32>, Option<u32>, (bool, bool), &'a [u8], Left<'a>);
 
 const NONE_FAILS: (bool, bool) = (false, false);
 
@@ -43,6 +44,7 @@ const CALLS: &[Call<'static>] = &[
         Some(7),
         Some(7),
         NONE_FAILS,
+        JOB,
         Left {
             answer: Ok(0),
             jobs: b"",
@@ -55,6 +57,7 @@ const CALLS: &[Call<'static>] = &[
         Some(4_294_967_295),
         None,
         NONE_FAILS,
+        JOB,
         Left {
             answer: Ok(0),
             jobs: b"",
@@ -68,6 +71,7 @@ const CALLS: &[Call<'static>] = &[
         None,
         None,
         NONE_FAILS,
+        JOB,
         Left {
             answer: Ok(0),
             jobs: b"",
@@ -81,6 +85,7 @@ const CALLS: &[Call<'static>] = &[
         Some(7),
         Some(9),
         NONE_FAILS,
+        JOB,
         Left {
             answer: Ok(1),
             jobs: JOB,
@@ -93,6 +98,7 @@ const CALLS: &[Call<'static>] = &[
         None,
         Some(9),
         NONE_FAILS,
+        JOB,
         Left {
             answer: Ok(1),
             jobs: JOB,
@@ -106,9 +112,10 @@ const CALLS: &[Call<'static>] = &[
         Some(7),
         Some(7),
         (true, false),
+        JOB,
         Left {
             answer: Err(ToolFault::Device),
-            jobs: b"",
+            jobs: JOB,
             number: b"8\n",
             report: DONE,
             other: Some(8),
@@ -118,8 +125,69 @@ const CALLS: &[Call<'static>] = &[
         Some(7),
         Some(9),
         (false, true),
+        JOB,
         Left {
             answer: Err(ToolFault::Device),
+            jobs: JOB,
+            number: b"",
+            report: REFUSED,
+            other: Some(9),
+        },
+    ),
+];
+
+/// The same of calls whose file of jobs is changed meanwhile.
+const CHANGED: &[Call<'static>] = &[
+    // a job was appended
+    (
+        None,
+        None,
+        NONE_FAILS,
+        b"send x y u\nsend x z u\n",
+        Left {
+            answer: Ok(0),
+            jobs: b"send x z u\n",
+            number: b"",
+            report: DONE,
+            other: None,
+        },
+    ),
+    // the job is over, and its line is taken out wherever it stands
+    (
+        None,
+        None,
+        NONE_FAILS,
+        b"# mine\nsend x y u\nsend x y u\n",
+        Left {
+            answer: Ok(0),
+            jobs: b"# mine\nsend x y u\n",
+            number: b"",
+            report: DONE,
+            other: None,
+        },
+    ),
+    // no job is over: the file stays as it is, with its comment
+    (
+        Some(7),
+        Some(9),
+        NONE_FAILS,
+        b"# mine\n send x y u",
+        Left {
+            answer: Ok(1),
+            jobs: b"# mine\n send x y u",
+            number: b"7\n",
+            report: REFUSED,
+            other: Some(9),
+        },
+    ),
+    // so that even one that can't be written is no fault
+    (
+        None,
+        Some(9),
+        (true, false),
+        JOB,
+        Left {
+            answer: Ok(1),
             jobs: JOB,
             number: b"",
             report: REFUSED,
@@ -143,18 +211,27 @@ const TEXTS: [(&[u8], Option<u32>); 11] = [
     (b"-7\n", None),
 ];
 
-/// The caller, which keeps this number.
-fn end(rt: &impl Abort, alloc: Global, number: Option<u32>, fails: (bool, bool)) -> MemoryEnd {
+/// The caller, which keeps this number. Its file of jobs has this text when the session is over.
+fn end(rt: &impl Abort, alloc: Global, call: &Call<'_>) -> MemoryEnd {
+    let (number, _, (jobs_fail, number_fails), now, _) = call;
     CallEnd {
-        seat: caller(rt, alloc, b"hi", number),
-        jobs: MemoryText::new(fails.0),
-        number: MemoryText::new(fails.1),
+        seat: caller(rt, alloc, b"hi", *number),
+        jobs: jobs_file(rt, alloc, MemoryText::new(now, *jobs_fail)),
+        number: MemoryText::new(b"", *number_fails),
+    }
+}
+
+/// The file of jobs of the caller, which had its job when the session began.
+fn jobs_file(rt: &impl Abort, alloc: Global, file: MemoryText) -> JobsFile<MemoryText, Global> {
+    JobsFile {
+        file,
+        before: JOB.to_vec(alloc).expect(rt, "memory for a job"),
     }
 }
 
 /// What both files of an end have.
 fn assert_files(rt: &impl Abort, end: &MemoryEnd, left: &Left<'_>) {
-    assert_same(rt, end.jobs.text(), left.jobs);
+    assert_same(rt, end.jobs.file.text(), left.jobs);
     assert_same(rt, end.number.text(), left.number);
 }
 
@@ -184,7 +261,7 @@ fn assert_call(
 
 // Each end is made in a function of its own, and lent.
 fn call_over_line(rt: &impl Abort, alloc: Global, call: &Call<'_>, end: &mut MemoryEnd) {
-    let (_, theirs, _, left) = call;
+    let (_, theirs, _, _, left) = call;
     let mut line = line(rt, alloc, *theirs, CLEAN);
     assert_call(rt, alloc, left, end, &mut line);
     let other = line.other().node().number();
@@ -193,8 +270,8 @@ fn call_over_line(rt: &impl Abort, alloc: Global, call: &Call<'_>, end: &mut Mem
 }
 
 fn make_call(rt: &impl Abort, alloc: Global, call: &Call<'_>) {
-    let (mine, _, fails, left) = call;
-    let mut end = end(rt, alloc, *mine, *fails);
+    let (_, _, _, _, left) = call;
+    let mut end = end(rt, alloc, call);
     call_over_line(rt, alloc, call, &mut end);
     assert_files(rt, &end, left);
     drop(end);
@@ -203,6 +280,14 @@ fn make_call(rt: &impl Abort, alloc: Global, call: &Call<'_>) {
 #[test]
 fn calls_keep_their_number(rt: HostRuntime) {
     for call in CALLS {
+        make_call(&rt, rt.alloc(), call);
+    }
+}
+
+// what was appended is dropped; a job is done and stays; a file is written though no job is over
+#[test]
+fn calls_keep_what_came_into_the_jobs_meanwhile(rt: HostRuntime) {
+    for call in CHANGED {
         make_call(&rt, rt.alloc(), call);
     }
 }

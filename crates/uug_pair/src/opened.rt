@@ -1,0 +1,47 @@
+//! The file of an end's jobs as its session begins.
+ghost use Rattle.std.specs.Prelude.{IfErr};
+ghost use Rattle.uug_pair.specs.Pair.{IsReadingFault};
+
+use crate::jobs_file::JobsFile;
+use crate::jobs_text::{JobsFault, read_jobs};
+use crate::system_text::SystemText;
+use crate::text_file::TextFile;
+use std::alloc::Allocator;
+use std::rt::Files;
+use uug_session::Queue;
+use uug_tool::ToolFault;
+
+/// The file of an end's jobs, and the jobs that its text says.
+#[derive(Drop)]
+pub struct OpenJobs<'a, R: Files, A: Allocator> {
+    pub file: JobsFile<SystemText<'a, R, A>, A>,
+    pub queue: Queue<A>,
+}
+
+/// Reads the jobs of the folder `dir`. A folder without a file of them has none.
+pub fn open_jobs<'a, A: Allocator + Copy, R: Files>(
+    alloc: A,
+    rt: &'a R,
+    dir: &str,
+) -> Result<OpenJobs<'a, R, A>, ToolFault>
+    ensures no_other { IfErr result IsReadingFault }
+{
+    let mut file = SystemText::new(alloc, rt, dir, "jobs")?;
+    let before = file.read(alloc)?;
+    let queue = queue_of(alloc, before.as_slice())?;
+    Ok(OpenJobs {
+        file: JobsFile { file, before },
+        queue,
+    })
+}
+
+/// The jobs that a text says.
+fn queue_of<A: Allocator + Copy>(alloc: A, text: &[u8]) -> Result<Queue<A>, ToolFault>
+    ensures { IfErr result IsReadingFault }
+{
+    match read_jobs(alloc, text) {
+        Ok(queue) => Ok(queue),
+        Err(JobsFault::Bad(line)) => Err(ToolFault::Jobs(line)),
+        Err(JobsFault::Memory) => Err(ToolFault::Memory),
+    }
+}

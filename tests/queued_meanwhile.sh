@@ -1,0 +1,115 @@
+#!/usr/bin/env bash
+# Jobs that are queued while sessions run: 20 files, each put into `send` and its job appended to `jobs` at a moment of its
+# own, while `call`, `answer` and `pair` run again and again. Each of them must come, whole and once.
+#
+#   tests/queued_meanwhile.sh [PROGRAM]
+#
+# It prints a line for each of the three, and ends with status 1 where a file is lost. The folders stay then.
+set -eu
+export LC_ALL=C
+count=20
+root=$(dirname "$(dirname "$(readlink -f "$0")")")
+if [ -n "${1:-}" ]; then
+    program=$(readlink -f "$1")
+else
+    # builds it where that is needed
+    "$root/uucpair" scan </dev/null >/dev/null
+    program=$root/crates/uucpair/out/uucpair
+fi
+work=$(mktemp -d)
+lost=0
+# A pipe that stays silent, to wait by.
+mkfifo "$work/never"
+exec {never}<>"$work/never"
+
+pause() {
+    read -rt "$1" -u "$never" || true
+}
+
+# new_folders NAME: sets `a` and `b` to folders of two ends, of which `a` has a long file and its job.
+new_folders() {
+    a=$work/$1/a
+    b=$work/$1/b
+    mkdir -p "$a"/{send,got} "$b"/{send,got}
+    head -c 300000 /dev/urandom >"$a/send/long"
+    echo "send long long u" >"$a/jobs"
+    : >"$b/jobs"
+}
+
+# feed DIR: puts the files and their jobs into a folder, one after another.
+feed() {
+    local i
+    for ((i = 0; i < count; i++)); do
+        head -c $((i * 397 + 1)) /dev/urandom >"$1/send/new$i"
+        echo "send new$i new$i u" >>"$1/jobs"
+        pause "0.$((RANDOM % 3))$((RANDOM % 9 + 1))"
+    done
+}
+
+# One session of each kind over `a` and `b`, in which `a` is the end that has the jobs.
+session_call() {
+    local status=0
+    "$program" answer "unix:$work/line" "$b" --me b --peer a >"$work/answer.out" 2>"$work/answer.err" &
+    wait_for_line
+    "$program" call "unix:$work/line" "$a" --me a --peer b >"$work/call.out" 2>"$work/call.err" || status=$?
+    wait $! || status=$?
+    return $status
+}
+
+session_answer() {
+    local status=0
+    "$program" answer "unix:$work/line" "$a" --me a --peer b >"$work/answer.out" 2>"$work/answer.err" &
+    wait_for_line
+    "$program" call "unix:$work/line" "$b" --me b --peer a >"$work/call.out" 2>"$work/call.err" || status=$?
+    wait $! || status=$?
+    return $status
+}
+
+session_pair() {
+    "$program" pair "$work/line" "$a" "$b" >"$work/pair.out" 2>"$work/pair.err"
+}
+
+wait_for_line() {
+    local i
+    for ((i = 0; i < 500; i++)); do
+        [ ! -S "$work/line" ] || return 0
+        pause 0.01
+    done
+    echo "queued_meanwhile.sh: nobody listens; see $work" >&2
+    exit 1
+}
+
+# try KIND: sessions until no more jobs come, and then what has come of them.
+try() {
+    local feeder sessions=0 i missing=0
+    new_folders "$1"
+    feed "$a" &
+    feeder=$!
+    while true; do
+        local is_last=0
+        kill -0 "$feeder" 2>/dev/null || is_last=1
+        session_"$1" || {
+            echo "queued_meanwhile.sh: a session failed; see $work" >&2
+            exit 1
+        }
+        sessions=$((sessions + 1))
+        [ "$is_last" -eq 0 ] || [ -s "$a/jobs" ] || break
+        [ "$sessions" -lt 200 ] || break
+    done
+    wait "$feeder" || true
+    for ((i = 0; i < count; i++)); do
+        cmp -s "$a/send/new$i" "$b/got/new$i" || missing=$((missing + 1))
+    done
+    cmp -s "$a/send/long" "$b/got/long" || missing=$((missing + 1))
+    echo "$1: $missing of $((count + 1)) files are lost in $sessions sessions; jobs left: $(wc -l <"$a/jobs")"
+    lost=$((lost + missing))
+}
+
+try call
+try answer
+try pair
+[ "$lost" -eq 0 ] || {
+    echo "queued_meanwhile.sh: $lost files are lost; see $work" >&2
+    exit 1
+}
+rm -rf "$work"
