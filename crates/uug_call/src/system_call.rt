@@ -55,6 +55,8 @@ pub struct CallTask<'a> {
     pub seconds: u32,
     /// Whether it is quiet on repeats.
     pub is_quiet: bool,
+    /// Whether its commands are short.
+    pub is_short: bool,
     /// Whether it begins to keep a number of its conversations, where it keeps none yet.
     pub is_numbered: bool,
     /// Whether it says on standard error how the end stands.
@@ -92,7 +94,7 @@ fn read_terms<'a>(task: &CallTask<'a>) -> Option<Terms<'a>> {
         place: Place {
             me: Name::new(task.me.as_bytes()).ok()?,
             peer: Name::new(task.peer.as_bytes()).ok()?,
-            announce: announce.with_quiet(task.is_quiet),
+            announce: announce.with_quiet(task.is_quiet).with_short(task.is_short),
             number: None,
         },
         patience: Duration::from_secs(u64::from(task.seconds)),

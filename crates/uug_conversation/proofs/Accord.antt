@@ -1,6 +1,7 @@
 -- When one end, as it stands, accords with what is still to come of a conversation; and what follows of each front of it.
 use Rattle.std.proofs.Common.{◌≡◌, ◌↔◌, ℕ, zero, suc, ◌≤◌, Bool, true, false, List, [], ◌∷◌, ◌++◌, length, take, refl, sym, ap, subst, ◌∙◌, arith}
 use Rattle.std.proofs.lemmas.List.{append-nil, append_assoc}
+use Rattle.uug_talk.specs.Chunks.{Measure}
 use Rattle.uug_conversation.specs.declared.awaits.Awaits.TheVariants as awaits
 use Rattle.uug_conversation.specs.Holdings.{Kept, Holdings}
 use Rattle.uug_conversation.specs.Jobs.{Lists, Move, moved}
@@ -27,12 +28,12 @@ pub record Does (lists : Lists) (moves : List Move) (keeps : List Kept) (reply :
   pub kept : reply.keeps ≡ keeps
 
 -- the end is in this state, has these messages left to say, and this is still to come
-abbrev pub Accords : Holdings → (size : ℕ) → State → (left : List (List ℕ)) → List Seen → Type 0
-Accords h size s left [] = (left ≡ []) × (s.awaits ≡ awaits.NothingMore)
-Accords h size s left (says bytes ∷ v) = (more : List (List ℕ)) × (left ≡ bytes ∷ more) × Accords h size s more v
-Accords h size s left (hears bytes moves keeps ∷ v) =
+abbrev pub Accords : Holdings → Measure → State → (left : List (List ℕ)) → List Seen → Type 0
+Accords h measure s left [] = (left ≡ []) × (s.awaits ≡ awaits.NothingMore)
+Accords h measure s left (says bytes ∷ v) = (more : List (List ℕ)) × (left ≡ bytes ∷ more) × Accords h measure s more v
+Accords h measure s left (hears bytes moves keeps ∷ v) =
     Listens s left (none_left (own_messages v)) × Does s.lists moves keeps (step h s bytes)
-    × Accords h size (step h s bytes).state (all_messages size (step h s bytes).says) v
+    × Accords h measure (step h s bytes).state (all_messages measure (step h s bytes).says) v
 
 -- ---- what follows of each front
 
@@ -58,7 +59,7 @@ none_left-length [] = (λ e. refl, λ e. refl)
 none_left-length (m ∷ ms) = (λ e. absurd cc, λ e. absurd (omega (arith, e)))
 
 pub stands : (p : Party) (v : List Seen) (k : ℕ) (s : State) (left said : List (List ℕ)) (kept : List Kept) →
-    Accords p.holdings p.size s left v →
+    Accords p.holdings p.measure s left v →
     Stands v k s.lists said kept
     (taking_all p (record { state = s; said = said ++ left; kept = kept }) (take k (others_messages v)))
 stands p [] k s left said kept a =
@@ -98,7 +99,7 @@ stands p (hears bytes moves keeps ∷ v) zero s left said kept a = record {
 }
 stands p (hears bytes moves keeps ∷ v) (suc k) s left said kept a =
     let r = step p.holdings s bytes in
-    let rest = stands p v k r.state (all_messages p.size r.says) (said ++ left) (kept ++ r.keeps) a.2 in
+    let rest = stands p v k r.state (all_messages p.measure r.says) (said ++ left) (kept ++ r.keeps) a.2 in
     record {
       says_so = rest.says_so ∙ ap (λ z. z ++ take (floor k v) (own_messages v)) (ap (λ z. said ++ z) a.0.nothing_left ∙ append-nil said);
       lists_so = rest.lists_so ∙ ap (moved (moves_after k v)) a.1.lists_moved ∙ sym (moved-append moves (moves_after k v) s.lists);

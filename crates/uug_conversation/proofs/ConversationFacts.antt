@@ -1,5 +1,5 @@
 -- Conversations that were worked out by hand, computed by the definitions: a wrong rule in them does not check.
-use Rattle.std.proofs.Common.{◌≡◌, ℕ, ◌-◌, List, [], ◌∷◌, ◌++◌, length, map, replicate, codes, None, refl}
+use Rattle.std.proofs.Common.{false, ◌≡◌, ℕ, ◌-◌, List, [], ◌∷◌, ◌++◌, length, map, replicate, codes, None, refl}
 use Rattle.uug_conversation.specs.Holdings.{Kept}
 use Rattle.uug_conversation.specs.Jobs.{Lists}
 use Rattle.uug_conversation.specs.Party.{Party}
@@ -191,7 +191,7 @@ abbrev pub busy_called : Party
 busy_called = end_with (send_again ∷ send_nothing ∷ []) x small_file no_exception
 
 abbrev pub wide : Party → Party
-wide p = record p { size = 64 }
+wide p = record p { measure = record { size = 64; short = false } }
 
 abbrev pub wide_text : List ℕ → List ℕ
 wide_text bytes = bytes ++ replicate (64 - length bytes) 0

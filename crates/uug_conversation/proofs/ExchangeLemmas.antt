@@ -1,5 +1,6 @@
 -- The exchange of one job in front of what an end accords with: at the master's side, and at the slave's.
 use Rattle.std.proofs.Common.{◌≡◌, ℕ, ◌<◌, Bool, true, false, List, [], ◌∷◌, ◌++◌, Option, Some, None, refl, ap, ◌∙◌}
+use Rattle.uug_talk.specs.Chunks.{Measure}
 use Rattle.uug_talk.specs.declared.answer.Answer.TheVariants as answer
 use Rattle.uug_talk.specs.declared.order.Order.TheVariants as order
 use Rattle.uug_conversation.specs.declared.awaits.Awaits.{Awaits}
@@ -19,10 +20,10 @@ use Rattle.uug_conversation.specs.Turns.{other, Said, the_order, the_answer, the
 use Rattle.uug_conversation.specs.declared.side.Side.{Side}
 use Rattle.uug_conversation.proofs.TurnLemmas.{Fits, Open, said_kind, said_bytes, own_says, other_says}
 
-module _ (size_of : Side → ℕ) (positive : (side : Side) → 0 < size_of side) (me : Side) (h : Holdings) where
+module _ (measure_of : Side → Measure) (positive : (side : Side) → 0 < (measure_of side).size) (me : Side) (h : Holdings) where
   -- what an end replies accords with these turns
   abbrev pub FitsReply : Reply → List Turn → Type 0
-  FitsReply r ts = Fits h size_of me r.state (all_messages (size_of me) r.says) ts
+  FitsReply r ts = Fits h measure_of me r.state (all_messages (measure_of me) r.says) ts
 
   -- whatever became of the jobs before these
   abbrev pub Masters : List Job → List Turn → Type 0
@@ -33,19 +34,19 @@ module _ (size_of : Side → ℕ) (positive : (side : Side) → 0 < size_of side
   lists passed jobs struck failed = record { passed = passed; ahead = jobs; struck = struck; failed = failed }
 
   pub say : {said : Said} {moves : List Move} {keeps : List Kept} {ts : List Turn} {s : State} {left : List (List ℕ)} →
-      IsReadBack said → Fits h size_of me s left ts →
-      Fits h size_of me s (said_messages (size_of me) said ++ left)
+      IsReadBack said → Fits h measure_of me s left ts →
+      Fits h measure_of me s (said_messages (measure_of me) said ++ left)
       (record { speaker = me; said = said; moves = moves; keeps = keeps } ∷ ts)
   say {said} {moves} {keeps} {ts} {s} {left} back fits =
-      own_says size_of positive me h said moves keeps ts s left back fits.accords
+      own_says measure_of positive me h said moves keeps ts s left back fits.accords
 
   -- a text or a file, by the reply to it
   pub hear_text : {said : Said} {moves : List Move} {keeps : List Kept} {ts : List Turn} {l : Lists} {w : Awaits} {r : Reply} →
       IsReadBack said → said_kind said ≡ kind_awaited w → Open w → on_whole (kind_awaited w) h w (said_bytes said) l ≡ r →
       r.state.lists ≡ moved moves l → r.keeps ≡ keeps → FitsReply r ts →
-      Fits h size_of me (between l w) [] (record { speaker = other me; said = said; moves = moves; keeps = keeps } ∷ ts)
+      Fits h measure_of me (between l w) [] (record { speaker = other me; said = said; moves = moves; keeps = keeps } ∷ ts)
   hear_text {said} {moves} {keeps} {ts} {l} {w} {r} back kind opened e lists_so keeps_so fits =
-      other_says size_of positive me h said moves keeps ts l w back kind opened r e
+      other_says measure_of positive me h said moves keeps ts l w back kind opened r e
       (record { lists_moved = lists_so; kept = keeps_so }) fits
 
   -- ---- Send, at the master's
@@ -199,8 +200,8 @@ module _ (size_of : Side → ℕ) (positive : (side : Side) → 0 < size_of side
       (verdict : Verdict) → h.verdict target ≡ verdict → (immovable : Bool) → h.immovable target ≡ immovable →
       (next : List Move) (l : Lists) (ts : List Turn) →
       EachTurn (λ t. IsReadBack t.said) (send_exchange (other me) me source target user temp found verdict immovable next ts) →
-      Fits h size_of me (between l awaits.Order) [] ts →
-      Fits h size_of me (between l awaits.Order) []
+      Fits h measure_of me (between l awaits.Order) [] ts →
+      Fits h measure_of me (between l awaits.Order) []
       (send_exchange (other me) me source target user temp found verdict immovable next ts)
   send_as_slave source target user temp None verdict v immovable i next l ts back rest = rest
   send_as_slave source target user temp (Some file) Never v immovable i next l ts back rest =
@@ -237,8 +238,8 @@ module _ (size_of : Side → ℕ) (positive : (side : Side) → 0 < size_of side
   request_as_slave : (source target user : List ℕ) (found : Option File) → to_give h source ≡ found → (immovable : Bool) →
       (next : List Move) (l : Lists) (ts : List Turn) →
       EachTurn (λ t. IsReadBack t.said) (request_exchange (other me) me source target user found immovable next ts) →
-      Fits h size_of me (between l awaits.Order) [] ts →
-      Fits h size_of me (between l awaits.Order) [] (request_exchange (other me) me source target user found immovable next ts)
+      Fits h measure_of me (between l awaits.Order) [] ts →
+      Fits h measure_of me (between l awaits.Order) [] (request_exchange (other me) me source target user found immovable next ts)
   request_as_slave source target user None e immovable next l ts back rest =
       hear_text {r = replies l awaits.Order (the_answer answer.GiveNever ∷ [])} back.0 refl
       (record { not_over = refl; not_bad = refl; not_parted = refl })
@@ -263,8 +264,8 @@ module _ (size_of : Side → ℕ) (positive : (side : Side) → 0 < size_of side
 
   job_as_slave : (others : Holdings) (j : Job) (next : List Move) (l : Lists) (ts : List Turn) →
       EachTurn (λ t. IsReadBack t.said) (exchange (other me) me others h j next ts) →
-      Fits h size_of me (between l awaits.Order) [] ts →
-      Fits h size_of me (between l awaits.Order) [] (exchange (other me) me others h j next ts)
+      Fits h measure_of me (between l awaits.Order) [] ts →
+      Fits h measure_of me (between l awaits.Order) [] (exchange (other me) me others h j next ts)
   job_as_slave others (job.Send source target user temp) next l ts back rest =
       send_as_slave source target user temp (to_give others (fetched_by source temp)) (h.verdict target) refl
       (h.immovable target) refl next l ts back rest
@@ -273,8 +274,8 @@ module _ (size_of : Side → ℕ) (positive : (side : Side) → 0 < size_of side
 
   pub as_slave : (others : Holdings) (jobs : List Job) (l : Lists) (ts : List Turn) →
       EachTurn (λ t. IsReadBack t.said) (exchanges (other me) me others h jobs ts) →
-      Fits h size_of me (between l awaits.Order) [] ts →
-      Fits h size_of me (between l awaits.Order) [] (exchanges (other me) me others h jobs ts)
+      Fits h measure_of me (between l awaits.Order) [] ts →
+      Fits h measure_of me (between l awaits.Order) [] (exchanges (other me) me others h jobs ts)
   as_slave others [] l ts back rest = rest
   as_slave others (j ∷ jobs) l ts back rest =
       job_as_slave others j (choice others jobs).failing l (exchanges (other me) me others h jobs ts) back

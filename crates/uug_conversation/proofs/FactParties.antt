@@ -36,7 +36,7 @@ holdings name file exception = record {
 }
 
 abbrev pub end_with : List Job → (name : List ℕ) → Option File → Exception → Party
-end_with jobs name file exception = record { jobs = jobs; holdings = holdings name file exception; size = 32 }
+end_with jobs name file exception = record { jobs = jobs; holdings = holdings name file exception; measure = record { size = 32; short = false } }
 
 -- names
 abbrev pub q : List ℕ

@@ -1,5 +1,6 @@
 -- One end, given the other's messages of the conversation, says its own and moves its jobs as the conversation says.
 use Rattle.std.proofs.Common.{◌≡◌, ℕ, ◌<◌, List, [], ◌∷◌, Option, Some, None, refl, subst}
+use Rattle.uug_talk.specs.Chunks.{Measure}
 use Rattle.uug_talk.specs.declared.answer.Answer.TheVariants as answer
 use Rattle.uug_talk.specs.declared.order.Order.{Order}
 use Rattle.uug_conversation.specs.declared.awaits.Awaits.TheVariants as awaits
@@ -9,7 +10,7 @@ use Rattle.uug_conversation.specs.Conversation.{exchanges, both_agree, last_turn
 use Rattle.uug_conversation.specs.Holdings.{Holdings}
 use Rattle.uug_conversation.specs.Jobs.{Lists, at_start, moved}
 use Rattle.uug_conversation.specs.Machine.{between, replies, commands, on_hang_up, order_or_hang_up, opening}
-use Rattle.uug_conversation.specs.Messages.{sizes}
+use Rattle.uug_conversation.specs.Messages.{measures}
 use Rattle.uug_conversation.specs.Party.{Party, IsSound}
 use Rattle.uug_conversation.specs.ReadBack.{IsReadBack, EachTurn}
 use Rattle.uug_conversation.specs.Runs.{IsAt, progress_at}
@@ -30,85 +31,85 @@ hung_up_keeps : (next : Option Order) (l : Lists) → (on_hang_up next l).keeps 
 hung_up_keeps None l = refl
 hung_up_keeps (Some next) l = refl
 
-module _ (size_of : Side → ℕ) (positive : (side : Side) → 0 < size_of side) where
+module _ (measure_of : Side → Measure) (positive : (side : Side) → 0 < (measure_of side).size) where
   -- ---- both agree to hang up
 
   agree_as_master : (me : Side) (h : Holdings) (l : Lists) → EachTurn (λ t. IsReadBack t.said) (both_agree me (other me)) →
-      Fits h size_of me (between l awaits.HangUpAnswer) [] (both_agree me (other me))
+      Fits h measure_of me (between l awaits.HangUpAnswer) [] (both_agree me (other me))
   agree_as_master me h l back =
-      hear_text size_of positive me h {r = replies l awaits.NothingMore (the_answer answer.HangYes ∷ [])} back.0 refl
+      hear_text measure_of positive me h {r = replies l awaits.NothingMore (the_answer answer.HangYes ∷ [])} back.0 refl
       (record { not_over = refl; not_bad = refl; not_parted = refl }) refl refl refl
-      (own_says size_of positive me h (the_answer answer.HangYes) [] [] [] (between l awaits.NothingMore) []
+      (own_says measure_of positive me h (the_answer answer.HangYes) [] [] [] (between l awaits.NothingMore) []
       back.1.0 (refl, refl))
 
   agree_as_slave : (me : Side) (h : Holdings) (l : Lists) → EachTurn (λ t. IsReadBack t.said) (both_agree (other me) me) →
-      FitsReply size_of positive me h (replies l awaits.LastHangUp (the_answer answer.HangYes ∷ [])) (both_agree (other me) me)
+      FitsReply measure_of positive me h (replies l awaits.LastHangUp (the_answer answer.HangYes ∷ [])) (both_agree (other me) me)
   agree_as_slave me h l back =
-      own_says size_of positive me h (the_answer answer.HangYes) [] [] (plain (other me) (the_answer answer.HangYes) ∷ [])
+      own_says measure_of positive me h (the_answer answer.HangYes) [] [] (plain (other me) (the_answer answer.HangYes) ∷ [])
       (between l awaits.LastHangUp) [] back.0
-      (other_hears size_of positive me h (the_answer answer.HangYes) [] [] [] l awaits.LastHangUp back.1.0 refl
+      (other_hears measure_of positive me h (the_answer answer.HangYes) [] [] [] l awaits.LastHangUp back.1.0 refl
       (record { not_over = refl; not_bad = refl; parted = refl }) (replies l awaits.NothingMore []) refl
       (record { lists_moved = refl; kept = refl }) (refl, refl))
 
   -- ---- the last turns, where the called end is master
 
   last_at_caller : (h : Holdings) (passed struck failed : List Job) → EachTurn (λ t. IsReadBack t.said) last_turns →
-      Fits h size_of Caller (between (record { passed = passed; ahead = []; struck = struck; failed = failed }) awaits.Order) [] last_turns
+      Fits h measure_of Caller (between (record { passed = passed; ahead = []; struck = struck; failed = failed }) awaits.Order) [] last_turns
   last_at_caller h passed struck failed back =
       let l : Lists = record { passed = passed; ahead = []; struck = struck; failed = failed } in
-      hear_text size_of positive Caller h {r = replies l awaits.LastHangUp (the_answer answer.HangYes ∷ [])} back.0 refl
+      hear_text measure_of positive Caller h {r = replies l awaits.LastHangUp (the_answer answer.HangYes ∷ [])} back.0 refl
       (record { not_over = refl; not_bad = refl; not_parted = refl }) refl refl refl
       (agree_as_slave Caller h l back.1)
 
   last_at_called : (h : Holdings) → EachTurn (λ t. IsReadBack t.said) last_turns →
-      Masters size_of positive Called h [] last_turns
+      Masters measure_of positive Called h [] last_turns
   last_at_called h back passed struck failed =
-      say size_of positive Called h back.0
+      say measure_of positive Called h back.0
       (agree_as_master Called h (record { passed = passed; ahead = []; struck = struck; failed = failed }) back.1)
 
   -- ---- the caller's H, and what comes behind
 
   after_at_caller : (next : Option Order) (a b : Party) (passed struck failed : List Job) →
       EachTurn (λ t. IsReadBack t.said) (after_hang_up next a b) →
-      Fits a.holdings size_of Caller
+      Fits a.holdings measure_of Caller
       (between (record { passed = passed; ahead = []; struck = struck; failed = failed }) awaits.HangUpAnswer) [] (after_hang_up next a b)
   after_at_caller None a b passed struck failed back =
       agree_as_master Caller a.holdings (record { passed = passed; ahead = []; struck = struck; failed = failed }) back
   after_at_caller (Some next) a b passed struck failed back =
       let l : Lists = record { passed = passed; ahead = []; struck = struck; failed = failed } in
-      hear_text size_of positive Caller a.holdings {r = replies l awaits.Order []} back.0 refl
+      hear_text measure_of positive Caller a.holdings {r = replies l awaits.Order []} back.0 refl
       (record { not_over = refl; not_bad = refl; not_parted = refl }) refl refl refl
-      (as_slave size_of positive Caller a.holdings b.holdings b.jobs l last_turns back.1
+      (as_slave measure_of positive Caller a.holdings b.holdings b.jobs l last_turns back.1
       (last_at_caller a.holdings passed struck failed
-      (behind_exchanges size_of positive Caller a.holdings Called Caller b.holdings a.holdings b.jobs last_turns back.1)))
+      (behind_exchanges measure_of positive Caller a.holdings Called Caller b.holdings a.holdings b.jobs last_turns back.1)))
 
   hang_up_at_caller : (a b : Party) → EachTurn (λ t. IsReadBack t.said) (hang_up a b) →
-      Masters size_of positive Caller a.holdings [] (hang_up a b)
+      Masters measure_of positive Caller a.holdings [] (hang_up a b)
   hang_up_at_caller a b back passed struck failed =
-      say size_of positive Caller a.holdings back.0
+      say measure_of positive Caller a.holdings back.0
       (after_at_caller (choice b.holdings b.jobs).next a b passed struck failed back.1)
 
   after_at_called : (next : Option Order) (a b : Party) → (choice b.holdings b.jobs).next ≡ next →
       EachTurn (λ t. IsReadBack t.said) (after_hang_up next a b) →
-      FitsReply size_of positive Called b.holdings
+      FitsReply measure_of positive Called b.holdings
       (on_hang_up next (moved (choice b.holdings b.jobs).failing (at_start b.jobs [] []))) (after_hang_up next a b)
   after_at_called None a b e back =
       agree_as_slave Called b.holdings (moved (choice b.holdings b.jobs).failing (at_start b.jobs [] [])) back
   after_at_called (Some next) a b e back =
       let l = moved (choice b.holdings b.jobs).failing (at_start b.jobs [] []) in
-      say size_of positive Called b.holdings back.0
-      (subst (λ z. FitsReply size_of positive Called b.holdings (commands l [] (order_or_hang_up z))
+      say measure_of positive Called b.holdings back.0
+      (subst (λ z. FitsReply measure_of positive Called b.holdings (commands l [] (order_or_hang_up z))
       (exchanges Called Caller b.holdings a.holdings b.jobs last_turns)) e
-      (as_master size_of positive Called b.holdings a.holdings b.jobs last_turns back.1
+      (as_master measure_of positive Called b.holdings a.holdings b.jobs last_turns back.1
       (last_at_called b.holdings
-      (behind_exchanges size_of positive Called b.holdings Called Caller b.holdings a.holdings b.jobs last_turns back.1))
+      (behind_exchanges measure_of positive Called b.holdings Called Caller b.holdings a.holdings b.jobs last_turns back.1))
       [] [] []))
 
   hang_up_at_called : (a b : Party) → EachTurn (λ t. IsReadBack t.said) (hang_up a b) →
-      Fits b.holdings size_of Called (between (at_start b.jobs [] []) awaits.Order) [] (hang_up a b)
+      Fits b.holdings measure_of Called (between (at_start b.jobs [] []) awaits.Order) [] (hang_up a b)
   hang_up_at_called a b back =
       let c = choice b.holdings b.jobs in
-      hear_text size_of positive Called b.holdings
+      hear_text measure_of positive Called b.holdings
       {r = on_hang_up c.next (moved c.failing (at_start b.jobs [] []))} back.0 refl
       (record { not_over = refl; not_bad = refl; not_parted = refl }) refl
       (hung_up_lists c.next (moved c.failing (at_start b.jobs [] []))) (hung_up_keeps c.next _)
@@ -117,41 +118,41 @@ module _ (size_of : Side → ℕ) (positive : (side : Side) → 0 < size_of side
   -- ---- the whole conversation
 
   caller_accords : (a b : Party) → EachTurn (λ t. IsReadBack t.said) (conversation a b) →
-      FitsReply size_of positive Caller a.holdings (opening Caller a.holdings (at_start a.jobs [] [])) (conversation a b)
+      FitsReply measure_of positive Caller a.holdings (opening Caller a.holdings (at_start a.jobs [] [])) (conversation a b)
   caller_accords a b back =
-      as_master size_of positive Caller a.holdings b.holdings a.jobs (hang_up a b) back
+      as_master measure_of positive Caller a.holdings b.holdings a.jobs (hang_up a b) back
       (hang_up_at_caller a b
-      (behind_exchanges size_of positive Caller a.holdings Caller Called a.holdings b.holdings a.jobs (hang_up a b) back))
+      (behind_exchanges measure_of positive Caller a.holdings Caller Called a.holdings b.holdings a.jobs (hang_up a b) back))
       [] [] []
 
   called_accords : (a b : Party) → EachTurn (λ t. IsReadBack t.said) (conversation a b) →
-      FitsReply size_of positive Called b.holdings (opening Called b.holdings (at_start b.jobs [] [])) (conversation a b)
+      FitsReply measure_of positive Called b.holdings (opening Called b.holdings (at_start b.jobs [] [])) (conversation a b)
   called_accords a b back =
-      as_slave size_of positive Called b.holdings a.holdings a.jobs (at_start b.jobs [] []) (hang_up a b) back
+      as_slave measure_of positive Called b.holdings a.holdings a.jobs (at_start b.jobs [] []) (hang_up a b) back
       (hang_up_at_called a b
-      (behind_exchanges size_of positive Called b.holdings Caller Called a.holdings b.holdings a.jobs (hang_up a b) back))
+      (behind_exchanges measure_of positive Called b.holdings Caller Called a.holdings b.holdings a.jobs (hang_up a b) back))
 
 -- ---- the law
 
-both_positive : (a b : Party) → IsSound a → IsSound b → (side : Side) → 0 < sizes a b side
+both_positive : (a b : Party) → IsSound a → IsSound b → (side : Side) → 0 < (measures a b side).size
 both_positive a b s t Caller = s.size
 both_positive a b s t Called = t.size
 
 pub accords_from_opening : (a b : Party) → IsSound a → IsSound b →
     (me : Side) → let r = opening me (party me a b).holdings (at_start (party me a b).jobs [] []) in
-    Accords (party me a b).holdings (party me a b).size r.state (all_messages (party me a b).size r.says) (conversation_view me a b)
-accords_from_opening a b s t Caller = (caller_accords (sizes a b) (both_positive a b s t) a b (conversation_back a b s t)).accords
-accords_from_opening a b s t Called = (called_accords (sizes a b) (both_positive a b s t) a b (conversation_back a b s t)).accords
+    Accords (party me a b).holdings (party me a b).measure r.state (all_messages (party me a b).measure r.says) (conversation_view me a b)
+accords_from_opening a b s t Caller = (caller_accords (measures a b) (both_positive a b s t) a b (conversation_back a b s t)).accords
+accords_from_opening a b s t Called = (called_accords (measures a b) (both_positive a b s t) a b (conversation_back a b s t)).accords
 
 pub first_law : (a b : Party) → IsSound a → IsSound b →
     (me : Side) (k : ℕ) → IsAt me a b k (progress_at me a b k)
 first_law a b s t Caller k =
     let r = opening Caller a.holdings (at_start a.jobs [] []) in
-    let x = stands a (conversation_view Caller a b) k r.state (all_messages a.size r.says) [] []
+    let x = stands a (conversation_view Caller a b) k r.state (all_messages a.measure r.says) [] []
     (accords_from_opening a b s t Caller) in
     record { said = x.says_so; lists = x.lists_so; kept = x.keeps_so; not_bad = x.good; over = x.over; parted = x.parted }
 first_law a b s t Called k =
     let r = opening Called b.holdings (at_start b.jobs [] []) in
-    let x = stands b (conversation_view Called a b) k r.state (all_messages b.size r.says) [] []
+    let x = stands b (conversation_view Called a b) k r.state (all_messages b.measure r.says) [] []
     (accords_from_opening a b s t Called) in
     record { said = x.says_so; lists = x.lists_so; kept = x.keeps_so; not_bad = x.good; over = x.over; parted = x.parted }

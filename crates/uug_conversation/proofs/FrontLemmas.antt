@@ -4,7 +4,7 @@
 use Rattle.std.proofs.Common.{◌≡◌, ℕ, zero, suc, ◌+◌, ◌<◌, ◌≤◌, List, [], ◌∷◌, ◌++◌, length, replicate, refl, sym, subst₂, arith}
 use Rattle.std.proofs.lemmas.List.{length-append}
 use Rattle.uug_talk.specs.Answer.{answer_text}
-use Rattle.uug_talk.specs.Chunks.{cut, up_to_multiple, command_messages}
+use Rattle.uug_talk.specs.Chunks.{Measure, cut, filling, command_messages}
 use Rattle.uug_talk.specs.Order.{order_text}
 use Rattle.uug_conversation.specs.Holdings.{Kept}
 use Rattle.uug_conversation.specs.Jobs.{Move}
@@ -47,8 +47,8 @@ turned Caller Q moves others_moves kept others_kept = Q moves others_moves kept 
 turned Called Q moves others_moves kept others_kept = Q others_moves moves others_kept kept
 
 -- the same of turns, by what the master and the slave have done
-pub record HoldsOf (sizes : Side → ℕ) (master : Side) (Q : Claim) (ts : List Turn) : Type 0 where
-  pub always : Always (turned master Q) (messages sizes ts)
+pub record HoldsOf (measures : Side → Measure) (master : Side) (Q : Claim) (ts : List Turn) : Type 0 where
+  pub always : Always (turned master Q) (messages measures ts)
 
 -- ---- one message
 
@@ -95,58 +95,58 @@ some_part : (size : ℕ) (xs : List ℕ) → 0 < length xs → 0 < length (cut s
 some_part size [] some = absurd (omega (arith, some))
 some_part size (x ∷ xs) some = omega arith
 
-some_of_command : (size : ℕ) (text : List ℕ) → 0 < length (command_messages size text)
-some_of_command size text =
-    let zeros : List ℕ = 0 ∷ replicate (up_to_multiple size (length text + 1)) 0 in
-    some_part size (text ++ zeros) (omega (arith, length-append text zeros))
+some_of_command : (measure : Measure) (text : List ℕ) → 0 < length (command_messages measure text)
+some_of_command measure text =
+    let zeros : List ℕ = 0 ∷ replicate (filling measure (length text + 1)) 0 in
+    some_part measure.size (text ++ zeros) (omega (arith, length-append text zeros))
 
-some_message : (size : ℕ) (said : Said) → 0 < length (said_messages size said)
-some_message size (the_order order) = some_of_command size (order_text order)
-some_message size (the_answer answer) = some_of_command size (answer_text answer)
-some_message size (the_file bytes) = omega (arith, length-append (cut size bytes) ([] ∷ []))
+some_message : (measure : Measure) (said : Said) → 0 < length (said_messages measure said)
+some_message measure (the_order order) = some_of_command measure (order_text order)
+some_message measure (the_answer answer) = some_of_command measure (answer_text answer)
+some_message measure (the_file bytes) = omega (arith, length-append (cut measure.size bytes) ([] ∷ []))
 
 -- ---- turns
 
-pub no_turn : {sizes : Side → ℕ} {master : Side} {Q : Claim} → Q [] [] [] [] → HoldsOf sizes master Q []
-no_turn {sizes} {master = Caller} {Q} first = record { always = λ j k p q. first }
-no_turn {sizes} {master = Called} {Q} first = record { always = λ j k p q. first }
+pub no_turn : {measures : Side → Measure} {master : Side} {Q : Claim} → Q [] [] [] [] → HoldsOf measures master Q []
+no_turn {measures} {master = Caller} {Q} first = record { always = λ j k p q. first }
+no_turn {measures} {master = Called} {Q} first = record { always = λ j k p q. first }
 
-pub master_says : {sizes : Side → ℕ} {master : Side} {Q : Claim} {said : Said} {moves : List Move} {keeps : List Kept} {ts : List Turn} →
-    Q [] [] [] [] → HoldsOf sizes master (λ m o k p. Q m (moves ++ o) k (keeps ++ p)) ts →
-    HoldsOf sizes master Q (record { speaker = master; said = said; moves = moves; keeps = keeps } ∷ ts)
-master_says {sizes} {master = Caller} {Q} {said} {moves} {keeps} {ts} first more = record {
-  always = caller_turn (turned Caller Q) said moves keeps (said_messages (sizes Caller) said) (messages sizes ts)
-      (some_message (sizes Caller) said) first more.always;
+pub master_says : {measures : Side → Measure} {master : Side} {Q : Claim} {said : Said} {moves : List Move} {keeps : List Kept} {ts : List Turn} →
+    Q [] [] [] [] → HoldsOf measures master (λ m o k p. Q m (moves ++ o) k (keeps ++ p)) ts →
+    HoldsOf measures master Q (record { speaker = master; said = said; moves = moves; keeps = keeps } ∷ ts)
+master_says {measures} {master = Caller} {Q} {said} {moves} {keeps} {ts} first more = record {
+  always = caller_turn (turned Caller Q) said moves keeps (said_messages (measures Caller) said) (messages measures ts)
+      (some_message (measures Caller) said) first more.always;
 }
-master_says {sizes} {master = Called} {Q} {said} {moves} {keeps} {ts} first more = record {
-  always = called_turn (turned Called Q) said moves keeps (said_messages (sizes Called) said) (messages sizes ts)
-      (some_message (sizes Called) said) first more.always;
-}
-
-pub slave_says : {sizes : Side → ℕ} {master : Side} {Q : Claim} {said : Said} {moves : List Move} {keeps : List Kept} {ts : List Turn} →
-    Q [] [] [] [] → HoldsOf sizes master (λ m o k p. Q (moves ++ m) o (keeps ++ k) p) ts →
-    HoldsOf sizes master Q (record { speaker = other master; said = said; moves = moves; keeps = keeps } ∷ ts)
-slave_says {sizes} {master = Caller} {Q} {said} {moves} {keeps} {ts} first more = record {
-  always = called_turn (turned Caller Q) said moves keeps (said_messages (sizes Called) said) (messages sizes ts)
-      (some_message (sizes Called) said) first more.always;
-}
-slave_says {sizes} {master = Called} {Q} {said} {moves} {keeps} {ts} first more = record {
-  always = caller_turn (turned Called Q) said moves keeps (said_messages (sizes Caller) said) (messages sizes ts)
-      (some_message (sizes Caller) said) first more.always;
+master_says {measures} {master = Called} {Q} {said} {moves} {keeps} {ts} first more = record {
+  always = called_turn (turned Called Q) said moves keeps (said_messages (measures Called) said) (messages measures ts)
+      (some_message (measures Called) said) first more.always;
 }
 
-pub follows : {sizes : Side → ℕ} {master : Side} {Q R : Claim} {ts : List Turn} →
-    ((m o : List Move) (k p : List Kept) → Q m o k p → R m o k p) → HoldsOf sizes master Q ts → HoldsOf sizes master R ts
-follows {sizes} {master = Caller} {Q} {R} {ts} f h = record {
-  always = λ i j p q. f (moves_after i (view Caller (messages sizes ts))) (moves_after j (view Called (messages sizes ts)))
-      (kept_after i (view Caller (messages sizes ts))) (kept_after j (view Called (messages sizes ts))) (h.always i j p q);
+pub slave_says : {measures : Side → Measure} {master : Side} {Q : Claim} {said : Said} {moves : List Move} {keeps : List Kept} {ts : List Turn} →
+    Q [] [] [] [] → HoldsOf measures master (λ m o k p. Q (moves ++ m) o (keeps ++ k) p) ts →
+    HoldsOf measures master Q (record { speaker = other master; said = said; moves = moves; keeps = keeps } ∷ ts)
+slave_says {measures} {master = Caller} {Q} {said} {moves} {keeps} {ts} first more = record {
+  always = called_turn (turned Caller Q) said moves keeps (said_messages (measures Called) said) (messages measures ts)
+      (some_message (measures Called) said) first more.always;
 }
-follows {sizes} {master = Called} {Q} {R} {ts} f h = record {
-  always = λ i j p q. f (moves_after j (view Called (messages sizes ts))) (moves_after i (view Caller (messages sizes ts)))
-      (kept_after j (view Called (messages sizes ts))) (kept_after i (view Caller (messages sizes ts))) (h.always i j p q);
+slave_says {measures} {master = Called} {Q} {said} {moves} {keeps} {ts} first more = record {
+  always = caller_turn (turned Called Q) said moves keeps (said_messages (measures Caller) said) (messages measures ts)
+      (some_message (measures Caller) said) first more.always;
+}
+
+pub follows : {measures : Side → Measure} {master : Side} {Q R : Claim} {ts : List Turn} →
+    ((m o : List Move) (k p : List Kept) → Q m o k p → R m o k p) → HoldsOf measures master Q ts → HoldsOf measures master R ts
+follows {measures} {master = Caller} {Q} {R} {ts} f h = record {
+  always = λ i j p q. f (moves_after i (view Caller (messages measures ts))) (moves_after j (view Called (messages measures ts)))
+      (kept_after i (view Caller (messages measures ts))) (kept_after j (view Called (messages measures ts))) (h.always i j p q);
+}
+follows {measures} {master = Called} {Q} {R} {ts} f h = record {
+  always = λ i j p q. f (moves_after j (view Called (messages measures ts))) (moves_after i (view Caller (messages measures ts)))
+      (kept_after j (view Called (messages measures ts))) (kept_after i (view Caller (messages measures ts))) (h.always i j p q);
 }
 
 -- the called end's claim, seen by the caller
-pub from_called : {sizes : Side → ℕ} {Q : Claim} {ts : List Turn} →
-    HoldsOf sizes Called Q ts → HoldsOf sizes Caller (λ m o k p. Q o m p k) ts
+pub from_called : {measures : Side → Measure} {Q : Claim} {ts : List Turn} →
+    HoldsOf measures Called Q ts → HoldsOf measures Caller (λ m o k p. Q o m p k) ts
 from_called h = record { always = h.always }

@@ -17,6 +17,7 @@ pub mod MachineMoveLemmas
 mod OfferLemmas
 pub mod OutgoingLemmas
 pub mod OwnEntryLemmas
+mod PartLemmas
 mod QueueLemmas
 pub mod ReadBackLemmas
 pub mod SaidByteLemmas

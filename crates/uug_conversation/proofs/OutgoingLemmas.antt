@@ -3,7 +3,7 @@ use Rattle.std.proofs.Common.{◌≡◌, ◌≢◌, ℕ, suc, ◌+◌, ◌<◌, 
 use Rattle.std.proofs.lemmas.List.{append_assoc, drop_all, drop-append-le, drop-drop, length-append}
 use Rattle.std.proofs.lemmas.List.Elements.{All-append, All-drop, All-head}
 use Rattle.uug_talk.specs.Answer.{answer_text}
-use Rattle.uug_talk.specs.Chunks.{cut, command_messages}
+use Rattle.uug_talk.specs.Chunks.{Measure, cut, command_messages}
 use Rattle.uug_talk.specs.Order.{order_text}
 use Rattle.uug_conversation.specs.declared.reaction.Saying.{Saying}
 use Rattle.uug_conversation.specs.declared.reaction.Saying.TheVariants as saying
@@ -17,63 +17,63 @@ use Rattle.uug_conversation.specs.Turns.{Said, the_order, the_answer, the_file, 
 
 -- ---- from any offset on there is a message
 
-command_has_one : (size : ℕ) (text : List ℕ) → is_empty (command_messages size text) ≡ false
-command_has_one size [] = refl
-command_has_one size (b ∷ text) = refl
+command_has_one : (measure : Measure) (text : List ℕ) → is_empty (command_messages measure text) ≡ false
+command_has_one measure [] = refl
+command_has_one measure (b ∷ text) = refl
 
 file_has_one : (messages : List (List ℕ)) → is_empty (messages ++ [] ∷ []) ≡ false
 file_has_one [] = refl
 file_has_one (message ∷ messages) = refl
 
-said_has_one : (size offset : ℕ) (said : Said) → is_empty (messages_from size offset said) ≡ false
-said_has_one size offset (the_order order) = command_has_one size (drop offset (order_text order))
-said_has_one size offset (the_answer answer) = command_has_one size (drop offset (answer_text answer))
-said_has_one size offset (the_file bytes) = file_has_one (cut size (drop offset bytes))
+said_has_one : (measure : Measure) (offset : ℕ) (said : Said) → is_empty (messages_from measure offset said) ≡ false
+said_has_one measure offset (the_order order) = command_has_one measure (drop offset (order_text order))
+said_has_one measure offset (the_answer answer) = command_has_one measure (drop offset (answer_text answer))
+said_has_one measure offset (the_file bytes) = file_has_one (cut measure.size (drop offset bytes))
 
 front_has_one : (front behind : List (List ℕ)) → is_empty front ≡ false → is_empty (front ++ behind) ≡ false
 front_has_one [] behind e = absurd cc
 front_has_one (message ∷ front) behind e = refl
 
-silent_by : (h : Holdings) (size offset : ℕ) (sayings : List Saying) → is_silent sayings ≡ is_empty (messages_of h size offset sayings)
-silent_by h size offset [] = refl
-silent_by h size offset (first ∷ more) =
-    sym (front_has_one (messages_from size offset (said_by h first)) (all_messages size (map (said_by h) more))
-    (said_has_one size offset (said_by h first)))
+silent_by : (h : Holdings) (measure : Measure) (offset : ℕ) (sayings : List Saying) → is_silent sayings ≡ is_empty (messages_of h measure offset sayings)
+silent_by h measure offset [] = refl
+silent_by h measure offset (first ∷ more) =
+    sym (front_has_one (messages_from measure offset (said_by h first)) (all_messages measure (map (said_by h) more))
+    (said_has_one measure offset (said_by h first)))
 
 -- nothing is to be said where no message is to go out
-pub silent_is_empty : (h : Holdings) (size : ℕ) (out : Outgoing) → is_silent out.sayings ≡ is_empty (outgoing_messages h size out)
-silent_is_empty h size out = silent_by h size out.offset out.sayings
+pub silent_is_empty : (h : Holdings) (measure : Measure) (out : Outgoing) → is_silent out.sayings ≡ is_empty (outgoing_messages h measure out)
+silent_is_empty h measure out = silent_by h measure out.offset out.sayings
 
 -- ---- what is said behind
 
-said_from_start : (size : ℕ) (said : Said) → messages_from size 0 said ≡ said_messages size said
-said_from_start size (the_order order) = refl
-said_from_start size (the_answer answer) = refl
-said_from_start size (the_file bytes) = refl
+said_from_start : (measure : Measure) (said : Said) → messages_from measure 0 said ≡ said_messages measure said
+said_from_start measure (the_order order) = refl
+said_from_start measure (the_answer answer) = refl
+said_from_start measure (the_file bytes) = refl
 
 -- the first one from its start on
-all_from_start : (h : Holdings) (size : ℕ) (sayings : List Saying) → messages_of h size 0 sayings ≡ all_messages size (map (said_by h) sayings)
-all_from_start h size [] = refl
-all_from_start h size (first ∷ more) =
-    ap (λ z. z ++ all_messages size (map (said_by h) more)) (said_from_start size (said_by h first))
+all_from_start : (h : Holdings) (measure : Measure) (sayings : List Saying) → messages_of h measure 0 sayings ≡ all_messages measure (map (said_by h) sayings)
+all_from_start h measure [] = refl
+all_from_start h measure (first ∷ more) =
+    ap (λ z. z ++ all_messages measure (map (said_by h) more)) (said_from_start measure (said_by h first))
 
-all_behind : (h : Holdings) (size : ℕ) (sayings more : List Saying) →
-    all_messages size (map (said_by h) (sayings ++ more))
-    ≡ all_messages size (map (said_by h) sayings) ++ all_messages size (map (said_by h) more)
-all_behind h size [] more = refl
-all_behind h size (first ∷ sayings) more =
-    ap (λ z. said_messages size (said_by h first) ++ z) (all_behind h size sayings more)
-    ∙ sym (append_assoc (said_messages size (said_by h first)) (all_messages size (map (said_by h) sayings))
-    (all_messages size (map (said_by h) more)))
+all_behind : (h : Holdings) (measure : Measure) (sayings more : List Saying) →
+    all_messages measure (map (said_by h) (sayings ++ more))
+    ≡ all_messages measure (map (said_by h) sayings) ++ all_messages measure (map (said_by h) more)
+all_behind h measure [] more = refl
+all_behind h measure (first ∷ sayings) more =
+    ap (λ z. said_messages measure (said_by h first) ++ z) (all_behind h measure sayings more)
+    ∙ sym (append_assoc (said_messages measure (said_by h first)) (all_messages measure (map (said_by h) sayings))
+    (all_messages measure (map (said_by h) more)))
 
-behind : (h : Holdings) (size offset : ℕ) (sayings more : List Saying) → IsWithin sayings offset →
-    messages_of h size offset (sayings ++ more)
-    ≡ messages_of h size offset sayings ++ all_messages size (map (said_by h) more)
-behind h size offset [] more w = ap (λ z. messages_of h size z more) w ∙ all_from_start h size more
-behind h size offset (first ∷ sayings) more w =
-    ap (λ z. messages_from size offset (said_by h first) ++ z) (all_behind h size sayings more)
-    ∙ sym (append_assoc (messages_from size offset (said_by h first)) (all_messages size (map (said_by h) sayings))
-    (all_messages size (map (said_by h) more)))
+behind : (h : Holdings) (measure : Measure) (offset : ℕ) (sayings more : List Saying) → IsWithin sayings offset →
+    messages_of h measure offset (sayings ++ more)
+    ≡ messages_of h measure offset sayings ++ all_messages measure (map (said_by h) more)
+behind h measure offset [] more w = ap (λ z. messages_of h measure z more) w ∙ all_from_start h measure more
+behind h measure offset (first ∷ sayings) more w =
+    ap (λ z. messages_from measure offset (said_by h first) ++ z) (all_behind h measure sayings more)
+    ∙ sym (append_assoc (messages_from measure offset (said_by h first)) (all_messages measure (map (said_by h) sayings))
+    (all_messages measure (map (said_by h) more)))
 
 pub all_said_is : (h : Holdings) (says : Says) → map (said_by h) (sayings_of says) ≡ all_said h says
 all_said_is h Nothing = refl
@@ -81,14 +81,14 @@ all_said_is h (One first) = refl
 all_said_is h (Two first next) = refl
 
 -- what is said goes out behind all that was to be said
-pub said_behind : (h : Holdings) (size : ℕ) (out out_after : Outgoing) (says : Says) → IsWithin out.sayings out.offset →
+pub said_behind : (h : Holdings) (measure : Measure) (out out_after : Outgoing) (says : Says) → IsWithin out.sayings out.offset →
     out_after.sayings ≡ out.sayings ++ sayings_of says → out_after.offset ≡ out.offset →
-    outgoing_messages h size out_after ≡ outgoing_messages h size out ++ all_messages size (all_said h says)
-said_behind h size out out_after says w e o =
-    ap (λ z. messages_of h size z out_after.sayings) o
-    ∙ ap (messages_of h size out.offset) e
-    ∙ behind h size out.offset out.sayings (sayings_of says) w
-    ∙ ap (λ z. outgoing_messages h size out ++ all_messages size z) (all_said_is h says)
+    outgoing_messages h measure out_after ≡ outgoing_messages h measure out ++ all_messages measure (all_said h says)
+said_behind h measure out out_after says w e o =
+    ap (λ z. messages_of h measure z out_after.sayings) o
+    ∙ ap (messages_of h measure out.offset) e
+    ∙ behind h measure out.offset out.sayings (sayings_of says) w
+    ∙ ap (λ z. outgoing_messages h measure out ++ all_messages measure z) (all_said_is h says)
 
 -- ---- what is kept when more is said
 

@@ -9,7 +9,7 @@ use Rattle.uug_talk.specs.declared.answer.Answer.TheVariants as answer
 use Rattle.uug_talk.specs.declared.order.Order.{Order}
 use Rattle.uug_talk.specs.declared.order.Order.TheVariants as order
 use Rattle.uug_talk.specs.Answer.{answer_text}
-use Rattle.uug_talk.specs.Chunks.{command_messages, cut_up_to, file_messages, up_to_multiple}
+use Rattle.uug_talk.specs.Chunks.{Measure, command_messages, cut_up_to, file_messages, filling}
 use Rattle.uug_talk.specs.Mode.{mode_digits}
 use Rattle.uug_talk.specs.Name.{IsName}
 use Rattle.uug_talk.specs.Order.{AreNames, HasNames as OrderHasNames, IsCopy, order_text}
@@ -23,7 +23,7 @@ use Rattle.uug_conversation.specs.Exchange.{exchange, request_exchange, send_exc
 use Rattle.uug_conversation.specs.HeldBytes.{HoldsBytes}
 use Rattle.uug_conversation.specs.Holdings.{File, Holdings, Kept, to_give}
 use Rattle.uug_conversation.specs.Jobs.{Move}
-use Rattle.uug_conversation.specs.Messages.{Message, messages, sizes, turn_messages}
+use Rattle.uug_conversation.specs.Messages.{Message, messages, measures, turn_messages}
 use Rattle.uug_conversation.specs.Party.{HasNames, Party}
 use Rattle.uug_conversation.specs.ReadBack.{EachTurn}
 use Rattle.uug_conversation.specs.Turns.{Said, Turn, said_messages, the_answer, the_file, the_order}
@@ -57,11 +57,11 @@ cut_bytes (suc n) size (b ∷ bytes) all =
     (are_bytes (take size (b ∷ bytes)) (All-take IsByte size (b ∷ bytes) all))
     (cut_bytes n size (drop size (b ∷ bytes)) (All-drop IsByte size (b ∷ bytes) all))
 
-command_bytes : (size : ℕ) (text : List ℕ) → AllBytes text → All AreBytes (command_messages size text)
-command_bytes size text all =
-    let fill : ℕ = up_to_multiple size (length text + 1) in
+command_bytes : (measure : Measure) (text : List ℕ) → AllBytes text → All AreBytes (command_messages measure text)
+command_bytes measure text all =
+    let fill : ℕ = filling measure (length text + 1) in
     let whole : List ℕ = text ++ 0 ∷ replicate fill 0 in
-    cut_bytes (length whole) size whole
+    cut_bytes (length whole) measure.size whole
     (All-append IsByte text (0 ∷ replicate fill 0) all
     (All-cons IsByte 0 (replicate fill 0) (omega arith) (All-replicate IsByte fill 0 (omega arith))))
 
@@ -172,10 +172,10 @@ SaysBytes (the_order order) = AllBytes (order_text order)
 SaysBytes (the_answer said) = AllBytes (answer_text said)
 SaysBytes (the_file bytes) = AllBytes bytes
 
-said_bytes : (size : ℕ) (said : Said) → SaysBytes said → All AreBytes (said_messages size said)
-said_bytes size (the_order order) all = command_bytes size (order_text order) all
-said_bytes size (the_answer said) all = command_bytes size (answer_text said) all
-said_bytes size (the_file bytes) all = file_bytes size bytes all
+said_bytes : (measure : Measure) (said : Said) → SaysBytes said → All AreBytes (said_messages measure said)
+said_bytes measure (the_order order) all = command_bytes measure (order_text order) all
+said_bytes measure (the_answer said) all = command_bytes measure (answer_text said) all
+said_bytes measure (the_file bytes) all = file_bytes measure.size bytes all
 
 -- ---- turns
 
@@ -272,14 +272,14 @@ turn_bytes me t (bytes ∷ next ∷ chunks) ms are more =
     message_bytes me t.speaker bytes [] [] (turn_messages t (next ∷ chunks) ms) (All-head AreBytes bytes (next ∷ chunks) are)
     (turn_bytes me t (next ∷ chunks) ms (All-tail AreBytes bytes (next ∷ chunks) are) more)
 
-turns_bytes : (size : Side → ℕ) (me : Side) (ts : List Turn) → TurnsAreBytes ts →
-    All AreBytes (own_messages (view me (messages size ts)))
-turns_bytes size me [] all = All-nil AreBytes
-turns_bytes size me (t ∷ ts) all =
-    turn_bytes me t (said_messages (size t.speaker) t.said) (messages size ts) (said_bytes (size t.speaker) t.said all.0)
-    (turns_bytes size me ts all.1)
+turns_bytes : (measures : Side → Measure) (me : Side) (ts : List Turn) → TurnsAreBytes ts →
+    All AreBytes (own_messages (view me (messages measures ts)))
+turns_bytes measures me [] all = All-nil AreBytes
+turns_bytes measures me (t ∷ ts) all =
+    turn_bytes me t (said_messages (measures t.speaker) t.said) (messages measures ts) (said_bytes (measures t.speaker) t.said all.0)
+    (turns_bytes measures me ts all.1)
 
 pub own_bytes : (me : Side) (a b : Party) → All HasNames a.jobs → All HasNames b.jobs → HoldsBytes a.holdings →
     HoldsBytes b.holdings → All AreBytes (own_messages (conversation_view me a b))
 own_bytes me a b a_names b_names a_holds b_holds =
-    turns_bytes (sizes a b) me (conversation a b) (conversation_bytes a b a_names b_names a_holds b_holds)
+    turns_bytes (measures a b) me (conversation a b) (conversation_bytes a b a_names b_names a_holds b_holds)

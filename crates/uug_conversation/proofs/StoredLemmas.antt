@@ -1,5 +1,6 @@
 -- Wherever each end has taken at most what the other has said by then, each struck job has an entry of its own.
 use Rattle.std.proofs.Common.{◌≡◌, ℕ, suc, ◌≤◌, arith, Bool, true, false, List, [], ◌∷◌, ◌++◌, Contains, Option, Some, None, refl, sym, ap, ◌∙◌, subst, subst₂, append_assoc, append-nil}
+use Rattle.uug_talk.specs.Chunks.{Measure}
 use Rattle.uug_talk.specs.declared.order.Order.{Order}
 use Rattle.uug_conversation.specs.declared.job.Job.{Job}
 use Rattle.uug_conversation.specs.declared.job.Job.TheVariants as job
@@ -10,7 +11,7 @@ use Rattle.uug_conversation.specs.Conversation.{exchanges, last_turns, after_han
 use Rattle.uug_conversation.specs.Exchange.{send_exchange, request_exchange}
 use Rattle.uug_conversation.specs.Holdings.{File, Holdings, to_give, kept_as}
 use Rattle.uug_conversation.specs.Jobs.{Lists, at_start, Move, pass, strike, fail, moved}
-use Rattle.uug_conversation.specs.Messages.{sizes}
+use Rattle.uug_conversation.specs.Messages.{measures}
 use Rattle.uug_conversation.specs.OwnEntries.{IsOfSendJob, OwnEntries, none, not_struck, sent, asked_for, giver_asked, receiver_sent}
 use Rattle.uug_conversation.specs.Party.{Party}
 use Rattle.uug_conversation.specs.Turns.{other, Turn}
@@ -93,20 +94,20 @@ OwnBehind e ahead others_ahead front moves others_moves kept others_kept =
 
 -- ---- one job
 
-send_own : (size : Side → ℕ) (master : Side) (e : Ends) (jobs others_ahead : List Job)
+send_own : (measures : Side → Measure) (master : Side) (e : Ends) (jobs others_ahead : List Job)
     (source target user : List ℕ) (temp : Option (List ℕ)) (offered : Option File) (verdict : Verdict) (immovable : Bool)
     (behind : Choice) (rest : List Turn) →
     to_give e.own (fetched_by source temp) ≡ offered → Contains e.own_jobs (job.Send source target user temp) →
-    HoldsOf size master (OwnBehind e jobs others_ahead behind.failing) rest →
-    HoldsOf size master
+    HoldsOf measures master (OwnBehind e jobs others_ahead behind.failing) rest →
+    HoldsOf measures master
     (OwnBehind e (job.Send source target user temp ∷ jobs) others_ahead (send_choice source target user temp offered behind).failing)
     (send_exchange master (other master) source target user temp offered verdict immovable behind.failing rest)
-send_own size master e jobs ahead source target user temp None verdict immovable behind rest given inside more = more
-send_own size master e jobs ahead source target user temp (Some file) Never immovable behind rest given inside more =
+send_own measures master e jobs ahead source target user temp None verdict immovable behind rest given inside more = more
+send_own measures master e jobs ahead source target user temp (Some file) Never immovable behind rest given inside more =
     master_says (none, none) (slave_says (none, none) more)
-send_own size master e jobs ahead source target user temp (Some file) Later immovable behind rest given inside more =
+send_own measures master e jobs ahead source target user temp (Some file) Later immovable behind rest given inside more =
     master_says (none, none) (slave_says (none, none) more)
-send_own size master e jobs ahead source target user temp (Some file) Yes false behind rest given inside more =
+send_own measures master e jobs ahead source target user temp (Some file) Yes false behind rest given inside more =
     let of_job : IsOfSendJob e.own e.own_jobs (kept_as target file) = record {
       source = source;
       target = target;
@@ -119,7 +120,7 @@ send_own size master e jobs ahead source target user temp (Some file) Yes false 
     } in
     master_says (none, none) (slave_says (none, none) (master_says (none, none) (slave_says (not_struck of_job none, none)
     (follows (λ m o k p h. (sent given h.0, receiver_sent h.1)) more))))
-send_own size master e jobs ahead source target user temp (Some file) Yes true behind rest given inside more =
+send_own measures master e jobs ahead source target user temp (Some file) Yes true behind rest given inside more =
     master_says (none, none) (slave_says (none, none) (master_says (none, none) (slave_says (none, none) more)))
 
 -- no entry, and nothing struck
@@ -138,42 +139,42 @@ one_asked e source target user file struck given nothing =
     OwnEntries e.others e.others_jobs [] (job.Request source target user ∷ s) (kept_as target file ∷ []))
     (sym nothing) (giver_asked none, asked_for given none)
 
-request_own : (size : Side → ℕ) (master : Side) (e : Ends) (jobs others_ahead : List Job)
+request_own : (measures : Side → Measure) (master : Side) (e : Ends) (jobs others_ahead : List Job)
     (source target user : List ℕ) (offered : Option File) (immovable : Bool) (next : List Move) (rest : List Turn) →
     to_give e.others source ≡ offered → struck_by (next ++ []) jobs ≡ [] →
-    HoldsOf size master (OwnBehind e jobs others_ahead next) rest →
-    HoldsOf size master (OwnBehind e (job.Request source target user ∷ jobs) others_ahead [])
+    HoldsOf measures master (OwnBehind e jobs others_ahead next) rest →
+    HoldsOf measures master (OwnBehind e (job.Request source target user ∷ jobs) others_ahead [])
     (request_exchange master (other master) source target user offered immovable next rest)
-request_own size master e jobs ahead source target user None immovable next rest given nothing more =
+request_own measures master e jobs ahead source target user None immovable next rest given nothing more =
     master_says (none, none) (slave_says (none, none) more)
-request_own size master e jobs ahead source target user (Some file) false next rest given nothing more =
+request_own measures master e jobs ahead source target user (Some file) false next rest given nothing more =
     master_says (none, none) (slave_says (none, none) (slave_says (none, none) (master_says
     (one_asked e source target user file (struck_by (next ++ []) jobs) given nothing)
     (follows (λ m o k p h. (giver_asked h.0, asked_for given h.1)) more))))
-request_own size master e jobs ahead source target user (Some file) true next rest given nothing more =
+request_own measures master e jobs ahead source target user (Some file) true next rest given nothing more =
     master_says (none, none) (slave_says (none, none) (slave_says (none, none) (master_says
     (nothing_own e (struck_by (next ++ []) jobs) nothing) more)))
 
 -- ---- all jobs of a master
 
-exchanges_own : (size : Side → ℕ) (master : Side) (e : Ends) (jobs others_ahead : List Job) (rest : List Turn) →
+exchanges_own : (measures : Side → Measure) (master : Side) (e : Ends) (jobs others_ahead : List Job) (rest : List Turn) →
     ((job : Job) → Contains jobs job → Contains e.own_jobs job) →
-    HoldsOf size master (Own e [] others_ahead) rest →
-    HoldsOf size master (OwnBehind e jobs others_ahead (choice e.own jobs).failing)
+    HoldsOf measures master (Own e [] others_ahead) rest →
+    HoldsOf measures master (OwnBehind e jobs others_ahead (choice e.own jobs).failing)
     (exchanges master (other master) e.own e.others jobs rest)
-exchanges_own size master e [] ahead rest inside more = more
-exchanges_own size master e (job.Send source target user temp ∷ jobs) ahead rest inside more =
-    send_own size master e jobs ahead source target user temp (to_give e.own (fetched_by source temp))
+exchanges_own measures master e [] ahead rest inside more = more
+exchanges_own measures master e (job.Send source target user temp ∷ jobs) ahead rest inside more =
+    send_own measures master e jobs ahead source target user temp (to_give e.own (fetched_by source temp))
     (e.others.verdict target) (e.others.immovable target) (choice e.own jobs)
     (exchanges master (other master) e.own e.others jobs rest) refl
     (inside (job.Send source target user temp) (Contains-head (job.Send source target user temp) jobs))
-    (exchanges_own size master e jobs ahead rest
+    (exchanges_own measures master e jobs ahead rest
     (λ j i. inside j (Contains-tail (job.Send source target user temp) jobs j i)) more)
-exchanges_own size master e (job.Request source target user ∷ jobs) ahead rest inside more =
-    request_own size master e jobs ahead source target user (to_give e.others source) (e.own.immovable target)
+exchanges_own measures master e (job.Request source target user ∷ jobs) ahead rest inside more =
+    request_own measures master e jobs ahead source target user (to_give e.others source) (e.own.immovable target)
     (choice e.own jobs).failing (exchanges master (other master) e.own e.others jobs rest) refl
     (choice_strikes_nothing e.own jobs)
-    (exchanges_own size master e jobs ahead rest
+    (exchanges_own measures master e jobs ahead rest
     (λ j i. inside j (Contains-tail (job.Request source target user) jobs j i)) more)
 
 -- ---- both ends
@@ -195,23 +196,23 @@ chosen_own a b =
 
 -- the called end as master: the caller has no job left
 called_master_own : (a b : Party) →
-    HoldsOf (sizes a b) Called (OwnBehind (called_ends a b) b.jobs [] (choice b.holdings b.jobs).failing)
+    HoldsOf (measures a b) Called (OwnBehind (called_ends a b) b.jobs [] (choice b.holdings b.jobs).failing)
     (exchanges Called Caller b.holdings a.holdings b.jobs last_turns)
 called_master_own a b =
-    exchanges_own (sizes a b) Called (called_ends a b) b.jobs [] last_turns (λ j i. i)
+    exchanges_own (measures a b) Called (called_ends a b) b.jobs [] last_turns (λ j i. i)
     (master_says (none, none) (slave_says (none, none) (master_says (none, none) (no_turn (none, none)))))
 
 after_hang_up_own : (a b : Party) (offered : Option Order) →
-    HoldsOf (sizes a b) Caller
+    HoldsOf (measures a b) Caller
     (λ m o k p. Own (caller_ends a b) [] b.jobs m ((choice b.holdings b.jobs).failing ++ o) k p) (after_hang_up offered a b)
 after_hang_up_own a b None = slave_says (chosen_own a b) (master_says (chosen_own a b) (no_turn (chosen_own a b)))
 after_hang_up_own a b (Some order) = slave_says (chosen_own a b)
     (follows (λ m o k p h. (h.1, h.0)) (from_called (called_master_own a b)))
 
 conversation_own : (a b : Party) →
-    HoldsOf (sizes a b) Caller (OwnBehind (caller_ends a b) a.jobs b.jobs (choice a.holdings a.jobs).failing) (conversation a b)
+    HoldsOf (measures a b) Caller (OwnBehind (caller_ends a b) a.jobs b.jobs (choice a.holdings a.jobs).failing) (conversation a b)
 conversation_own a b =
-    exchanges_own (sizes a b) Caller (caller_ends a b) a.jobs b.jobs (hang_up a b) (λ j i. i)
+    exchanges_own (measures a b) Caller (caller_ends a b) a.jobs b.jobs (hang_up a b) (λ j i. i)
     (master_says (none, none) (after_hang_up_own a b (choice b.holdings b.jobs).next))
 
 -- ---- both stores

@@ -2,6 +2,7 @@
 use Rattle.std.proofs.Common.{◌≡◌, ◌≢◌, ℕ, ◌<◌, ◌≤◌, Bool, true, false, nat_lt, List, [], ◌∷◌, ◌++◌, length, refl, sym, ap, subst, ◌∙◌, arith}
 use Rattle.std.proofs.lemmas.Bool.Decides.{nat_tests}
 use Rattle.std.proofs.lemmas.List.{append_assoc, length-append}
+use Rattle.uug_talk.specs.Chunks.{Measure}
 use Rattle.uug_talk.specs.Answer.{answer_text}
 use Rattle.uug_talk.specs.Gathering.{Kind, OfCommand, OfFile, part_of, ends, limit_of, gathered, GathersBack}
 use Rattle.uug_talk.specs.Order.{order_text}
@@ -31,15 +32,15 @@ seen-other Called bytes moves keeps = refl
 
 -- ---- a turn of one's own
 
-module _ (me : Side) (h : Holdings) (size : ℕ) (s : State) (said : Said) (moves : List Move) (keeps : List Kept) where
-  own_chunks : (cs left : List (List ℕ)) (rest : List Message) → Accords h size s left (view me rest) →
-      Accords h size s (cs ++ left) (view me (turn_messages (record { speaker = me; said = said; moves = moves; keeps = keeps }) cs rest))
+module _ (me : Side) (h : Holdings) (measure : Measure) (s : State) (said : Said) (moves : List Move) (keeps : List Kept) where
+  own_chunks : (cs left : List (List ℕ)) (rest : List Message) → Accords h measure s left (view me rest) →
+      Accords h measure s (cs ++ left) (view me (turn_messages (record { speaker = me; said = said; moves = moves; keeps = keeps }) cs rest))
   own_chunks [] left rest a = a
   own_chunks (c ∷ []) left rest a =
-      subst (λ z. Accords h size s (c ∷ left) (z ∷ view me rest)) (sym (seen-own me c moves keeps)) (left, refl, a)
+      subst (λ z. Accords h measure s (c ∷ left) (z ∷ view me rest)) (sym (seen-own me c moves keeps)) (left, refl, a)
   own_chunks (c ∷ d ∷ cs) left rest a =
       let t : Turn = record { speaker = me; said = said; moves = moves; keeps = keeps } in
-      subst (λ z. Accords h size s (c ∷ (d ∷ cs) ++ left) (z ∷ view me (turn_messages t (d ∷ cs) rest)))
+      subst (λ z. Accords h measure s (c ∷ (d ∷ cs) ++ left) (z ∷ view me (turn_messages t (d ∷ cs) rest)))
       (sym (seen-own me c [] [])) ((d ∷ cs) ++ left, refl, own_chunks (d ∷ cs) left rest a)
 
   own_chunks_say : (c : List ℕ) (cs : List (List ℕ)) (rest : List Message) →
@@ -99,11 +100,11 @@ gathered_amid l w front m e =
     (gathered_kind (kind_awaited w) front)
 
 -- by what the step is
-hears_by : (h : Holdings) (size : ℕ) (s : State) (m : List ℕ) (moves : List Move) (keeps : List Kept) (v : List Seen)
+hears_by : (h : Holdings) (measure : Measure) (s : State) (m : List ℕ) (moves : List Move) (keeps : List Kept) (v : List Seen)
     (r : Reply) → step h s m ≡ r → Listens s [] (none_left (own_messages v)) → Does s.lists moves keeps r →
-    Accords h size r.state (all_messages size r.says) v → Accords h size s [] (hears m moves keeps ∷ v)
-hears_by h size s m moves keeps v r e listens does a =
-    let both = subst (λ z. Does s.lists moves keeps z × Accords h size z.state (all_messages size z.says) v) (sym e) (does, a) in
+    Accords h measure r.state (all_messages measure r.says) v → Accords h measure s [] (hears m moves keeps ∷ v)
+hears_by h measure s m moves keeps v r e listens does a =
+    let both = subst (λ z. Does s.lists moves keeps z × Accords h measure z.state (all_messages measure z.says) v) (sym e) (does, a) in
     (listens, both.0, both.1)
 
 module _ (me : Side) (said : Said) (moves : List Move) (keeps : List Kept) where
@@ -134,19 +135,19 @@ one_more front c cs = sym (append_assoc front (c ∷ []) cs)
 not_none : (d : List ℕ) (ds : List (List ℕ)) → d ∷ ds ≢ []
 not_none d ds e = absurd cc
 
-module _ (me : Side) (h : Holdings) (size : ℕ) (l : Lists) (w : Awaits) (held : List ℕ)
+module _ (me : Side) (h : Holdings) (measure : Measure) (l : Lists) (w : Awaits) (held : List ℕ)
     (said : Said) (moves : List Move) (keeps : List Kept) (rest : List Message) where
   hear_chunks : length held ≤ limit_of (kind_awaited w) → Waits w (none_left (own_messages (view me rest))) →
       Does l moves keeps (on_whole (kind_awaited w) h w held l) →
-      Accords h size (on_whole (kind_awaited w) h w held l).state
-      (all_messages size (on_whole (kind_awaited w) h w held l).says) (view me rest) →
+      Accords h measure (on_whole (kind_awaited w) h w held l).state
+      (all_messages measure (on_whole (kind_awaited w) h w held l).says) (view me rest) →
       (front : List (List ℕ)) (c : List ℕ) (cs : List (List ℕ)) → (gathered (kind_awaited w) front).whole ≡ false →
       GathersBack (kind_awaited w) (front ++ c ∷ cs) held →
-      Accords h size (amid l w front) []
+      Accords h measure (amid l w front) []
       (view me (turn_messages (record { speaker = other me; said = said; moves = moves; keeps = keeps }) (c ∷ cs) rest))
   hear_chunks limit waits does a front c [] e back =
-      subst (λ z. Accords h size (amid l w front) [] (z ∷ view me rest)) (sym (seen-other me c moves keeps))
-      (hears_by h size (amid l w front) c moves keeps (view me rest) (on_whole (kind_awaited w) h w held l)
+      subst (λ z. Accords h measure (amid l w front) [] (z ∷ view me rest)) (sym (seen-other me c moves keeps))
+      (hears_by h measure (amid l w front) c moves keeps (view me rest) (on_whole (kind_awaited w) h w held l)
       (whole_step h (amid l w front) c (kind_awaited w) held (sym (gathered_amid l w front c e) ∙ back.whole) limit)
       (listens_amid l w front _ waits) does a)
   hear_chunks limit waits does a front c (d ∷ cs) e back =
@@ -161,8 +162,8 @@ module _ (me : Side) (h : Holdings) (size : ℕ) (l : Lists) (w : Awaits) (held 
         back.within front (d ∷ cs) c refl,
         length-append (gathered (kind_awaited w) front).bytes (part_of (kind_awaited w) c),
       ) in
-      subst (λ z. Accords h size (amid l w front) [] (z ∷ view me (turn_messages t (d ∷ cs) rest))) (sym (seen-other me c [] []))
-      (hears_by h size (amid l w front) c [] [] (view me (turn_messages t (d ∷ cs) rest))
+      subst (λ z. Accords h measure (amid l w front) [] (z ∷ view me (turn_messages t (d ∷ cs) rest))) (sym (seen-other me c [] []))
+      (hears_by h measure (amid l w front) c [] [] (view me (turn_messages t (d ∷ cs) rest))
       (record { state = amid l w (front ++ c ∷ []); says = []; keeps = [] })
       (part_step h (amid l w front) c (sym (ap (λ g. g.whole) next) ∙ open_still) fits
       ∙ ap (λ z. record { state = record { lists = l; awaits = w; gathered = z }; says = []; keeps = [] })
@@ -188,11 +189,11 @@ said_bytes (the_order order) = order_text order
 said_bytes (the_answer answer) = answer_text answer
 said_bytes (the_file bytes) = bytes
 
-said_back : (size : ℕ) → 0 < size → (said : Said) → IsReadBack said →
-    GathersBack (said_kind said) (said_messages size said) (said_bytes said)
-said_back size p (the_order order) r = command_back size (order_text order) p r.0
-said_back size p (the_answer answer) r = command_back size (answer_text answer) p r.0
-said_back size p (the_file bytes) r = file_back size bytes p
+said_back : (measure : Measure) → 0 < measure.size → (said : Said) → IsReadBack said →
+    GathersBack (said_kind said) (said_messages measure said) (said_bytes said)
+said_back measure p (the_order order) r = command_back measure (order_text order) p r.0
+said_back measure p (the_answer answer) r = command_back measure (answer_text answer) p r.0
+said_back measure p (the_file bytes) r = file_back measure.size bytes p
 
 said_fits : (said : Said) → IsReadBack said → length (said_bytes said) ≤ limit_of (said_kind said)
 said_fits (the_order order) r = r.0.short
@@ -203,9 +204,9 @@ not_whole_yet : {kind : Kind} {held : List ℕ} → GathersBack kind [] held →
 not_whole_yet {kind} {held} back = let e : false ≡ true = sym (nothing_whole kind) ∙ ap (λ g. g.whole) back.whole in cc
 
 -- an end accords with these turns, and has something to say in them
-pub record Fits (h : Holdings) (size_of : Side → ℕ) (me : Side) (s : State) (left : List (List ℕ)) (ts : List Turn) : Type 0 where
-  pub accords : Accords h (size_of me) s left (view me (messages size_of ts))
-  pub speaks : none_left (own_messages (view me (messages size_of ts))) ≡ false
+pub record Fits (h : Holdings) (measure_of : Side → Measure) (me : Side) (s : State) (left : List (List ℕ)) (ts : List Turn) : Type 0 where
+  pub accords : Accords h (measure_of me) s left (view me (messages measure_of ts))
+  pub speaks : none_left (own_messages (view me (messages measure_of ts))) ≡ false
 
 -- it awaits something, and has not parted
 pub record Open (w : Awaits) : Type 0 where
@@ -213,66 +214,66 @@ pub record Open (w : Awaits) : Type 0 where
   pub not_bad : is_bad w ≡ false
   pub not_parted : has_said_all w ≡ false
 
-module _ (size_of : Side → ℕ) (positive : (side : Side) → 0 < size_of side) (me : Side)
+module _ (measure_of : Side → Measure) (positive : (side : Side) → 0 < (measure_of side).size) (me : Side)
     (h : Holdings) (said : Said) (moves : List Move) (keeps : List Kept) (ts : List Turn) where
   own_by : (s : State) (left cs : List (List ℕ)) → {kind : Kind} {held : List ℕ} → GathersBack kind cs held →
-      Accords h (size_of me) s left (view me (messages size_of ts)) →
-      (Accords h (size_of me) s (cs ++ left)
-      (view me (turn_messages (record { speaker = me; said = said; moves = moves; keeps = keeps }) cs (messages size_of ts))))
+      Accords h (measure_of me) s left (view me (messages measure_of ts)) →
+      (Accords h (measure_of me) s (cs ++ left)
+      (view me (turn_messages (record { speaker = me; said = said; moves = moves; keeps = keeps }) cs (messages measure_of ts))))
       × (none_left (own_messages
-      (view me (turn_messages (record { speaker = me; said = said; moves = moves; keeps = keeps }) cs (messages size_of ts)))) ≡ false)
+      (view me (turn_messages (record { speaker = me; said = said; moves = moves; keeps = keeps }) cs (messages measure_of ts)))) ≡ false)
   own_by s left [] back a = absurd (not_whole_yet back)
   own_by s left (c ∷ cs) back a = (
-    own_chunks me h (size_of me) s said moves keeps (c ∷ cs) left (messages size_of ts) a,
-    own_chunks_say me h (size_of me) s said moves keeps c cs (messages size_of ts),
+    own_chunks me h (measure_of me) s said moves keeps (c ∷ cs) left (messages measure_of ts) a,
+    own_chunks_say me h (measure_of me) s said moves keeps c cs (messages measure_of ts),
   )
 
   pub own_says : (s : State) (left : List (List ℕ)) → IsReadBack said →
-      Accords h (size_of me) s left (view me (messages size_of ts)) →
-      Fits h size_of me s (said_messages (size_of me) said ++ left)
+      Accords h (measure_of me) s left (view me (messages measure_of ts)) →
+      Fits h measure_of me s (said_messages (measure_of me) said ++ left)
       (record { speaker = me; said = said; moves = moves; keeps = keeps } ∷ ts)
   own_says s left r a =
-      let both = own_by s left (said_messages (size_of me) said) (said_back (size_of me) (positive me) said r) a in
+      let both = own_by s left (said_messages (measure_of me) said) (said_back (measure_of me) (positive me) said r) a in
       record { accords = both.0; speaks = both.1 }
 
   other_by : (l : Lists) (w : Awaits) (held : List ℕ) (cs : List (List ℕ)) → length held ≤ limit_of (kind_awaited w) →
-      GathersBack (kind_awaited w) cs held → Waits w (none_left (own_messages (view me (messages size_of ts)))) →
+      GathersBack (kind_awaited w) cs held → Waits w (none_left (own_messages (view me (messages measure_of ts)))) →
       Does l moves keeps (on_whole (kind_awaited w) h w held l) →
-      Accords h (size_of me) (on_whole (kind_awaited w) h w held l).state
-      (all_messages (size_of me) (on_whole (kind_awaited w) h w held l).says) (view me (messages size_of ts)) →
-      Accords h (size_of me) (between l w) []
-      (view me (turn_messages (record { speaker = other me; said = said; moves = moves; keeps = keeps }) cs (messages size_of ts)))
+      Accords h (measure_of me) (on_whole (kind_awaited w) h w held l).state
+      (all_messages (measure_of me) (on_whole (kind_awaited w) h w held l).says) (view me (messages measure_of ts)) →
+      Accords h (measure_of me) (between l w) []
+      (view me (turn_messages (record { speaker = other me; said = said; moves = moves; keeps = keeps }) cs (messages measure_of ts)))
   other_by l w held [] limit back waits does a = absurd (not_whole_yet back)
   other_by l w held (c ∷ cs) limit back waits does a =
-      subst (λ z. Accords h (size_of me) (record { lists = l; awaits = w; gathered = z }) []
-      (view me (turn_messages (record { speaker = other me; said = said; moves = moves; keeps = keeps }) (c ∷ cs) (messages size_of ts))))
+      subst (λ z. Accords h (measure_of me) (record { lists = l; awaits = w; gathered = z }) []
+      (view me (turn_messages (record { speaker = other me; said = said; moves = moves; keeps = keeps }) (c ∷ cs) (messages measure_of ts))))
       (nothing_held (kind_awaited w))
-      (hear_chunks me h (size_of me) l w held said moves keeps (messages size_of ts) limit waits does a [] c cs
+      (hear_chunks me h (measure_of me) l w held said moves keeps (messages measure_of ts) limit waits does a [] c cs
       (nothing_whole (kind_awaited w)) back)
 
   -- by the reply to it
   pub other_hears : (l : Lists) (w : Awaits) → IsReadBack said → said_kind said ≡ kind_awaited w →
-      Waits w (none_left (own_messages (view me (messages size_of ts)))) → (r : Reply) →
+      Waits w (none_left (own_messages (view me (messages measure_of ts)))) → (r : Reply) →
       on_whole (kind_awaited w) h w (said_bytes said) l ≡ r → Does l moves keeps r →
-      Accords h (size_of me) r.state (all_messages (size_of me) r.says) (view me (messages size_of ts)) →
-      Accords h (size_of me) (between l w) []
-      (view me (messages size_of (record { speaker = other me; said = said; moves = moves; keeps = keeps } ∷ ts)))
+      Accords h (measure_of me) r.state (all_messages (measure_of me) r.says) (view me (messages measure_of ts)) →
+      Accords h (measure_of me) (between l w) []
+      (view me (messages measure_of (record { speaker = other me; said = said; moves = moves; keeps = keeps } ∷ ts)))
   other_hears l w b k waits r e does a =
-      other_by l w (said_bytes said) (said_messages (size_of (other me)) said)
+      other_by l w (said_bytes said) (said_messages (measure_of (other me)) said)
       (subst (λ z. length (said_bytes said) ≤ limit_of z) k (said_fits said b))
-      (subst (λ z. GathersBack z (said_messages (size_of (other me)) said) (said_bytes said)) k
-      (said_back (size_of (other me)) (positive (other me)) said b))
+      (subst (λ z. GathersBack z (said_messages (measure_of (other me)) said) (said_bytes said)) k
+      (said_back (measure_of (other me)) (positive (other me)) said b))
       waits
       (subst (λ z. Does l moves keeps z) (sym e) does)
-      (subst (λ z. Accords h (size_of me) z.state (all_messages (size_of me) z.says) (view me (messages size_of ts))) (sym e) a)
+      (subst (λ z. Accords h (measure_of me) z.state (all_messages (measure_of me) z.says) (view me (messages measure_of ts))) (sym e) a)
 
   pub other_says : (l : Lists) (w : Awaits) → IsReadBack said → said_kind said ≡ kind_awaited w → Open w → (r : Reply) →
       on_whole (kind_awaited w) h w (said_bytes said) l ≡ r → Does l moves keeps r →
-      Fits h size_of me r.state (all_messages (size_of me) r.says) ts →
-      Fits h size_of me (between l w) []
+      Fits h measure_of me r.state (all_messages (measure_of me) r.says) ts →
+      Fits h measure_of me (between l w) []
       (record { speaker = other me; said = said; moves = moves; keeps = keeps } ∷ ts)
   other_says l w b k o r e does f = record {
     accords = other_hears l w b k
         (record { not_over = o.not_over; not_bad = o.not_bad; parted = o.not_parted ∙ sym f.speaks }) r e does f.accords;
-    speaks = ap none_left (others_say_nothing me said moves keeps (said_messages (size_of (other me)) said) (messages size_of ts)) ∙ f.speaks;
+    speaks = ap none_left (others_say_nothing me said moves keeps (said_messages (measure_of (other me)) said) (messages measure_of ts)) ∙ f.speaks;
   }

@@ -27,7 +27,7 @@ all_taken v c = nat_le (length (others_messages v)) c.taken
 -- the keeper of the end that sees the conversation so; what it takes is always what stands there
 abbrev pub count_keeper : List Seen → Keeper Count
 count_keeper v = record {
-  opened = λ size c. record { opened = true; sent = c.sent; taken = c.taken };
+  opened = λ measure c. record { opened = true; sent = c.sent; taken = c.taken };
   taking = λ message c. record { opened = c.opened; sent = c.sent; taken = suc c.taken };
   asks_spool = λ message c. false;
   next = λ c. if c.opened then message_before (floor c.taken v) v c.sent else None;

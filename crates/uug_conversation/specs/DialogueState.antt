@@ -1,6 +1,7 @@
 -- What one end keeps of its conversation: the one-sided machine, what it has still to say, and what its spool kept (this
 -- project's profile). What waits when a message fitted no turn is never sent: the end has ended then.
 use Rattle.std.specs.Prelude.{ℕ, Bool, true, false, ◌&&◌, not, nat_le, List, [], ◌∷◌, ◌++◌, length, Option, Some, None}
+use Rattle.uug_talk.specs.Chunks.{Measure}
 use Rattle.uug_talk.specs.Gathering.{Gathering, limit_of}
 use Rattle.uug_conversation.specs.declared.awaits.Awaits.{Awaits}
 use Rattle.uug_conversation.specs.declared.awaits.Awaits.TheVariants as awaits
@@ -17,23 +18,27 @@ pub record DialogueState : Type 0 where
   -- the link has come up in this session
   pub opened : Bool
   pub machine : State
-  -- the size of its messages, once the link is up
-  pub size : ℕ
+  -- how it cuts its messages, once the link is up
+  pub measure : Measure
   -- the messages that it has to say and that were not sent, in order
   pub waiting : List (List ℕ)
   -- all that the spool has kept
   pub kept : List Kept
 
+-- before the link is up it is not known how messages are cut
+abbrev pub unmeasured : Measure
+unmeasured = record { size = 0; short = false }
+
 -- before the link is up nothing is done
 abbrev pub unopened : Lists → List Kept → DialogueState
-unopened l kept = record { opened = false; machine = between l awaits.Order; size = 0; waiting = []; kept = kept }
+unopened l kept = record { opened = false; machine = between l awaits.Order; measure = unmeasured; waiting = []; kept = kept }
 
-abbrev pub replied : (size : ℕ) → (waiting : List (List ℕ)) → (kept : List Kept) → Reply → DialogueState
-replied size waiting kept reply = record {
+abbrev pub replied : Measure → (waiting : List (List ℕ)) → (kept : List Kept) → Reply → DialogueState
+replied measure waiting kept reply = record {
   opened = true;
   machine = reply.state;
-  size = size;
-  waiting = waiting ++ all_messages size reply.says;
+  measure = measure;
+  waiting = waiting ++ all_messages measure reply.says;
   kept = kept ++ reply.keeps;
 }
 
@@ -63,13 +68,13 @@ is_kept_now h g (Some file) = (g.whole && nat_le (length g.bytes) (limit_of g.ki
 abbrev pub asks_spool : Holdings → State → (message : List ℕ) → Bool
 asks_spool h s message = is_kept_now h (gathered_with s message) (file_awaited s.awaits s.lists.ahead)
 
--- the link has come up, with messages of this size
-abbrev pub opened_with : Side → Holdings → (size : ℕ) → DialogueState → DialogueState
-opened_with side h size talk = replied size [] talk.kept (opening side h talk.machine.lists)
+-- the link has come up, with messages cut so
+abbrev pub opened_with : Side → Holdings → Measure → DialogueState → DialogueState
+opened_with side h measure talk = replied measure [] talk.kept (opening side h talk.machine.lists)
 
 -- a message of the other end is taken
 abbrev pub taking : Holdings → (message : List ℕ) → DialogueState → DialogueState
-taking h message talk = replied talk.size talk.waiting talk.kept (step h talk.machine message)
+taking h message talk = replied talk.measure talk.waiting talk.kept (step h talk.machine message)
 
 -- the first message that waits is sent
 abbrev pub with_first_sent : DialogueState → DialogueState

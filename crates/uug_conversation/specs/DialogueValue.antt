@@ -1,6 +1,7 @@
 -- What the code of one end keeps of its conversation, as what it keeps of it in the definitions. What the spool kept, and
 -- the files that are being sent, are the spool's.
-use Rattle.std.specs.Prelude.{◌≡◌, ℕ, ◌≤◌, Bool, false, ◌&&◌, List, [], length, Option, Some, None}
+use Rattle.std.specs.Prelude.{◌≡◌, ◌≤◌, Bool, false, ◌&&◌, List, [], length, Option, Some, None}
+use Rattle.uug_talk.specs.Chunks.{Measure}
 use Rattle.uug_talk.specs.Gathering.{Gathering, limit_of}
 use Rattle.uug_conversation.specs.declared.awaits.Awaits.{Awaits}
 use Rattle.uug_conversation.specs.declared.reaction.Reaction.{Reaction}
@@ -16,8 +17,8 @@ pub record DialogueValue : Type 0 where
   -- the link has come up in this session
   pub opened : Bool
   pub machine : State
-  -- the size of its messages, once the link is up
-  pub size : ℕ
+  -- how it cuts its messages, once the link is up
+  pub measure : Measure
   pub outgoing : Outgoing
 
 -- beside a spool with these holdings that has kept these files
@@ -25,8 +26,8 @@ abbrev pub dialogue_of : Holdings → List Kept → DialogueValue → DialogueSt
 dialogue_of h kept t = record {
   opened = t.opened;
   machine = t.machine;
-  size = t.size;
-  waiting = outgoing_messages h t.size t.outgoing;
+  measure = t.measure;
+  waiting = outgoing_messages h t.measure t.outgoing;
   kept = kept;
 }
 

@@ -2,10 +2,11 @@
 -- such keeper: over the end itself, which doesn't know the other's jobs, and over two numbers, how many messages of the
 -- whole conversation were sent and taken (this project's profile).
 use Rattle.std.specs.Prelude.{ℕ, Bool, List, Option}
+use Rattle.uug_talk.specs.Chunks.{Measure}
 
 pub record Keeper (C : Type 0) : Type 0 where
-  -- the link has come up, and messages have this size
-  pub opened : (size : ℕ) → C → C
+  -- the link has come up, and messages are cut so
+  pub opened : Measure → C → C
   -- the other end's next message is taken
   pub taking : (message : List ℕ) → C → C
   -- a file ends with this message, and the spool is asked to keep it

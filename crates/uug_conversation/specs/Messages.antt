@@ -1,5 +1,6 @@
 -- The messages of a conversation (Taylor UUCP manual, "UUCP 'g' Protocol").
 use Rattle.std.specs.Prelude.{ℕ, List, [], ◌∷◌}
+use Rattle.uug_talk.specs.Chunks.{Measure}
 use Rattle.uug_conversation.specs.Conversation.{conversation}
 use Rattle.uug_conversation.specs.Holdings.{Kept}
 use Rattle.uug_conversation.specs.Jobs.{Move}
@@ -23,15 +24,15 @@ turn_messages t (bytes ∷ []) rest =
 turn_messages t (bytes ∷ next ∷ more) rest =
     record { speaker = t.speaker; bytes = bytes; moves = []; keeps = [] } ∷ turn_messages t (next ∷ more) rest
 
--- the messages of these turns, where each side speaks in messages of its size
-abbrev pub messages : (Side → ℕ) → List Turn → List Message
-messages sizes [] = []
-messages sizes (t ∷ ts) = turn_messages t (said_messages (sizes t.speaker) t.said) (messages sizes ts)
+-- the messages of these turns, where each side cuts what it says in its own way
+abbrev pub messages : (Side → Measure) → List Turn → List Message
+messages measures [] = []
+messages measures (t ∷ ts) = turn_messages t (said_messages (measures t.speaker) t.said) (messages measures ts)
 
--- the caller's size and the called end's
-abbrev pub sizes : (a b : Party) → Side → ℕ
-sizes a b Caller = a.size
-sizes a b Called = b.size
+-- the caller's and the called end's
+abbrev pub measures : (a b : Party) → Side → Measure
+measures a b Caller = a.measure
+measures a b Called = b.measure
 
 abbrev pub conversation_messages : (a b : Party) → List Message
-conversation_messages a b = messages (sizes a b) (conversation a b)
+conversation_messages a b = messages (measures a b) (conversation a b)

@@ -2,7 +2,7 @@
 -- is cut from what the spool lends when a message goes out, so an end holds no copy of it.
 use Rattle.std.specs.Prelude.{◌≡◌, ℕ, ◌≤◌, Bool, true, false, List, [], ◌∷◌, ◌++◌, length, drop, map}
 use Rattle.uug_talk.specs.Answer.{IsWritten, answer_text}
-use Rattle.uug_talk.specs.Chunks.{command_messages, file_messages}
+use Rattle.uug_talk.specs.Chunks.{Measure, command_messages, file_messages}
 use Rattle.uug_talk.specs.Order.{HasMode, order_text}
 use Rattle.uug_conversation.specs.declared.reaction.Saying.{Saying}
 use Rattle.uug_conversation.specs.declared.reaction.Saying.TheVariants as saying
@@ -21,10 +21,10 @@ pub record Outgoing : Type 0 where
   pub room : ℕ
 
 -- the messages of a text or a file from an offset on
-abbrev pub messages_from : (size offset : ℕ) → Said → List (List ℕ)
-messages_from size offset (the_order order) = command_messages size (drop offset (order_text order))
-messages_from size offset (the_answer answer) = command_messages size (drop offset (answer_text answer))
-messages_from size offset (the_file bytes) = file_messages size (drop offset bytes)
+abbrev pub messages_from : Measure → (offset : ℕ) → Said → List (List ℕ)
+messages_from measure offset (the_order order) = command_messages measure (drop offset (order_text order))
+messages_from measure offset (the_answer answer) = command_messages measure (drop offset (answer_text answer))
+messages_from measure offset (the_file bytes) = file_messages measure.size (drop offset bytes)
 
 -- the messages that follow one, by whether it is the last
 abbrev pub unless_last : (is_last : Bool) → (behind : List (List ℕ)) → List (List ℕ)
@@ -32,14 +32,14 @@ unless_last true behind = []
 unless_last false behind = behind
 
 -- the messages of these, and of the first one from an offset on
-abbrev pub messages_of : Holdings → (size offset : ℕ) → List Saying → List (List ℕ)
-messages_of h size offset [] = []
-messages_of h size offset (first ∷ more) =
-    messages_from size offset (said_by h first) ++ all_messages size (map (said_by h) more)
+abbrev pub messages_of : Holdings → Measure → (offset : ℕ) → List Saying → List (List ℕ)
+messages_of h measure offset [] = []
+messages_of h measure offset (first ∷ more) =
+    messages_from measure offset (said_by h first) ++ all_messages measure (map (said_by h) more)
 
 -- the messages that are still to go out
-abbrev pub outgoing_messages : Holdings → (size : ℕ) → Outgoing → List (List ℕ)
-outgoing_messages h size out = messages_of h size out.offset out.sayings
+abbrev pub outgoing_messages : Holdings → Measure → Outgoing → List (List ℕ)
+outgoing_messages h measure out = messages_of h measure out.offset out.sayings
 
 -- what is said at once
 abbrev pub sayings_of : Says → List Saying

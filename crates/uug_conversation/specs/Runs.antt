@@ -1,5 +1,6 @@
 -- One end of a conversation, over the messages that it takes (this project's profile).
 use Rattle.std.specs.Prelude.{◌≡◌, ◌↔◌, ℕ, ◌≤◌, Bool, true, false, List, [], ◌∷◌, ◌++◌, length, take}
+use Rattle.uug_talk.specs.Chunks.{Measure}
 use Rattle.uug_conversation.specs.declared.awaits.Awaits.{Awaits}
 use Rattle.uug_conversation.specs.declared.awaits.Awaits.TheVariants as awaits
 use Rattle.uug_conversation.specs.Holdings.{Kept}
@@ -16,15 +17,15 @@ pub record Progress : Type 0 where
   pub said : List (List ℕ)
   pub kept : List Kept
 
-abbrev pub with_reply : (size : ℕ) → (said : List (List ℕ)) → (kept : List Kept) → Reply → Progress
-with_reply size said kept reply = record {
+abbrev pub with_reply : Measure → (said : List (List ℕ)) → (kept : List Kept) → Reply → Progress
+with_reply measure said kept reply = record {
   state = reply.state;
-  said = said ++ all_messages size reply.says;
+  said = said ++ all_messages measure reply.says;
   kept = kept ++ reply.keeps;
 }
 
 abbrev pub taking : Party → Progress → (message : List ℕ) → Progress
-taking p progress message = with_reply p.size progress.said progress.kept (step p.holdings progress.state message)
+taking p progress message = with_reply p.measure progress.said progress.kept (step p.holdings progress.state message)
 
 abbrev pub taking_all : Party → Progress → (messages : List (List ℕ)) → Progress
 taking_all p progress [] = progress
@@ -32,7 +33,7 @@ taking_all p progress (message ∷ messages) = taking_all p (taking p progress m
 
 -- when the link has come up
 abbrev pub opened : Side → Party → Progress
-opened me p = with_reply p.size [] [] (opening me p.holdings (at_start p.jobs [] []))
+opened me p = with_reply p.measure [] [] (opening me p.holdings (at_start p.jobs [] []))
 
 -- when these messages of the other end were taken since then
 abbrev pub progress_after : Side → Party → (taken : List (List ℕ)) → Progress

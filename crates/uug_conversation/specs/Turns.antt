@@ -5,7 +5,7 @@ use Rattle.uug_conversation.specs.declared.side.Side.TheVariants.{Caller, Called
 use Rattle.uug_talk.specs.declared.answer.Answer.{Answer}
 use Rattle.uug_talk.specs.declared.order.Order.{Order}
 use Rattle.uug_talk.specs.Answer.{answer_text}
-use Rattle.uug_talk.specs.Chunks.{command_messages, file_messages}
+use Rattle.uug_talk.specs.Chunks.{Measure, command_messages, file_messages}
 use Rattle.uug_talk.specs.Order.{order_text}
 use Rattle.uug_conversation.specs.Holdings.{Kept}
 use Rattle.uug_conversation.specs.Jobs.{Move}
@@ -21,16 +21,16 @@ pub data Said : Type 0 where
   the_answer : Answer → Said
   the_file : (bytes : List ℕ) → Said
 
--- the messages in which it goes out, of this size
-abbrev pub said_messages : ℕ → Said → List (List ℕ)
-said_messages size (the_order order) = command_messages size (order_text order)
-said_messages size (the_answer answer) = command_messages size (answer_text answer)
-said_messages size (the_file bytes) = file_messages size bytes
+-- the messages in which it goes out, cut so
+abbrev pub said_messages : Measure → Said → List (List ℕ)
+said_messages measure (the_order order) = command_messages measure (order_text order)
+said_messages measure (the_answer answer) = command_messages measure (answer_text answer)
+said_messages measure (the_file bytes) = file_messages measure.size bytes
 
 -- the messages of several turns of one end
-abbrev pub all_messages : ℕ → List Said → List (List ℕ)
-all_messages size [] = []
-all_messages size (said ∷ more) = said_messages size said ++ all_messages size more
+abbrev pub all_messages : Measure → List Said → List (List ℕ)
+all_messages measure [] = []
+all_messages measure (said ∷ more) = said_messages measure said ++ all_messages measure more
 
 -- who says what, and what the hearer does when it has taken the last message of it: what becomes of its jobs, and
 -- what it keeps

@@ -7,7 +7,7 @@ ghost use Rattle.uug_conversation.specs.Outgoing.{IsSayable, sayings_of};
 ghost use Rattle.uug_conversation.specs.Party.{HasNames};
 ghost use Rattle.uug_conversation.specs.Reactions.{HasModeInRange, reply_of};
 ghost use Rattle.uug_conversation.specs.Runs.{is_bad};
-ghost use Rattle.uug_conversation.specs.DialogueState.{asks_spool, first_of, opened_with, taking, with_first_sent};
+ghost use Rattle.uug_conversation.specs.DialogueState.{asks_spool, first_of, opened_with, taking, unmeasured, with_first_sent};
 ghost use Rattle.uug_conversation.specs.DialogueValue.{IsPart, state_of, dialogue_of, told_as, dialogue_has_parted, dialogue_is_through};
 
 use crate::awaits::Awaits;
@@ -34,6 +34,8 @@ pub struct Dialogue<A: Allocator> {
     opened: bool,
     /// The size of messages, once the link is up.
     size: usize,
+    /// Whether the last message of a command ends with its zero byte, once the link is up.
+    short: bool,
     outgoing: Outgoing<A>,
     alloc: A,
 }
@@ -49,7 +51,7 @@ impl<A: Allocator> Model for Dialogue<A> {
     ghost view = { λ d. record {
       opened = d.opened;
       machine = state_of d.queue d.awaits d.gather;
-      size = d.size;
+      measure = record { size = d.size; short = d.short };
       outgoing = d.outgoing;
     } };
 
@@ -64,7 +66,7 @@ impl<A: Allocator + Copy> Dialogue<A> {
         ensures machine { result.machine
             ≡ between (at_start (pending queue) queue.struck queue.failed) Awaits.Order }
         ensures opened { result.opened ≡ false }
-        ensures size { result.size ≡ 0 }
+        ensures measure { result.measure ≡ unmeasured }
         ensures sayings { result.outgoing.sayings ≡ [] }
         ensures offset { result.outgoing.offset ≡ 0 }
     {
@@ -75,6 +77,7 @@ impl<A: Allocator + Copy> Dialogue<A> {
             gather: Gather::command(),
             opened: false,
             size: 0,
+            short: false,
             outgoing: Outgoing::new(alloc),
             alloc,
         }
@@ -85,7 +88,7 @@ impl<A: Allocator + Copy> Dialogue<A> {
         ensures machine { self.new.machine ≡ between (at_start (pending self.old.machine.lists)
             self.old.machine.lists.struck self.old.machine.lists.failed) Awaits.Order }
         ensures opened { self.new.opened ≡ false }
-        ensures size { self.new.size ≡ 0 }
+        ensures measure { self.new.measure ≡ unmeasured }
         ensures sayings { self.new.outgoing.sayings ≡ [] }
         ensures offset { self.new.outgoing.offset ≡ 0 }
     {
@@ -94,6 +97,7 @@ impl<A: Allocator + Copy> Dialogue<A> {
         self.gather = Gather::command();
         self.opened = false;
         self.size = 0;
+        self.short = false;
         self.outgoing.clear();
     }
 
@@ -101,7 +105,7 @@ impl<A: Allocator + Copy> Dialogue<A> {
     pub fn reserve(&mut self) -> Result<(), AllocError>
         ensures opened { self.new.opened ≡ self.old.opened }
         ensures machine { self.new.machine ≡ self.old.machine }
-        ensures size { self.new.size ≡ self.old.size }
+        ensures measure { self.new.measure ≡ self.old.measure }
         ensures sayings { self.new.outgoing.sayings ≡ self.old.outgoing.sayings }
         ensures offset { self.new.outgoing.offset ≡ self.old.outgoing.offset }
         ensures room { OnOk result (SAYINGS_MAX ≤ self.new.outgoing.room) }
@@ -109,18 +113,20 @@ impl<A: Allocator + Copy> Dialogue<A> {
         self.outgoing.reserve()
     }
 
-    /// The link has come up, and messages have at most this size.
-    pub fn open<S: Spool>(&mut self, side: Side, spool: &S, size: usize)
+    /// The link has come up, and messages have at most this size. Where `short` is set, the last one of a command or an
+    /// answer ends with its zero byte.
+    pub fn open<S: Spool>(&mut self, side: Side, spool: &S, size: usize, short: bool)
         requires room { SAYINGS_MAX ≤ self.old.outgoing.room }
         requires some { 0 < size }
         requires fits { size ≤ MESSAGE_MAX }
         ensures opened { dialogue_of (S.holdings spool.now) (S.kept spool.now) self.new
-            ≡ opened_with side (S.holdings spool.now) size
+            ≡ opened_with side (S.holdings spool.now) (record { size = size; short = short })
             (dialogue_of (S.holdings spool.now) (S.kept spool.now) self.old) }
     {
         let reaction = opening(&mut self.queue, spool, side);
         self.opened = true;
         self.size = size;
+        self.short = short;
         self.awaits = reaction.awaits;
         self.gather = gather_for(&reaction.awaits, self.alloc);
         self.outgoing.clear();
@@ -169,9 +175,10 @@ impl<A: Allocator + Copy> Dialogue<A> {
             (S.kept spool.now) self.old).waiting ≡ None) }
         ensures sent { dialogue_of (S.holdings spool.now) (S.kept spool.now) self.new
             ≡ with_first_sent (dialogue_of (S.holdings spool.now) (S.kept spool.now) self.old) }
-        ensures size { OnTrue result (length message.new.items ≤ self.old.size) }
+        ensures size { OnTrue result (length message.new.items ≤ self.old.measure.size) }
     {
-        self.outgoing.take_message(spool, self.size, message)
+        self.outgoing
+            .take_message(spool, self.size, self.short, message)
     }
 
     /// Whether what was taken fitted no turn.

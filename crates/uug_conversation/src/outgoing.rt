@@ -103,29 +103,33 @@ impl<A: Allocator> Outgoing<A> {
     }
 
     /// Puts the next message to go out, of at most `size` bytes, into `message`, and says whether there was one. It is
-    /// taken away.
+    /// taken away. Where `short` is set, the last message of a text ends with its zero byte.
     pub(crate) fn take_message<S: Spool>(
         &mut self,
         spool: &S,
         size: usize,
+        short: bool,
         message: &mut Message,
     ) -> bool
         requires some { 0 < size }
         requires fits { size ≤ MESSAGE_MAX }
         ensures first { OnTrue result
-            (first_of (outgoing_messages (S.holdings spool.now) size self.old)
-            ≡ Some message.new.items) }
+            (first_of (outgoing_messages (S.holdings spool.now)
+            (record { size = size; short = short }) self.old) ≡ Some message.new.items) }
         ensures none { OnFalse result
-            (first_of (outgoing_messages (S.holdings spool.now) size self.old) ≡ None) }
-        ensures behind { outgoing_messages (S.holdings spool.now) size self.new
-            ≡ behind_first (outgoing_messages (S.holdings spool.now) size self.old) }
+            (first_of (outgoing_messages (S.holdings spool.now)
+            (record { size = size; short = short }) self.old) ≡ None) }
+        ensures behind { outgoing_messages (S.holdings spool.now)
+            (record { size = size; short = short }) self.new
+            ≡ behind_first (outgoing_messages (S.holdings spool.now)
+            (record { size = size; short = short }) self.old) }
         ensures size { OnTrue result (length message.new.items ≤ size) }
         ensures room { self.old.room ≤ self.new.room }
     {
         let Some(first) = self.sayings.get(self.said) else {
             return false;
         };
-        if part_of(first, spool, size, self.offset, message) {
+        if part_of(first, spool, size, short, self.offset, message) {
             self.drop_first();
         } else {
             self.offset += size;

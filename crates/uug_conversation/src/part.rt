@@ -7,15 +7,16 @@ ghost use Rattle.uug_conversation.specs.Reactions.{said_by};
 use crate::choice::to_give;
 use crate::reaction::Saying;
 use crate::spool::Spool;
-use uug_talk::laws::{command_goes_on, file_goes_on, messages_fit};
+use uug_talk::laws::{file_goes_on, messages_fit};
 use uug_talk::{Chunks, FILE_MAX, MESSAGE_MAX, Message, write_answer, write_order};
 
 /// Puts the message of at most `size` bytes that stands at an offset in the text or file into `message`, and says whether
-/// it is the last.
+/// it is the last. Where `short` is set, the last one of a text ends with its zero byte.
 pub(crate) fn part_of<S: Spool>(
     saying: &Saying,
     spool: &S,
     size: usize,
+    short: bool,
     offset: usize,
     message: &mut Message,
 ) -> bool
@@ -23,17 +24,18 @@ pub(crate) fn part_of<S: Spool>(
     requires within { IsWithin (saying.now ∷ []) offset }
     requires some { 0 < size }
     requires fits { size ≤ MESSAGE_MAX }
-    ensures messages { messages_from size offset (said_by (S.holdings spool.now) saying.now)
+    ensures messages { messages_from (record { size = size; short = short }) offset
+        (said_by (S.holdings spool.now) saying.now)
         ≡ message.new.items
-        ∷ unless_last result (messages_from size (offset + size)
+        ∷ unless_last result (messages_from (record { size = size; short = short }) (offset + size)
         (said_by (S.holdings spool.now) saying.now)) }
     ensures size { length message.new.items ≤ size }
     ensures next { result ≡ false → IsWithin (saying.now ∷ []) (offset + size) }
     ensures limit { result ≡ false → offset < FILE_MAX }
 {
     match saying {
-        Saying::Order(order) => part_of_text(&write_order(order), size, offset, message),
-        Saying::Answer(answer) => part_of_text(&write_answer(answer), size, offset, message),
+        Saying::Order(order) => part_of_text(&write_order(order), size, short, offset, message),
+        Saying::Answer(answer) => part_of_text(&write_answer(answer), size, short, offset, message),
         Saying::File(name) => match to_give(spool, name) {
             Some(file) => part_of_file(file.bytes, size, offset, message),
             None => part_of_file(&[], size, offset, message),
@@ -41,21 +43,21 @@ pub(crate) fn part_of<S: Spool>(
     }
 }
 
-fn part_of_text(text: &[u8], size: usize, offset: usize, message: &mut Message) -> bool
+fn part_of_text(text: &[u8], size: usize, short: bool, offset: usize, message: &mut Message) -> bool
     requires text { IsCommandText text.now }
     requires within { offset ≤ length text.now }
     requires some { 0 < size }
     requires fits { size ≤ MESSAGE_MAX }
-    ensures messages { command_messages size (drop offset text.now)
+    ensures messages { command_messages (record { size = size; short = short })
+        (drop offset text.now)
         ≡ message.new.items ∷ unless_last result
-        (command_messages size (drop (offset + size) text.now)) }
+        (command_messages (record { size = size; short = short })
+        (drop (offset + size) text.now)) }
     ensures size { length message.new.items ≤ size }
     ensures next { result ≡ false → offset + size ≤ length text.now }
 {
-    command_goes_on();
-    messages_fit();
     let rest = behind(text, offset);
-    first_into(&mut Chunks::command(rest, size), message);
+    first_into(&mut Chunks::command(rest, size, short), message);
     rest.len() < size
 }
 

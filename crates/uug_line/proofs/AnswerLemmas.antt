@@ -9,7 +9,7 @@ use Rattle.uug_link.specs.TwoLinks.{taken_by}
 use Rattle.uug_packet.specs.Packet.{PacketValue, control, carry}
 use Rattle.uug_session.specs.declared.end.End.TheVariants as ends
 use Rattle.uug_conversation.specs.Count.{Count, count_keeper}
-use Rattle.uug_session.specs.EndStep.{EndEffect, Identity, bad_came, behind_link, late, late_link, message_of, packet_came, talks_by}
+use Rattle.uug_session.specs.EndStep.{EndEffect, Identity, bad_came, behind_link, late, late_link, message_of, packet_came, talks_by, measure_of}
 use Rattle.uug_conversation.specs.Holdings.{Holdings}
 use Rattle.uug_conversation.specs.DialogueState.{DialogueState, end_keeper}
 use Rattle.uug_conversation.specs.declared.side.Side.{Side}
@@ -125,7 +125,7 @@ module _ (me : Side) (h : Holdings) (v : List Seen) (J : Moment → Type 0)
   packet_by number m p place j up may moves then_j =
       goes_on_alike number me h v J IsThere is first (found m place m.taken) false (step m.link (packet_found p))
       (heard_by (end_keeper me h) m p place up).talk
-      ((count_keeper v).opened (size_of_code (step m.link (packet_found p)).state.size_code) (count m)) then_j
+      ((count_keeper v).opened (measure_of (step m.link (packet_found p)).state) (count m)) then_j
       (ap (λ (c : Count). record { opened = true; sent = c.sent; taken = c.taken })
       (quiet_count (found m place m.taken) (packet_found p) (firsts_of m.link (packet_found p))))
   packet_by number m p place j taken may moves then_j =

@@ -45,16 +45,16 @@ always_passed near far ends is_window other_is run =
 -- ---- what an end keeps of a conversation moves as the end does
 
 pub talk_opens : (me : Side) (p : Party) (struck failed : List Job) (kept : List Kept) →
-    opened_with me p.holdings p.size (unopened (behind struck failed (at_start p.jobs [] [])) kept)
-    ≡ talk_behind struck failed kept p.size (first_talker me p)
-talk_opens me p struck failed kept = ap (replied p.size [] kept) (opening_behind me p.holdings (at_start p.jobs [] []) struck failed)
+    opened_with me p.holdings p.measure (unopened (behind struck failed (at_start p.jobs [] [])) kept)
+    ≡ talk_behind struck failed kept p.measure (first_talker me p)
+talk_opens me p struck failed kept = ap (replied p.measure [] kept) (opening_behind me p.holdings (at_start p.jobs [] []) struck failed)
 
 pub talk_takes : (p : Party) (t : Talker) (message : List ℕ) (struck failed : List Job) (kept : List Kept) →
-    taking p.holdings message (talk_behind struck failed kept p.size t)
-    ≡ talk_behind struck failed kept p.size (after_act (takes message) p t)
+    taking p.holdings message (talk_behind struck failed kept p.measure t)
+    ≡ talk_behind struck failed kept p.measure (after_act (takes message) p t)
 talk_takes p t message struck failed kept =
-    ap (replied p.size t.waiting (kept ++ t.kept)) (step_behind p.holdings t.state message struck failed)
-    ∙ ap (λ (files : List Kept). record (talk_behind struck failed kept p.size (after_act (takes message) p t)) { kept = files })
+    ap (replied p.measure t.waiting (kept ++ t.kept)) (step_behind p.holdings t.state message struck failed)
+    ∙ ap (λ (files : List Kept). record (talk_behind struck failed kept p.measure (after_act (takes message) p t)) { kept = files })
     (append_assoc kept t.kept (step p.holdings t.state message).keeps)
 
 behind_is_rest : (ms : List (List ℕ)) → behind_first ms ≡ drop 1 ms
@@ -62,10 +62,10 @@ behind_is_rest [] = refl
 behind_is_rest (m ∷ ms) = refl
 
 pub talk_sends : (p : Party) (t : Talker) (struck failed : List Job) (kept : List Kept) →
-    with_first_sent (talk_behind struck failed kept p.size t)
-    ≡ talk_behind struck failed kept p.size (after_act sends p t)
+    with_first_sent (talk_behind struck failed kept p.measure t)
+    ≡ talk_behind struck failed kept p.measure (after_act sends p t)
 talk_sends p t struck failed kept =
-    ap (λ (waiting : List (List ℕ)). record (talk_behind struck failed kept p.size t) { waiting = waiting }) (behind_is_rest t.waiting)
+    ap (λ (waiting : List (List ℕ)). record (talk_behind struck failed kept p.measure t) { waiting = waiting }) (behind_is_rest t.waiting)
 
 -- ---- two ends that hear each other stand where the conversation says
 

@@ -2,6 +2,8 @@
 use Rattle.std.proofs.Common.{◌≡◌, inl, inr, ℕ, ◌<◌, ◌≤◌, nat_lt, Bool, true, false, List, [], ◌∷◌, ◌++◌, All, length, take, Option, Some, None, if◌then◌else◌, refl, sym, ap, subst, ◌∙◌, arith, true≢false}
 use Rattle.std.proofs.lemmas.Bool.Decides.{nat_tests}
 use Rattle.std.proofs.lemmas.List.Elements.{All-drop, All-head, All-take}
+use Rattle.uug_link.specs.Announced.{Announced}
+use Rattle.uug_talk.specs.Chunks.{Measure}
 use Rattle.uug_link.specs.declared.phase.Phase.TheVariants as phases
 use Rattle.uug_link.specs.Arrivals.{IsPlace}
 use Rattle.uug_link.specs.Outcomes.{MayAnswer, MovesPhase}
@@ -11,7 +13,7 @@ use Rattle.uug_link.specs.Terms.{size_of_code}
 use Rattle.uug_link.specs.TwoLinks.{Ends, IsFrontOf, MayCall}
 use Rattle.uug_packet.specs.Packet.{PacketValue}
 use Rattle.uug_conversation.specs.EarlierJobs.{behind}
-use Rattle.uug_session.specs.EndStep.{first_link, has_room, is_up, message_of, packets}
+use Rattle.uug_session.specs.EndStep.{first_link, has_room, is_up, message_of, packets, measure_of}
 use Rattle.uug_conversation.specs.Holdings.{Holdings}
 use Rattle.uug_conversation.specs.Jobs.{Lists, at_start, pending}
 use Rattle.uug_conversation.specs.DialogueState.{DialogueState, end_keeper, first_of, opened_with, unopened}
@@ -30,7 +32,7 @@ use Rattle.uug_line.proofs.World.MomentLemmas.{none_sent}
 use Rattle.uug_line.proofs.SendLemmas.{sends_it, up_with_room}
 use Rattle.uug_line.proofs.World.TalkLemmas.{Acted, Reaches, acts, fit_at, seen_at, talk_at, talker_at, told_at}
 use Rattle.uug_link.proofs.OutcomeLemmas.{answers_of, moves_of, begin_phase, send_phase, close_phase, firsts_of}
-use Rattle.uug_link.proofs.TwoLinksRuns.{fronts, sizes as link_sizes}
+use Rattle.uug_link.proofs.TwoLinksRuns.{fronts, owns as link_owns, sizes as link_sizes}
 use Rattle.uug_conversation.proofs.EarlierJobLemmas.{start_behind}
 use Rattle.uug_line.proofs.LowerLemmas.{talk_opens, talk_takes, talk_sends}
 
@@ -165,18 +167,24 @@ module _ (setup : SetupValue) (brought : AtBoth Belongings) (side : Side) (far :
   is_behind m j at_up = talks_behind side setup brought side m.talk (talker_at setup brought side j.two)
       (j.near_opened.up at_up) j.near_talk
 
-  -- the size of its messages
-  size_known : (m : Moment) → Runs m → IsUp m.link → size_of_code m.link.size_code ≡ (party setup brought side).size
-  size_known m runs at_up =
+  -- how its messages are cut
+  abbrev measured : ℕ → Announced → Measure
+  measured code own = record { size = size_of_code code; short = own.short }
+
+  measure_known : (m : Moment) → Runs m → IsUp m.link → measure_of m.link ≡ (party setup brought side).measure
+  measure_known m runs at_up =
       let ends : Ends = record { near = link_end m; far = link_end far } in
       let sizes = link_sizes (at side setup).own (at (other side) setup).own ends (sound.window side) (sound.window (other side)) in
-      ap size_of_code ((sizes (links_run setup side m far runs)).0 (subst KnowsSize (sym at_up) tt))
+      let owns = link_owns (at side setup).own (at (other side) setup).own ends (sound.window side) (sound.window (other side)) in
+      let run = links_run setup side m far runs in
+      ap (λ (code : ℕ). measured code m.link.own) ((sizes run).0 (subst KnowsSize (sym at_up) tt))
+      ∙ ap (measured (at (other side) setup).own.size_code) (owns run).1
 
   waiting_fits : (two : Two) → Reaches setup brought two → (message : List ℕ) (more : List (List ℕ)) →
-      (talker_at setup brought side two).waiting ≡ message ∷ more → length message ≤ (party setup brought side).size
+      (talker_at setup brought side two).waiting ≡ message ∷ more → length message ≤ (party setup brought side).measure.size
   waiting_fits two reached message more waits =
       let told = told_at setup brought sound side two reached in
-      let Small : List ℕ → Type 0 = λ m. length m ≤ (party setup brought side).size in
+      let Small : List ℕ → Type 0 = λ m. length m ≤ (party setup brought side).measure.size in
       All-head Small message more
       (subst (All Small) (sym told.waiting_next ∙ waits)
       (All-drop Small (length (talker_at setup brought side two).sent) _
@@ -194,7 +202,7 @@ module _ (setup : SetupValue) (brought : AtBoth Belongings) (side : Side) (far :
       record {
         links = run_moves near_first far_first far m (to_send message) then_m.talk j.links (
           (at_up, room),
-          subst (λ (n : ℕ). length message ≤ n) (sym (size_known m j.links at_up))
+          subst (λ (x : Measure). length message ≤ x.size) (sym (measure_known m j.links at_up))
               (waiting_fits j.two j.reached message waits.0 waits.1),
         ) tt;
         two = acted.then_two;
@@ -240,15 +248,15 @@ module _ (setup : SetupValue) (brought : AtBoth Belongings) (side : Side) (far :
   brought_lists : own.lists ≡ behind own.lists.struck own.lists.failed (at_start (pending own.lists) [] [])
   brought_lists = sound.renewed side ∙ sym (start_behind (pending own.lists) own.lists.struck own.lists.failed)
 
-  opens_behind : (talk : DialogueState) (t : Talker) (size : ℕ) → talk ≡ unopened own.lists own.kept →
-      t ≡ first_talker side (party setup brought side) → size ≡ (party setup brought side).size →
-      (end_keeper side (at side setup).holdings).opened size talk ≡ talk_at setup brought side t
-  opens_behind talk t size talk_is t_is size_is =
+  opens_behind : (talk : DialogueState) (t : Talker) (measure : Measure) → talk ≡ unopened own.lists own.kept →
+      t ≡ first_talker side (party setup brought side) → measure ≡ (party setup brought side).measure →
+      (end_keeper side (at side setup).holdings).opened measure talk ≡ talk_at setup brought side t
+  opens_behind talk t measure talk_is t_is measure_is =
       let me = side in
       let h : Holdings = (at side setup).holdings in
-      ap (λ (x : DialogueState). opened_with me h size x) talk_is
-      ∙ ap (λ (n : ℕ). opened_with me h n (unopened own.lists own.kept)) size_is
-      ∙ ap (λ (l : Lists). opened_with me h (party setup brought side).size (unopened l own.kept)) brought_lists
+      ap (λ (x : DialogueState). opened_with me h measure x) talk_is
+      ∙ ap (λ (x : Measure). opened_with me h x (unopened own.lists own.kept)) measure_is
+      ∙ ap (λ (l : Lists). opened_with me h (party setup brought side).measure (unopened l own.kept)) brought_lists
       ∙ talk_opens me (party setup brought side) own.lists.struck own.lists.failed own.kept
       ∙ ap (λ (x : Talker). talk_at setup brought side x) (sym t_is)
 
@@ -264,7 +272,7 @@ module _ (setup : SetupValue) (brought : AtBoth Belongings) (side : Side) (far :
         links = runs;
         two = j.two;
         reached = j.reached;
-        near_talk = inr (opens_behind m.talk t (size_of_code then_m.link.size_code) fresh.0 fresh.1 (size_known then_m runs after));
+        near_talk = inr (opens_behind m.talk t (measure_of then_m.link) fresh.0 fresh.1 (measure_known then_m runs after));
         near_sent = j.near_sent ∙ same_sent m p;
         near_taken = j.near_taken;
         far_talk = j.far_talk;

@@ -36,10 +36,11 @@ abbrev pub identity : SetupValue → Side → Identity
 identity setup side =
     record { side = side; me = (at side setup).name; peer = (at (other side) setup).name }
 
--- an end as it comes to a session to which the two bring this: its messages have the size that the other announces
+-- an end as it comes to a session to which the two bring this: its messages have the size that the other announces, and
+-- are short where it is set so itself
 abbrev pub party : SetupValue → (brought : AtBoth Belongings) → Side → Party
 party setup brought side = record {
   jobs = pending (at side brought).lists;
   holdings = (at side setup).holdings;
-  size = size_of_code (at (other side) setup).own.size_code;
+  measure = record { size = size_of_code (at (other side) setup).own.size_code; short = (at side setup).own.short };
 }

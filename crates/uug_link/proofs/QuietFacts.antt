@@ -1,6 +1,6 @@
 -- What a link that is quiet on repeats answers, worked out by hand and computed by the definitions: a wrong rule in them does
 -- not check.
-use Rattle.std.proofs.Common.{◌≡◌, true, [], ◌∷◌, refl}
+use Rattle.std.proofs.Common.{◌≡◌, true, false, [], ◌∷◌, refl}
 use Rattle.uug_link.specs.State.{State, caller_state}
 use Rattle.uug_link.specs.Step.{to_begin, bad_found, timed_out, only}
 use Rattle.uug_packet.specs.Packet.{rj, rr, init_a, init_b, init_c}
@@ -9,7 +9,7 @@ use Rattle.uug_link.proofs.WindowFacts.{data_found}
 
 -- it has announced a window of two, and taken two packets
 abbrev two_taken : State
-two_taken = after (caller_state (record { window = 2; size_code = 0; quiet = true }))
+two_taken = after (caller_state (record { window = 2; size_code = 0; quiet = true; short = false }))
     (to_begin ∷ found (init_a 2) ∷ found (init_b 0) ∷ found (init_c 2) ∷ data_found 1 0 ∷ data_found 2 0 ∷ [])
 
 -- the same, and a packet has come twice, or a broken one

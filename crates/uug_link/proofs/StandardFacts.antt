@@ -39,10 +39,10 @@ all_bytes (es ∷ more) = bytes es ∷ all_bytes more
 -- ---- a caller with window 3 and size 64, and a called end with window 2 and size 32
 
 abbrev caller : State
-caller = caller_state (record { window = 3; size_code = 1; quiet = false })
+caller = caller_state (record { window = 3; size_code = 1; quiet = false; short = false })
 
 abbrev called : State
-called = called_state (record { window = 2; size_code = 0; quiet = false })
+called = called_state (record { window = 2; size_code = 0; quiet = false; short = false })
 
 abbrev to_caller : List Event
 to_caller = to_begin ∷ found (init_a 2) ∷ found (init_b 0) ∷ found (init_c 2) ∷ []

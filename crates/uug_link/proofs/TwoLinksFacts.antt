@@ -10,7 +10,7 @@ use Rattle.uug_packet.specs.Packet.{PacketValue, close, rj, rr, init_a, init_b, 
 
 -- the caller wants window 3 and size 64, the called end window 2 and size 32
 abbrev begun : Ends
-begun = first_ends (caller_state (record { window = 3; size_code = 1; quiet = false })) (called_state (record { window = 2; size_code = 0; quiet = false }))
+begun = first_ends (caller_state (record { window = 3; size_code = 1; quiet = false; short = false })) (called_state (record { window = 2; size_code = 0; quiet = false; short = false }))
 
 abbrev caller_hears : PacketValue → Occurrence
 caller_hears p = at_near (hears p)

@@ -10,7 +10,7 @@ use Rattle.uug_link.proofs.StandardFacts.{after, emitted, outcomes, found, bytes
 
 -- a link that has just come up, at size 32 and the window of the other end
 abbrev come_up : ℕ → State
-come_up window = after (caller_state (record { window = 7; size_code = 0; quiet = false }))
+come_up window = after (caller_state (record { window = 7; size_code = 0; quiet = false; short = false }))
     (to_begin ∷ found (init_a window) ∷ found (init_b 0) ∷ found (init_c window) ∷ [])
 
 -- a data packet goes out, and whether for the first time
@@ -164,7 +164,7 @@ counts = record {
 -- ---- a message goes out in the smallest field that holds it, whatever size the other end announced
 
 abbrev at_4096 : State
-at_4096 = after (caller_state (record { window = 7; size_code = 0; quiet = false }))
+at_4096 = after (caller_state (record { window = 7; size_code = 0; quiet = false; short = false }))
     (to_begin ∷ found (init_a 7) ∷ found (init_b 7) ∷ found (init_c 7) ∷ [])
 
 -- the packet of so many zeros

@@ -7,12 +7,13 @@ use thiserror::Error;
 use uug_packet::{Seq, field_size};
 
 /// What one end of a link announces: the window and the packet size that the other end shall use. Beside it, whether this
-/// end is quiet on repeats, which it keeps to itself.
+/// end is quiet on repeats and whether its commands are short, which it keeps to itself.
 #[derive(Clone, Copy, Debug, PartialEq, Eq)]
 pub struct Announce {
     pub(crate) window: Seq,
     pub(crate) size_code: Seq,
     pub(crate) quiet: bool,
+    pub(crate) short: bool,
     ghost in_range: { IsWindow (number_of window) },
 }
 
@@ -28,14 +29,15 @@ pub enum BadAnnounce {
 }
 
 impl Announce {
-    ghost use Rattle.uug_link.specs.Announced.{announced, quiet_as};
+    ghost use Rattle.uug_link.specs.Announced.{announced, quiet_as, short_as};
 
     /// The announcement of a window, 1 to 7, and a size in bytes, a power of two from 32 to 4096. The window is
-    /// looked at first. It is of an end that is not quiet on repeats.
+    /// looked at first. It is of an end that is not quiet on repeats, and whose commands are filled up with zeros.
     pub fn new(window: u8, size: usize) -> Result<Self, BadAnnounce>
         ensures window { IfOk result (λ a. (announced a).window ≡ window) }
         ensures size { IfOk result (λ a. size_of_code (announced a).size_code ≡ size) }
         ensures plain { IfOk result (λ a. (announced a).quiet ≡ false) }
+        ensures filled { IfOk result (λ a. (announced a).short ≡ false) }
         ensures bad_window { IsErrOf result BadAnnounce.BadWindow ↔ ((window < 1)
             ⊎ (WINDOW_MAX < window)) }
         ensures bad_size { IsErrOf result BadAnnounce.BadSize ↔
@@ -47,6 +49,7 @@ impl Announce {
             window,
             size_code,
             quiet: false,
+            short: false,
         })
     }
 
@@ -62,6 +65,7 @@ impl Announce {
             window: self.window,
             size_code: self.size_code,
             quiet,
+            short: self.short,
         }
     }
 
@@ -70,6 +74,29 @@ impl Announce {
         ensures { result ≡ (announced self).quiet }
     {
         self.quiet
+    }
+
+    /// The same, of an end whose commands are short, or are not.
+    ///
+    /// The last message of a command or an answer ends with its zero byte then, and is not filled up with zeros to a
+    /// multiple of the packet size. Who reads a command stops at its zero byte, so both are read the same.
+    #[must_use]
+    pub fn with_short(self, short: bool) -> Self
+        ensures { announced result ≡ short_as short (announced self) }
+    {
+        Announce {
+            window: self.window,
+            size_code: self.size_code,
+            quiet: self.quiet,
+            short,
+        }
+    }
+
+    /// Whether the commands of this end are short.
+    pub fn is_short(self) -> bool
+        ensures { result ≡ (announced self).short }
+    {
+        self.short
     }
 
     /// The window that the other end shall use, 1 to 7.

@@ -164,6 +164,13 @@ impl Link {
         self.status.own.quiet
     }
 
+    /// Whether the commands of this end are short.
+    pub fn is_short(&self) -> bool
+        ensures { result ≡ self.now.own.short }
+    {
+        self.status.own.short
+    }
+
     /// Whether `on_packet` would answer `Taken` to this packet, if it is not refused memory.
     pub fn takes(&self, packet: &Packet<'_>) -> bool
         ensures { IsTrue result ↔ ((step self.now (packet_found (shown packet.now))).outcome

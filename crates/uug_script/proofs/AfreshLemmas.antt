@@ -1,6 +1,6 @@
 -- What a script says begins afresh.
 use Rattle.std.proofs.Common.{◌≡◌, ◌==◌, ℕ, Bool, true, false, if◌then◌else◌, List, [], length, Option, Some, None, Result, Ok, Err, IfOk, refl, subst}
-use Rattle.uug_link.specs.Announced.{quiet_as}
+use Rattle.uug_link.specs.Announced.{quiet_as, short_as}
 use Rattle.uug_conversation.specs.Jobs.{Lists, at_start, pending, added as job_added}
 use Rattle.uug_conversation.specs.declared.job.Job.{Job}
 use Rattle.uug_conversation.specs.declared.queue.TheConstants.{JOBS_MAX}
@@ -9,8 +9,8 @@ use Rattle.uug_script.specs.declared.fault.ScriptFault.{ScriptFault}
 use Rattle.uug_script.specs.declared.script.Script.{Script}
 use Rattle.uug_script.specs.Fields.{◌>>=◌}
 use Rattle.uug_script.specs.IsScript.{LinesAdd, no_line, line_more, IsScript, BeginsAfresh, EndBegins}
-use Rattle.uug_script.specs.Meaning.{EndMeaning, place, file, job, deny, later, immovable, number, quiet, LineMeaning, nothing, of_end, event, flow}
-use Rattle.uug_script.specs.Script.{Place, EndSaid, Said, nothing_said, numbered, placed, quieted, place_at, end_added, added, with_caller, with_called, EndSays, ScriptSays, end_completed}
+use Rattle.uug_script.specs.Meaning.{EndMeaning, place, file, job, deny, later, immovable, number, quiet, short, LineMeaning, nothing, of_end, event, flow}
+use Rattle.uug_script.specs.Script.{Place, EndSaid, Said, nothing_said, numbered, placed, quieted, shortened, place_at, end_added, added, with_caller, with_called, EndSays, ScriptSays, end_completed}
 use Rattle.uug_script.specs.ScriptOf.{script_said}
 use Rattle.uug_script.proofs.WordTableLemmas.{bind_some}
 
@@ -40,6 +40,10 @@ quieted_fresh : (b : Bool) (before after : EndSaid) → Fresh before → quieted
 quieted_fresh true before after h e = absurd cc
 quieted_fresh false before after h e = fresh_as (record before { quiet = true }) after (record { passed = h.passed; struck = h.struck; failed = h.failed; stored = h.stored }) e
 
+shortened_fresh : (b : Bool) (before after : EndSaid) → Fresh before → shortened b before ≡ Some after → Fresh after
+shortened_fresh true before after h e = absurd cc
+shortened_fresh false before after h e = fresh_as (record before { short = true }) after (record { passed = h.passed; struck = h.struck; failed = h.failed; stored = h.stored }) e
+
 end_fresh : (m : EndMeaning) (before after : EndSaid) → Fresh before → end_added m before ≡ Some after → Fresh after
 end_fresh (place name a) before after h e = placed_fresh (place_at name a) before.place before after h e
 end_fresh (file f) before after h e = fresh_as _ after (record { passed = h.passed; struck = h.struck; failed = h.failed; stored = h.stored }) e
@@ -52,6 +56,7 @@ end_fresh (later name) before after h e = fresh_as _ after (record { passed = h.
 end_fresh (immovable name) before after h e = fresh_as _ after (record { passed = h.passed; struck = h.struck; failed = h.failed; stored = h.stored }) e
 end_fresh (number n) before after h e = numbered_fresh n before.number before after h e
 end_fresh quiet before after h e = quieted_fresh before.quiet before after h e
+end_fresh short before after h e = shortened_fresh before.short before after h e
 
 both_as : (x after : Said) → BothFresh x → Some x ≡ Some after → BothFresh after
 both_as x after h e = let same : x ≡ after = cc in subst BothFresh same h
@@ -78,7 +83,7 @@ lists_fresh passed ahead struck failed p s f = rw (p, s, f) refl
 end_begins : (o : Option Place) (end : EndSaid) (says : EndSays) → Fresh end → end_completed o end ≡ Some says → EndBegins says
 end_begins None end says h e = absurd cc
 end_begins (Some p) end says h e =
-    let same : ◌≡◌ {A = EndSays} (record { name = p.name; announced = quiet_as end.quiet p.announced; queue = end.queue; held = end.held; number = end.number }) says = cc in
+    let same : ◌≡◌ {A = EndSays} (record { name = p.name; announced = short_as end.short (quiet_as end.quiet p.announced); queue = end.queue; held = end.held; number = end.number }) says = cc in
     subst EndBegins same
     (record { jobs = lists_fresh end.queue.passed end.queue.ahead end.queue.struck end.queue.failed h.passed h.struck h.failed; stored = h.stored })
 

@@ -3,7 +3,7 @@ use Rattle.std.proofs.Common.{◌≡◌, ◌==◌, ◌⊎◌, inl, inr, ◌↔�
 use Rattle.std.proofs.lemmas.Bool.Decides.{nat_tests}
 use Rattle.std.specs.Prelude.{IsErrOf}
 use Rattle.std.specs.Result.{result_ok}
-use Rattle.uug_link.specs.Announced.{Announced, announced, quiet_as}
+use Rattle.uug_link.specs.Announced.{Announced, announced, quiet_as, short_as}
 use Rattle.uug_link.specs.Terms.{IsSize, IsWindow, size_of_code}
 use Rattle.uug_link.specs.declared.announce.Announce.{Announce}
 use Rattle.uug_link.specs.declared.announce.BadAnnounce.{BadAnnounce}
@@ -54,29 +54,29 @@ no_code size None e other = refl
 no_code size (Some y) e other = absurd (let s = size_of_its_code size y e in other (y, s.0, s.1))
 
 abbrev pub announced_as : ℕ → ℕ → Announced
-announced_as window code = record { window = window; size_code = code; quiet = false }
+announced_as window code = record { window = window; size_code = code; quiet = false; short = false }
 
 -- an announcement is made exactly of a window and a size
 pub announcement_made : (window size : ℕ) (r : Result Announce BadAnnounce) → window ≤ WINDOW_MAX
     → IfOk r (λ a. (announced a).window ≡ window) → IfOk r (λ a. size_of_code (announced a).size_code ≡ size)
-    → IfOk r (λ a. (announced a).quiet ≡ false)
+    → IfOk r (λ a. (announced a).quiet ≡ false) → IfOk r (λ a. (announced a).short ≡ false)
     → (IsErrOf r bad.BadWindow ↔ ((window < 1) ⊎ (WINDOW_MAX < window)))
     → (IsErrOf r bad.BadSize ↔ (IsWindow window × (IsSize size → ⊥)))
     → announced_by (result_ok r) ≡ announcement window size
-announcement_made window size (Ok a) small window_is size_is plain bad_window bad_size =
+announcement_made window size (Ok a) small window_is size_is plain filled bad_window bad_size =
     let some : nat_le 1 window ≡ true = window_some (nat_le 1 window) refl in
     let code : code_of_size size ≡ Some (announced a).size_code = ap code_of_size (sym size_is) ∙ code_of_its_size (announced a).size_code a.size_code.below in
-    rw (some, code) (ap (λ (q : Bool). Some (quiet_as q (announced a))) plain ∙ ap (λ w. Some (announced_as w (announced a).size_code)) window_is) where
+    rw (some, code) (ap (λ (s : Bool). Some (short_as s (announced a))) filled ∙ ap (λ (q : Bool). Some (short_as false (quiet_as q (announced a)))) plain ∙ ap (λ w. Some (announced_as w (announced a).size_code)) window_is) where
       window_some : (b : Bool) → nat_le 1 window ≡ b → b ≡ true
       window_some true t = refl
       window_some false t =
           let low : window < 1 = grind (arith, nat_tests) in
           let e = bad_window.1 (inl low) in
           absurd cc
-announcement_made window size (Err bad.BadWindow) small window_is size_is plain bad_window bad_size =
+announcement_made window size (Err bad.BadWindow) small window_is size_is plain filled bad_window bad_size =
     let none : nat_le 1 window ≡ false = elim (bad_window.0 refl) [ inl low ↦ grind (arith, nat_tests) | inr high ↦ absurd (omega arith) ] in
     rw none refl
-announcement_made window size (Err bad.BadSize) small window_is size_is plain bad_window bad_size =
+announcement_made window size (Err bad.BadSize) small window_is size_is plain filled bad_window bad_size =
     let none : code_of_size size ≡ None = no_code size (code_of_size size) refl (bad_size.0 refl).1 in
     no_size (nat_le 1 window) none where
       no_size : (b : Bool) → code_of_size size ≡ None → None ≡ (if b then code_of_size size >>= (λ code. Some (announced_as window code)) else None)

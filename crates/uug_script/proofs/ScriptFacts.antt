@@ -13,7 +13,7 @@ use Rattle.uug_script.specs.declared.report.EndNumbers.{EndNumbers}
 use Rattle.uug_conversation.specs.declared.side.Side.TheVariants.{Caller, Called}
 use Rattle.uug_line.specs.declared.verdict.LineVerdict.TheVariants.{Clean, Fooled}
 use Rattle.uug_script.specs.Lines.{lines}
-use Rattle.uug_script.specs.Meaning.{event, number, of_end, quiet}
+use Rattle.uug_script.specs.Meaning.{event, number, of_end, quiet, short}
 use Rattle.uug_script.specs.ReadLine.{line_of}
 use Rattle.uug_script.specs.ReportText.{RunResult, ended, report_text, stored_line, verdict_line}
 use Rattle.uug_script.specs.Script.{ScriptSays, flow_events}
@@ -30,12 +30,12 @@ abbrev sent_file_says : ScriptSays
 sent_file_says = record {
   caller = record {
     name = codes "a";
-    announced = record { window = 2; size_code = 0; quiet = false };
+    announced = record { window = 2; size_code = 0; quiet = false; short = false };
     queue = at_start (Send (codes "x") (codes "y") (codes "u") None ∷ []) [] [];
     held = record no_holdings { files = kept_file (codes "x") 420 [] ∷ [] };
     number = None;
   };
-  called = record { name = codes "b"; announced = record { window = 2; size_code = 0; quiet = false }; queue = at_start [] [] []; held = no_holdings; number = None };
+  called = record { name = codes "b"; announced = record { window = 2; size_code = 0; quiet = false; short = false }; queue = at_start [] [] []; held = no_holdings; number = None };
   events = flow_events 2;
 }
 
@@ -80,6 +80,19 @@ a_quiet_end = refl
 -- that an end is quiet on repeats is said once of each end
 twice_quiet : script_of (both_ends ++ ended (codes "quiet caller") ++ ended (codes "quiet called") ++ codes "quiet caller") ≡ Err 5
 twice_quiet = refl
+
+a_short_end : line_of (codes "short called") ≡ Some (of_end Called short)
+a_short_end = refl
+
+short_of_no_side : line_of (codes "short") ≡ None
+short_of_no_side = refl
+
+short_and_more : line_of (codes "short caller 1") ≡ None
+short_and_more = refl
+
+-- that an end's commands are short is said once of each end
+twice_short : script_of (both_ends ++ ended (codes "short caller") ++ ended (codes "short called") ++ codes "short caller") ≡ Err 5
+twice_short = refl
 
 a_tab : line_of (9 ∷ codes "call") ≡ None
 a_tab = refl

@@ -14,7 +14,7 @@ use Rattle.hex.proofs.HexLemmas.{decode_of-ok, decode_sized-ok, decode_sized-twi
 use Rattle.hex.specs.Hex.{decode_of, decode_sized}
 use Rattle.hex.specs.declared.error.FromHexError.{FromHexError}
 use Rattle.hex.specs.declared.error.FromHexError.TheVariants.{OddLength}
-use Rattle.uug_link.specs.Announced.{Announced, quiet_as}
+use Rattle.uug_link.specs.Announced.{Announced, quiet_as, short_as}
 use Rattle.uug_link.specs.declared.limits.TheConstants.{MESSAGE_MAX, SIZE_CODES, WINDOW_MAX}
 use Rattle.uug_link.specs.Terms.{size_of_code}
 use Rattle.uug_talk.specs.Mode.{IsOctalDigit, IsModeWord, is_octal_digit, is_mode_word, mode_of, mode_read, octal_value}
@@ -128,13 +128,13 @@ announcement_written window size a h =
     let w = number_written WINDOW_MAX window a.window (h.digits.0, sym h.window_is, h.is_window.1) in
     let s = number_written MESSAGE_MAX size (size_of_code a.size_code) (h.digits.1, sym h.size_is, size_fits a.size_code h.is_code) in
     rw (w, s, window_fits a.window h.is_window, code_of_its_size a.size_code h.is_code)
-    (ap (λ (q : Bool). Some (quiet_as q a)) (sym h.plain))
+    (ap (λ (q : Bool). Some (short_as false (quiet_as q a))) (sym h.plain.0) ∙ ap (λ (s : Bool). Some (short_as s a)) (sym h.plain.1))
 
 announcement_parts : (w s : ℕ) (a : Announced) → announcement w s ≡ Some a
-    → (1 ≤ w) × (w ≡ a.window) × (a.size_code < SIZE_CODES) × (s ≡ size_of_code a.size_code) × (a.quiet ≡ false)
+    → (1 ≤ w) × (w ≡ a.window) × (a.size_code < SIZE_CODES) × (s ≡ size_of_code a.size_code) × (a.quiet ≡ false) × (a.short ≡ false)
 announcement_parts w s a e = by_window (nat_le 1 w) refl e where
   by_window : (b : Bool) → nat_le 1 w ≡ b → (if b then code_of_size s >>= (λ code. Some (announced_as w code)) else None) ≡ Some a
-      → (1 ≤ w) × (w ≡ a.window) × (a.size_code < SIZE_CODES) × (s ≡ size_of_code a.size_code) × (a.quiet ≡ false)
+      → (1 ≤ w) × (w ≡ a.window) × (a.size_code < SIZE_CODES) × (s ≡ size_of_code a.size_code) × (a.quiet ≡ false) × (a.short ≡ false)
   by_window true t f =
       let c = bind_some (code_of_size s) (λ code. Some (announced_as w code)) a f in
       let k = size_of_its_code s c.0 c.1 in
@@ -145,6 +145,7 @@ announcement_parts w s a e = by_window (nat_le 1 w) refl e where
         subst (λ (x : Announced). x.size_code < SIZE_CODES) same k.0,
         k.1 ∙ ap (λ (x : Announced). size_of_code x.size_code) same,
         sym (ap (λ (x : Announced). x.quiet) same),
+        sym (ap (λ (x : Announced). x.short) same),
       )
   by_window false t f = absurd cc
 
@@ -161,7 +162,7 @@ announces window size a e =
       is_code = parts.2;
       window_is = sym window_is.1 ∙ parts.1;
       size_is = sym size_is.1 ∙ parts.3;
-      plain = parts.4;
+      plain = (parts.4, parts.5);
     }
 
 -- ---- modes

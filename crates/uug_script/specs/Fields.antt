@@ -62,10 +62,10 @@ code_of_size size =
     (if size == 2048 then Some 6 else
     (if size == 4096 then Some 7 else None)))))))
 
--- the announcement of this window and size, by an end that is not quiet on repeats
+-- the announcement of this window and size, by an end that is not quiet on repeats and whose commands are not short
 abbrev pub announcement : ℕ → ℕ → Option Announced
 announcement window size =
-    if nat_le 1 window then code_of_size size >>= (λ code. Some (record { window = window; size_code = code; quiet = false })) else None
+    if nat_le 1 window then code_of_size size >>= (λ code. Some (record { window = window; size_code = code; quiet = false; short = false })) else None
 
 abbrev pub announcement_of : List ℕ → List ℕ → Option Announced
 announcement_of window size =

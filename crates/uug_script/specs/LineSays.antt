@@ -17,20 +17,21 @@ use Rattle.uug_script.specs.declared.fields.TheConstants.{MODE_DIGITS}
 use Rattle.uug_script.specs.declared.line.TheConstants.{LINE_MAX, BYTES_MAX, TURNS_MAX}
 use Rattle.uug_conversation.specs.declared.side.Side.{Side}
 use Rattle.uug_script.specs.Fields.{side_word}
-use Rattle.uug_script.specs.Meaning.{LineMeaning, nothing, of_end, event, flow, place, file, job, deny, later, immovable, number, quiet}
+use Rattle.uug_script.specs.Meaning.{LineMeaning, nothing, of_end, event, flow, place, file, job, deny, later, immovable, number, quiet, short}
 
 -- the word writes the number in decimal digits, with no sign, and the number is at most this one
 abbrev pub WritesNumber : ℕ → List ℕ → ℕ → Type 0
 WritesNumber most word n = IsNumeral 10 word × (n ≡ digits_value 10 word) × (n ≤ most)
 
--- the two words write the window, 1 to 7, and one of the packet sizes; that an end is quiet on repeats stands in another line
+-- the two words write the window, 1 to 7, and one of the packet sizes; that an end is quiet on repeats, and that its commands
+-- are short, stand in other lines
 pub record Announces (window size : List ℕ) (a : Announced) : Type 0 where
   pub digits : IsNumeral 10 window × IsNumeral 10 size
   pub is_window : IsWindow a.window
   pub is_code : a.size_code < SIZE_CODES
   pub window_is : digits_value 10 window ≡ a.window
   pub size_is : digits_value 10 size ≡ size_of_code a.size_code
-  pub plain : a.quiet ≡ false
+  pub plain : (a.quiet ≡ false) × (a.short ≡ false)
 
 -- the word writes the mode in one to four octal digits
 abbrev pub WritesMode : List ℕ → ℕ → Type 0
@@ -75,6 +76,8 @@ pub data LineSays : List (List ℕ) → LineMeaning → Type 0 where
       → LineSays (codes "number" ∷ side_word side ∷ word ∷ []) (of_end side (number n))
   -- quiet SIDE
   quiet_line : {side : Side} → LineSays (codes "quiet" ∷ side_word side ∷ []) (of_end side quiet)
+  -- short SIDE
+  short_line : {side : Side} → LineSays (codes "short" ∷ side_word side ∷ []) (of_end side short)
   -- pass SIDE N, drop SIDE N
   pass_line : {side : Side} {word : List ℕ} {n : ℕ} → WritesNumber BYTES_MAX word n
       → LineSays (codes "pass" ∷ side_word side ∷ word ∷ []) (event (Pass side n))

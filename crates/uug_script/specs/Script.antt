@@ -1,6 +1,6 @@
 -- What the lines of a script say together (this project's profile).
 use Rattle.std.specs.Prelude.{◌==◌, ℕ, zero, suc, List, [], ◌∷◌, ◌++◌, length, Bool, true, false, Option, Some, None, if◌then◌else◌}
-use Rattle.uug_link.specs.Announced.{Announced, quiet_as}
+use Rattle.uug_link.specs.Announced.{Announced, quiet_as, short_as}
 use Rattle.uug_conversation.specs.Jobs.{Lists, at_start, pending, added as job_added}
 use Rattle.uug_conversation.specs.MemoryHoldings.{MemoryHoldings, no_holdings}
 use Rattle.uug_conversation.specs.declared.queue.TheConstants.{JOBS_MAX}
@@ -9,9 +9,9 @@ use Rattle.uug_line.specs.declared.event.Event.TheVariants.{Pass}
 use Rattle.uug_script.specs.declared.line.TheConstants.{BYTES_MAX}
 use Rattle.uug_conversation.specs.declared.side.Side.TheVariants.{Caller, Called}
 use Rattle.uug_script.specs.Fields.{◌>>=◌}
-use Rattle.uug_script.specs.Meaning.{EndMeaning, place, file, job, deny, later, immovable, number, quiet, LineMeaning, nothing, of_end, event, flow}
+use Rattle.uug_script.specs.Meaning.{EndMeaning, place, file, job, deny, later, immovable, number, quiet, short, LineMeaning, nothing, of_end, event, flow}
 
--- an end's name, and what it announces; that it is quiet on repeats is said apart
+-- an end's name, and what it announces; that it is quiet on repeats, and that its commands are short, is said apart
 pub record Place : Type 0 where
   pub name : List ℕ
   pub announced : Announced
@@ -27,6 +27,8 @@ pub record EndSaid : Type 0 where
   pub number : Option ℕ
   -- whether it is quiet on repeats
   pub quiet : Bool
+  -- whether its commands are short
+  pub short : Bool
 
 pub record Said : Type 0 where
   pub caller : EndSaid
@@ -34,7 +36,7 @@ pub record Said : Type 0 where
   pub events : List Event
 
 abbrev pub nothing_of_end : EndSaid
-nothing_of_end = record { place = None; queue = at_start [] [] []; held = no_holdings; number = None; quiet = false }
+nothing_of_end = record { place = None; queue = at_start [] [] []; held = no_holdings; number = None; quiet = false; short = false }
 
 abbrev pub nothing_said : Said
 nothing_said = record { caller = nothing_of_end; called = nothing_of_end; events = [] }
@@ -54,6 +56,11 @@ abbrev pub quieted : Bool → EndSaid → Option EndSaid
 quieted true end = None
 quieted false end = Some (record end { quiet = true })
 
+-- that its commands are short is said once
+abbrev pub shortened : Bool → EndSaid → Option EndSaid
+shortened true end = None
+shortened false end = Some (record end { short = true })
+
 abbrev pub place_at : List ℕ → Announced → Place
 place_at name a = record { name = name; announced = a }
 
@@ -68,6 +75,7 @@ end_added (later name) end = Some (record end { held = record end.held { postpon
 end_added (immovable name) end = Some (record end { held = record end.held { immovable = end.held.immovable ++ name ∷ [] } })
 end_added (number n) end = numbered n end.number end
 end_added quiet end = quieted end.quiet end
+end_added short end = shortened end.short end
 
 -- all bytes for the called end come to it, and then all for the caller, so many times
 abbrev pub flow_events : ℕ → List Event
@@ -106,7 +114,7 @@ pub record ScriptSays : Type 0 where
 abbrev pub end_completed : Option Place → EndSaid → Option EndSays
 end_completed None end = None
 end_completed (Some p) end =
-    Some (record { name = p.name; announced = quiet_as end.quiet p.announced; queue = end.queue; held = end.held; number = end.number })
+    Some (record { name = p.name; announced = short_as end.short (quiet_as end.quiet p.announced); queue = end.queue; held = end.held; number = end.number })
 
 abbrev pub completed : Said → Option ScriptSays
 completed s =

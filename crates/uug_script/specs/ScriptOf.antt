@@ -48,6 +48,7 @@ said_of_end d = record {
   held = held_by d.spool;
   number = d.number;
   quiet = d.quiet;
+  short = d.short;
 }
 
 abbrev pub said_by : {A : Type 0} → Draft A → Said

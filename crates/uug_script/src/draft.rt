@@ -1,7 +1,7 @@
 //! What the lines of a script said so far.
 ghost use Rattle.std.specs.Prelude.{◌≡◌, [], ◌∷◌, ◌++◌, OnOk, IfOk, IfErr, Some};
 ghost use Rattle.uug_script.specs.Fields.{hex_bytes};
-ghost use Rattle.uug_script.specs.Meaning.{place as placed_line, job as job_line, number as number_line, quiet as quiet_line};
+ghost use Rattle.uug_script.specs.Meaning.{place as placed_line, job as job_line, number as number_line, quiet as quiet_line, short as short_line};
 ghost use Rattle.uug_link.specs.Announced.{announced};
 ghost use Rattle.uug_script.specs.Code.Refusals.{Refuses};
 ghost use Rattle.uug_script.specs.Script.{end_added, flow_events, completed, end_completed, nothing_of_end, nothing_said};
@@ -36,6 +36,8 @@ pub(crate) struct EndDraft<A: Allocator> {
     number: Option<u32>,
     /// Whether it is quiet on repeats.
     quiet: bool,
+    /// Whether its commands are short.
+    short: bool,
 }
 
 /// What was said.
@@ -71,6 +73,7 @@ impl<A: Allocator + Copy> EndDraft<A> {
             spool: MemorySpool::new(alloc),
             number: None,
             quiet: false,
+            short: false,
         }
     }
 
@@ -111,6 +114,19 @@ impl<A: Allocator + Copy> EndDraft<A> {
             return Err(LineFault::Bad);
         }
         self.quiet = true;
+        Ok(())
+    }
+
+    fn set_short(&mut self) -> Result<(), LineFault>
+        ensures ok { OnOk result
+            (end_added short_line (said_of_end self.old) ≡ Some (said_of_end self.new)) }
+        ensures fault { IfErr result (λ fault.
+            Refuses fault (end_added short_line (said_of_end self.old))) }
+    {
+        if self.short {
+            return Err(LineFault::Bad);
+        }
+        self.short = true;
         Ok(())
     }
 
@@ -155,6 +171,7 @@ impl<A: Allocator + Copy> EndDraft<A> {
             EndStatement::Immovable(name) => Ok(self.spool.immovable(*name)?),
             EndStatement::Number(number) => self.set_number(*number),
             EndStatement::Quiet => self.set_quiet(),
+            EndStatement::Short => self.set_short(),
         }
     }
 
@@ -168,11 +185,12 @@ impl<A: Allocator + Copy> EndDraft<A> {
             spool,
             number,
             quiet,
+            short,
         } = self;
         let EndPlace { name, announce } = place?;
         Some(EndSetup {
             name,
-            announce: announce.with_quiet(quiet),
+            announce: announce.with_quiet(quiet).with_short(short),
             queue,
             spool,
             number,

@@ -3,6 +3,7 @@ use Rattle.std.proofs.Common.{◌≡◌, ℕ, Bool, false, List, [], Option, sym
 use Rattle.uug_link.specs.Announced.{Announced}
 use Rattle.uug_link.specs.Entries.{EntryValue}
 use Rattle.uug_link.specs.Step.{Effect, OutcomeValue, nothing, up, taken, closed, gave_up, halted, step, timed_out}
+use Rattle.uug_talk.specs.Chunks.{Measure}
 use Rattle.uug_conversation.specs.declared.awaits.Awaits.TheVariants as awaits
 use Rattle.uug_session.specs.declared.end.End.TheVariants as ends
 use Rattle.uug_conversation.specs.declared.reaction.Saying.{Saying}
@@ -78,14 +79,14 @@ lost_beside h kept e = lost_at h kept e.stage e
 unopened_talk : (h : Holdings) (kept : List Kept) (l : Lists) (t : DialogueValue) → IsUnopened l t → dialogue_of h kept t ≡ unopened l kept
 unopened_talk h kept l t is =
     let by_opened : Bool → DialogueState =
-    λ x. record { opened = x; machine = t.machine; size = t.size; waiting = messages_of h t.size t.outgoing.offset t.outgoing.sayings; kept = kept } in
+    λ x. record { opened = x; machine = t.machine; measure = t.measure; waiting = messages_of h t.measure t.outgoing.offset t.outgoing.sayings; kept = kept } in
     let by_machine : State → DialogueState =
-    λ x. record { opened = false; machine = x; size = t.size; waiting = messages_of h t.size t.outgoing.offset t.outgoing.sayings; kept = kept } in
+    λ x. record { opened = false; machine = x; measure = t.measure; waiting = messages_of h t.measure t.outgoing.offset t.outgoing.sayings; kept = kept } in
     let by_sayings : List Saying → DialogueState =
-    λ x. record { opened = false; machine = between l awaits.Order; size = t.size; waiting = messages_of h t.size t.outgoing.offset x; kept = kept } in
-    let by_size : ℕ → DialogueState =
-    λ x. record { opened = false; machine = between l awaits.Order; size = x; waiting = []; kept = kept } in
-    ap by_opened is.opened ∙ ap by_machine is.machine ∙ ap by_sayings is.silent ∙ ap by_size is.size
+    λ x. record { opened = false; machine = between l awaits.Order; measure = t.measure; waiting = messages_of h t.measure t.outgoing.offset x; kept = kept } in
+    let by_measure : Measure → DialogueState =
+    λ x. record { opened = false; machine = between l awaits.Order; measure = x; waiting = []; kept = kept } in
+    ap by_opened is.opened ∙ ap by_machine is.machine ∙ ap by_sayings is.silent ∙ ap by_measure is.measure
 
 pub begun_with : (h : Holdings) (kept : List Kept) (id : Identity) (own : Announced) (number : Option ℕ) (l : Lists) (entries : List EntryValue)
     (after : EngineState) → BeginsSession id own number l entries after

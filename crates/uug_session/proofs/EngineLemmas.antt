@@ -1,5 +1,5 @@
 -- What the parts of a call come to is what the step says.
-use Rattle.std.proofs.Common.{◌≡◌, ◌≢◌, ℕ, Bool, true, false, List, [], ◌∷◌, ◌++◌, map, ap, sym, subst, ◌∙◌, refl, IfSome, Ok, Option}
+use Rattle.std.proofs.Common.{◌≡◌, ◌≢◌, inl, inr, ℕ, Bool, true, false, List, [], ◌∷◌, ◌++◌, map, ap, sym, subst, ◌∙◌, refl, IfSome, Ok, Option}
 use Rattle.std.proofs.lemmas.List.{append-nil, append_assoc, map-append}
 use Rattle.uug_link.specs.declared.phase.Phase.{Phase}
 use Rattle.uug_link.specs.declared.phase.Phase.TheVariants as phases
@@ -9,16 +9,17 @@ use Rattle.uug_link.specs.declared.outcome.Outcome.{Outcome}
 use Rattle.uug_link.specs.declared.outcome.Outcome.TheVariants.{Nothing, Up, Taken, Closed}
 use Rattle.uug_link.specs.Follows.{answered, written}
 use Rattle.uug_link.specs.Outcomes.{MovesPhase}
-use Rattle.uug_link.specs.State.{State, IsUp}
+use Rattle.uug_link.specs.State.{State, IsStarting, IsUp}
 use Rattle.uug_link.specs.Terms.{size_of_code}
-use Rattle.uug_link.specs.Step.{Effect, Emission, OutcomeValue, nothing, up, taken, closed, gave_up, halted, packet_found, step, to_begin, to_close}
+use Rattle.uug_link.specs.Step.{Effect, Emission, OutcomeValue, nothing, up, taken, closed, gave_up, halted, packet_found, step, to_begin, to_close, Event}
 use Rattle.uug_packet.specs.Packet.{PacketValue}
+use Rattle.uug_talk.specs.Chunks.{Measure}
 use Rattle.uug_session.specs.declared.end.End.{End}
 use Rattle.uug_session.specs.declared.end.End.TheVariants as ends
 use Rattle.uug_session.specs.declared.greeting.Greeted.{Greeted}
 use Rattle.uug_session.specs.declared.greeting.Greeted.TheVariants.{GoesOn, LinkBegins, Ended}
-use Rattle.uug_session.specs.EndStep.{Stage, linked, ended, EndEffect, EndState, Emitted, says_text, Identity, begins_link, behind_link, ends_so, goes_on, goes_on_with, greeted_so, how_it_ends, is_up, late_link, leave, message_of, packet_came, packets, sending_nothing, speaks_by, takes_by, talks_by, then_closes, first_link}
-use Rattle.uug_session.specs.Engine.{Does, EngineState, Spoken, StandsStill, TakesUp, after_speaking, end_of, entry_of, packet_effect, spoken_of, spoken_with, IsReady}
+use Rattle.uug_session.specs.EndStep.{Stage, linked, ended, EndEffect, EndState, Emitted, says_text, Identity, begins_link, behind_link, ends_so, goes_on, goes_on_with, greeted_so, how_it_ends, is_up, late_link, leave, message_of, packet_came, packets, sending_nothing, speaks_by, takes_by, talks_by, then_closes, first_link, measure_of}
+use Rattle.uug_session.specs.Engine.{Does, EngineState, Spoken, StandsStill, TakesUp, after_speaking, end_of, entry_of, packet_effect, spoken_of, spoken_with, IsHailing, IsReady}
 use Rattle.uug_conversation.specs.Holdings.{Kept, Holdings}
 use Rattle.uug_conversation.specs.Keeper.{Keeper}
 use Rattle.uug_conversation.specs.declared.reaction.Saying.{Saying}
@@ -30,7 +31,7 @@ use Rattle.uug_conversation.specs.DialogueValue.{DialogueValue, dialogue_of}
 use Rattle.uug_conversation.specs.declared.side.Side.{Side}
 use Rattle.uug_conversation.specs.declared.side.Side.TheVariants.{Caller, Called}
 use Rattle.uug_link.proofs.OutcomeLemmas.{moves_of}
-use Rattle.uug_link.proofs.TermsLemmas.{size_stays}
+use Rattle.uug_link.proofs.TermsLemmas.{size_stays, own_stays}
 
 -- what an engine showed, of the equation that says what it shows
 abbrev pub shown_by : {T : Type 0} {x y : T} → x ≡ y → T
@@ -50,6 +51,14 @@ first_not_up : (side : Side) (own : Announced) → IsUp (first_link side own) �
 first_not_up Caller own e = cc
 first_not_up Called own e = cc
 
+-- how messages are cut stays with a link that is up
+abbrev measured : ℕ → Announced → Measure
+measured code own = record { size = size_of_code code; short = own.short }
+
+measure_stays : (s : State) (event : Event) → IsUp s → measure_of (step s event).state ≡ measure_of s
+measure_stays s event is_up =
+    ap (λ (code : ℕ). measured code (step s event).state.own) (size_stays s event is_up) ∙ ap (measured s.size_code) (own_stays s event)
+
 -- what an end is ready with stays where its link takes a message
 pub ready_behind_taken : (stage : Stage) (id : Identity) (own : Announced) (s after : State) (p : PacketValue) (dialogue : DialogueValue)
     → IsReady stage id own s dialogue → (step s (packet_found p)).outcome ≡ taken → after ≡ (step s (packet_found p)).state
@@ -60,7 +69,29 @@ ready_behind_taken stage id own s after p dialogue ready is same =
     subst (λ (x : State). IsReady stage id own x dialogue) (sym same) (record {
       first = λ hails. absurd (first_not_up id.side own (subst IsUp (ready.first hails) was_up));
       opened = λ up. ready.opened was_up;
-      size = λ up. ready.size was_up ∙ ap size_of_code (sym (size_stays s (packet_found p) was_up));
+      measure = λ up. ready.measure was_up ∙ sym (measure_stays s (packet_found p) was_up);
+    })
+
+-- a link that answered nothing is up only where it was
+up_was_up : (before after : Phase) → MovesPhase nothing before after → after ≡ phases.Up → before ≡ phases.Up
+up_was_up before after moves is_up = elim moves.1 [
+  | inl same ↦ sym same ∙ is_up
+  | inr starting ↦ absurd (subst IsStarting is_up starting.1)
+]
+
+-- and where its link answers nothing
+pub ready_behind_nothing : (stage : Stage) (id : Identity) (own : Announced) (s after : State) (p : PacketValue) (dialogue : DialogueValue)
+    → IsReady stage id own s dialogue → stage ≡ linked → nothing ≡ (step s (packet_found p)).outcome → after ≡ (step s (packet_found p)).state
+    → IsReady stage id own after dialogue
+ready_behind_nothing stage id own s after p dialogue ready at_link is same =
+    let e = step s (packet_found p) in
+    let moves : MovesPhase nothing s.phase e.state.phase =
+    subst (λ (o : OutcomeValue). MovesPhase o s.phase e.state.phase) (sym is) (moves_of s (packet_found p) tt) in
+    let was_up : IsUp e.state → IsUp s = up_was_up s.phase e.state.phase moves in
+    subst (λ (x : State). IsReady stage id own x dialogue) (sym same) (record {
+      first = λ hails. absurd (subst IsHailing at_link hails);
+      opened = λ up. ready.opened (was_up up);
+      measure = λ up. ready.measure (was_up up) ∙ sym (measure_stays s (packet_found p) (was_up up));
     })
 
 -- ---- the session goes on
@@ -263,20 +294,20 @@ link_after P Closed told = told
 -- ---- with room made for what is to be said
 
 -- such room is no part of the conversation
-pub talk_reserved : (h : Holdings) (kept : List Kept) (t u : DialogueValue) → u.opened ≡ t.opened → u.machine ≡ t.machine → u.size ≡ t.size
+pub talk_reserved : (h : Holdings) (kept : List Kept) (t u : DialogueValue) → u.opened ≡ t.opened → u.machine ≡ t.machine → u.measure ≡ t.measure
     → u.outgoing.sayings ≡ t.outgoing.sayings → u.outgoing.offset ≡ t.outgoing.offset → dialogue_of h kept u ≡ dialogue_of h kept t
-talk_reserved h kept t u opened machine size sayings offset =
+talk_reserved h kept t u opened machine measure sayings offset =
     let by_opened : Bool → DialogueState =
-    λ x. record { opened = x; machine = u.machine; size = u.size; waiting = messages_of h u.size u.outgoing.offset u.outgoing.sayings; kept = kept } in
+    λ x. record { opened = x; machine = u.machine; measure = u.measure; waiting = messages_of h u.measure u.outgoing.offset u.outgoing.sayings; kept = kept } in
     let by_machine : MachineState → DialogueState =
-    λ x. record { opened = t.opened; machine = x; size = u.size; waiting = messages_of h u.size u.outgoing.offset u.outgoing.sayings; kept = kept } in
-    let by_size : ℕ → DialogueState =
-    λ x. record { opened = t.opened; machine = t.machine; size = x; waiting = messages_of h x u.outgoing.offset u.outgoing.sayings; kept = kept } in
+    λ x. record { opened = t.opened; machine = x; measure = u.measure; waiting = messages_of h u.measure u.outgoing.offset u.outgoing.sayings; kept = kept } in
+    let by_measure : Measure → DialogueState =
+    λ x. record { opened = t.opened; machine = t.machine; measure = x; waiting = messages_of h x u.outgoing.offset u.outgoing.sayings; kept = kept } in
     let by_sayings : List Saying → DialogueState =
-    λ x. record { opened = t.opened; machine = t.machine; size = t.size; waiting = messages_of h t.size u.outgoing.offset x; kept = kept } in
+    λ x. record { opened = t.opened; machine = t.machine; measure = t.measure; waiting = messages_of h t.measure u.outgoing.offset x; kept = kept } in
     let by_offset : ℕ → DialogueState =
-    λ x. record { opened = t.opened; machine = t.machine; size = t.size; waiting = messages_of h t.size x t.outgoing.sayings; kept = kept } in
-    ap by_opened opened ∙ ap by_machine machine ∙ ap by_size size ∙ ap by_sayings sayings ∙ ap by_offset offset
+    λ x. record { opened = t.opened; machine = t.machine; measure = t.measure; waiting = messages_of h t.measure x t.outgoing.sayings; kept = kept } in
+    ap by_opened opened ∙ ap by_machine machine ∙ ap by_measure measure ∙ ap by_sayings sayings ∙ ap by_offset offset
 
 not_taken : (number : Option ℕ) (k : Keeper DialogueState) (id : Identity) (o : OutcomeValue) (e : Effect) (message : List ℕ) (talk : DialogueState)
     → o ≢ taken → false ≡ (behind_link number k id false o e message talk).took

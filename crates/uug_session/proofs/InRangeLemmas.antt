@@ -12,10 +12,11 @@ use Rattle.uug_link.specs.Step.{Effect, Emission, Event, OutcomeValue, nothing, 
 use Rattle.uug_link.specs.Terms.{size_of_code}
 use Rattle.uug_packet.specs.Packet.{PacketValue}
 use Rattle.uug_packet.specs.WellFormed.{IsWellFormed}
+use Rattle.uug_talk.specs.Chunks.{Measure}
 use Rattle.uug_session.specs.declared.end.End.{End}
 use Rattle.uug_session.specs.declared.end.End.TheVariants as ends
 use Rattle.uug_session.specs.declared.greeting.Greeting.{Greeting}
-use Rattle.uug_session.specs.EndStep.{hailing, linked, ended, EndState, Emitted, says_text, sends_packet, EndEffect, Identity, Sending, in_front, packets, leave, ends_so, is_up, has_room, sending_nothing, closes_by, speaks_by, goes_on, goes_on_with, then_closes, behind_link, message_of, packet_came, bad_came, late_link, EndEvent, text_found, long_text_found, packet_found_whole, broken_found, time_ran_out, line_lost, unmoved, hailing_step, linked_step, end_step, begins_session, first_link, how_it_ends}
+use Rattle.uug_session.specs.EndStep.{hailing, linked, ended, EndState, Emitted, says_text, sends_packet, EndEffect, Identity, Sending, in_front, packets, leave, ends_so, is_up, has_room, sending_nothing, closes_by, speaks_by, goes_on, goes_on_with, then_closes, behind_link, message_of, packet_came, bad_came, late_link, EndEvent, text_found, long_text_found, packet_found_whole, broken_found, time_ran_out, line_lost, unmoved, hailing_step, linked_step, end_step, begins_session, first_link, how_it_ends, measure_of}
 use Rattle.uug_session.specs.Greeting.{first_texts}
 use Rattle.uug_conversation.specs.Holdings.{Holdings}
 use Rattle.uug_session.specs.InRange.{BeginsFresh, CanBeWritten, HasSize, IsEndInRange, MayFind}
@@ -36,28 +37,28 @@ Fits size message = length message ≤ size
 
 -- ---- what waits is no longer than the size
 
-all_fit : (size : ℕ) (says : List Said) → All (Fits size) (all_messages size says)
-all_fit size [] = All-nil (Fits size)
-all_fit size (said ∷ more) =
-    All-append (Fits size) (said_messages size said) (all_messages size more) (said_fit size said) (all_fit size more)
+all_fit : (measure : Measure) (says : List Said) → All (Fits measure.size) (all_messages measure says)
+all_fit measure [] = All-nil (Fits measure.size)
+all_fit measure (said ∷ more) =
+    All-append (Fits measure.size) (said_messages measure said) (all_messages measure more) (said_fit measure said) (all_fit measure more)
 
-has_size_opened : (side : Side) (h : Holdings) (size : ℕ) (talk : DialogueState)
-    → HasSize size (opened_with side h size talk)
-has_size_opened side h size talk =
-    record { is = refl; fit = all_fit size (machine.opening side h talk.machine.lists).says }
+has_size_opened : (side : Side) (h : Holdings) (measure : Measure) (talk : DialogueState)
+    → HasSize measure.size (opened_with side h measure talk)
+has_size_opened side h measure talk =
+    record { is = refl; fit = all_fit measure (machine.opening side h talk.machine.lists).says }
 
-has_size_replied : (size own : ℕ) (talk : DialogueState) (reply : machine.Reply) → talk.size ≡ own → own ≡ size
+has_size_replied : (size : ℕ) (own : Measure) (talk : DialogueState) (reply : machine.Reply) → own.size ≡ size
     → All (Fits size) talk.waiting → HasSize size (replied own talk.waiting talk.kept reply)
-has_size_replied size own talk reply is same fit = record {
+has_size_replied size own talk reply same fit = record {
   is = same;
   fit = All-append (Fits size) talk.waiting (all_messages own reply.says) fit
-      (subst (λ (n : ℕ). All (Fits size) (all_messages n reply.says)) (sym same) (all_fit size reply.says));
+      (subst (λ (n : ℕ). All (Fits n) (all_messages own reply.says)) same (all_fit own reply.says));
 }
 
 has_size_taking : (h : Holdings) (message : List ℕ) (size : ℕ) (talk : DialogueState)
     → HasSize size talk → HasSize size (taking h message talk)
 has_size_taking h message size talk s =
-    has_size_replied size talk.size talk (machine.step h talk.machine message) refl s.is s.fit
+    has_size_replied size talk.measure talk (machine.step h talk.machine message) s.is s.fit
 
 first_fits : (size : ℕ) (waiting : List (List ℕ)) (message : List ℕ) → All (Fits size) waiting
     → first_of waiting ≡ Some message → Fits size message
@@ -298,8 +299,8 @@ module _ (on : Side) (h : Holdings) where
       goes_on_fine number id.side false e talk a.effect
       (suits_moved s e talk suits (was_up s.phase e.state.phase a.phases.1) a.size_stays)
   behind_fine number id device_failed up s e message talk a suits =
-      goes_on_fine number id.side false e (opened_with on h (size_of_code e.state.size_code) talk) a.effect
-      (λ is_up. has_size_opened on h (size_of_code e.state.size_code) talk)
+      goes_on_fine number id.side false e (opened_with on h (measure_of e.state) talk) a.effect
+      (λ is_up. has_size_opened on h (measure_of e.state) talk)
   behind_fine number id device_failed taken s e message talk a suits =
       let closed_so = closed_fine e a.effect in
       takes_so k id number (IsFine id.side) (device_failed && k.asks_spool message talk) e message talk

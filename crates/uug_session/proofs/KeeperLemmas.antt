@@ -1,6 +1,7 @@
 -- What a keeper's calls keep, each step of an end keeps, and so do all that come of bytes.
 use Rattle.std.proofs.Common.{ℕ, zero, suc, Bool, List, ◌++◌, length}
 use Rattle.uug_link.specs.State.{State}
+use Rattle.uug_talk.specs.Chunks.{Measure}
 use Rattle.uug_session.specs.Arriving.{Receiver, Buffered, Arrival, all_taken, stopped, held_in, holds, takes_up, takes_up_to, takes_piece}
 use Rattle.uug_session.specs.EndStep.{EndState, EndEffect, Identity, is_up, speaks_by, EndEvent, packet_found_whole, end_step}
 use Rattle.uug_session.specs.Finding.{Finding, finds_nothing, finds, finds_packet, finding}
@@ -13,7 +14,7 @@ use Rattle.uug_session.proofs.StepKeeps.{speaks_so, linked_keeps, hailing_leads,
 -- ---- each step of an end
 
 module _ (C : Type 0) (k : Keeper C) (P : C → Type 0)
-    (opened : (size : ℕ) (c : C) → P c → P (k.opened size c))
+    (opened : (measure : Measure) (c : C) → P c → P (k.opened measure c))
     (takes : (message : List ℕ) (c : C) → P c → P (k.taking message c))
     (sent : (c : C) → P c → P (k.sent c)) where
   speaks_keeps : (live : Bool) (s : State) (c : C) → P c → P (speaks_by live k s c).keeper

@@ -6,9 +6,8 @@ use Rattle.uug_link.specs.Announced.{Announced}
 use Rattle.uug_link.specs.Outcomes.{MayAnswer, MovesPhase}
 use Rattle.uug_link.specs.State.{State, IsStarting, is_halted}
 use Rattle.uug_link.specs.Step.{Effect, OutcomeValue, nothing, up, taken, closed, gave_up, halted, answers_halted, on_event, step, to_begin, timed_out, to_send, to_close}
-use Rattle.uug_link.specs.Terms.{size_of_code}
 use Rattle.uug_session.specs.declared.phase.Phase.TheVariants as session_phases
-use Rattle.uug_session.specs.EndStep.{Stage, hailing, linked, ended, EndState, EndEffect, Identity, is_up, speaks_by, goes_on, behind_link, late_link, EndEvent, end_step, begins_session, first_link}
+use Rattle.uug_session.specs.EndStep.{Stage, hailing, linked, ended, EndState, EndEffect, Identity, is_up, speaks_by, goes_on, behind_link, late_link, EndEvent, end_step, begins_session, first_link, measure_of}
 use Rattle.uug_session.specs.Engine.{IsEnded}
 use Rattle.uug_conversation.specs.Keeper.{Keeper}
 use Rattle.uug_session.specs.Phases.{EndsWithItsLink, phase_at}
@@ -81,7 +80,7 @@ module _ (C : Type 0) (k : Keeper C) where
   behind_lives number id device_failed nothing before e message c lives moves =
       goes_on_lives number false e c (moved_lives before e.state.phase lives moves.1)
   behind_lives number id device_failed up before e message c lives moves =
-      goes_on_lives number false e (k.opened (size_of_code e.state.size_code) c) (came_up e.state.phase moves.1)
+      goes_on_lives number false e (k.opened (measure_of e.state) c) (came_up e.state.phase moves.1)
   behind_lives number id device_failed taken before e message c lives moves =
       takes_so k id number (λ x. EndsWithItsLink x.state) (device_failed && k.asks_spool message c) e message c
       (goes_on_lives number true e (k.taking message c) (came_up e.state.phase moves.1)) (λ is. tt) (λ is. tt)

@@ -1,6 +1,7 @@
 -- Whatever happens to an end, each Request job that it strikes has an entry of its own in what it has kept.
 use Rattle.std.proofs.Common.{◌≡◌, ℕ, nat_lt, Bool, true, false, List, [], ◌∷◌, ◌++◌, length, Option, Some, None, Result, Ok, Err, refl, sym, ap, subst, ◌∙◌, append_assoc}
 use Rattle.std.proofs.lemmas.List.{append-nil}
+use Rattle.uug_talk.specs.Chunks.{Measure}
 use Rattle.uug_talk.specs.declared.answer.Answer.{Answer}
 use Rattle.uug_talk.specs.declared.answer.Answer.TheVariants as answer
 use Rattle.uug_talk.specs.declared.error.BadText.{BadText}
@@ -287,7 +288,7 @@ module _ (id : Identity) (h : Holdings) (struck : List Job) (kept : List Kept) w
       then_keeps struck now r.state.lists.struck kept talk.kept (talk.kept ++ r.keeps) is
       (behind_kept now r.state.lists.struck talk.kept r.keeps next)
 
-  opened_keeps : (size : ℕ) (talk : DialogueState) → Since talk → Since (opened_with id.side h size talk)
+  opened_keeps : (measure : Measure) (talk : DialogueState) → Since talk → Since (opened_with id.side h measure talk)
   opened_keeps size talk is =
       since_reply talk (opening id.side h talk.machine.lists) is (after_opening id.side h talk.machine.lists)
 

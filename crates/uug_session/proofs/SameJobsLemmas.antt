@@ -3,6 +3,7 @@ use Rattle.std.proofs.Common.{◌≡◌, ℕ, List, [], ◌∷◌, ◌++◌, sym
 use Rattle.std.proofs.lemmas.List.{append-nil}
 use Rattle.std.proofs.lemmas.List.Sorted.{IsPermutation-refl, IsPermutation-sym, IsPermutation-trans, IsPermutation-append_left, IsPermutation-middle}
 use Rattle.std.specs.Prelude.{IsPermutation}
+use Rattle.uug_talk.specs.Chunks.{Measure}
 use Rattle.uug_conversation.specs.declared.job.Job.{Job}
 use Rattle.uug_session.specs.Arriving.{Buffered, Arrival, takes_piece}
 use Rattle.uug_session.specs.EndStep.{EndState, Identity, EndEvent, end_step}
@@ -66,7 +67,7 @@ module _ (side : Side) (h : Holdings) (l : Lists) where
   abbrev Moved : DialogueState → Type 0
   Moved talk = OnlyMoves l talk.machine.lists
 
-  opened_moves : (size : ℕ) (talk : DialogueState) → Moved talk → Moved (opened_with side h size talk)
+  opened_moves : (measure : Measure) (talk : DialogueState) → Moved talk → Moved (opened_with side h measure talk)
   opened_moves size talk is =
       then_moves l talk.machine.lists (machine.opening side h talk.machine.lists).state.lists is (after_opening side h talk.machine.lists)
 

@@ -81,10 +81,10 @@ says_nothing_more n h kept e after none sent =
 -- ---- what the code asks of its conversation is what the definitions ask
 
 pub is_through_told : (h : Holdings) (kept : List Kept) (t : DialogueValue) → dialogue_is_through t ≡ is_through (dialogue_of h kept t)
-is_through_told h kept t = ap (λ (b : Bool). is_over t.machine.awaits && b) (silent_is_empty h t.size t.outgoing)
+is_through_told h kept t = ap (λ (b : Bool). is_over t.machine.awaits && b) (silent_is_empty h t.measure t.outgoing)
 
 pub has_parted_told : (h : Holdings) (kept : List Kept) (t : DialogueValue) → dialogue_has_parted t ≡ state_has_parted (dialogue_of h kept t)
-has_parted_told h kept t = ap (has_parted_by t.machine.awaits) (silent_is_empty h t.size t.outgoing)
+has_parted_told h kept t = ap (has_parted_by t.machine.awaits) (silent_is_empty h t.measure t.outgoing)
 
 -- ---- behind the sends
 

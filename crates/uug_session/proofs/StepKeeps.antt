@@ -5,13 +5,13 @@ use Rattle.uug_link.specs.declared.limits.TheConstants.{WINDOW_MAX}
 use Rattle.uug_link.specs.Outcomes.{IsComing}
 use Rattle.uug_link.specs.State.{State}
 use Rattle.uug_link.specs.Step.{Effect, Event, OutcomeValue, nothing, up, taken, closed, gave_up, halted, step, packet_found, bad_found, timed_out, to_send}
-use Rattle.uug_link.specs.Terms.{size_of_code}
+use Rattle.uug_talk.specs.Chunks.{Measure}
 use Rattle.uug_session.specs.declared.end.End.{End}
 use Rattle.uug_session.specs.declared.end.End.TheVariants as ends
 use Rattle.uug_session.specs.declared.greeting.Greeted.{Greeted}
 use Rattle.uug_session.specs.declared.greeting.Greeted.TheVariants.{GoesOn, LinkBegins, Ended}
 use Rattle.uug_session.specs.declared.greeting.Greeting.{Greeting}
-use Rattle.uug_session.specs.EndStep.{Stage, hailing, linked, ended, EndState, EndEffect, EndEvent, says_text, text_found, long_text_found, packet_found_whole, broken_found, time_ran_out, line_lost, Identity, Sending, sending_nothing, in_front, has_room, sends_next, sends_by, sends_up_to, sends, closes_by, speaks_by, ends_so, goes_on, goes_on_with, then_closes, talks_by, takes_by, behind_link, message_of, late_link, begins_link, greeted_so, how_it_ends, unmoved, hailing_step, linked_step, stage_step}
+use Rattle.uug_session.specs.EndStep.{Stage, hailing, linked, ended, EndState, EndEffect, EndEvent, says_text, text_found, long_text_found, packet_found_whole, broken_found, time_ran_out, line_lost, Identity, Sending, sending_nothing, in_front, has_room, sends_next, sends_by, sends_up_to, sends, closes_by, speaks_by, ends_so, goes_on, goes_on_with, then_closes, talks_by, takes_by, behind_link, message_of, late_link, begins_link, greeted_so, how_it_ends, unmoved, hailing_step, linked_step, stage_step, measure_of}
 use Rattle.uug_session.specs.Greeting.{number_by, text_came, long_text_came, timed_out as greeting_timed_out}
 use Rattle.uug_session.specs.WholeGreeting.{IsRefusal}
 use Rattle.uug_conversation.specs.Keeper.{Keeper}
@@ -88,13 +88,13 @@ module _ {C : Type 0} (k : Keeper C) (id : Identity) (e : EndState C) (R : EndEf
 
 -- what the keeper's calls keep; no session that ends on the link was refused
 module _ {C : Type 0} (k : Keeper C) (id : Identity) (e : EndState C) (R : EndEffect C → Type 0) (P : C → Type 0)
-    (opened : (size : ℕ) (c : C) → P c → P (k.opened size c))
+    (opened : (measure : Measure) (c : C) → P c → P (k.opened measure c))
     (takes : (message : List ℕ) (c : C) → P c → P (k.taking message c))
     (goes : (took : Bool) (x : Effect) (c : C) → P c → R (goes_on e.number k took x c))
     (over : (parted : Bool) (how : End) (x : Effect) (c : C) (took : Bool) → (IsRefusal how → ⊥) → P c → R (ends_so e.number id parted how x c took)) where
   behind_keeps : (failed : Bool) (o : OutcomeValue) (x : Effect) (message : List ℕ) (c : C) → P c → R (behind_link e.number k id failed o x message c)
   behind_keeps failed nothing x message c p = goes false x c p
-  behind_keeps failed up x message c p = goes false x (k.opened (size_of_code x.state.size_code) c) (opened (size_of_code x.state.size_code) c p)
+  behind_keeps failed up x message c p = goes false x (k.opened (measure_of x.state) c) (opened (measure_of x.state) c p)
   behind_keeps failed taken x message c p =
       let after = takes message c p in
       takes_so k id e.number R (failed && k.asks_spool message c) x message c (goes true x (k.taking message c) after)

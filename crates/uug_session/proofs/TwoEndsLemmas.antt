@@ -114,7 +114,7 @@ keeps_when_takes me a b own others m k f g = record {
         said = z;
         kept = own.kept ++ (step (party me a b).holdings own.state m).keeps;
       })
-      (sym (append_assoc own.sent own.waiting (all_messages (party me a b).size (step (party me a b).holdings own.state m).says)))
+      (sym (append_assoc own.sent own.waiting (all_messages (party me a b).measure (step (party me a b).holdings own.state m).says)))
       ∙ ap (λ z. taking (party me a b) z m) k.machine
       ∙ sym (taking_more (party me a b) (progress_after me (party me a b) []) own.taken m);
   heard = f;

@@ -9,6 +9,7 @@ use Rattle.uug_link.specs.State.{State, caller_state, called_state}
 use Rattle.uug_link.specs.Step.{Effect, Emission, OutcomeValue, nothing, up, taken, closed, gave_up, halted, step, to_begin, packet_found, bad_found, timed_out, to_send, to_close}
 use Rattle.uug_link.specs.Terms.{size_of_code}
 use Rattle.uug_packet.specs.Packet.{PacketValue, control, carry}
+use Rattle.uug_talk.specs.Chunks.{Measure}
 use Rattle.uug_session.specs.declared.end.End.{End}
 use Rattle.uug_session.specs.declared.end.End.TheVariants as ends
 use Rattle.uug_session.specs.declared.greeting.Greeted.{Greeted}
@@ -167,10 +168,14 @@ abbrev pub takes_by : {C : Type 0} → (number : Option ℕ) → (device_failed 
 takes_by number true k id e message c = ends_so number id (k.has_parted c) ends.SpoolFault (then_closes e) c true
 takes_by number false k id e message c = talks_by number (k.is_bad (k.taking message c)) k id e c (k.taking message c)
 
+-- how an end cuts its messages once its link is up: by the size that the other end announced, and short where it is set so
+abbrev pub measure_of : State → Measure
+measure_of s = record { size = size_of_code s.size_code; short = s.own.short }
+
 -- by what the link answered
 abbrev pub behind_link : {C : Type 0} → (number : Option ℕ) → Keeper C → Identity → (device_failed : Bool) → OutcomeValue → Effect → (message : List ℕ) → C → EndEffect C
 behind_link number k id device_failed nothing e message c = goes_on number k false e c
-behind_link number k id device_failed up e message c = goes_on number k false e (k.opened (size_of_code e.state.size_code) c)
+behind_link number k id device_failed up e message c = goes_on number k false e (k.opened (measure_of e.state) c)
 behind_link number k id device_failed taken e message c = takes_by number (device_failed && k.asks_spool message c) k id e message c
 behind_link number k id device_failed closed e message c = ends_so number id (k.has_parted c) ends.PeerClosed e c false
 behind_link number k id device_failed gave_up e message c = ends_so number id (k.has_parted c) ends.GaveUp e c false

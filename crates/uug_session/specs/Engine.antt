@@ -4,19 +4,18 @@ use Rattle.uug_link.specs.Announced.{Announced}
 use Rattle.uug_link.specs.Entries.{EntryValue, Held}
 use Rattle.uug_link.specs.Follows.{written}
 use Rattle.uug_link.specs.State.{State, IsUp}
-use Rattle.uug_link.specs.Terms.{size_of_code}
 use Rattle.uug_packet.specs.Packet.{PacketValue}
 use Rattle.uug_conversation.specs.declared.awaits.Awaits.TheVariants as awaits
 use Rattle.uug_session.specs.declared.end.End.TheVariants as ends
 use Rattle.uug_session.specs.declared.stage.Stage.{Stage as CodeStage}
 use Rattle.uug_session.specs.declared.stage.Stage.TheVariants.{Hailing, Linked, Ended}
-use Rattle.uug_session.specs.EndStep.{Stage, hailing, linked, ended, EndState, Emitted, says_text, sends_packet, EndEffect, Identity, Sending, behind_greeting, begins_session, first_link, how_it_ends, is_up, late, packet_came, sends_up_to, speaks_by, unmoved}
+use Rattle.uug_session.specs.EndStep.{Stage, hailing, linked, ended, EndState, Emitted, says_text, sends_packet, EndEffect, Identity, Sending, behind_greeting, begins_session, first_link, how_it_ends, is_up, late, packet_came, sends_up_to, speaks_by, unmoved, measure_of}
 use Rattle.uug_session.specs.Greeting.{timed_out}
 use Rattle.uug_conversation.specs.Holdings.{Kept, Holdings}
 use Rattle.uug_conversation.specs.Jobs.{Lists, at_start, pending}
 use Rattle.uug_conversation.specs.Machine.{between}
 use Rattle.uug_session.specs.Says.{entry_of_text}
-use Rattle.uug_conversation.specs.DialogueState.{DialogueState, end_keeper}
+use Rattle.uug_conversation.specs.DialogueState.{DialogueState, end_keeper, unmeasured}
 use Rattle.uug_conversation.specs.DialogueValue.{DialogueValue, dialogue_of}
 
 pub record EngineState : Type 0 where
@@ -65,11 +64,11 @@ abbrev pub IsHailing : Stage → Type 0
 IsHailing (hailing greeting) = ⊤
 IsHailing _ = ⊥
 
--- in the greeting the link has not begun; where it is up, the conversation goes on in messages of its size
+-- in the greeting the link has not begun; where it is up, the conversation goes on in messages as it says
 pub record IsReady (stage : Stage) (id : Identity) (own : Announced) (link : State) (dialogue : DialogueValue) : Type 0 where
   pub first : IsHailing stage → link ≡ first_link id.side own
   pub opened : IsUp link → dialogue.opened ≡ true
-  pub size : IsUp link → dialogue.size ≡ size_of_code link.size_code
+  pub measure : IsUp link → dialogue.measure ≡ measure_of link
 
 -- ---- sends
 
@@ -109,7 +108,7 @@ after_speaking h kept engine = spoken_with engine.outbox.entries
 pub record IsUnopened (l : Lists) (dialogue : DialogueValue) : Type 0 where
   pub opened : dialogue.opened ≡ false
   pub machine : dialogue.machine ≡ between l awaits.Order
-  pub size : dialogue.size ≡ 0
+  pub measure : dialogue.measure ≡ unmeasured
   pub silent : dialogue.outgoing.sayings ≡ []
 
 -- ---- a timeout

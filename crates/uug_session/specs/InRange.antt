@@ -22,7 +22,7 @@ MayFind _ = ⊤
 
 -- it speaks in messages of this size, and none that waits is longer
 pub record HasSize (size : ℕ) (talk : DialogueState) : Type 0 where
-  pub is : talk.size ≡ size
+  pub is : talk.measure.size ≡ size
   pub fit : All (λ message. length message ≤ size) talk.waiting
 
 -- in the greeting a caller has not begun its link

@@ -1,5 +1,6 @@
 -- How an end in a session is described by two numbers, whatever it has brought from earlier ones (this project's profile).
-use Rattle.std.specs.Prelude.{ℕ, true, List, ◌++◌, length}
+use Rattle.std.specs.Prelude.{true, List, ◌++◌, length}
+use Rattle.uug_talk.specs.Chunks.{Measure}
 use Rattle.uug_conversation.specs.declared.job.Job.{Job}
 use Rattle.uug_conversation.specs.Count.{Count}
 use Rattle.uug_conversation.specs.EarlierJobs.{state_behind}
@@ -8,12 +9,12 @@ use Rattle.uug_conversation.specs.DialogueState.{DialogueState}
 use Rattle.uug_session.specs.TwoEnds.{Talker}
 
 -- what it keeps once its link is up, where these jobs were struck and failed and these files kept before, and its messages
--- have this size
-abbrev pub talk_behind : (struck failed : List Job) → (kept : List Kept) → (size : ℕ) → Talker → DialogueState
-talk_behind struck failed kept size t = record {
+-- are cut so
+abbrev pub talk_behind : (struck failed : List Job) → (kept : List Kept) → Measure → Talker → DialogueState
+talk_behind struck failed kept measure t = record {
   opened = true;
   machine = state_behind struck failed t.state;
-  size = size;
+  measure = measure;
   waiting = t.waiting;
   kept = kept ++ t.kept;
 }

@@ -62,7 +62,7 @@ abbrev pub reply_taken : Party → Talker → (message : List ℕ) → Reply →
 reply_taken p t message reply = record {
   state = reply.state;
   kept = t.kept ++ reply.keeps;
-  waiting = t.waiting ++ all_messages p.size reply.says;
+  waiting = t.waiting ++ all_messages p.measure reply.says;
   sent = t.sent;
   taken = t.taken ++ message ∷ [];
 }

@@ -34,7 +34,7 @@ pub fn earlier_jobs_change_nothing()
 pub fn own_messages_fit()
     ensures { (me : Side) (a b : Party)
         → All (λ message.
-        length message ≤ (party me a b).size) (own_messages (conversation_view me a b)) }
+        length message ≤ (party me a b).measure.size) (own_messages (conversation_view me a b)) }
 {}
 
 /// Each packet that an end emits can be written, and so is read again as what it is, where the end has made a right

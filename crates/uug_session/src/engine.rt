@@ -184,7 +184,8 @@ impl<A: Allocator + Copy> Engine<A> {
             Err(LinkFault::Halted) => self.speak(spool),
             Ok(Outcome::Up) => {
                 let size = self.link.size();
-                self.dialogue.open(self.side, spool, size);
+                let short = self.link.is_short();
+                self.dialogue.open(self.side, spool, size, short);
                 self.speak(spool);
             }
             Ok(Outcome::Closed) => {

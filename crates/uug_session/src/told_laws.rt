@@ -15,16 +15,16 @@ ghost use Rattle.uug_conversation.specs.View.{conversation_view, party};
 /// What an end keeps of a conversation moves as the end does, whatever it has brought from earlier sessions.
 pub fn an_end_keeps_what_it_brought()
     ensures opens { (me : Side) (p : Party) (struck failed : List Job) (kept : List Kept)
-        → opened_with me p.holdings p.size
+        → opened_with me p.holdings p.measure
         (unopened (behind struck failed (at_start p.jobs [] [])) kept)
-        ≡ talk_behind struck failed kept p.size (first_talker me p) }
+        ≡ talk_behind struck failed kept p.measure (first_talker me p) }
     ensures takes { (p : Party) (t : Talker) (message : List ℕ) (struck failed : List Job)
         (kept : List Kept)
-        → taking p.holdings message (talk_behind struck failed kept p.size t)
-        ≡ talk_behind struck failed kept p.size (after_act (takes message) p t) }
+        → taking p.holdings message (talk_behind struck failed kept p.measure t)
+        ≡ talk_behind struck failed kept p.measure (after_act (takes message) p t) }
     ensures sends { (p : Party) (t : Talker) (struck failed : List Job) (kept : List Kept)
-        → with_first_sent (talk_behind struck failed kept p.size t)
-        ≡ talk_behind struck failed kept p.size (after_act sends p t) }
+        → with_first_sent (talk_behind struck failed kept p.measure t)
+        ≡ talk_behind struck failed kept p.measure (after_act sends p t) }
 {}
 
 /// An end of a conversation is described by two numbers: how many messages it has sent and taken say what it says next, whether
@@ -34,23 +34,23 @@ pub fn an_end_is_told_by_two_numbers()
         (kept : List Kept)
         → IsTold me a b own others
         → (end_keeper me (party me a b).holdings).next
-        (talk_behind struck failed kept (party me a b).size own)
+        (talk_behind struck failed kept (party me a b).measure own)
         ≡ (count_keeper (conversation_view me a b)).next (count_of_talker own) }
     ensures over { (me : Side) (a b : Party) (own others : Talker) (struck failed : List Job)
         (kept : List Kept)
         → IsTold me a b own others
         → (end_keeper me (party me a b).holdings).is_over
-        (talk_behind struck failed kept (party me a b).size own)
+        (talk_behind struck failed kept (party me a b).measure own)
         ≡ (count_keeper (conversation_view me a b)).is_over (count_of_talker own) }
     ensures parted { (me : Side) (a b : Party) (own others : Talker) (struck failed : List Job)
         (kept : List Kept)
         → IsTold me a b own others
         → (end_keeper me (party me a b).holdings).has_parted
-        (talk_behind struck failed kept (party me a b).size own)
+        (talk_behind struck failed kept (party me a b).measure own)
         ≡ (count_keeper (conversation_view me a b)).has_parted (count_of_talker own) }
     ensures not_bad { (me : Side) (a b : Party) (own others : Talker) (struck failed : List Job)
         (kept : List Kept)
         → IsTold me a b own others
         → (end_keeper me (party me a b).holdings).is_bad
-        (talk_behind struck failed kept (party me a b).size own) ≡ false }
+        (talk_behind struck failed kept (party me a b).measure own) ≡ false }
 {}

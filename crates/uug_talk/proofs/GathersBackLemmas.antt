@@ -1,13 +1,13 @@
 -- Gathering undoes cutting.
-use Rattle.std.proofs.Common.{◌≡◌, ◌≢◌, ◌||◌, ◌⊎◌, inl, inr, ℕ, zero, suc, ◌+◌, ◌-◌, ◌<◌, ◌≤◌, Bool, true, false, List, [], ◌∷◌, ◌++◌, length, take, drop, replicate, refl, sym, ap, subst, ◌∙◌, arith}
+use Rattle.std.proofs.Common.{◌≡◌, ◌≢◌, ◌||◌, inl, inr, ℕ, zero, suc, ◌+◌, ◌<◌, ◌≤◌, Bool, true, false, List, [], ◌∷◌, ◌++◌, length, take, drop, replicate, refl, sym, ap, subst, ◌∙◌, arith}
 use Rattle.std.proofs.lemmas.Bool.Decides.{nat_tests}
 use Rattle.std.proofs.lemmas.List.{append-nil, length-append, length-drop, take-append-drop}
 use Rattle.std.proofs.lemmas.List.Elements.{All-weaker}
 use Rattle.std.proofs.lemmas.List.Folds.{list_any-append, list_any_none}
 use Rattle.std.specs.List.{list_any, concat}
-use Rattle.uug_talk.specs.Chunks.{IsCommandText, command_messages, file_messages}
+use Rattle.uug_talk.specs.Chunks.{IsCommandText, Measure, command_messages, last_zeros, file_messages}
 use Rattle.uug_talk.specs.Gathering.{Kind, OfCommand, OfFile, Gathering, is_zero, is_empty, text_part, part_of, ends, gathered, with_message, GathersBack}
-use Rattle.uug_talk.proofs.ChunkLemmas.{command_last, command_more, file_more}
+use Rattle.uug_talk.proofs.ChunkLemmas.{below_or_not, zeros_some, command_last, command_more, file_more}
 use Rattle.uug_talk.proofs.GatherLemmas.{before_first-append, before_first-all, gathered_push}
 
 -- One message in front of others.
@@ -128,33 +128,29 @@ zeros_say_nothing : (k : ℕ) → text_part (replicate k 0) ≡ []
 zeros_say_nothing zero = refl
 zeros_say_nothing (suc k) = refl
 
-command_end : (size : ℕ) (text : List ℕ) → length text < size → list_any is_zero text ≡ false → GathersBack OfCommand (command_messages size text) text
-command_end size text h n =
-    let zeros : List ℕ = replicate (size - length text) 0 in
-    subst (λ ms. GathersBack OfCommand ms text) (sym (command_last size text h))
+command_end : (m : Measure) (text : List ℕ) → length text < m.size → list_any is_zero text ≡ false → GathersBack OfCommand (command_messages m text) text
+command_end m text h n =
+    let zeros : List ℕ = replicate (last_zeros m (length text)) 0 in
+    subst (λ ms. GathersBack OfCommand ms text) (sym (command_last m text h))
     (gathers_last OfCommand (text ++ zeros) text
-    (list_any-append is_zero text zeros ∙ ap (λ b. b || list_any is_zero zeros) n ∙ zero_ends (size - length text) (omega arith))
-    (before_first-append is_zero text zeros n ∙ ap (λ z. text ++ z) (zeros_say_nothing (size - length text)) ∙ append-nil text))
+    (list_any-append is_zero text zeros ∙ ap (λ b. b || list_any is_zero zeros) n ∙ zero_ends (last_zeros m (length text)) (zeros_some m (length text) h))
+    (before_first-append is_zero text zeros n ∙ ap (λ z. text ++ z) (zeros_say_nothing (last_zeros m (length text))) ∙ append-nil text))
 
-below_or_not : (a b : ℕ) → (a < b) ⊎ (b ≤ a)
-below_or_not a zero = inr (omega arith)
-below_or_not zero (suc b) = inl (omega arith)
-below_or_not (suc a) (suc b) = elim (below_or_not a b) [ inl l ↦ inl (omega arith) | inr l ↦ inr (omega arith) ]
-
-command_up_to : (n size : ℕ) (text : List ℕ) → 0 < size → length text ≤ n → list_any is_zero text ≡ false → GathersBack OfCommand (command_messages size text) text
-command_up_to zero size text s h k = command_end size text (omega arith) k
-command_up_to (suc n) size text s h k = elim (below_or_not (length text) size) [
-  | inl l ↦ command_end size text l k
+command_up_to : (n : ℕ) (m : Measure) (text : List ℕ) → 0 < m.size → length text ≤ n → list_any is_zero text ≡ false → GathersBack OfCommand (command_messages m text) text
+command_up_to zero m text s h k = command_end m text (omega arith) k
+command_up_to (suc n) m text s h k = elim (below_or_not (length text) m.size) [
+  | inl l ↦ command_end m text l k
   | inr l ↦ (
-      let more : GathersBack OfCommand (command_messages size (drop size text)) (drop size text) = command_up_to n size (drop size text) s (omega (arith, length-drop size text)) (halves size text k).1 in
-      subst (λ ms. GathersBack OfCommand ms text) (sym (command_more size text s l))
-      (subst (λ z. GathersBack OfCommand (take size text ∷ command_messages size (drop size text)) z) (take-append-drop size text)
-      (gathers_more OfCommand (take size text) (drop size text) (command_messages size (drop size text)) (halves size text k).0 more)))
+      let size = m.size in
+      let more : GathersBack OfCommand (command_messages m (drop m.size text)) (drop m.size text) = command_up_to n m (drop m.size text) s (omega (arith, length-drop m.size text)) (halves m.size text k).1 in
+      subst (λ ms. GathersBack OfCommand ms text) (sym (command_more m text s l))
+      (subst (λ z. GathersBack OfCommand (take size text ∷ command_messages m (drop size text)) z) (take-append-drop size text)
+      (gathers_more OfCommand (take size text) (drop size text) (command_messages m (drop size text)) (halves size text k).0 more)))
 ]
 
 no_zero_passes : (b : ℕ) → b ≢ 0 → is_zero b ≡ false
 no_zero_passes b n = grind (arith, nat_tests)
 
-pub command_back : (size : ℕ) (text : List ℕ) → 0 < size → IsCommandText text → GathersBack OfCommand (command_messages size text) text
-command_back size text s h =
-    command_up_to (length text) size text s (omega arith) (list_any_none is_zero text (All-weaker (λ b. b ≢ 0) (λ b. is_zero b ≡ false) no_zero_passes text h.no_zero))
+pub command_back : (m : Measure) (text : List ℕ) → 0 < m.size → IsCommandText text → GathersBack OfCommand (command_messages m text) text
+command_back m text s h =
+    command_up_to (length text) m text s (omega arith) (list_any_none is_zero text (All-weaker (λ b. b ≢ 0) (λ b. is_zero b ≡ false) no_zero_passes text h.no_zero))

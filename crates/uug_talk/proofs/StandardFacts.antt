@@ -8,7 +8,7 @@ use Rattle.uug_talk.specs.declared.order.Order.TheVariants.{Send, Request, HangU
 use Rattle.uug_talk.specs.declared.words.TheConstants.{COMMAND_MAX}
 use Rattle.uug_talk.specs.Answer.{answer_of, answer_text}
 use Rattle.uug_talk.specs.Call.{call_text, first_told, number_in_call}
-use Rattle.uug_talk.specs.Chunks.{command_messages, file_messages}
+use Rattle.uug_talk.specs.Chunks.{Measure, command_messages, file_messages}
 use Rattle.uug_talk.specs.Gathering.{OfCommand, OfFile, gathered}
 use Rattle.uug_talk.specs.Name.{name_read}
 use Rattle.uug_talk.specs.Order.{order_of, order_text}
@@ -114,16 +114,37 @@ written = record {
   hang_no = refl;
 }
 
+-- with messages of 64 bytes, and commands filled up or short
+abbrev filled_64 : Measure
+filled_64 = record { size = 64; short = false }
+
+abbrev short_64 : Measure
+short_64 = record { size = 64; short = true }
+
 -- the lengths of messages
 pub record AreMessages : Type 0 where
   pub whole_multiple : map length (file_messages 64 (replicate 128 7)) ≡ 64 ∷ 64 ∷ 0 ∷ []
   pub shorter : map length (file_messages 64 (replicate 100 7)) ≡ 64 ∷ 36 ∷ 0 ∷ []
   pub empty : file_messages 64 [] ≡ [] ∷ []
-  pub one : command_messages 64 (replicate 63 7) ≡ (replicate 63 7 ++ 0 ∷ []) ∷ []
-  pub two : command_messages 64 (replicate 64 7) ≡ replicate 64 7 ∷ replicate 64 0 ∷ []
+  pub filled : command_messages filled_64 (codes "SY") ≡ (83 ∷ 89 ∷ replicate 62 0) ∷ []
+  pub filled_one : command_messages filled_64 (replicate 63 7) ≡ (replicate 63 7 ++ 0 ∷ []) ∷ []
+  pub filled_two : command_messages filled_64 (replicate 64 7) ≡ replicate 64 7 ∷ replicate 64 0 ∷ []
+  pub short : command_messages short_64 (codes "SY") ≡ (83 ∷ 89 ∷ 0 ∷ []) ∷ []
+  pub short_one : command_messages short_64 (replicate 63 7) ≡ (replicate 63 7 ++ 0 ∷ []) ∷ []
+  pub short_two : command_messages short_64 (replicate 64 7) ≡ replicate 64 7 ∷ (0 ∷ []) ∷ []
 
 pub messages : AreMessages
-messages = record { whole_multiple = refl; shorter = refl; empty = refl; one = refl; two = refl }
+messages = record {
+  whole_multiple = refl;
+  shorter = refl;
+  empty = refl;
+  filled = refl;
+  filled_one = refl;
+  filled_two = refl;
+  short = refl;
+  short_one = refl;
+  short_two = refl;
+}
 
 -- handshake texts
 pub record AreTexts : Type 0 where

@@ -3,13 +3,16 @@ use Rattle.std.specs.Prelude.{ℕ, List, []}
 use Rattle.uug_talk.specs.declared.chunks.Chunks.{Chunks}
 use Rattle.uug_talk.specs.declared.chunks.Ending.{Ending}
 use Rattle.uug_talk.specs.declared.chunks.Ending.TheVariants.{Zeros, Empty, Given}
-use Rattle.uug_talk.specs.Chunks.{command_messages, file_messages}
+use Rattle.uug_talk.specs.Chunks.{Measure, command_messages, file_messages}
 
 -- what an iterator has still to give
-abbrev pub left_by : Ending → ℕ → List ℕ → List (List ℕ)
-left_by Zeros size rest = command_messages size rest
-left_by Empty size rest = file_messages size rest
-left_by Given size rest = []
+abbrev pub left_by : Ending → Measure → List ℕ → List (List ℕ)
+left_by Zeros m rest = command_messages m rest
+left_by Empty m rest = file_messages m.size rest
+left_by Given m rest = []
+
+abbrev pub measure_of : Chunks → Measure
+measure_of chunks = record { size = chunks.size; short = chunks.short }
 
 abbrev pub messages_left : Chunks → List (List ℕ)
-messages_left chunks = left_by chunks.ending chunks.size chunks.rest.now
+messages_left chunks = left_by chunks.ending (measure_of chunks) chunks.rest.now

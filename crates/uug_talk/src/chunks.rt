@@ -1,8 +1,8 @@
-ghost use Rattle.std.specs.Prelude.{◌≡◌, ◌≢◌, ◌-◌, ◌<◌, ◌≤◌, [], ◌∷◌, ◌++◌, length, take, drop, replicate, All, IsTrue, ◌↔◌};
+ghost use Rattle.std.specs.Prelude.{◌≡◌, ◌≢◌, ◌+◌, ◌<◌, ◌≤◌, [], ◌∷◌, ◌++◌, length, take, drop, replicate, All, IsTrue, ◌↔◌};
 ghost use Rattle.std.specs.Bool.{OnTrue, OnFalse};
 ghost use Rattle.std.specs.Iterator.{YieldsFirstBy, item_count};
 ghost use Rattle.uug_talk.specs.declared.chunks.TheConstants.{MESSAGE_MAX};
-ghost use Rattle.uug_talk.specs.Chunks.{IsCommandText, command_messages, file_messages};
+ghost use Rattle.uug_talk.specs.Chunks.{IsCommandText, command_messages, file_messages, last_zeros};
 
 use crate::words::COMMAND_MAX;
 use arrayvec::ArrayVec;
@@ -15,7 +15,7 @@ pub type Message = ArrayVec<u8, MESSAGE_MAX>;
 
 #[derive(Clone, Copy, Debug, PartialEq, Eq)]
 enum Ending {
-    // The last message is filled up with zeros, one at least.
+    // The last message ends with zeros, one at least.
     Zeros,
     // The last message is empty.
     Empty,
@@ -24,12 +24,14 @@ enum Ending {
 }
 
 /// The messages in which a command or a file travels, in order. A command goes as its text, one zero
-/// byte and zeros up to a multiple of the size, cut every `size` bytes. A file goes as its bytes, cut
-/// every `size` bytes, and one empty message.
+/// byte and zeros up to a multiple of the size, cut every `size` bytes; a short one without the zeros behind its
+/// zero byte. A file goes as its bytes, cut every `size` bytes, and one empty message.
 #[derive(Drop)]
 pub struct Chunks<'a> {
     rest: &'a [u8],
     size: usize,
+    // Whether the last message of a command ends with its zero byte.
+    short: bool,
     ending: Ending,
     ghost some: { 0 < size },
     ghost fits: { size ≤ MESSAGE_MAX },
@@ -45,17 +47,19 @@ pub fn is_command_text(text: &[u8]) -> bool
 impl<'a> Chunks<'a> {
     ghost use Rattle.uug_talk.specs.MessagesLeft.{messages_left};
 
-    /// The messages of a command, with at most `size` bytes each, which is 1 to `MESSAGE_MAX`.
-    /// `is_command_text` tells whether the text may be sent so.
-    pub fn command(text: &'a [u8], size: usize) -> Self
+    /// The messages of a command, with at most `size` bytes each, which is 1 to `MESSAGE_MAX`. Where `short` is set,
+    /// the last one ends with the zero byte of the command. `is_command_text` tells whether the text may be sent so.
+    pub fn command(text: &'a [u8], size: usize, short: bool) -> Self
         requires text { IsCommandText text.now }
         requires some { 0 < size }
         requires fits { size ≤ MESSAGE_MAX }
-        ensures { messages_left result ≡ command_messages size text.now }
+        ensures { messages_left result
+            ≡ command_messages (record { size = size; short = short }) text.now }
     {
         Chunks {
             rest: text,
             size,
+            short,
             ending: Ending::Zeros,
         }
     }
@@ -69,6 +73,7 @@ impl<'a> Chunks<'a> {
         Chunks {
             rest: bytes,
             size,
+            short: false,
             ending: Ending::Empty,
         }
     }
@@ -94,7 +99,7 @@ impl<'a> Iterator for Chunks<'a> {
 }
 
 impl Chunks<'_> {
-    ghost use Rattle.uug_talk.specs.MessagesLeft.{messages_left};
+    ghost use Rattle.uug_talk.specs.MessagesLeft.{measure_of, messages_left};
 
     /// Puts the next message into `message`, in the place of what that held, and says whether there was one. Where there
     /// is none, `message` stays. `next` makes a new message of `MESSAGE_MAX` bytes each time; this makes none.
@@ -118,11 +123,25 @@ impl Chunks<'_> {
         ensures { messages_left self.old ≡ message.new.items ∷ messages_left self.new }
     {
         if self.rest.len() < self.size {
+            let zeros = self.last_zeros();
             self.ending = Ending::Given;
-            pad_into(self.rest, self.size, message);
+            pad_into(self.rest, zeros, message);
             return;
         }
         self.cut_into(message);
+    }
+
+    // How many zeros stand behind the last bytes of a command.
+    fn last_zeros(&self) -> usize
+        requires { length self.now.rest.now < self.now.size }
+        ensures value { result ≡ last_zeros (measure_of self.now) (length self.now.rest.now) }
+        ensures fits { length self.now.rest.now + result ≤ MESSAGE_MAX }
+    {
+        if self.short {
+            1
+        } else {
+            self.size - self.rest.len()
+        }
     }
 
     fn file_into(&mut self, message: &mut Message)
@@ -141,25 +160,25 @@ impl Chunks<'_> {
     fn cut_into(&mut self, message: &mut Message)
         ensures message { message.new.items ≡ take self.old.size self.old.rest.now }
         ensures rest { self.new.rest.now ≡ drop self.old.size self.old.rest.now }
-        ensures kept { (self.new.size ≡ self.old.size) × (self.new.ending ≡ self.old.ending) }
+        ensures kept { (measure_of self.new ≡ measure_of self.old)
+            × (self.new.ending ≡ self.old.ending) }
     {
         let (piece, rest) = self.rest.split_at(self.size.min(self.rest.len()));
         self.rest = rest;
-        pad_into(piece, piece.len(), message);
+        pad_into(piece, 0, message);
     }
 }
 
-// The piece, and zeros behind it up to the size.
-fn pad_into(piece: &[u8], size: usize, message: &mut Message)
-    requires room { length piece.now ≤ size }
-    requires fits { size ≤ MESSAGE_MAX }
-    ensures { message.new.items ≡ piece.now ++ replicate (size - length piece.now) 0 }
+// The piece, and so many zeros behind it.
+fn pad_into(piece: &[u8], zeros: usize, message: &mut Message)
+    requires { length piece.now + zeros ≤ MESSAGE_MAX }
+    ensures { message.new.items ≡ piece.now ++ replicate zeros 0 }
 {
     message.clear();
     let Ok(()) = message.try_extend_from_slice(piece) else {
         unreachable!();
     };
-    for _zero in 0..size - piece.len() {
+    for _zero in 0..zeros {
         message.push(0);
     }
 }

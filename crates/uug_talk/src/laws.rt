@@ -1,5 +1,5 @@
 //! Laws over the definitions that the other contracts cite. The functions do nothing.
-ghost use Rattle.std.specs.Prelude.{◌≡◌, ◌+◌, ◌-◌, ◌<◌, ◌≤◌, ℕ, List, [], ◌∷◌, ◌++◌, Ok, Some, None, true, false, length, take, drop, replicate, All};
+ghost use Rattle.std.specs.Prelude.{◌≡◌, ◌+◌, ◌<◌, ◌≤◌, ℕ, List, [], ◌∷◌, ◌++◌, Ok, Some, None, true, false, length, take, drop, replicate, All};
 ghost use Rattle.uug_talk.specs.declared.answer.Answer.{Answer};
 ghost use Rattle.uug_talk.specs.declared.answer.TheConstants.{DEFAULT_MODE};
 ghost use Rattle.uug_talk.specs.declared.chunks.TheConstants.{MESSAGE_MAX};
@@ -10,7 +10,7 @@ ghost use Rattle.uug_talk.specs.declared.name.TheConstants.{NAME_MAX};
 ghost use Rattle.uug_talk.specs.declared.words.TheConstants.{COMMAND_MAX};
 ghost use Rattle.uug_talk.specs.declared.order.Order.{Order};
 ghost use Rattle.uug_talk.specs.Answer.{IsWritten, answer_of, answer_text};
-ghost use Rattle.uug_talk.specs.Chunks.{IsCommandText, command_messages, file_messages};
+ghost use Rattle.uug_talk.specs.Chunks.{AreShortOf, IsCommandText, Measure, command_messages, cut, file_messages, last_zeros, up_to_multiple};
 ghost use Rattle.uug_talk.specs.Gathering.{Kind, OfCommand, OfFile, GathersBack, gathered, with_message};
 ghost use Rattle.uug_talk.specs.Order.{HasMode, HasNames, order_of, order_text};
 ghost use Rattle.uug_talk.specs.HailCalls.{HailCall, Lead, FindsTooLong, all_used, all_shown};
@@ -50,16 +50,28 @@ pub fn written_texts_are_commands()
     ensures answer { (answer : Answer) → IsWritten answer → IsCommandText (answer_text answer) }
 {}
 
+/// Where commands are not short, a command goes with zeros up to a multiple of the size. Where they are, it goes in as
+/// many messages, all the same but the last, which lacks zeros at its end.
+pub fn short_commands()
+    ensures filled { (size : ℕ) (text : List ℕ)
+        → command_messages (record { size = size; short = false }) text
+        ≡ cut size (text ++ 0 ∷ replicate (up_to_multiple size (length text + 1)) 0) }
+    ensures short { (size : ℕ) (text : List ℕ) → 0 < size
+        → AreShortOf (command_messages (record { size = size; short = true }) text)
+        (command_messages (record { size = size; short = false }) text) }
+{}
+
 /// The messages of a command from an offset on are the message there, then those from behind it, up to
 /// the one with the zero byte. What is left of the text may be cut into messages, too.
 pub fn command_goes_on()
-    ensures more { (size offset : ℕ) (text : List ℕ) → 0 < size → offset + size ≤ length text
-        → command_messages size (drop offset text)
-        ≡ take size (drop offset text) ∷ command_messages size (drop (offset + size) text) }
-    ensures last { (size offset : ℕ) (text : List ℕ) → offset ≤ length text
-        → length text < offset + size
-        → command_messages size (drop offset text)
-        ≡ (drop offset text ++ replicate (offset + size - length text) 0) ∷ [] }
+    ensures more { (m : Measure) (offset : ℕ) (text : List ℕ) → 0 < m.size
+        → offset + m.size ≤ length text
+        → command_messages m (drop offset text)
+        ≡ take m.size (drop offset text) ∷ command_messages m (drop (offset + m.size) text) }
+    ensures last { (m : Measure) (offset : ℕ) (text : List ℕ) → offset ≤ length text
+        → length text < offset + m.size
+        → command_messages m (drop offset text)
+        ≡ (drop offset text ++ replicate (last_zeros m (length (drop offset text))) 0) ∷ [] }
     ensures left { (offset : ℕ) (text : List ℕ) → IsCommandText text
         → IsCommandText (drop offset text) }
 {}
@@ -76,8 +88,8 @@ pub fn file_goes_on()
 
 /// No message is longer than the size.
 pub fn messages_fit()
-    ensures command { (size : ℕ) (text : List ℕ)
-        → All (λ message. length message ≤ size) (command_messages size text) }
+    ensures command { (m : Measure) (text : List ℕ)
+        → All (λ message. length message ≤ m.size) (command_messages m text) }
     ensures file { (size : ℕ) (bytes : List ℕ)
         → All (λ message. length message ≤ size) (file_messages size bytes) }
 {}
@@ -91,8 +103,8 @@ pub fn gathering_goes_on()
 
 /// A command's messages are whole with the last one, hold the command then, and pass no limit before.
 pub fn command_is_gathered()
-    ensures { (size : ℕ) (text : List ℕ) → 0 < size → IsCommandText text
-        → GathersBack OfCommand (command_messages size text) text }
+    ensures { (m : Measure) (text : List ℕ) → 0 < m.size → IsCommandText text
+        → GathersBack OfCommand (command_messages m text) text }
 {}
 
 /// A file's messages are whole with the last one, hold the file then, and pass no limit before.

@@ -122,10 +122,10 @@ fn gathers_a_file(rt: &impl Abort, alloc: Global, bytes: &[u8]) {
     assert_same(rt, file.bytes(), bytes);
 }
 
-fn gathers_a_command(rt: &impl Abort, text: &[u8]) {
+fn gathers_a_command(rt: &impl Abort, text: &[u8], short: bool) {
     let mut command = Gather::<Global>::command();
     assert_so(rt, is_command_text(text));
-    gather_all(rt, &mut command, Chunks::command(text, 64));
+    gather_all(rt, &mut command, Chunks::command(text, 64, short));
     assert_same(rt, command.bytes(), text);
 }
 
@@ -134,7 +134,8 @@ fn what_is_cut_is_gathered(rt: HostRuntime) {
     let bytes = [b'x'; 100];
     for len in [0, 63, 64, 100] {
         gathers_a_file(&rt, rt.alloc(), &bytes[..len]);
-        gathers_a_command(&rt, &bytes[..len]);
+        gathers_a_command(&rt, &bytes[..len], false);
+        gathers_a_command(&rt, &bytes[..len], true);
     }
 }
 

@@ -31,7 +31,7 @@ text bytes = bytes ++ replicate (32 - length bytes) 0
 abbrev pub end_of_size : (size_code : ℕ) → (name : List ℕ) → List Job → MemoryHoldings → EndSetupValue
 end_of_size size_code name jobs spool = record {
   name = name;
-  own = record { window = 2; size_code = size_code; quiet = false };
+  own = record { window = 2; size_code = size_code; quiet = false; short = false };
   holdings = holdings_of spool;
   belongings = record { lists = at_start jobs [] []; kept = []; number = None };
 }

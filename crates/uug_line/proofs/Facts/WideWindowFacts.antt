@@ -16,7 +16,7 @@ use Rattle.uug_line.proofs.Facts.FactSetups.{all, end_with, file, flow, flow_the
 use Rattle.uug_line.proofs.Facts.Summaries.{InSession, Summary, ComeTo, at_ends, talks, owns}
 
 abbrev wide_end : (name : List ℕ) → List Job → MemoryHoldings → EndSetupValue
-wide_end name jobs spool = record (end_with name jobs spool) { own = record { window = 7; size_code = 0; quiet = false } }
+wide_end name jobs spool = record (end_with name jobs spool) { own = record { window = 7; size_code = 0; quiet = false; short = false } }
 
 -- six messages of 32 bytes and one of a byte, and the empty one behind them
 abbrev long : List ℕ

@@ -1,5 +1,6 @@
 -- What a fact on an end's moments has to keep to, so that it holds after every step, and the end is described by two numbers.
 use Rattle.std.specs.Prelude.{◌≡◌, ℕ, suc, true, false, List, [], ◌∷◌, ◌++◌, Some}
+use Rattle.uug_talk.specs.Chunks.{Measure}
 use Rattle.uug_link.specs.State.{State, IsFresh, IsUp}
 use Rattle.uug_link.specs.Step.{Event, bad_found, timed_out, to_begin, to_close, to_send, packet_found, OutcomeValue, nothing, up, taken, closed, gave_up, halted, step}
 use Rattle.uug_link.specs.Terms.{size_of_code}
@@ -7,7 +8,7 @@ use Rattle.uug_link.specs.TwoLinks.{taken_by}
 use Rattle.uug_packet.specs.Packet.{PacketValue}
 use Rattle.uug_session.specs.declared.greeting.Greeting.{Greeting}
 use Rattle.uug_conversation.specs.Count.{Count, count_keeper}
-use Rattle.uug_session.specs.EndStep.{EndEffect, Sending, Stage, has_room, hailing, message_of, packets}
+use Rattle.uug_session.specs.EndStep.{EndEffect, Sending, Stage, has_room, hailing, message_of, packets, measure_of}
 use Rattle.uug_conversation.specs.Holdings.{Holdings}
 use Rattle.uug_conversation.specs.Keeper.{Keeper}
 use Rattle.uug_conversation.specs.DialogueState.{DialogueState, end_keeper}
@@ -17,13 +18,13 @@ use Rattle.uug_line.proofs.World.Joining.{Moment}
 use Rattle.uug_line.proofs.World.MomentLemmas.{count, emits}
 
 -- what is kept then, by the link's answer
-abbrev pub heard_talk : Keeper DialogueState → OutcomeValue → (size : ℕ) → (message : List ℕ) → DialogueState → DialogueState
-heard_talk k nothing size message talk = talk
-heard_talk k up size message talk = k.opened size talk
-heard_talk k taken size message talk = k.taking message talk
-heard_talk k closed size message talk = talk
-heard_talk k gave_up size message talk = talk
-heard_talk k halted size message talk = talk
+abbrev pub heard_talk : Keeper DialogueState → OutcomeValue → Measure → (message : List ℕ) → DialogueState → DialogueState
+heard_talk k nothing measure message talk = talk
+heard_talk k up measure message talk = k.opened measure talk
+heard_talk k taken measure message talk = k.taking message talk
+heard_talk k closed measure message talk = talk
+heard_talk k gave_up measure message talk = talk
+heard_talk k halted measure message talk = talk
 
 -- the other end's packet at the place was found, and these messages are taken then
 abbrev pub found : Moment → (place : ℕ) → (messages : List (List ℕ)) → Moment
@@ -50,8 +51,8 @@ heard_with m p place o talk = moved (found m place (taken_by o (packet_found p) 
 
 abbrev pub heard_by : Keeper DialogueState → Moment → PacketValue → (place : ℕ) → OutcomeValue → Moment
 heard_by k m p place o =
-    let size = size_of_code (step m.link (packet_found p)).state.size_code in
-    heard_with m p place o (heard_talk k o size (message_of p) m.talk)
+    let measure = measure_of (step m.link (packet_found p)).state in
+    heard_with m p place o (heard_talk k o measure (message_of p) m.talk)
 
 -- The fact J holds of a moment of the end on this side with these holdings, which sees the conversation so; IsThere says
 -- where a packet stands among those that the other end emitted.

@@ -50,7 +50,7 @@ link_end m = record { link = m.link; sent = m.sent; taken = m.taken; emitted = m
 abbrev pub IsTalk : Side → Party → Belongings → DialogueState → Talker → Type 0
 IsTalk me p brought talk t =
     ((talk ≡ unopened brought.lists brought.kept) × (t ≡ first_talker me p))
-    ⊎ (talk ≡ talk_behind brought.lists.struck brought.lists.failed brought.kept p.size t)
+    ⊎ (talk ≡ talk_behind brought.lists.struck brought.lists.failed brought.kept p.measure t)
 
 -- the conversation is open from where the link is up
 pub record IsOpened (m : Moment) : Type 0 where

@@ -30,7 +30,7 @@ pub record Agrees (me : Side) (h : Holdings) (v : List Seen) (talk : DialogueSta
 agrees : (me : Side) (a b : Party) (own others : Talker) (struck failed : List Job) (kept : List Kept) →
     IsTold me a b own others →
     Agrees me (side_party me a b).holdings (conversation_view me a b)
-    (talk_behind struck failed kept (side_party me a b).size own) own
+    (talk_behind struck failed kept (side_party me a b).measure own) own
 agrees me a b own others struck failed kept told = record {
   next = next_is me a b own others told;
   over = over_is me a b own others told;
@@ -89,7 +89,7 @@ module _ (setup : SetupValue) (brought : AtBoth Belongings) where
   -- what it keeps behind what it brought
   abbrev pub talk_at : Side → Talker → DialogueState
   talk_at side t = talk_behind (at side brought).lists.struck (at side brought).lists.failed (at side brought).kept
-      (party setup brought side).size t
+      (party setup brought side).measure t
 
   pub agrees_at : (side : Side) (two : Two) → IsToldAt side two →
       Agrees side (at side setup).holdings (seen_at side) (talk_at side (talker_at side two)) (talker_at side two)
@@ -102,6 +102,6 @@ module _ (setup : SetupValue) (brought : AtBoth Belongings) where
 
   -- each of its messages fits
   pub fit_at : (side : Side) →
-      All (λ message. length message ≤ (party setup brought side).size) (own_messages (seen_at side))
+      All (λ message. length message ≤ (party setup brought side).measure.size) (own_messages (seen_at side))
   fit_at Caller = own_fit Caller (party setup brought Caller) (party setup brought Called)
   fit_at Called = own_fit Called (party setup brought Caller) (party setup brought Called)

@@ -69,7 +69,7 @@ called_id = record { side = Called; me = codes "b"; peer = codes "a" }
 
 -- window 2, size 32
 abbrev pub announced : Announced
-announced = record { window = 2; size_code = 0; quiet = false }
+announced = record { window = 2; size_code = 0; quiet = false; short = false }
 
 abbrev pub played : {C : Type 0} → EndEffect C → Played C
 played e = record { state = e.state; emitted = e.emitted; took = 0 }

@@ -18,7 +18,7 @@ use Rattle.uug_conversation.proofs.FactParties.{Exception, no_exception, fixed, 
 -- ---- an end that stands so, and what comes
 
 abbrev pub announced : Announced
-announced = record { window = 2; size_code = 0; quiet = false }
+announced = record { window = 2; size_code = 0; quiet = false; short = false }
 
 -- it has sent one message, which is acknowledged, and taken none
 abbrev pub link_of : Side → State
@@ -32,7 +32,7 @@ abbrev pub dialogue : Awaits → (gathered : List ℕ) → (waiting : List (List
 dialogue next gathered waiting = record {
   opened = true;
   machine = record { lists = at_start [] [] []; awaits = next; gathered = gathered };
-  size = 32;
+  measure = record { size = 32; short = false };
   waiting = waiting;
   kept = [];
 }

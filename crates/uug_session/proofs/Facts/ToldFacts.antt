@@ -36,7 +36,7 @@ kept_before = record { name = z; mode = 384; bytes = 7 ∷ [] } ∷ []
 abbrev pub by_itself : Side → (a b : Party) → List Act → Place
 by_itself me a b acts =
     place (end_keeper me (party me a b).holdings)
-    (talk_behind (request ∷ []) (send_nothing ∷ []) kept_before (party me a b).size (talker_after me a b acts))
+    (talk_behind (request ∷ []) (send_nothing ∷ []) kept_before (party me a b).measure (talker_after me a b acts))
 
 abbrev pub by_two_numbers : Side → (a b : Party) → List Act → Place
 by_two_numbers me a b acts =

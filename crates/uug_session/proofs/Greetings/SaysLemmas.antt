@@ -3,6 +3,7 @@ use Rattle.std.proofs.Common.{◌≡◌, inl, inr, ◌⊎◌, ℕ, ◌<◌, ◌�
 use Rattle.std.proofs.lemmas.Bool.Decides.{nat_tests}
 use Rattle.uug_link.specs.declared.limits.TheConstants.{WINDOW_MAX}
 use Rattle.uug_link.specs.State.{State, HasRoom}
+use Rattle.uug_talk.specs.Chunks.{Measure}
 use Rattle.uug_conversation.specs.declared.reaction.Saying.{Saying}
 use Rattle.uug_session.specs.EndStep.{EndState, Stage, hailing, linked, ended, has_room, is_up}
 use Rattle.uug_session.specs.Engine.{EngineState, Spoken, after_sends, spoken_of}
@@ -33,9 +34,9 @@ none_is_first : (messages : List (List ℕ)) → first_of messages ≡ None → 
 none_is_first [] is = refl
 none_is_first (message ∷ messages) is = absurd cc
 
-nothing_next : (h : Holdings) (size : ℕ) (out : Outgoing) → first_of (outgoing_messages h size out) ≡ None → out.sayings ≡ []
-nothing_next h size out is =
-    nothing_left out.sayings (silent_is_empty h size out ∙ none_is_first (outgoing_messages h size out) is)
+nothing_next : (h : Holdings) (measure : Measure) (out : Outgoing) → first_of (outgoing_messages h measure out) ≡ None → out.sayings ≡ []
+nothing_next h measure out is =
+    nothing_left out.sayings (silent_is_empty h measure out ∙ none_is_first (outgoing_messages h measure out) is)
 
 -- there is no room, or no message is next
 abbrev SaidBy : Spoken → Type 0
@@ -43,7 +44,7 @@ SaidBy x = (has_room x.link ≡ false) ⊎ (first_of x.talk.waiting ≡ None)
 
 all_said : (h : Holdings) (kept : List Kept) (e : EngineState) → SaidBy (spoken_of h kept e) → SaysWhatItCan e
 all_said h kept e (inl none) is room = absurd (has_none e.link none room)
-all_said h kept e (inr none) is room = nothing_next h e.dialogue.size e.dialogue.outgoing none
+all_said h kept e (inr none) is room = nothing_next h e.dialogue.measure e.dialogue.outgoing none
 
 -- behind as many messages as any window lets out
 pub sends_say : (h : Holdings) (kept : List Kept) (e sent : EngineState) → e.link.window ≤ WINDOW_MAX
@@ -87,6 +88,6 @@ refused_says h kept kept_after before after same says is room =
     let out = before.engine.dialogue.outgoing in
     let out_after = after.engine.dialogue.outgoing in
     let silent : out.sayings ≡ [] = says (sym stage ∙ is) (subst HasRoom link room) in
-    nothing_left out_after.sayings (silent_is_empty h after.engine.dialogue.size out_after
+    nothing_left out_after.sayings (silent_is_empty h after.engine.dialogue.measure out_after
     ∙ ap (λ (x : EndState DialogueState). is_empty x.keeper.waiting) same.does.end
-    ∙ sym (silent_is_empty h before.engine.dialogue.size out) ∙ ap is_silent silent)
+    ∙ sym (silent_is_empty h before.engine.dialogue.measure out) ∙ ap is_silent silent)

@@ -10,11 +10,11 @@ use Rattle.uug_session.proofs.told_laws.an_end_keeps_what_it_brought.Goals as go
 
 pub returns-clause-opens : goal.returns-clause-opens
 returns-clause-opens c me p struck failed kept =
-    ap (replied p.size [] kept) (opening_behind me p.holdings (at_start p.jobs [] []) struck failed)
+    ap (replied p.measure [] kept) (opening_behind me p.holdings (at_start p.jobs [] []) struck failed)
 
 pub returns-clause-takes : goal.returns-clause-takes
 returns-clause-takes c p t message struck failed kept =
     let reply : Reply = step p.holdings t.state message in
-    ap (replied p.size t.waiting (kept ++ t.kept)) (step_behind p.holdings t.state message struck failed)
-    ∙ ap (λ (k : List Kept). record (talk_behind struck failed kept p.size (after_act (takes message) p t)) { kept = k })
+    ap (replied p.measure t.waiting (kept ++ t.kept)) (step_behind p.holdings t.state message struck failed)
+    ∙ ap (λ (k : List Kept). record (talk_behind struck failed kept p.measure (after_act (takes message) p t)) { kept = k })
     (append_assoc kept t.kept reply.keeps)

@@ -15,13 +15,13 @@ returns-in-Some-clause-taken g c =
     let before : DialogueValue = record {
       opened = q.opened;
       machine = state_of q.queue q.awaits q.gather;
-      size = q.size;
+      measure = record { size = q.size; short = q.short };
       outgoing = q.outgoing;
     } in
     let after : DialogueValue = record {
       opened = q.opened;
       machine = state_of jobs next.awaits c.gather_for.result;
-      size = q.size;
+      measure = record { size = q.size; short = q.short };
       outgoing = c.say.new.self;
     } in
     taken_is h kept (g.S.Spool.kept c.reaction_to.new.spool) before after message c.in_ok-told.told next

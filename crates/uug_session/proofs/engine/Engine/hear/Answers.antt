@@ -1,6 +1,7 @@
 use Rattle.std.proofs.Common.{◌≡◌, ℕ, Bool, false, ◌++◌, map, subst, sym, ap, ◌∙◌, refl, Err, Ok}
 use Rattle.uug_link.specs.declared.outcome.LinkFault.{LinkFault}
 use Rattle.uug_link.specs.declared.outcome.Outcome.{Outcome}
+use Rattle.uug_link.specs.Announced.{announced}
 use Rattle.uug_link.specs.Follows.{Follows, answered}
 use Rattle.uug_link.specs.Outcomes.{MovesPhase}
 use Rattle.uug_link.specs.State.{State}
@@ -8,14 +9,25 @@ use Rattle.uug_link.specs.Step.{Effect, OutcomeValue, step, packet_found, nothin
 use Rattle.uug_link.specs.Terms.{size_of_code}
 use Rattle.uug_packet.specs.Packet.{shown}
 use Rattle.uug_session.specs.declared.end.End.TheVariants as ends
-use Rattle.uug_session.specs.EndStep.{ends_so, goes_on, leave, message_of}
-use Rattle.uug_session.specs.Engine.{Does, EngineState, end_of, entry_of, packet_effect}
+use Rattle.uug_session.specs.EndStep.{ends_so, goes_on, leave, measure_of, message_of}
+use Rattle.uug_session.specs.Engine.{Does, EngineState, end_of, entry_of, packet_effect, stage_of}
 use Rattle.uug_conversation.specs.DialogueState.{DialogueState, end_keeper, opened_with}
 use Rattle.uug_conversation.specs.DialogueValue.{dialogue_of}
-use Rattle.uug_session.proofs.EngineLemmas.{by_outcome, ends_does, goes_on_does, shown_by}
+use Rattle.uug_session.proofs.EngineLemmas.{by_outcome, ends_does, goes_on_does, ready_behind_nothing, shown_by}
 use Rattle.uug_session.proofs.SpeakLemmas.{has_parted_told}
 use Rattle.uug_link.proofs.OutcomeLemmas.{moves_of}
 use Rattle.uug_session.proofs.engine.Engine.hear.Goals as goal
+
+pub invariant_of-self : goal.invariant_of-self
+invariant_of-self g c =
+    let p = shown c.args.packet.now in
+    let i = c.self.inside in
+    let e : Effect = step i.link (packet_found p) in
+    let told = subst (λ (o : Outcome). Follows e i.link c.on_packet.new.self i.outbox c.on_packet.new.out (answered (Ok o)))
+    c.in-Ok-Nothing.field-0-is c.in-Ok-Nothing.ensures in
+    ready_behind_nothing (stage_of i.stage) (record { side = i.side; me = i.place.me; peer = i.place.peer }) (announced i.place.announce)
+    i.link c.on_packet.new.self p i.dialogue c.self.invariant
+    (ap (λ (x : EngineState). x.stage) c.self.view_is ∙ c.requires.linked) told.outcome told.state
 
 pub returns-in-Ok-Nothing-clause-does : goal.returns-in-Ok-Nothing-clause-does
 returns-in-Ok-Nothing-clause-does g c =
@@ -76,9 +88,10 @@ returns-in-Ok-Up-clause-does g c =
     c.in-Ok-Up.field-0-is c.in-Ok-Up.ensures in
     let after = c.speak-in-Ok-Up.new.self in
     let talk = dialogue_of h kept b.dialogue in
-    let opened : dialogue_of h kept c.open.new.self ≡ opened_with b.identity.side h (size_of_code e.state.size_code) talk =
-    c.open.ensures.opened ∙ ap (λ (n : ℕ). opened_with b.identity.side h n talk)
-    (c.size-size.ensures.value ∙ ap (λ (s : State). size_of_code s.size_code) told.state) in
+    let opened : dialogue_of h kept c.open.new.self ≡ opened_with b.identity.side h (measure_of e.state) talk =
+    c.open.ensures.opened ∙ ap (λ (n : ℕ). opened_with b.identity.side h (record { size = n; short = c.is_short-short.result }) talk) c.size-size.ensures.value
+    ∙ ap (λ (x : Bool). opened_with b.identity.side h (record { size = size_of_code c.on_packet.new.self.size_code; short = x }) talk) c.is_short-short.ensures
+    ∙ ap (λ (s : State). opened_with b.identity.side h (measure_of s) talk) told.state in
     subst (λ (x : EngineState). Does (packet_effect h kept false p x) (end_of h kept after) x after) c.self.view_is
     (by_outcome (end_keeper b.identity.side h) b.identity false up e (message_of p) talk (end_of h kept after) b after told.outcome
     (subst (λ (t : DialogueState). Does (goes_on b.number (end_keeper b.identity.side h) false e t) (end_of h kept after) b after) opened

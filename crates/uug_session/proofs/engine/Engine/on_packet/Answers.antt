@@ -17,7 +17,7 @@ returns-else-takes-clause-ok g c =
     let room = c.in_ok-reserve-2.ensures in
     subst (λ (x : EngineState). TakesUp h kept kept (CountsFaults faults_max faults faults) p x c.hear.new.self false) c.self.view_is
     (hears_reserved h kept (CountsFaults faults_max faults faults) p b m c.hear.new.self refl refl refl refl
-    (talk_reserved h kept i.dialogue c.reserve-2.new.self room.opened room.machine room.size room.sayings room.offset)
+    (talk_reserved h kept i.dialogue c.reserve-2.new.self room.opened room.machine room.measure room.sayings room.offset)
     c.in_ok-reserve.ensures.entries (λ is. true≢false (sym (c.takes.ensures.1 is) ∙ c.if-takes.false)) refl c.hear.ensures.does)
 
 pub invariant_of-self : goal.invariant_of-self

@@ -2,7 +2,8 @@ use Rattle.uug_talk.proofs.ChunkLemmas.{left_last, left_command}
 use Rattle.uug_talk.proofs.chunks.Chunks.command_into.Goals as goal
 
 pub returns-then-self : goal.returns-then-self
-returns-then-self c = left_last c.args.self.now _ c.requires c.if-self.true c.pad_into.ensures
+returns-then-self c =
+    left_last c.args.self.now _ c.requires c.if-self.true _ c.last_zeros-zeros.ensures.value c.pad_into.ensures
 
 pub returns : goal.returns
 returns c =
