@@ -4,7 +4,7 @@ mod ChoiceLemmas
 pub mod ConversationFacts
 mod DialogueLemmas
 pub mod EarlierJobLemmas
-mod EarlyLemmas
+pub mod EarlyLemmas
 mod EntryLemmas
 mod ExchangeLemmas
 pub mod FactParties
