@@ -13,7 +13,7 @@ use Rattle.uug_script.specs.declared.report.EndNumbers.{EndNumbers}
 use Rattle.uug_conversation.specs.declared.side.Side.TheVariants.{Caller, Called}
 use Rattle.uug_line.specs.declared.verdict.LineVerdict.TheVariants.{Clean, Fooled}
 use Rattle.uug_script.specs.Lines.{lines}
-use Rattle.uug_script.specs.Meaning.{event, number, of_end, quiet}
+use Rattle.uug_script.specs.Meaning.{event, lenient, number, of_end, quiet}
 use Rattle.uug_script.specs.ReadLine.{line_of}
 use Rattle.uug_script.specs.ReportText.{RunResult, ended, report_text, stored_line, verdict_line}
 use Rattle.uug_script.specs.Script.{ScriptSays, flow_events}
@@ -80,6 +80,16 @@ a_quiet_end = refl
 -- that an end is quiet on repeats is said once of each end
 twice_quiet : script_of (both_ends ++ ended (codes "quiet caller") ++ ended (codes "quiet called") ++ codes "quiet caller") ≡ Err 5
 twice_quiet = refl
+
+a_lenient_end : line_of (codes "lenient called") ≡ Some (of_end Called lenient)
+a_lenient_end = refl
+
+no_side : line_of (codes "lenient") ≡ None
+no_side = refl
+
+-- that an end is lenient is said once of each end
+twice_lenient : script_of (both_ends ++ ended (codes "lenient caller") ++ ended (codes "lenient called") ++ codes "lenient caller") ≡ Err 5
+twice_lenient = refl
 
 a_tab : line_of (9 ∷ codes "call") ≡ None
 a_tab = refl
