@@ -8,6 +8,7 @@ use Rattle.uug_talk.specs.declared.order.Order.TheVariants as order
 use Rattle.uug_talk.specs.Answer.{answer_of}
 use Rattle.uug_talk.specs.Gathering.{Kind, OfCommand, OfFile, Gathering, limit_of}
 use Rattle.uug_talk.specs.Order.{order_of}
+use Rattle.uug_talk.specs.Unread.{refusal_of}
 use Rattle.uug_conversation.specs.declared.awaits.Awaits.{Awaits}
 use Rattle.uug_conversation.specs.declared.awaits.Awaits.TheVariants as awaits
 use Rattle.uug_conversation.specs.declared.job.Job.{Job}
@@ -18,7 +19,7 @@ use Rattle.uug_conversation.specs.Choice.{choice, fetched_by}
 use Rattle.uug_conversation.specs.EarlierJobs.{behind, state_behind, reply_behind}
 use Rattle.uug_conversation.specs.Holdings.{File, Kept, Holdings, to_give}
 use Rattle.uug_conversation.specs.Jobs.{Lists, at_start, Move, pass, strike, fail, move_first, moved, moved_once}
-use Rattle.uug_conversation.specs.Machine.{State, commands, order_or_hang_up, goes_on, on_send, on_request, on_hang_up, on_order, on_given_file_done, on_last_hang_up, sends_file, on_send_yes, on_send_answer, on_sent_file_done, on_sent_job_done, on_request_answer, on_hang_up_answer, on_nothing_more, on_text, keeps, on_sent_file, on_asked_file, on_file_of, on_file, on_whole, on_gathered, on_part, gathered_with, step, opening}
+use Rattle.uug_conversation.specs.Machine.{State, commands, order_or_hang_up, goes_on, on_send, on_request, on_hang_up, on_unread, on_order, on_given_file_done, on_last_hang_up, sends_file, on_send_yes, move_held, on_send_answer, on_sent_file_done, on_sent_job_done, on_request_answer, on_hang_up_answer, on_nothing_more, on_text, keeps, on_sent_file, on_asked_file, on_file_of, on_file, on_whole, on_gathered, on_past_limit, on_part, gathered_with, step, comes_early, unless_early, reply_to, opening}
 use Rattle.uug_conversation.specs.Turns.{Said, the_answer}
 use Rattle.uug_conversation.specs.declared.side.Side.{Side}
 use Rattle.uug_conversation.specs.declared.side.Side.TheVariants.{Caller, Called}
@@ -76,14 +77,19 @@ hang_up_behind : (x y : List Job) (next : Option Order) (l : Lists) →
 hang_up_behind x y None l = refl
 hang_up_behind x y (Some next) l = refl
 
-order_behind : (x y : List Job) (h : Holdings) (read : Result Order BadText) (l : Lists) →
-    on_order h read (behind x y l) ≡ reply_behind x y (on_order h read l)
-order_behind x y h (Ok (order.Send source target user temp mode)) l = send_behind x y (h.verdict target) target mode l
-order_behind x y h (Ok (order.Request source target user)) l = request_behind x y (to_give h source) l
-order_behind x y h (Ok order.HangUp) l =
+unread_behind : (x y : List Job) (lenient : Bool) (refusal : Option Answer) (l : Lists) →
+    on_unread lenient refusal (behind x y l) ≡ reply_behind x y (on_unread lenient refusal l)
+unread_behind x y true (Some refusal) l = refl
+unread_behind x y _ _ l = refl
+
+order_behind : (x y : List Job) (h : Holdings) (refusal : Option Answer) (read : Result Order BadText) (l : Lists) →
+    on_order h refusal read (behind x y l) ≡ reply_behind x y (on_order h refusal read l)
+order_behind x y h refusal (Ok (order.Send source target user temp mode)) l = send_behind x y (h.verdict target) target mode l
+order_behind x y h refusal (Ok (order.Request source target user)) l = request_behind x y (to_give h source) l
+order_behind x y h refusal (Ok order.HangUp) l =
     ap (on_hang_up (choice h l.ahead).next) (moved_behind x y (choice h l.ahead).failing l)
     ∙ hang_up_behind x y (choice h l.ahead).next (moved (choice h l.ahead).failing l)
-order_behind x y h (Err fault) l = refl
+order_behind x y h refusal (Err fault) l = unread_behind x y h.lenient refusal l
 
 given_file_behind : (x y : List Job) (read : Result Answer BadText) (l : Lists) →
     on_given_file_done read (behind x y l) ≡ reply_behind x y (on_given_file_done read l)
@@ -115,6 +121,7 @@ send_answer_behind : (x y : List Job) (h : Holdings) (read : Result Answer BadTe
     on_send_answer h read (behind x y l) ≡ reply_behind x y (on_send_answer h read l)
 send_answer_behind x y h (Ok answer.SendYes) l = send_yes_behind x y h l.ahead l
 send_answer_behind x y h (Ok answer.SendNever) l = goes_on_after x y h fail l []
+send_answer_behind x y h (Ok answer.SendHeld) l = goes_on_after x y h (move_held h.lenient l.ahead) l []
 send_answer_behind x y h (Ok answer.SendLater) l = goes_on_after x y h pass l []
 send_answer_behind x y h _ l = refl
 
@@ -154,7 +161,7 @@ nothing_more_behind x y _ l = refl
 
 text_behind : (x y : List Job) (h : Holdings) (awaited : Awaits) (text : List ℕ) (l : Lists) →
     on_text h awaited text (behind x y l) ≡ reply_behind x y (on_text h awaited text l)
-text_behind x y h awaits.Order text l = order_behind x y h (order_of text) l
+text_behind x y h awaits.Order text l = order_behind x y h (refusal_of text) (order_of text) l
 text_behind x y h awaits.GivenFileDone text l = given_file_behind x y (answer_of text) l
 text_behind x y h awaits.LastHangUp text l = last_hang_up_behind x y (answer_of text) l
 text_behind x y h awaits.SendAnswer text l = send_answer_behind x y h (answer_of text) l
@@ -185,6 +192,7 @@ file_behind : (x y : List Job) (h : Holdings) (awaited : Awaits) (bytes : List �
 file_behind x y h (awaits.SentFile target mode) bytes l =
     sent_file_behind x y (h.immovable target) (record { name = target; mode = mode; bytes = bytes }) l
 file_behind x y h (awaits.AskedFile mode) bytes l = file_of_behind x y h l.ahead mode bytes l
+file_behind x y h awaits.DroppedAskedFile bytes l = goes_on_after x y h fail l (the_answer answer.DoneNever ∷ [])
 file_behind x y h _ bytes l = refl
 
 -- ---- one message
@@ -199,9 +207,14 @@ gathered_behind : (x y : List Job) (whole : Bool) (kind : Kind) (h : Holdings) (
 gathered_behind x y false kind h s bytes = refl
 gathered_behind x y true kind h s bytes = whole_behind x y kind h s.awaits bytes s.lists
 
+past_limit_behind : (x y : List Job) (lenient : Bool) (kind : Kind) (awaited : Awaits) (l : Lists) →
+    on_past_limit lenient kind awaited (behind x y l) ≡ reply_behind x y (on_past_limit lenient kind awaited l)
+past_limit_behind x y true OfFile awaited l = refl
+past_limit_behind x y _ kind awaited l = refl
+
 part_behind : (x y : List Job) (too_long : Bool) (g : Gathering) (h : Holdings) (s : State) →
     on_part too_long g h (state_behind x y s) ≡ reply_behind x y (on_part too_long g h s)
-part_behind x y true g h s = refl
+part_behind x y true g h s = past_limit_behind x y h.lenient g.kind s.awaits s.lists
 part_behind x y false g h s = gathered_behind x y g.whole g.kind h s g.bytes
 
 pub step_behind : (h : Holdings) (s : State) (message : List ℕ) (x y : List Job) →
@@ -209,6 +222,15 @@ pub step_behind : (h : Holdings) (s : State) (message : List ℕ) (x y : List Jo
 step_behind h s message x y =
     let g = gathered_with s message in
     part_behind x y (nat_lt (limit_of g.kind) (length g.bytes)) g h s
+
+unless_early_behind : (early : Bool) (h : Holdings) (s : State) (message : List ℕ) (x y : List Job) →
+    unless_early early h (state_behind x y s) message ≡ reply_behind x y (unless_early early h s message)
+unless_early_behind true h s message x y = refl
+unless_early_behind false h s message x y = step_behind h s message x y
+
+pub reply_to_behind : (h : Holdings) (none_waits : Bool) (s : State) (message : List ℕ) (x y : List Job) →
+    reply_to h none_waits (state_behind x y s) message ≡ reply_behind x y (reply_to h none_waits s message)
+reply_to_behind h none_waits s message x y = unless_early_behind (comes_early s.awaits none_waits) h s message x y
 
 pub opening_behind : (side : Side) (h : Holdings) (l : Lists) (x y : List Job) →
     opening side h (behind x y l) ≡ reply_behind x y (opening side h l)

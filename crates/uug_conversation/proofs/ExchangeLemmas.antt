@@ -14,6 +14,8 @@ use Rattle.uug_conversation.specs.Conversation.{exchanges}
 use Rattle.uug_conversation.specs.Exchange.{send_exchange, request_exchange, exchange}
 use Rattle.uug_conversation.specs.Holdings.{File, Kept, Holdings, to_give, kept_as}
 use Rattle.uug_conversation.specs.Jobs.{Lists, Move, pass, strike, fail, moved, moved_once}
+use Rattle.uug_talk.specs.Order.{order_text}
+use Rattle.uug_talk.specs.Unread.{refusal_of}
 use Rattle.uug_conversation.specs.Machine.{State, Reply, between, replies, kind_awaited, on_whole, keeps, chooses, goes_on, on_send, on_request, on_order, sends_file, on_request_answer, on_sent_file, on_asked_file}
 use Rattle.uug_conversation.specs.ReadBack.{IsReadBack, EachTurn}
 use Rattle.uug_conversation.specs.Turns.{other, Said, the_order, the_answer, the_file, said_messages, all_messages, Turn}
@@ -207,17 +209,17 @@ module _ (measure_of : Side → Measure) (positive : (side : Side) → 0 < (meas
   send_as_slave source target user temp (Some file) Never v immovable i next l ts back rest =
       hear_text {r = replies l awaits.Order (the_answer answer.SendNever ∷ [])} back.0 refl
       (record { not_over = refl; not_bad = refl; not_parted = refl })
-      (ap (λ a. on_order h a l) back.0.1 ∙ ap (λ z. on_send z target file.mode l) v) refl refl
+      (ap (λ a. on_order h (refusal_of (order_text (order.Send source target user temp file.mode))) a l) back.0.1 ∙ ap (λ z. on_send z target file.mode l) v) refl refl
       (say back.1.0 rest)
   send_as_slave source target user temp (Some file) Later v immovable i next l ts back rest =
       hear_text {r = replies l awaits.Order (the_answer answer.SendLater ∷ [])} back.0 refl
       (record { not_over = refl; not_bad = refl; not_parted = refl })
-      (ap (λ a. on_order h a l) back.0.1 ∙ ap (λ z. on_send z target file.mode l) v) refl refl
+      (ap (λ a. on_order h (refusal_of (order_text (order.Send source target user temp file.mode))) a l) back.0.1 ∙ ap (λ z. on_send z target file.mode l) v) refl refl
       (say back.1.0 rest)
   send_as_slave source target user temp (Some file) Yes v false i next l ts back rest =
       hear_text {r = replies l (awaits.SentFile target file.mode) (the_answer answer.SendYes ∷ [])} back.0 refl
       (record { not_over = refl; not_bad = refl; not_parted = refl })
-      (ap (λ a. on_order h a l) back.0.1 ∙ ap (λ z. on_send z target file.mode l) v) refl refl
+      (ap (λ a. on_order h (refusal_of (order_text (order.Send source target user temp file.mode))) a l) back.0.1 ∙ ap (λ z. on_send z target file.mode l) v) refl refl
       (say back.1.0
       (hear_text {r = keeps (kept_as target file) (replies l awaits.Order (the_answer answer.DoneYes ∷ []))} back.1.1.0 refl
       (record { not_over = refl; not_bad = refl; not_parted = refl })
@@ -226,7 +228,7 @@ module _ (measure_of : Side → Measure) (positive : (side : Side) → 0 < (meas
   send_as_slave source target user temp (Some file) Yes v true i next l ts back rest =
       hear_text {r = replies l (awaits.SentFile target file.mode) (the_answer answer.SendYes ∷ [])} back.0 refl
       (record { not_over = refl; not_bad = refl; not_parted = refl })
-      (ap (λ a. on_order h a l) back.0.1 ∙ ap (λ z. on_send z target file.mode l) v) refl refl
+      (ap (λ a. on_order h (refusal_of (order_text (order.Send source target user temp file.mode))) a l) back.0.1 ∙ ap (λ z. on_send z target file.mode l) v) refl refl
       (say back.1.0
       (hear_text {r = replies l awaits.Order (the_answer answer.DoneNever ∷ [])} back.1.1.0 refl
       (record { not_over = refl; not_bad = refl; not_parted = refl })
@@ -243,19 +245,19 @@ module _ (measure_of : Side → Measure) (positive : (side : Side) → 0 < (meas
   request_as_slave source target user None e immovable next l ts back rest =
       hear_text {r = replies l awaits.Order (the_answer answer.GiveNever ∷ [])} back.0 refl
       (record { not_over = refl; not_bad = refl; not_parted = refl })
-      (ap (λ a. on_order h a l) back.0.1 ∙ ap (λ f. on_request f l) e) refl refl
+      (ap (λ a. on_order h (refusal_of (order_text (order.Request source target user))) a l) back.0.1 ∙ ap (λ f. on_request f l) e) refl refl
       (say back.1.0 rest)
   request_as_slave source target user (Some file) e false next l ts back rest =
       hear_text {r = replies l awaits.GivenFileDone (the_answer (answer.GiveYes file.mode) ∷ the_file file.bytes ∷ [])} back.0 refl
       (record { not_over = refl; not_bad = refl; not_parted = refl })
-      (ap (λ a. on_order h a l) back.0.1 ∙ ap (λ f. on_request f l) e) refl refl
+      (ap (λ a. on_order h (refusal_of (order_text (order.Request source target user))) a l) back.0.1 ∙ ap (λ f. on_request f l) e) refl refl
       (say back.1.0 (say back.1.1.0
       (hear_text {r = replies l awaits.Order []} back.1.1.1.0 refl
       (record { not_over = refl; not_bad = refl; not_parted = refl }) refl refl refl rest)))
   request_as_slave source target user (Some file) e true next l ts back rest =
       hear_text {r = replies l awaits.GivenFileDone (the_answer (answer.GiveYes file.mode) ∷ the_file file.bytes ∷ [])} back.0 refl
       (record { not_over = refl; not_bad = refl; not_parted = refl })
-      (ap (λ a. on_order h a l) back.0.1 ∙ ap (λ f. on_request f l) e) refl refl
+      (ap (λ a. on_order h (refusal_of (order_text (order.Request source target user))) a l) back.0.1 ∙ ap (λ f. on_request f l) e) refl refl
       (say back.1.0 (say back.1.1.0
       (hear_text {r = replies l awaits.Order []} back.1.1.1.0 refl
       (record { not_over = refl; not_bad = refl; not_parted = refl }) refl refl refl rest)))

@@ -33,6 +33,7 @@ holdings name file exception = record {
   file = named name file;
   verdict = verdict_by exception;
   immovable = fixed_by exception;
+  lenient = false;
 }
 
 abbrev pub end_with : List Job → (name : List ℕ) → Option File → Exception → Party

@@ -4,12 +4,14 @@ mod ChoiceLemmas
 pub mod ConversationFacts
 mod DialogueLemmas
 pub mod EarlierJobLemmas
+pub mod EarlyLemmas
 mod EntryLemmas
 mod ExchangeLemmas
 pub mod FactParties
 pub mod FirstLaw
 pub mod FitLemmas
 mod FrontLemmas
+mod LenientFacts
 mod LimitLemmas
 mod MachineFacts
 mod MachineLemmas
@@ -24,5 +26,6 @@ pub mod SaidByteLemmas
 mod SayableLemmas
 pub mod SharingLemmas
 pub mod StoredLemmas
+mod StrictLemmas
 mod TurnLemmas
 mod WholeFileLemmas

@@ -8,6 +8,7 @@ use Rattle.uug_talk.specs.declared.order.Order.TheVariants as order
 use Rattle.uug_talk.specs.Answer.{answer_of}
 use Rattle.uug_talk.specs.Gathering.{Kind, OfCommand, OfFile, Gathering, limit_of}
 use Rattle.uug_talk.specs.Order.{order_of}
+use Rattle.uug_talk.specs.Unread.{refusal_of}
 use Rattle.uug_conversation.specs.declared.awaits.Awaits.{Awaits}
 use Rattle.uug_conversation.specs.declared.awaits.Awaits.TheVariants as awaits
 use Rattle.uug_conversation.specs.declared.job.Job.{Job}
@@ -16,7 +17,7 @@ use Rattle.uug_conversation.specs.declared.verdict.Verdict.{Verdict}
 use Rattle.uug_conversation.specs.Choice.{choice, fetched_by}
 use Rattle.uug_conversation.specs.Holdings.{File, Kept, Holdings, to_give}
 use Rattle.uug_conversation.specs.Jobs.{Lists, at_start, pending, Move, pass, strike, fail, moved, moved_once}
-use Rattle.uug_conversation.specs.Machine.{State, goes_on, on_send, on_request, on_hang_up, on_order, on_given_file_done, on_last_hang_up, sends_file, on_send_yes, on_send_answer, on_sent_file_done, on_sent_job_done, on_request_answer, on_hang_up_answer, on_nothing_more, on_text, on_sent_file, on_asked_file, on_file_of, on_file, on_whole, on_gathered, on_part, gathered_with, opening, step}
+use Rattle.uug_conversation.specs.Machine.{State, goes_on, on_send, on_request, on_hang_up, on_unread, on_order, on_given_file_done, on_last_hang_up, sends_file, on_send_yes, move_held, on_send_answer, on_sent_file_done, on_sent_job_done, on_request_answer, on_hang_up_answer, on_nothing_more, on_text, on_sent_file, on_asked_file, on_file_of, on_file, on_whole, on_gathered, on_past_limit, on_part, gathered_with, opening, step, comes_early, unless_early, reply_to}
 use Rattle.uug_conversation.specs.Party.{Party}
 use Rattle.uug_conversation.specs.Runs.{Progress, taking, taking_all, opened, progress_after}
 use Rattle.uug_conversation.specs.Sharing.{AreShared, OnlyMoves}
@@ -49,11 +50,14 @@ after_hang_up : (next : Option Order) (moves : List Move) (l : Lists) → OnlyMo
 after_hang_up None moves l = record { moves = moves; are = refl }
 after_hang_up (Some next) moves l = record { moves = moves; are = refl }
 
-after_order : (h : Holdings) (r : Result Order BadText) (l : Lists) → OnlyMoves l (on_order h r l).state.lists
-after_order h (Ok (order.Send source target user temp mode)) l = after_send (h.verdict target) target mode l
-after_order h (Ok (order.Request source target user)) l = after_request (to_give h source) l
-after_order h (Ok order.HangUp) l = after_hang_up (choice h l.ahead).next (choice h l.ahead).failing l
-after_order h (Err fault) l = stays l
+after_unread : (lenient : Bool) (refusal : Option Answer) (l : Lists) → OnlyMoves l (on_unread lenient refusal l).state.lists
+after_unread lenient refusal l = grind (arith, stays)
+
+after_order : (h : Holdings) (refusal : Option Answer) (r : Result Order BadText) (l : Lists) → OnlyMoves l (on_order h refusal r l).state.lists
+after_order h refusal (Ok (order.Send source target user temp mode)) l = after_send (h.verdict target) target mode l
+after_order h refusal (Ok (order.Request source target user)) l = after_request (to_give h source) l
+after_order h refusal (Ok order.HangUp) l = after_hang_up (choice h l.ahead).next (choice h l.ahead).failing l
+after_order h refusal (Err fault) l = after_unread h.lenient refusal l
 
 -- ---- answers
 
@@ -74,6 +78,7 @@ after_send_yes h (job.Request source target user ∷ jobs) l = stays l
 after_send_answer : (h : Holdings) (r : Result Answer BadText) (l : Lists) → OnlyMoves l (on_send_answer h r l).state.lists
 after_send_answer h (Ok answer.SendYes) l = after_send_yes h l.ahead l
 after_send_answer h (Ok answer.SendNever) l = moves_and_chooses fail h l []
+after_send_answer h (Ok answer.SendHeld) l = moves_and_chooses (move_held h.lenient l.ahead) h l []
 after_send_answer h (Ok answer.SendLater) l = moves_and_chooses pass h l []
 after_send_answer h (Ok (answer.GiveYes mode)) l = stays l
 after_send_answer h (Ok answer.GiveNever) l = stays l
@@ -84,11 +89,14 @@ after_send_answer h (Ok answer.DoneNever) l = stays l
 after_send_answer h (Ok answer.DoneLater) l = stays l
 after_send_answer h (Ok answer.HangYes) l = stays l
 after_send_answer h (Ok answer.HangNo) l = stays l
+after_send_answer h (Ok answer.WorkNo) l = stays l
+after_send_answer h (Ok answer.RunNever) l = stays l
 after_send_answer h (Err fault) l = stays l
 
 after_sent_file : (h : Holdings) (r : Result Answer BadText) (l : Lists) → OnlyMoves l (on_sent_file_done h r l).state.lists
 after_sent_file h (Ok answer.SendYes) l = stays l
 after_sent_file h (Ok answer.SendNever) l = stays l
+after_sent_file h (Ok answer.SendHeld) l = stays l
 after_sent_file h (Ok answer.SendLater) l = stays l
 after_sent_file h (Ok (answer.GiveYes mode)) l = stays l
 after_sent_file h (Ok answer.GiveNever) l = stays l
@@ -99,6 +107,8 @@ after_sent_file h (Ok answer.DoneNever) l = moves_and_chooses fail h l []
 after_sent_file h (Ok answer.DoneLater) l = moves_and_chooses pass h l []
 after_sent_file h (Ok answer.HangYes) l = stays l
 after_sent_file h (Ok answer.HangNo) l = stays l
+after_sent_file h (Ok answer.WorkNo) l = stays l
+after_sent_file h (Ok answer.RunNever) l = stays l
 after_sent_file h (Err fault) l = stays l
 
 after_sent_job : (h : Holdings) (jobs : List Job) (r : Result Answer BadText) (l : Lists) → OnlyMoves l (on_sent_job_done h jobs r l).state.lists
@@ -109,6 +119,7 @@ after_sent_job h (job.Request source target user ∷ jobs) r l = stays l
 after_request_answer : (h : Holdings) (r : Result Answer BadText) (l : Lists) → OnlyMoves l (on_request_answer h r l).state.lists
 after_request_answer h (Ok answer.SendYes) l = stays l
 after_request_answer h (Ok answer.SendNever) l = stays l
+after_request_answer h (Ok answer.SendHeld) l = stays l
 after_request_answer h (Ok answer.SendLater) l = stays l
 after_request_answer h (Ok (answer.GiveYes mode)) l = stays l
 after_request_answer h (Ok answer.GiveNever) l = moves_and_chooses fail h l []
@@ -119,6 +130,8 @@ after_request_answer h (Ok answer.DoneNever) l = stays l
 after_request_answer h (Ok answer.DoneLater) l = stays l
 after_request_answer h (Ok answer.HangYes) l = stays l
 after_request_answer h (Ok answer.HangNo) l = stays l
+after_request_answer h (Ok answer.WorkNo) l = stays l
+after_request_answer h (Ok answer.RunNever) l = stays l
 after_request_answer h (Err fault) l = stays l
 
 after_hang_up_answer : (r : Result Answer BadText) (l : Lists) → OnlyMoves l (on_hang_up_answer r l).state.lists
@@ -128,7 +141,7 @@ after_nothing_more : (r : Result Answer BadText) (l : Lists) → OnlyMoves l (on
 after_nothing_more r l = grind (arith, stays)
 
 after_text : (h : Holdings) (a : Awaits) (text : List ℕ) (l : Lists) → OnlyMoves l (on_text h a text l).state.lists
-after_text h awaits.Order text l = after_order h (order_of text) l
+after_text h awaits.Order text l = after_order h (refusal_of text) (order_of text) l
 after_text h awaits.GivenFileDone text l = after_given_file (answer_of text) l
 after_text h awaits.LastHangUp text l = after_last_hang_up (answer_of text) l
 after_text h awaits.SendAnswer text l = after_send_answer h (answer_of text) l
@@ -138,6 +151,8 @@ after_text h awaits.HangUpAnswer text l = after_hang_up_answer (answer_of text) 
 after_text h awaits.NothingMore text l = after_nothing_more (answer_of text) l
 after_text h (awaits.SentFile target mode) text l = stays l
 after_text h (awaits.AskedFile mode) text l = stays l
+after_text h awaits.DroppedSentFile text l = stays l
+after_text h awaits.DroppedAskedFile text l = stays l
 after_text h awaits.Bad text l = stays l
 
 -- ---- files
@@ -159,6 +174,8 @@ after_file : (h : Holdings) (a : Awaits) (bytes : List ℕ) (l : Lists) → Only
 after_file h (awaits.SentFile target mode) bytes l =
     after_kept (h.immovable target) (record { name = target; mode = mode; bytes = bytes }) l
 after_file h (awaits.AskedFile mode) bytes l = after_file_of h l.ahead mode bytes l
+after_file h awaits.DroppedSentFile bytes l = stays l
+after_file h awaits.DroppedAskedFile bytes l = moves_and_chooses fail h l (the_answer answer.DoneNever ∷ [])
 after_file h awaits.Order bytes l = stays l
 after_file h awaits.GivenFileDone bytes l = stays l
 after_file h awaits.LastHangUp bytes l = stays l
@@ -179,14 +196,24 @@ after_gathered : (whole : Bool) (kind : Kind) (h : Holdings) (s : State) (bytes 
 after_gathered false kind h s bytes = stays s.lists
 after_gathered true kind h s bytes = after_whole kind h s.awaits bytes s.lists
 
+after_past_limit : (lenient : Bool) (kind : Kind) (a : Awaits) (l : Lists) → OnlyMoves l (on_past_limit lenient kind a l).state.lists
+after_past_limit lenient kind a l = grind (arith, stays)
+
 after_part : (too_long : Bool) (g : Gathering) (h : Holdings) (s : State) → OnlyMoves s.lists (on_part too_long g h s).state.lists
-after_part true g h s = stays s.lists
+after_part true g h s = after_past_limit h.lenient g.kind s.awaits s.lists
 after_part false g h s = after_gathered g.whole g.kind h s g.bytes
 
 pub after_step : (h : Holdings) (s : State) (message : List ℕ) → OnlyMoves s.lists (step h s message).state.lists
 after_step h s message =
     let g : Gathering = gathered_with s message in
     after_part (nat_lt (limit_of g.kind) (length g.bytes)) g h s
+
+after_unless_early : (early : Bool) (h : Holdings) (s : State) (message : List ℕ) → OnlyMoves s.lists (unless_early early h s message).state.lists
+after_unless_early true h s message = stays s.lists
+after_unless_early false h s message = after_step h s message
+
+pub after_reply : (h : Holdings) (none_waits : Bool) (s : State) (message : List ℕ) → OnlyMoves s.lists (reply_to h none_waits s message).state.lists
+after_reply h none_waits s message = after_unless_early (comes_early s.awaits none_waits) h s message
 
 -- ---- from the start
 

@@ -157,6 +157,7 @@ answer_bytes answer.SendLater = three_letters 83 78 52 (omega arith) (omega arit
 answer_bytes (answer.GiveYes mode) =
     joined_bytes (codes "RY" ∷ mode_digits mode ∷ []) (letters 82 89 (omega arith) (omega arith), (digit_bytes mode, tt))
 answer_bytes answer.GiveNever = three_letters 82 78 50 (omega arith) (omega arith) (omega arith)
+answer_bytes answer.SendHeld = All-nil IsByte
 answer_bytes answer.GiveLater = All-nil IsByte
 answer_bytes answer.DoneYes = letters 67 89 (omega arith) (omega arith)
 answer_bytes answer.DoneYesMaster = All-nil IsByte
@@ -164,6 +165,8 @@ answer_bytes answer.DoneNever = three_letters 67 78 53 (omega arith) (omega arit
 answer_bytes answer.DoneLater = All-nil IsByte
 answer_bytes answer.HangYes = letters 72 89 (omega arith) (omega arith)
 answer_bytes answer.HangNo = letters 72 78 (omega arith) (omega arith)
+answer_bytes answer.WorkNo = letters 88 78 (omega arith) (omega arith)
+answer_bytes answer.RunNever = three_letters 69 78 50 (omega arith) (omega arith) (omega arith)
 
 -- ---- what is said
 

@@ -1,5 +1,5 @@
 -- Whatever one end's machine says can be written.
-use Rattle.std.proofs.Common.{◌≡◌, ℕ, Bool, true, false, List, [], ◌∷◌, ◌++◌, Option, Some, None, Result, Ok, Err, All, refl, subst}
+use Rattle.std.proofs.Common.{◌≡◌, ℕ, Bool, true, false, List, [], ◌∷◌, ◌++◌, Option, Some, None, Result, Ok, Err, All, refl, subst, arith}
 use Rattle.std.proofs.lemmas.List.Elements.{All-nil, All-cons}
 use Rattle.uug_talk.specs.declared.answer.Answer.{Answer}
 use Rattle.uug_talk.specs.declared.answer.Answer.TheVariants as answer
@@ -8,6 +8,8 @@ use Rattle.uug_talk.specs.declared.order.Order.{Order}
 use Rattle.uug_talk.specs.declared.order.Order.TheVariants as order
 use Rattle.uug_talk.specs.Answer.{IsWritten, answer_of}
 use Rattle.uug_talk.specs.Order.{HasMode, order_of}
+use Rattle.uug_talk.specs.Unread.{refusal_by, refusal_of, refusal_of_words}
+use Rattle.uug_talk.specs.Words.{words}
 use Rattle.uug_conversation.specs.declared.awaits.Awaits.{Awaits}
 use Rattle.uug_conversation.specs.declared.awaits.Awaits.TheVariants as awaits
 use Rattle.uug_conversation.specs.declared.job.Job.{Job}
@@ -22,7 +24,7 @@ use Rattle.uug_conversation.specs.declared.verdict.Verdict.TheVariants.{Yes, Nev
 use Rattle.uug_conversation.specs.Choice.{Choice, choice, fetched_by, send_choice}
 use Rattle.uug_conversation.specs.Holdings.{File, Kept, Holdings, AreModes, to_give}
 use Rattle.uug_conversation.specs.Jobs.{Lists, pass, strike, fail, moved, moved_once}
-use Rattle.uug_conversation.specs.Machine.{Reply, goes_on, order_or_hang_up, on_send, on_request, on_hang_up, on_order, on_given_file_done, on_last_hang_up, sends_file, on_send_yes, on_send_answer, on_sent_file_done, on_sent_job_done, on_request_answer, on_hang_up_answer, on_nothing_more, on_text, on_sent_file, on_asked_file, on_file_of, on_file}
+use Rattle.uug_conversation.specs.Machine.{Reply, goes_on, order_or_hang_up, on_send, on_request, on_hang_up, on_unread, on_order, on_given_file_done, on_last_hang_up, sends_file, on_send_yes, move_held, on_send_answer, on_sent_file_done, on_sent_job_done, on_request_answer, on_hang_up_answer, on_nothing_more, on_text, on_sent_file, on_asked_file, on_file_of, on_file}
 use Rattle.uug_conversation.specs.Outgoing.{IsSayable, sayings_of}
 use Rattle.uug_conversation.specs.Reactions.{all_said, reply_of, said_before, said_by}
 use Rattle.uug_conversation.specs.Turns.{Said, the_order, the_answer, the_file}
@@ -36,6 +38,22 @@ CanBeSaid (the_file bytes) = Unit {0}
 abbrev CanAllBeSaid : List Said → Type 0
 CanAllBeSaid [] = Unit {0}
 CanAllBeSaid (said ∷ more) = CanBeSaid said × CanAllBeSaid more
+
+-- an answer that can be written, or none
+abbrev pub IsWrittenBefore : Option Answer → Type 0
+IsWrittenBefore None = Unit {0}
+IsWrittenBefore (Some before) = IsWritten before
+
+-- what refuses can be written
+refusal_by_letter : (letter : ℕ) → IsWrittenBefore (refusal_by letter)
+refusal_by_letter letter = grind (arith, tt)
+
+refusal_by_words : (ws : List (List ℕ)) → IsWrittenBefore (refusal_of_words ws)
+refusal_by_words ((letter ∷ []) ∷ more) = refusal_by_letter letter
+refusal_by_words _ = tt
+
+refusal_written : (text : List ℕ) → IsWrittenBefore (refusal_of text)
+refusal_written text = refusal_by_words (words text)
 
 -- ---- what a machine says
 
@@ -81,12 +99,18 @@ module _ (h : Holdings) (modes : AreModes h) where
   taking_hang_up None l m = (tt, tt)
   taking_hang_up (Some next) l m = (tt, (m, tt))
 
-  taking_order : (read : Result Order BadText) (l : Lists) → CanAllBeSaid (on_order h read l).says
-  taking_order (Ok (order.Send source target user temp mode)) l = taking_send (h.verdict target) target mode l
-  taking_order (Ok (order.Request source target user)) l = taking_request source (to_give h source) l refl
-  taking_order (Ok order.HangUp) l =
+  taking_unread : (lenient : Bool) (refusal : Option Answer) (l : Lists) → IsWrittenBefore refusal →
+      CanAllBeSaid (on_unread lenient refusal l).says
+  taking_unread true (Some refusal) l w = (w, tt)
+  taking_unread _ _ l w = tt
+
+  taking_order : (refusal : Option Answer) (read : Result Order BadText) (l : Lists) → IsWrittenBefore refusal →
+      CanAllBeSaid (on_order h refusal read l).says
+  taking_order refusal (Ok (order.Send source target user temp mode)) l w = taking_send (h.verdict target) target mode l
+  taking_order refusal (Ok (order.Request source target user)) l w = taking_request source (to_give h source) l refl
+  taking_order refusal (Ok order.HangUp) l w =
       taking_hang_up (choice h l.ahead).next (moved (choice h l.ahead).failing l) (choice_has l.ahead)
-  taking_order (Err fault) l = tt
+  taking_order refusal (Err fault) l w = taking_unread h.lenient refusal l w
 
   given_file_done : (read : Result Answer BadText) (l : Lists) → CanAllBeSaid (on_given_file_done read l).says
   given_file_done (Ok answer.DoneYes) l = tt
@@ -110,6 +134,7 @@ module _ (h : Holdings) (modes : AreModes h) where
   send_answer : (read : Result Answer BadText) (l : Lists) → CanAllBeSaid (on_send_answer h read l).says
   send_answer (Ok answer.SendYes) l = send_yes l.ahead l
   send_answer (Ok answer.SendNever) l = going_on (moved_once fail l) [] tt
+  send_answer (Ok answer.SendHeld) l = going_on (moved_once (move_held h.lenient l.ahead) l) [] tt
   send_answer (Ok answer.SendLater) l = going_on (moved_once pass l) [] tt
   send_answer _ l = tt
 
@@ -140,7 +165,7 @@ module _ (h : Holdings) (modes : AreModes h) where
   nothing_more _ l = tt
 
   taking_text : (awaited : Awaits) (text : List ℕ) (l : Lists) → CanAllBeSaid (on_text h awaited text l).says
-  taking_text awaits.Order text l = taking_order (order_of text) l
+  taking_text awaits.Order text l = taking_order (refusal_of text) (order_of text) l (refusal_written text)
   taking_text awaits.GivenFileDone text l = given_file_done (answer_of text) l
   taking_text awaits.LastHangUp text l = last_hang_up (answer_of text) l
   taking_text awaits.SendAnswer text l = send_answer (answer_of text) l
@@ -167,6 +192,8 @@ module _ (h : Holdings) (modes : AreModes h) where
   taking_file (awaits.SentFile target mode) bytes l =
       sent_file (h.immovable target) (record { name = target; mode = mode; bytes = bytes }) l
   taking_file (awaits.AskedFile mode) bytes l = file_of l.ahead mode bytes l
+  taking_file awaits.DroppedSentFile bytes l = (tt, tt)
+  taking_file awaits.DroppedAskedFile bytes l = going_on (moved_once fail l) (the_answer answer.DoneNever ∷ []) (tt, tt)
   taking_file _ bytes l = tt
 
 -- ---- what the code says
@@ -197,11 +224,6 @@ pub file_is_sayable : (h : Holdings) → AreModes h → (awaited : Awaits) (byte
     (keeps : List Kept) → on_file h awaited bytes l ≡ reply_of h l_after r keeps → All IsSayable (sayings_of r.says)
 file_is_sayable h modes awaited bytes l l_after r keeps e =
     of_reply h (on_file h awaited bytes l) l_after r keeps e (taking_file h modes awaited bytes l)
-
--- an answer that can be written, or none
-abbrev pub IsWrittenBefore : Option Answer → Type 0
-IsWrittenBefore None = Unit {0}
-IsWrittenBefore (Some before) = IsWritten before
 
 answer_before : (before : Option Answer) → IsWrittenBefore before → CanAllBeSaid (said_before before)
 answer_before None w = tt

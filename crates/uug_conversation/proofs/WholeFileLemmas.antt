@@ -1,5 +1,5 @@
 -- A whole file, in the order in which the code goes about it.
-use Rattle.std.proofs.Common.{◌≡◌, ℕ, Bool, true, false, List, [], ◌∷◌, ◌++◌, Option, Some, None, refl, sym, ap, subst, ◌∙◌}
+use Rattle.std.proofs.Common.{◌≡◌, ℕ, Bool, true, false, List, [], ◌∷◌, ◌++◌, Option, Some, None, refl, sym, ap, subst, ◌∙◌, append-nil}
 use Rattle.uug_conversation.specs.declared.awaits.Awaits.{Awaits}
 use Rattle.uug_conversation.specs.declared.awaits.Awaits.TheVariants as awaits
 use Rattle.uug_conversation.specs.declared.job.Job.{Job}
@@ -7,8 +7,8 @@ use Rattle.uug_conversation.specs.declared.job.Job.TheVariants as job
 use Rattle.uug_conversation.specs.declared.reaction.Reaction.{Reaction}
 use Rattle.uug_conversation.specs.Holdings.{Kept, Holdings, kept_file}
 use Rattle.uug_conversation.specs.Jobs.{Lists}
-use Rattle.uug_conversation.specs.Machine.{Reply, on_sent_file, on_asked_file, on_file_of, on_file}
-use Rattle.uug_conversation.specs.Reactions.{FileAwaited, IsKept, file_of_first, file_awaited, on_kept, kept_unless, reply_of}
+use Rattle.uug_conversation.specs.Machine.{Reply, out_of_turn, on_sent_file, on_asked_file, on_file_of, on_file}
+use Rattle.uug_conversation.specs.Reactions.{FileAwaited, IsKept, file_of_first, file_awaited, on_kept, on_none_kept, kept_unless, reply_of}
 
 -- a reply that keeps these files
 abbrev pub keeping : List Kept → Reply → Reply
@@ -81,3 +81,48 @@ when_told h h_after w bytes old new told immovable r before after k t e o =
     when_kept h w bytes old new immovable r before after
     (subst (λ z. IsKept h (file_awaited w old.ahead) bytes z before after) t k)
     (subst (λ z. on_kept z w immovable old ≡ reply_of z new r []) e o)
+
+-- ---- no file is awaited that could be kept
+
+abbrev KeepsNone : Reply → Type 0
+KeepsNone r = r.keeps ≡ []
+
+none_of_first : (h : Holdings) (jobs : List Job) (mode : ℕ) (bytes : List ℕ) (l : Lists) → file_of_first jobs mode ≡ None →
+    on_file_of h jobs mode bytes l ≡ out_of_turn l
+none_of_first h [] mode bytes l e = refl
+none_of_first h (job.Send source target user temp ∷ jobs) mode bytes l e = refl
+none_of_first h (job.Request source target user ∷ jobs) mode bytes l e = absurd cc
+
+none_is : (h : Holdings) (w : Awaits) (bytes : List ℕ) (l : Lists) → file_awaited w l.ahead ≡ None →
+    on_file h w bytes l ≡ on_none_kept h w l
+none_is h (awaits.SentFile target mode) bytes l e = absurd cc
+none_is h (awaits.AskedFile mode) bytes l e = none_of_first h l.ahead mode bytes l e
+none_is h awaits.DroppedSentFile bytes l e = refl
+none_is h awaits.DroppedAskedFile bytes l e = refl
+none_is h _ bytes l e = refl
+
+none_kept_keeps : (h : Holdings) (w : Awaits) (l : Lists) → KeepsNone (on_none_kept h w l)
+none_kept_keeps h awaits.DroppedSentFile l = refl
+none_kept_keeps h awaits.DroppedAskedFile l = refl
+none_kept_keeps h _ l = refl
+
+unkept_by : (h : Holdings) (w : Awaits) (bytes : List ℕ) (old new : Lists) (found : Option FileAwaited) (r : Reaction)
+    (before after : List Kept) → file_awaited w old.ahead ≡ found → IsKept h found bytes None before after →
+    on_none_kept h w old ≡ reply_of h new r [] → Replies h w bytes old new r before after
+unkept_by h w bytes old new None r before after e k o =
+    let is = none_is h w bytes old e in
+    let keeps_none : (on_file h w bytes old).keeps ≡ [] = ap (λ (z : Reply). z.keeps) is ∙ none_kept_keeps h w old in
+    record {
+      reply = is ∙ o ∙ ap (λ z. reply_of h new r z) (sym keeps_none);
+      kept = k ∙ sym (append-nil before) ∙ ap (λ z. before ++ z) (sym keeps_none);
+    }
+unkept_by h w bytes old new (Some file) r before after e k o = absurd k
+
+-- the same, by what was told of the file, and by the holdings that are the same
+pub when_none : (h h_after : Holdings) (w : Awaits) (bytes : List ℕ) (old new : Lists) (told : Option Bool) (r : Reaction)
+    (before after : List Kept) → IsKept h (file_awaited w old.ahead) bytes told before after → told ≡ None →
+    h_after ≡ h → on_none_kept h_after w old ≡ reply_of h_after new r [] → Replies h w bytes old new r before after
+when_none h h_after w bytes old new told r before after k t e o =
+    unkept_by h w bytes old new (file_awaited w old.ahead) r before after refl
+    (subst (λ z. IsKept h (file_awaited w old.ahead) bytes z before after) t k)
+    (subst (λ z. on_none_kept z w old ≡ reply_of z new r []) e o)

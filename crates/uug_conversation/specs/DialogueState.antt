@@ -8,7 +8,7 @@ use Rattle.uug_conversation.specs.declared.awaits.Awaits.TheVariants as awaits
 use Rattle.uug_conversation.specs.Holdings.{Kept, Holdings}
 use Rattle.uug_conversation.specs.Jobs.{Lists}
 use Rattle.uug_conversation.specs.Keeper.{Keeper}
-use Rattle.uug_conversation.specs.Machine.{State, Reply, between, gathered_with, step, opening}
+use Rattle.uug_conversation.specs.Machine.{State, Reply, between, gathered_with, reply_to, opening}
 use Rattle.uug_conversation.specs.Reactions.{FileAwaited, file_awaited}
 use Rattle.uug_conversation.specs.Runs.{is_over, is_bad}
 use Rattle.uug_conversation.specs.Turns.{all_messages}
@@ -74,7 +74,8 @@ opened_with side h measure talk = replied measure [] talk.kept (opening side h t
 
 -- a message of the other end is taken
 abbrev pub taking : Holdings → (message : List ℕ) → DialogueState → DialogueState
-taking h message talk = replied talk.measure talk.waiting talk.kept (step h talk.machine message)
+taking h message talk =
+    replied talk.measure talk.waiting talk.kept (reply_to h (is_empty talk.waiting) talk.machine message)
 
 -- the first message that waits is sent
 abbrev pub with_first_sent : DialogueState → DialogueState

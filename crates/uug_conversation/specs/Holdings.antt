@@ -1,4 +1,4 @@
--- What a spool gives and accepts (this project's profile). It does not change in a session.
+-- What a spool gives and accepts, and whether its end is lenient (this project's profile). It does not change in a session.
 use Rattle.std.specs.Prelude.{◌≡◌, ℕ, ◌≤◌, Bool, List, length, nat_le, Option, Some, None, if◌then◌else◌}
 use Rattle.uug_conversation.specs.declared.verdict.Verdict.{Verdict}
 use Rattle.uug_talk.specs.declared.gather.TheConstants.{FILE_MAX}
@@ -23,6 +23,8 @@ pub record Holdings : Type 0 where
   pub verdict : List ℕ → Verdict
   -- whether a file of this name can't be put in its place
   pub immovable : List ℕ → Bool
+  -- whether the end refuses what it can't read, and goes on
+  pub lenient : Bool
 
 -- a mode is at most octal 7777
 abbrev pub AreModes : Holdings → Type 0

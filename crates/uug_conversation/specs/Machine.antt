@@ -1,5 +1,6 @@
 -- One end of a conversation, which doesn't know the other's jobs or holdings: what it does with each message that it
--- takes (Taylor UUCP manual, "UUCP Protocol"; what becomes of a job, and what is out of turn, is this project's profile).
+-- takes (Taylor UUCP manual, "UUCP Protocol"; what becomes of a job, and what is out of turn, is this project's profile;
+-- so is all that a lenient end does in place of ending).
 use Rattle.std.specs.Prelude.{ℕ, nat_lt, Bool, true, false, List, [], ◌∷◌, ◌++◌, length, Option, Some, None, Result, Ok, Err}
 use Rattle.uug_talk.specs.declared.answer.Answer.{Answer}
 use Rattle.uug_talk.specs.declared.answer.Answer.TheVariants as answer
@@ -9,6 +10,7 @@ use Rattle.uug_talk.specs.declared.order.Order.TheVariants as order
 use Rattle.uug_talk.specs.Answer.{answer_of}
 use Rattle.uug_talk.specs.Gathering.{Kind, OfCommand, OfFile, Gathering, with_message, limit_of}
 use Rattle.uug_talk.specs.Order.{order_of}
+use Rattle.uug_talk.specs.Unread.{refusal_of}
 use Rattle.uug_conversation.specs.declared.awaits.Awaits.{Awaits}
 use Rattle.uug_conversation.specs.declared.awaits.Awaits.TheVariants as awaits
 use Rattle.uug_conversation.specs.declared.job.Job.{Job}
@@ -17,7 +19,7 @@ use Rattle.uug_conversation.specs.declared.verdict.Verdict.{Verdict}
 use Rattle.uug_conversation.specs.declared.verdict.Verdict.TheVariants.{Yes, Never, Later}
 use Rattle.uug_conversation.specs.Choice.{Choice, choice, fetched_by}
 use Rattle.uug_conversation.specs.Holdings.{File, Kept, Holdings, to_give}
-use Rattle.uug_conversation.specs.Jobs.{Lists, pass, strike, fail, moved, moved_once}
+use Rattle.uug_conversation.specs.Jobs.{Lists, Move, pass, strike, fail, moved, moved_once}
 use Rattle.uug_conversation.specs.Turns.{Said, the_order, the_answer, the_file}
 use Rattle.uug_conversation.specs.declared.side.Side.{Side}
 use Rattle.uug_conversation.specs.declared.side.Side.TheVariants.{Caller, Called}
@@ -88,11 +90,16 @@ on_hang_up (Some next) l = commands l (the_answer answer.HangNo ∷ []) next
 abbrev pub on_choice : Choice → Lists → Reply
 on_choice c l = on_hang_up c.next (moved c.failing l)
 
-abbrev pub on_order : Holdings → Result Order BadText → Lists → Reply
-on_order h (Ok (order.Send source target user temp mode)) l = on_send (h.verdict target) target mode l
-on_order h (Ok (order.Request source target user)) l = on_request (to_give h source) l
-on_order h (Ok order.HangUp) l = on_choice (choice h l.ahead) l
-on_order h (Err fault) l = out_of_turn l
+-- what can't be read, by what refuses it: a lenient end goes on
+abbrev pub on_unread : (lenient : Bool) → (refusal : Option Answer) → Lists → Reply
+on_unread true (Some refusal) l = replies l awaits.Order (the_answer refusal ∷ [])
+on_unread _ _ l = out_of_turn l
+
+abbrev pub on_order : Holdings → (refusal : Option Answer) → Result Order BadText → Lists → Reply
+on_order h refusal (Ok (order.Send source target user temp mode)) l = on_send (h.verdict target) target mode l
+on_order h refusal (Ok (order.Request source target user)) l = on_request (to_give h source) l
+on_order h refusal (Ok order.HangUp) l = on_choice (choice h l.ahead) l
+on_order h refusal (Err fault) l = on_unread h.lenient refusal l
 
 -- ---- a slave takes an answer
 
@@ -119,9 +126,15 @@ abbrev pub on_send_yes : Holdings → List Job → Lists → Reply
 on_send_yes h (job.Send source target user temp ∷ jobs) l = sends_file (to_give h (fetched_by source temp)) l
 on_send_yes h _ l = out_of_turn l
 
+-- SN8: the other end has the file. A lenient end takes its Send job as done.
+abbrev pub move_held : (lenient : Bool) → List Job → Move
+move_held true (job.Send source target user temp ∷ jobs) = strike
+move_held _ jobs = pass
+
 abbrev pub on_send_answer : Holdings → Result Answer BadText → Lists → Reply
 on_send_answer h (Ok answer.SendYes) l = on_send_yes h l.ahead l
 on_send_answer h (Ok answer.SendNever) l = goes_on h (moved_once fail l) []
+on_send_answer h (Ok answer.SendHeld) l = goes_on h (moved_once (move_held h.lenient l.ahead) l) []
 on_send_answer h (Ok answer.SendLater) l = goes_on h (moved_once pass l) []
 on_send_answer h _ l = out_of_turn l
 
@@ -159,7 +172,7 @@ on_nothing_more _ l = out_of_turn l
 -- ---- a whole text
 
 abbrev pub on_text : Holdings → Awaits → List ℕ → Lists → Reply
-on_text h awaits.Order text l = on_order h (order_of text) l
+on_text h awaits.Order text l = on_order h (refusal_of text) (order_of text) l
 on_text h awaits.GivenFileDone text l = on_given_file_done (answer_of text) l
 on_text h awaits.LastHangUp text l = on_last_hang_up (answer_of text) l
 on_text h awaits.SendAnswer text l = on_send_answer h (answer_of text) l
@@ -194,6 +207,8 @@ abbrev pub on_file : Holdings → Awaits → List ℕ → Lists → Reply
 on_file h (awaits.SentFile target mode) bytes l =
     on_sent_file (h.immovable target) (record { name = target; mode = mode; bytes = bytes }) l
 on_file h (awaits.AskedFile mode) bytes l = on_file_of h l.ahead mode bytes l
+on_file h awaits.DroppedSentFile bytes l = replies l awaits.Order (the_answer answer.DoneNever ∷ [])
+on_file h awaits.DroppedAskedFile bytes l = goes_on h (moved_once fail l) (the_answer answer.DoneNever ∷ [])
 on_file h _ bytes l = out_of_turn l
 
 -- ---- one message
@@ -202,6 +217,8 @@ on_file h _ bytes l = out_of_turn l
 abbrev pub kind_awaited : Awaits → Kind
 kind_awaited (awaits.SentFile target mode) = OfFile
 kind_awaited (awaits.AskedFile mode) = OfFile
+kind_awaited awaits.DroppedSentFile = OfFile
+kind_awaited awaits.DroppedAskedFile = OfFile
 kind_awaited _ = OfCommand
 
 abbrev pub on_whole : Kind → Holdings → Awaits → List ℕ → Lists → Reply
@@ -214,9 +231,25 @@ on_gathered false kind h s bytes =
     record { state = record { lists = s.lists; awaits = s.awaits; gathered = bytes }; says = []; keeps = [] }
 on_gathered true kind h s bytes = on_whole kind h s.awaits bytes s.lists
 
+-- the rest of a file that is past its limit, of which nothing is kept
+abbrev pub dropped : Awaits → Awaits
+dropped (awaits.SentFile target mode) = awaits.DroppedSentFile
+dropped (awaits.AskedFile mode) = awaits.DroppedAskedFile
+dropped awaited = awaited
+
+abbrev pub is_dropped : Awaits → Bool
+is_dropped awaits.DroppedSentFile = true
+is_dropped awaits.DroppedAskedFile = true
+is_dropped _ = false
+
+-- past its limit: a lenient end lets a file come to its end, and refuses it then
+abbrev pub on_past_limit : (lenient : Bool) → Kind → Awaits → Lists → Reply
+on_past_limit true OfFile awaited l = replies l (dropped awaited) []
+on_past_limit _ kind awaited l = out_of_turn l
+
 -- by whether a text or file is past its limit with this message
 abbrev pub on_part : (too_long : Bool) → Gathering → Holdings → State → Reply
-on_part true g h s = out_of_turn s.lists
+on_part true g h s = on_past_limit h.lenient g.kind s.awaits s.lists
 on_part false g h s = on_gathered g.whole g.kind h s g.bytes
 
 -- what has come of the text or file, with one message more
@@ -229,6 +262,21 @@ on_gathering g h s = on_part (nat_lt (limit_of g.kind) (length g.bytes)) g h s
 
 abbrev pub step : Holdings → State → (message : List ℕ) → Reply
 step h s message = on_gathering (gathered_with s message) h s
+
+-- ---- a message, by whether all that the end said before was sent
+
+-- what became of a file, before the file was sent whole
+abbrev pub comes_early : Awaits → (none_waits : Bool) → Bool
+comes_early awaits.SentFileDone false = true
+comes_early awaits.GivenFileDone false = true
+comes_early _ none_waits = false
+
+abbrev pub unless_early : (early : Bool) → Holdings → State → (message : List ℕ) → Reply
+unless_early true h s message = out_of_turn s.lists
+unless_early false h s message = step h s message
+
+abbrev pub reply_to : Holdings → (none_waits : Bool) → State → (message : List ℕ) → Reply
+reply_to h none_waits s message = unless_early (comes_early s.awaits none_waits) h s message
 
 -- ---- from the start
 

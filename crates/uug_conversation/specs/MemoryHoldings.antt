@@ -1,5 +1,5 @@
 -- What a spool in memory has, and what it gives and accepts (this project's profile).
-use Rattle.std.specs.Prelude.{ℕ, Bool, List, [], ◌∷◌, map, Option, Some, None, if◌then◌else◌}
+use Rattle.std.specs.Prelude.{ℕ, Bool, false, List, [], ◌∷◌, map, Option, Some, None, if◌then◌else◌}
 use Rattle.std.specs.List.{list_any}
 use Rattle.std.specs.Str.{bytes_eq}
 use Rattle.uug_conversation.specs.declared.memory_spool.MemorySpool.{MemorySpool}
@@ -17,9 +17,11 @@ pub record MemoryHoldings : Type 0 where
   pub immovable : List (List ℕ)
   -- the files that it has kept, in the order in which it did
   pub stored : List Kept
+  -- it refuses what it can't read, and goes on
+  pub lenient : Bool
 
 abbrev pub no_holdings : MemoryHoldings
-no_holdings = record { files = []; denied = []; postponed = []; immovable = []; stored = [] }
+no_holdings = record { files = []; denied = []; postponed = []; immovable = []; stored = []; lenient = false }
 
 -- whether a name is among these
 abbrev pub has_name : List (List ℕ) → List ℕ → Bool
@@ -41,6 +43,7 @@ holdings_of m = record {
   file = first_named m.files;
   verdict = verdict_on m.denied m.postponed;
   immovable = has_name m.immovable;
+  lenient = m.lenient;
 }
 
 -- ---- how the program keeps them
@@ -55,4 +58,5 @@ held_by m = record {
   postponed = m.postponed.items;
   immovable = m.immovable.items;
   stored = map kept_of m.stored.items;
+  lenient = m.lenient;
 }

@@ -105,6 +105,12 @@ on_kept h (awaits.AskedFile mode) immovable l =
     goes_on h (moved_once (struck_or_failed immovable) l) (the_answer (done_or_never immovable) ∷ [])
 on_kept h _ immovable l = out_of_turn l
 
+-- where no file is awaited that could be kept
+abbrev pub on_none_kept : Holdings → Awaits → Lists → Reply
+on_none_kept h awaits.DroppedSentFile l = replies l awaits.Order (the_answer answer.DoneNever ∷ [])
+on_none_kept h awaits.DroppedAskedFile l = goes_on h (moved_once fail l) (the_answer answer.DoneNever ∷ [])
+on_none_kept h _ l = out_of_turn l
+
 abbrev pub kept_unless : (immovable : Bool) → Kept → List Kept
 kept_unless false file = file ∷ []
 kept_unless true file = []

@@ -1,6 +1,6 @@
 ghost use Rattle.std.specs.Prelude.{IsTrue, ◌≡◌, ◌↔◌};
 ghost use Rattle.uug_talk.specs.Gathering.{OfFile};
-ghost use Rattle.uug_conversation.specs.Machine.{kind_awaited};
+ghost use Rattle.uug_conversation.specs.Machine.{comes_early, kind_awaited};
 
 use uug_talk::Name;
 
@@ -31,6 +31,10 @@ pub enum Awaits {
         /// The file's mode.
         mode: u16,
     },
+    /// The rest of a file that is past the limit, sent by the master. Nothing of it is kept.
+    DroppedSentFile,
+    /// The rest of a file that is past the limit, which was asked for. Nothing of it is kept.
+    DroppedAskedFile,
     /// The answer to H.
     HangUpAnswer,
     /// Nothing: the conversation is over.
@@ -44,6 +48,19 @@ impl Awaits {
     pub(crate) fn is_file(&self) -> bool
         ensures { IsTrue result ↔ (kind_awaited self.now ≡ OfFile) }
     {
-        matches!(self, Awaits::SentFile { .. } | Awaits::AskedFile { .. })
+        matches!(
+            self,
+            Awaits::SentFile { .. }
+                | Awaits::AskedFile { .. }
+                | Awaits::DroppedSentFile
+                | Awaits::DroppedAskedFile
+        )
+    }
+
+    /// Whether a message comes before the file was sent whole of which it should say what became.
+    pub(crate) fn comes_early(&self, none_waits: bool) -> bool
+        ensures { result ≡ comes_early self.now none_waits }
+    {
+        matches!(self, Awaits::SentFileDone | Awaits::GivenFileDone) && !none_waits
     }
 }

@@ -1,8 +1,8 @@
 ghost use Rattle.std.specs.Prelude.{◌≡◌, ◌≢◌, ◌≤◌, ◌<◌, ◌⊎◌, ◌++◌, [], length, true, false, All, OnOk, OnErr, IfOk, IfErr, IfSome, IfNone, Some, None};
 ghost use Rattle.std.specs.Bool.{OnTrue, OnFalse};
 ghost use Rattle.uug_talk.specs.Gathering.{OfFile};
-ghost use Rattle.uug_conversation.specs.Jobs.{at_start, pending};
-ghost use Rattle.uug_conversation.specs.Machine.{between, kind_awaited, opening, step};
+ghost use Rattle.uug_conversation.specs.Jobs.{Lists, at_start, pending};
+ghost use Rattle.uug_conversation.specs.Machine.{between, kind_awaited, on_past_limit, opening, reply_to, step};
 ghost use Rattle.uug_conversation.specs.Outgoing.{IsSayable, sayings_of};
 ghost use Rattle.uug_conversation.specs.Party.{HasNames};
 ghost use Rattle.uug_conversation.specs.Reactions.{HasModeInRange, reply_of};
@@ -151,11 +151,12 @@ impl<A: Allocator + Copy> Dialogue<A> {
             → (S.faults spool.old < S.faults spool.new) ⊎ (S.faults spool.old ≡ u64.MAX) }
         ensures count { S.faults spool.old ≤ S.faults spool.new }
     {
-        let told = reaction_to(
+        let told = reaction_unless_early(
             &mut self.queue,
             spool,
             &self.awaits,
             &mut self.gather,
+            self.outgoing.is_silent(),
             message,
         )?;
         if let Some(reaction) = told {
@@ -242,6 +243,47 @@ fn gather_for<A: Allocator + Copy>(awaits: &Awaits, alloc: A) -> Gather<A>
     }
 }
 
+/// What an end does with a message, by whether all that it said before was sent: one that comes before the file was sent
+/// whole of which it should say what became fits no turn.
+fn reaction_unless_early<A: Allocator, S: Spool>(
+    queue: &mut Queue<A>,
+    spool: &mut S,
+    awaits: &Awaits,
+    gather: &mut Gather<A>,
+    none_waits: bool,
+    message: &[u8],
+) -> Result<Option<Reaction>, FileFault>
+    requires mode { HasModeInRange awaits.now }
+    requires part { IsPart awaits.now gather.old }
+    ensures holdings { S.holdings spool.new ≡ S.holdings spool.old }
+    ensures reply { IfOk result (λ told. reply_to (S.holdings spool.old) none_waits
+        (state_of queue.old awaits.now gather.old) message.now
+        ≡ told_as (S.holdings spool.old) (state_of queue.new awaits.now gather.new) told
+        (reply_to (S.holdings spool.old) none_waits (state_of queue.old awaits.now gather.old)
+        message.now).keeps) }
+    ensures kept { OnOk result (S.kept spool.new ≡ S.kept spool.old
+        ++ (reply_to (S.holdings spool.old) none_waits
+        (state_of queue.old awaits.now gather.old) message.now).keeps) }
+    ensures mode { IfOk result (λ told. IfSome told (λ reaction. HasModeInRange reaction.awaits)) }
+    ensures sayable { IfOk result (λ told.
+        IfSome told (λ reaction. All IsSayable (sayings_of reaction.says))) }
+    ensures more { IfOk result (λ told. IfNone told (IsPart awaits.now gather.new)) }
+    ensures jobs_stay { OnErr result (queue.new ≡ queue.old) }
+    ensures none_gathered { OnErr result (gather.new ≡ gather.old) }
+    ensures none_kept { OnErr result (S.kept spool.new ≡ S.kept spool.old) }
+    ensures stands { result ≢ Err FileFault.Device → S.faults spool.new ≡ S.faults spool.old }
+    ensures asked { result ≡ Err FileFault.Device → asks_spool (S.holdings spool.old)
+        (state_of queue.old awaits.now gather.old) message.now ≡ true }
+    ensures device { result ≡ Err FileFault.Device
+        → (S.faults spool.old < S.faults spool.new) ⊎ (S.faults spool.old ≡ u64.MAX) }
+    ensures count { S.faults spool.old ≤ S.faults spool.new }
+{
+    if awaits.comes_early(none_waits) {
+        return Ok(Some(Reaction::out_of_turn()));
+    }
+    reaction_to(queue, spool, awaits, gather, message)
+}
+
 /// What an end does with a message of what it awaits: nothing where more of it is to come. `Memory` and `Device` leave
 /// all as it was.
 fn reaction_to<A: Allocator, S: Spool>(
@@ -308,6 +350,27 @@ fn reaction_to_part<A: Allocator, S: Spool>(
         Ok(Progress::More) => Ok(None),
         Ok(Progress::Whole) => Ok(Some(on_text(queue, spool, *awaits, gather.bytes()))),
         Err(BadText::Memory) => Err(FileFault::Memory),
-        Err(_) => Ok(Some(Reaction::out_of_turn())),
+        Err(_) => Ok(Some(past_limit(spool, awaits))),
+    }
+}
+
+/// A text or a file has come past its limit: a lenient end lets a file come to its end.
+fn past_limit<S: Spool>(spool: &S, awaits: &Awaits) -> Reaction
+    ensures reply { (l : Lists) → on_past_limit (S.holdings spool.now).lenient
+        (kind_awaited awaits.now) awaits.now l ≡ reply_of (S.holdings spool.now) l result [] }
+    ensures mode { HasModeInRange result.awaits }
+    ensures sayable { All IsSayable (sayings_of result.says) }
+{
+    if !spool.is_lenient() {
+        return Reaction::out_of_turn();
+    }
+    match awaits {
+        Awaits::SentFile { .. } | Awaits::DroppedSentFile => {
+            Reaction::quiet(Awaits::DroppedSentFile)
+        }
+        Awaits::AskedFile { .. } | Awaits::DroppedAskedFile => {
+            Reaction::quiet(Awaits::DroppedAskedFile)
+        }
+        _ => Reaction::out_of_turn(),
     }
 }

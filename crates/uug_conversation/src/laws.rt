@@ -1,13 +1,20 @@
 //! Laws over the conversation of two ends and the one-sided machine. The functions do nothing.
-ghost use Rattle.std.specs.Prelude.{◌≡◌, ◌↔◌, ℕ, ◌<◌, ◌≤◌, List, length, Some, None};
+ghost use Rattle.std.specs.Prelude.{◌≡◌, ◌≢◌, ◌↔◌, ℕ, ◌<◌, ◌≤◌, false, List, [], length, Some, None, Ok, Err};
 ghost use Rattle.uug_conversation.specs.Conversation.{conversation};
+ghost use Rattle.uug_conversation.specs.DialogueState.{DialogueState, replied, taking};
 ghost use Rattle.uug_conversation.specs.Holdings.{File, Holdings, to_give};
-ghost use Rattle.uug_conversation.specs.Machine.{State, gathered_with, out_of_turn, step};
+ghost use Rattle.uug_conversation.specs.Jobs.{Lists, moved_once, pass};
+ghost use Rattle.uug_conversation.specs.Machine.{State, gathered_with, goes_on, is_dropped, kind_awaited, on_past_limit, on_text, opening, out_of_turn, step};
 ghost use Rattle.uug_conversation.specs.Party.{Party, IsSound};
 ghost use Rattle.uug_conversation.specs.ReadBack.{EachTurn, IsReadBack};
 ghost use Rattle.uug_conversation.specs.Runs.{IsAt, progress_at};
 ghost use Rattle.uug_conversation.specs.declared.side.Side.{Side};
+ghost use Rattle.uug_conversation.specs.declared.awaits.Awaits.TheVariants.{GivenFileDone, Order, SendAnswer, SentFileDone};
+ghost use Rattle.uug_talk.specs.declared.answer.Answer.TheVariants.{SendHeld};
+ghost use Rattle.uug_talk.specs.declared.error.BadText.{BadText};
+ghost use Rattle.uug_talk.specs.Answer.{answer_of};
 ghost use Rattle.uug_talk.specs.Gathering.{limit_of};
+ghost use Rattle.uug_talk.specs.Order.{order_of};
 
 use crate::queue::JOBS_MAX;
 use uug_talk::FILE_MAX;
@@ -27,10 +34,50 @@ pub fn what_may_be_given()
         → FILE_MAX < length file.bytes → to_give h name ≡ None }
 {}
 
-/// A text or a file that a message takes past its limit fits no turn, whatever the end awaits.
+/// A text that a message takes past its limit fits no turn, whatever the end awaits; so does a file, unless the end is
+/// lenient: then the rest of it may come, and it is refused with its end.
 pub fn what_is_too_long_fits_no_turn()
     ensures { (h : Holdings) (s : State) (message : List ℕ) → let g = gathered_with s message in
-        limit_of g.kind < length g.bytes → step h s message ≡ out_of_turn s.lists }
+        limit_of g.kind < length g.bytes
+        → step h s message ≡ on_past_limit h.lenient (kind_awaited s.awaits) s.awaits s.lists }
+{}
+
+/// A message fits no turn that comes before the file was sent whole of which it should say what became; no other message
+/// comes too early.
+pub fn what_comes_early_fits_no_turn()
+    ensures sent { (h : Holdings) (message : List ℕ) (talk : DialogueState)
+        → talk.machine.awaits ≡ SentFileDone → talk.waiting ≢ []
+        → taking h message talk
+        ≡ replied talk.measure talk.waiting talk.kept (out_of_turn talk.machine.lists) }
+    ensures given { (h : Holdings) (message : List ℕ) (talk : DialogueState)
+        → talk.machine.awaits ≡ GivenFileDone → talk.waiting ≢ []
+        → taking h message talk
+        ≡ replied talk.measure talk.waiting talk.kept (out_of_turn talk.machine.lists) }
+    ensures none_waits { (h : Holdings) (message : List ℕ) (talk : DialogueState)
+        → talk.waiting ≡ []
+        → taking h message talk
+        ≡ replied talk.measure talk.waiting talk.kept (step h talk.machine message) }
+    ensures others { (h : Holdings) (message : List ℕ) (talk : DialogueState)
+        → talk.machine.awaits ≢ SentFileDone → talk.machine.awaits ≢ GivenFileDone
+        → taking h message talk
+        ≡ replied talk.measure talk.waiting talk.kept (step h talk.machine message) }
+{}
+
+/// An end that is not lenient ends with what it can't read, takes SN8 as any other refusal for now, and awaits the rest of
+/// no file.
+pub fn lenient_is_a_setting()
+    ensures unread { (h : Holdings) (text : List ℕ) (fault : BadText) (l : Lists) → h.lenient ≡ false
+        → order_of text ≡ Err fault → on_text h Order text l ≡ out_of_turn l }
+    ensures held { (h : Holdings) (text : List ℕ) (l : Lists) → h.lenient ≡ false
+        → answer_of text ≡ Ok SendHeld
+        → on_text h SendAnswer text l ≡ goes_on h (moved_once pass l) [] }
+    ensures long { (h : Holdings) (s : State) (message : List ℕ) → let g = gathered_with s message in
+        h.lenient ≡ false → limit_of g.kind < length g.bytes
+        → step h s message ≡ out_of_turn s.lists }
+    ensures opens { (side : Side) (h : Holdings) (l : Lists)
+        → is_dropped (opening side h l).state.awaits ≡ false }
+    ensures drops_none { (h : Holdings) (s : State) (message : List ℕ) → h.lenient ≡ false
+        → is_dropped s.awaits ≡ false → is_dropped (step h s message).state.awaits ≡ false }
 {}
 
 /// Every text of a conversation may be cut into messages, and is read as what was said; no file is too large.

@@ -2,7 +2,7 @@ ghost use Rattle.std.specs.Prelude.{◌≡◌, ◌≤◌, [], IfOk};
 ghost use Rattle.uug_conversation.specs.Choice.{choice};
 ghost use Rattle.uug_conversation.specs.Jobs.{Lists, moved_once, pass, strike, fail};
 ghost use Rattle.uug_conversation.specs.Holdings.{Holdings};
-ghost use Rattle.uug_conversation.specs.Machine.{goes_on, on_send, on_request, on_hang_up, on_choice, on_order, on_given_file_done, on_last_hang_up, sends_file, on_send_yes, on_send_answer, on_sent_file_done, on_sent_job_done, on_request_answer, on_hang_up_answer, on_nothing_more, on_text};
+ghost use Rattle.uug_conversation.specs.Machine.{goes_on, on_send, on_request, on_hang_up, on_choice, on_unread, on_order, on_given_file_done, on_last_hang_up, sends_file, on_send_yes, move_held, on_send_answer, on_sent_file_done, on_sent_job_done, on_request_answer, on_hang_up_answer, on_nothing_more, on_text};
 ghost use Rattle.uug_conversation.specs.Holdings.{to_give};
 ghost use Rattle.uug_conversation.specs.Reactions.{reply_of, said_before, HasModeInRange, HasModeAnswered};
 ghost use Rattle.uug_talk.specs.Order.{HasMode};
@@ -16,7 +16,7 @@ use crate::reaction::{Reaction, Saying, Says};
 use crate::spool::Spool;
 use crate::verdict::Verdict;
 use std::alloc::Allocator;
-use uug_talk::{Answer, BadText, Name, Order, read_answer, read_order};
+use uug_talk::{Answer, BadText, Name, Order, read_answer, read_order, refusal_of};
 
 /// The end is master: it chooses its next job and says its command, behind an answer where there is one to give.
 pub(crate) fn go_on<A: Allocator, S: Spool>(
@@ -44,7 +44,7 @@ pub(crate) fn on_text<A: Allocator, S: Spool>(
     ensures mode { HasModeInRange result.awaits }
 {
     match awaits {
-        Awaits::Order => on_order(queue, spool, &read_order(text)),
+        Awaits::Order => on_order(queue, spool, refusal_of(text), &read_order(text)),
         Awaits::GivenFileDone => on_given_file_done(read_answer(text)),
         Awaits::LastHangUp => on_last_hang_up(read_answer(text)),
         Awaits::SendAnswer => on_send_answer(queue, spool, read_answer(text)),
@@ -52,16 +52,21 @@ pub(crate) fn on_text<A: Allocator, S: Spool>(
         Awaits::RequestAnswer => on_request_answer(queue, spool, read_answer(text)),
         Awaits::HangUpAnswer => on_hang_up_answer(read_answer(text)),
         Awaits::NothingMore => on_nothing_more(read_answer(text)),
-        Awaits::SentFile { .. } | Awaits::AskedFile { .. } | Awaits::Bad => Reaction::out_of_turn(),
+        Awaits::SentFile { .. }
+        | Awaits::AskedFile { .. }
+        | Awaits::DroppedSentFile
+        | Awaits::DroppedAskedFile
+        | Awaits::Bad => Reaction::out_of_turn(),
     }
 }
 
 fn on_order<A: Allocator, S: Spool>(
     queue: &mut Queue<A>,
     spool: &S,
+    refusal: Option<Answer>,
     order: &Result<Order, BadText>,
 ) -> Reaction
-    ensures reply { on_order (S.holdings spool.now) order.now queue.old
+    ensures reply { on_order (S.holdings spool.now) refusal order.now queue.old
         ≡ reply_of (S.holdings spool.now) queue.new result [] }
     ensures mode { IfOk order.now (λ o. HasMode o) → HasModeInRange result.awaits }
 {
@@ -69,7 +74,19 @@ fn on_order<A: Allocator, S: Spool>(
         Ok(Order::Send { target, mode, .. }) => on_send(spool, *target, *mode),
         Ok(Order::Request { source, .. }) => on_request(spool, *source),
         Ok(Order::HangUp) => on_hang_up(choose(queue, spool)),
-        Err(_) => Reaction::out_of_turn(),
+        Err(_) => on_unread(spool, refusal),
+    }
+}
+
+// A lenient end refuses what it can't read, and goes on.
+fn on_unread<S: Spool>(spool: &S, refusal: Option<Answer>) -> Reaction
+    ensures reply { (l : Lists) → on_unread (S.holdings spool.now).lenient refusal l
+        ≡ reply_of (S.holdings spool.now) l result [] }
+    ensures mode { HasModeInRange result.awaits }
+{
+    match refusal {
+        Some(refusal) if spool.is_lenient() => Reaction::answers(Awaits::Order, refusal),
+        _ => Reaction::out_of_turn(),
     }
 }
 
@@ -151,11 +168,25 @@ fn on_send_answer<A: Allocator, S: Spool>(
             queue.fail_first();
             go_on(queue, spool, None)
         }
+        Ok(Answer::SendHeld) => {
+            move_held(queue, spool.is_lenient());
+            go_on(queue, spool, None)
+        }
         Ok(Answer::SendLater) => {
             queue.pass_first();
             go_on(queue, spool, None)
         }
         _ => Reaction::out_of_turn(),
+    }
+}
+
+// The other end has the file: a lenient end takes its Send job as done.
+fn move_held<A: Allocator>(queue: &mut Queue<A>, lenient: bool)
+    ensures { queue.new ≡ moved_once (move_held lenient queue.old.ahead) queue.old }
+{
+    match queue.first() {
+        Some(Job::Send { .. }) if lenient => queue.strike_first(),
+        _ => queue.pass_first(),
     }
 }
 

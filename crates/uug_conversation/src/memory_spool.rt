@@ -18,11 +18,12 @@ pub struct MemorySpool<A: Allocator> {
     postponed: Vec<Name, A>,
     immovable: Vec<Name, A>,
     stored: Vec<Stored<A>, A>,
+    lenient: bool,
     alloc: A,
 }
 
 impl<A: Allocator + Copy> MemorySpool<A> {
-    /// A spool with no file, that takes every file. It takes no memory.
+    /// A spool with no file, that takes every file, and is not lenient. It takes no memory.
     pub fn new(alloc: A) -> Self
         ensures { held_by result ≡ no_holdings }
     {
@@ -32,6 +33,7 @@ impl<A: Allocator + Copy> MemorySpool<A> {
             postponed: Vec::new(alloc),
             immovable: Vec::new(alloc),
             stored: Vec::new(alloc),
+            lenient: false,
             alloc,
         }
     }
@@ -79,6 +81,13 @@ impl<A: Allocator + Copy> MemorySpool<A> {
         Ok(())
     }
 
+    /// Whether its end refuses what it can't read, and goes on.
+    pub fn set_lenient(&mut self, lenient: bool)
+        ensures { held_by self.new ≡ record (held_by self.old) { lenient = lenient } }
+    {
+        self.lenient = lenient;
+    }
+
     /// The files that were kept, in the order in which they were.
     pub fn stored(&self) -> &[Stored<A>]
         ensures { map kept_of result.now ≡ (held_by self.now).stored }
@@ -116,6 +125,10 @@ impl<A: Allocator + Copy> Spool for MemorySpool<A> {
             return Err(KeepFault::Memory);
         }
         Ok(())
+    }
+
+    fn is_lenient(&self) -> bool {
+        self.lenient
     }
 
     fn faults(&self) -> u64 {

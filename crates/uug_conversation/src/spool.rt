@@ -61,6 +61,10 @@ pub trait Spool {
             → (faults self.old < faults self.new) ⊎ (faults self.old ≡ u64.MAX) }
         ensures count { faults self.old ≤ faults self.new };
 
+    /// Whether this end refuses what it can't read, and goes on.
+    fn is_lenient(&self) -> bool
+        ensures { result ≡ (holdings self.now).lenient };
+
     /// How many times the device has failed. At the greatest number the count stands.
     fn faults(&self) -> u64
         ensures { result ≡ faults self.now };

@@ -2,7 +2,7 @@ ghost use Rattle.std.specs.Prelude.{◌≡◌, ◌≢◌, ◌≤◌, ◌<◌, �
 ghost use Rattle.uug_conversation.specs.Holdings.{Kept, kept_file};
 ghost use Rattle.uug_conversation.specs.Machine.{on_file};
 ghost use Rattle.uug_conversation.specs.Outgoing.{IsSayable, sayings_of};
-ghost use Rattle.uug_conversation.specs.Reactions.{reply_of, file_awaited, on_kept, kept_unless, HasModeInRange, IsKept, IsMovable};
+ghost use Rattle.uug_conversation.specs.Reactions.{reply_of, file_awaited, on_kept, on_none_kept, kept_unless, HasModeInRange, IsKept, IsMovable};
 
 use crate::awaits::Awaits;
 use crate::job::Job;
@@ -104,6 +104,26 @@ fn on_kept<A: Allocator, S: Spool>(
     }
 }
 
+/// What an end does where no file is awaited that could be kept: the rest of one that is past the limit has come.
+fn on_none_kept<A: Allocator, S: Spool>(
+    queue: &mut Queue<A>,
+    spool: &S,
+    awaits: &Awaits,
+) -> Reaction
+    ensures reply { on_none_kept (S.holdings spool.now) awaits.now queue.old
+        ≡ reply_of (S.holdings spool.now) queue.new result [] }
+    ensures mode { HasModeInRange result.awaits }
+{
+    match awaits {
+        Awaits::DroppedSentFile => Reaction::answers(Awaits::Order, Answer::DoneNever),
+        Awaits::DroppedAskedFile => {
+            queue.fail_first();
+            go_on(queue, spool, Some(Answer::DoneNever))
+        }
+        _ => Reaction::out_of_turn(),
+    }
+}
+
 /// What an end does with a whole file, by what it awaits. Where it can be kept, it is. `Memory` and `Device` are the
 /// spool's; after them nothing is kept and no job has moved.
 pub(crate) fn on_file<A: Allocator, S: Spool>(
@@ -133,6 +153,6 @@ pub(crate) fn on_file<A: Allocator, S: Spool>(
 {
     match keep_awaited(queue, spool, &awaits, bytes)? {
         Some(immovable) => Ok(on_kept(queue, spool, awaits, immovable)),
-        None => Ok(Reaction::out_of_turn()),
+        None => Ok(on_none_kept(queue, spool, &awaits)),
     }
 }

@@ -14,15 +14,18 @@ pub(crate) struct Exchange {
     file: Option<Way>,
     /// So many bytes of the job's file have passed, up to the greatest number that fits.
     bytes: u64,
+    /// Whether the end takes its job as done where the other end has the file already.
+    is_lenient: bool,
 }
 
 impl Exchange {
     /// Nothing was said yet.
-    pub(crate) fn new() -> Self {
+    pub(crate) fn new(is_lenient: bool) -> Self {
         Exchange {
             job: None,
             file: None,
             bytes: 0,
+            is_lenient,
         }
     }
 
@@ -71,8 +74,11 @@ impl Exchange {
             }
             Answer::DoneYes | Answer::DoneYesMaster => self.end(Outcome::Done),
             Answer::SendNever | Answer::GiveNever | Answer::DoneNever => self.end(Outcome::Never),
-            Answer::SendLater | Answer::GiveLater | Answer::DoneLater => self.end(Outcome::Later),
-            Answer::HangYes | Answer::HangNo => None,
+            Answer::SendHeld if self.is_lenient => self.end(Outcome::Done),
+            Answer::SendHeld | Answer::SendLater | Answer::GiveLater | Answer::DoneLater => {
+                self.end(Outcome::Later)
+            }
+            Answer::HangYes | Answer::HangNo | Answer::WorkNo | Answer::RunNever => None,
         }
     }
 

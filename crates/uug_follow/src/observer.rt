@@ -65,15 +65,16 @@ impl<A: Allocator> Model for Observer<A> {
 }
 
 impl<A: Allocator + Copy> Observer<A> {
-    /// One who has seen nothing. No other call takes memory, but for a text of a command that is longer than one packet.
-    pub fn new(alloc: A) -> Result<Self, AllocError>
+    /// One who has seen nothing of the session of an end that is lenient or not. No other call takes memory, but for a
+    /// text of a command that is longer than one packet.
+    pub fn new(alloc: A, is_lenient: bool) -> Result<Self, AllocError>
         ensures outward { IfOk result (λ observer. observer.outward ≡ nothing_yet) }
         ensures inward { IfOk result (λ observer. observer.inward ≡ nothing_yet) }
     {
         Ok(Observer {
             outward: Stream::new(alloc)?,
             inward: Stream::new(alloc)?,
-            exchange: Exchange::new(),
+            exchange: Exchange::new(is_lenient),
         })
     }
 

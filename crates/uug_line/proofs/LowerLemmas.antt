@@ -7,12 +7,12 @@ use Rattle.uug_link.proofs.WindowMachineRuns.{always_acks, always_counts, always
 use Rattle.uug_link.specs.TwoLinks.{AlwaysOfTwo}
 use Rattle.uug_link.specs.WindowBounds.{IsWithinBounds}
 use Rattle.uug_link.specs.WindowMachine.{Always}
-use Rattle.uug_conversation.proofs.EarlierJobLemmas.{opening_behind, step_behind}
+use Rattle.uug_conversation.proofs.EarlierJobLemmas.{opening_behind, reply_to_behind}
 use Rattle.uug_conversation.proofs.FirstLaw.{first_law}
 use Rattle.uug_conversation.specs.EarlierJobs.{behind}
 use Rattle.uug_conversation.specs.Holdings.{Kept}
 use Rattle.uug_conversation.specs.Jobs.{at_start}
-use Rattle.uug_conversation.specs.Machine.{step}
+use Rattle.uug_conversation.specs.Machine.{reply_to}
 use Rattle.uug_conversation.specs.Party.{IsSound, Party}
 use Rattle.uug_conversation.specs.Runs.{has_said_all, is_over}
 use Rattle.uug_conversation.specs.DialogueState.{behind_first, is_empty, opened_with, replied, taking, unopened, with_first_sent}
@@ -53,9 +53,9 @@ pub talk_takes : (p : Party) (t : Talker) (message : List ℕ) (struck failed : 
     taking p.holdings message (talk_behind struck failed kept p.measure t)
     ≡ talk_behind struck failed kept p.measure (after_act (takes message) p t)
 talk_takes p t message struck failed kept =
-    ap (replied p.measure t.waiting (kept ++ t.kept)) (step_behind p.holdings t.state message struck failed)
+    ap (replied p.measure t.waiting (kept ++ t.kept)) (reply_to_behind p.holdings (is_empty t.waiting) t.state message struck failed)
     ∙ ap (λ (files : List Kept). record (talk_behind struck failed kept p.measure (after_act (takes message) p t)) { kept = files })
-    (append_assoc kept t.kept (step p.holdings t.state message).keeps)
+    (append_assoc kept t.kept (reply_to p.holdings (is_empty t.waiting) t.state message).keeps)
 
 behind_is_rest : (ms : List (List ℕ)) → behind_first ms ≡ drop 1 ms
 behind_is_rest [] = refl

@@ -8,6 +8,7 @@ mod assertions;
 mod faulty;
 mod greetings;
 mod hostile;
+mod lenient;
 mod line;
 mod numbers;
 mod script;
@@ -47,6 +48,8 @@ enum Given<'a> {
     Later(&'a [u8]),
     Immovable(&'a [u8]),
     Job(Task<'a>),
+    /// It refuses what it can't read, and goes on.
+    Lenient,
 }
 
 /// What an end has when all is over, each kind in order.
@@ -115,6 +118,10 @@ fn give_to_spool<A: Allocator + Copy>(
         Given::Deny(file) => spool.deny(name(rt, file)),
         Given::Later(file) => spool.later(name(rt, file)),
         Given::Immovable(file) => spool.immovable(name(rt, file)),
+        Given::Lenient => {
+            spool.set_lenient(true);
+            Ok(())
+        }
         Given::Job(_) => Ok(()),
     }
 }

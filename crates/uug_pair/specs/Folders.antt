@@ -35,12 +35,13 @@ begins_with_dot (b ∷ _) = eqb b 46
 abbrev pub is_hidden : List ℕ → Bool
 is_hidden name = if list_any (λ b. eqb b 47) name then true else begins_with_dot name
 
--- hidden names are never taken, and can't be put in their place
+-- hidden names are never taken, and can't be put in their place; the end is not lenient
 abbrev pub folder_holdings : List Kept → Holdings
 folder_holdings files = record {
   file = first_named files;
   verdict = λ name. if is_hidden name then Never else Yes;
   immovable = is_hidden;
+  lenient = false;
 }
 
 -- where a file tells its text, it is this one

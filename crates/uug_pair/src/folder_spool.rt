@@ -100,6 +100,10 @@ impl<F: Folder, A: Allocator + Copy> Spool for FolderSpool<F, A> {
         )
     }
 
+    fn is_lenient(&self) -> bool {
+        false
+    }
+
     fn faults(&self) -> u64 {
         self.folder.faults()
     }

@@ -69,6 +69,9 @@ const BAD_LINES: &[&[u8]] = &[
     b"number caller -1",
     b"number caller 4294967296",
     b"number caller 0x7",
+    b"lenient",
+    b"lenient both",
+    b"lenient caller 1",
 ];
 
 /// Lines that are good, and how many events they add.
@@ -91,6 +94,7 @@ const GOOD_LINES: &[(&[u8], usize)] = &[
     (b"file called x 7 00fFAb", 0),
     (b"number caller 0004294967295", 0),
     (b"number called 0\nnumber caller 0", 0),
+    (b"lenient called\nlenient caller", 0),
 ];
 
 /// The job of `SENT`.
@@ -139,19 +143,20 @@ fn reads_a_script(rt: HostRuntime) -> Result<(), Fail> {
     checked
 }
 
-/// What the ends say of files of these names, and their numbers.
+/// What the ends say of files of these names, their numbers, and whether they are lenient.
 fn assert_verdicts(rt: &impl Abort, setup: &Setup<Global>, y: Name, z: Name) {
     let (caller, called) = (&setup.caller, &setup.called);
     assert_same(rt, called.spool.may_keep(&y), Verdict::Never);
     assert_same(rt, caller.spool.may_keep(&z), Verdict::Later);
     assert_same(rt, caller.spool.may_keep(&y), Verdict::Yes);
     assert_same(rt, (caller.number, called.number), (None, Some(7)));
+    assert_so(rt, called.spool.is_lenient() && !caller.spool.is_lenient());
 }
 
 #[test]
 fn reads_verdicts_and_numbers_anywhere(rt: HostRuntime) -> Result<(), Fail> {
     let text =
-        b"deny called y\nlater caller z\ncalled b 7 4096\nimmovable called w\ncaller a 1 64\nnumber called 7";
+        b"deny called y\nlater caller z\ncalled b 7 4096\nimmovable called w\ncaller a 1 64\nnumber called 7\nlenient called";
     let (y, z) = (Name::new(b"y")?, Name::new(b"z")?);
     let script = read_script(rt.alloc(), text)?;
     assert_verdicts(&rt, &script.setup, y, z);
@@ -161,7 +166,7 @@ fn reads_verdicts_and_numbers_anywhere(rt: HostRuntime) -> Result<(), Fail> {
 
 #[test]
 fn answers_the_line_behind_the_last(rt: HostRuntime) {
-    let texts: [(&[u8], usize); 9] = [
+    let texts: [(&[u8], usize); 10] = [
         (b"", 1),
         (b"\n", 2),
         (b"# no end", 2),
@@ -172,6 +177,8 @@ fn answers_the_line_behind_the_last(rt: HostRuntime) {
         (b"caller a 2 32\ncalled b 8 32", 2),
         // numbered twice
         (b"number caller 7\nnumber called 7\nnumber caller 7\n", 3),
+        // lenient twice
+        (b"lenient caller\nlenient called\nlenient caller\n", 3),
     ];
     for (text, line) in texts {
         let fault = read_script(rt.alloc(), text).err();

@@ -13,7 +13,7 @@ use Rattle.uug_script.specs.declared.report.EndNumbers.{EndNumbers}
 use Rattle.uug_conversation.specs.declared.side.Side.TheVariants.{Caller, Called}
 use Rattle.uug_line.specs.declared.verdict.LineVerdict.TheVariants.{Clean, Fooled}
 use Rattle.uug_script.specs.Lines.{lines}
-use Rattle.uug_script.specs.Meaning.{event, number, of_end, quiet, short}
+use Rattle.uug_script.specs.Meaning.{event, lenient, number, of_end, quiet, short}
 use Rattle.uug_script.specs.ReadLine.{line_of}
 use Rattle.uug_script.specs.ReportText.{RunResult, ended, report_text, stored_line, verdict_line}
 use Rattle.uug_script.specs.Script.{ScriptSays, flow_events}
@@ -93,6 +93,16 @@ short_and_more = refl
 -- that an end's commands are short is said once of each end
 twice_short : script_of (both_ends ++ ended (codes "short caller") ++ ended (codes "short called") ++ codes "short caller") ≡ Err 5
 twice_short = refl
+
+a_lenient_end : line_of (codes "lenient called") ≡ Some (of_end Called lenient)
+a_lenient_end = refl
+
+lenient_of_no_side : line_of (codes "lenient") ≡ None
+lenient_of_no_side = refl
+
+-- that an end is lenient is said once of each end
+twice_lenient : script_of (both_ends ++ ended (codes "lenient caller") ++ ended (codes "lenient called") ++ codes "lenient caller") ≡ Err 5
+twice_lenient = refl
 
 a_tab : line_of (9 ∷ codes "call") ≡ None
 a_tab = refl

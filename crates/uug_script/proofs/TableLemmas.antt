@@ -14,8 +14,8 @@ use Rattle.uug_talk.specs.declared.call.TheConstants.{NUMBER_MAX}
 use Rattle.uug_talk.specs.Number.{number_of}
 use Rattle.uug_script.specs.Fields.{◌>>=◌, side_word, side_of, name_of, mode_of_word, hex_bytes, byte_of, announcement_of, is_comment}
 use Rattle.hex.specs.Hex.{decode_of}
-use Rattle.uug_script.specs.LineSays.{WritesNumber, NamesCopy, LineSays, TextSays, blank, comment, end_line, file_line, send_line, request_line, deny_line, later_line, immovable_line, number_line, quiet_line, short_line, pass_line, drop_line, flip_line, insert_line, timeout_line, hangup_line, call_line, flow_line}
-use Rattle.uug_script.specs.Meaning.{LineMeaning, nothing, of_end, event, flow, place, file, job, deny, later, immovable, number, quiet, short, file_meaning, of_side}
+use Rattle.uug_script.specs.LineSays.{WritesNumber, NamesCopy, LineSays, TextSays, blank, comment, end_line, file_line, send_line, request_line, deny_line, later_line, immovable_line, number_line, quiet_line, short_line, lenient_line, pass_line, drop_line, flip_line, insert_line, timeout_line, hangup_line, call_line, flow_line}
+use Rattle.uug_script.specs.Meaning.{LineMeaning, nothing, of_end, event, flow, place, file, job, deny, later, immovable, number, quiet, short, lenient, file_meaning, of_side}
 use Rattle.uug_script.specs.ReadLine.{place_of, file_of, last_name_of, send_of, request_of, side_and_name, side_and_number, side_and_byte, one_side, call_of, flow_of, event_by, line_by, line_of_words, line_of}
 use Rattle.uug_script.proofs.WordTableLemmas.{bind_some, same_bytes, name_of_name, name_is, number_written, writes_number, announcement_written, announces, mode_written, writes_mode, bytes_written, writes_bytes, byte_written, writes_byte}
 
@@ -46,6 +46,7 @@ says_read ws m (immovable_line {side = side} {name = name} n) = rw (side_read si
 says_read ws m (number_line {side = side} {word = word} {n = n} h) = rw (side_read side, number_written NUMBER_MAX word n h) refl
 says_read ws m (quiet_line {side = side}) = rw (side_read side) refl
 says_read ws m (short_line {side = side}) = rw (side_read side) refl
+says_read ws m (lenient_line {side = side}) = rw (side_read side) refl
 says_read ws m (pass_line {side = side} {word = word} {n = n} h) = rw (side_read side, number_written BYTES_MAX word n h) refl
 says_read ws m (drop_line {side = side} {word = word} {n = n} h) = rw (side_read side, number_written BYTES_MAX word n h) refl
 says_read ws m (flip_line {side = side} {hex = hex} {byte = byte} h) = rw (side_read side, byte_written hex byte h) refl
@@ -318,7 +319,8 @@ line_says first ws m e =
     by_word first (codes "number") ws _ _ m e (numbered_says _ _ (λ s n. of_end s (number n)) (λ s w n h. number_line h) ws m) (λ e.
     by_word first (codes "quiet") ws _ _ m e (alone_says _ (λ s. of_end s quiet) (λ s. quiet_line) ws m) (λ e.
     by_word first (codes "short") ws _ _ m e (alone_says _ (λ s. of_end s short) (λ s. short_line) ws m) (λ e.
-    event_says first ws m e)))))))))))
+    by_word first (codes "lenient") ws _ _ m e (alone_says _ (λ s. of_end s lenient) (λ s. lenient_line) ws m) (λ e.
+    event_says first ws m e))))))))))))
 
 comment_is : (first : List ℕ) → is_comment first ≡ true → (letters : List ℕ) × (35 ∷ letters ≡ first)
 comment_is [] e = absurd cc

@@ -17,7 +17,7 @@ use Rattle.uug_script.specs.declared.fields.TheConstants.{MODE_DIGITS}
 use Rattle.uug_script.specs.declared.line.TheConstants.{LINE_MAX, BYTES_MAX, TURNS_MAX}
 use Rattle.uug_conversation.specs.declared.side.Side.{Side}
 use Rattle.uug_script.specs.Fields.{side_word}
-use Rattle.uug_script.specs.Meaning.{LineMeaning, nothing, of_end, event, flow, place, file, job, deny, later, immovable, number, quiet, short}
+use Rattle.uug_script.specs.Meaning.{LineMeaning, nothing, of_end, event, flow, place, file, job, deny, later, immovable, number, quiet, short, lenient}
 
 -- the word writes the number in decimal digits, with no sign, and the number is at most this one
 abbrev pub WritesNumber : ℕ → List ℕ → ℕ → Type 0
@@ -78,6 +78,8 @@ pub data LineSays : List (List ℕ) → LineMeaning → Type 0 where
   quiet_line : {side : Side} → LineSays (codes "quiet" ∷ side_word side ∷ []) (of_end side quiet)
   -- short SIDE
   short_line : {side : Side} → LineSays (codes "short" ∷ side_word side ∷ []) (of_end side short)
+  -- lenient SIDE
+  lenient_line : {side : Side} → LineSays (codes "lenient" ∷ side_word side ∷ []) (of_end side lenient)
   -- pass SIDE N, drop SIDE N
   pass_line : {side : Side} {word : List ℕ} {n : ℕ} → WritesNumber BYTES_MAX word n
       → LineSays (codes "pass" ∷ side_word side ∷ word ∷ []) (event (Pass side n))

@@ -31,6 +31,8 @@ pub data EndMeaning : Type 0 where
   quiet : EndMeaning
   -- its commands are short
   short : EndMeaning
+  -- it refuses what it can't read, and goes on
+  lenient : EndMeaning
 
 pub data LineMeaning : Type 0 where
   nothing : LineMeaning
@@ -67,6 +69,7 @@ end_meaning (end_line.Immovable name) = Some (immovable name)
 end_meaning (end_line.Number n) = Some (number n)
 end_meaning end_line.Quiet = Some quiet
 end_meaning end_line.Short = Some short
+end_meaning end_line.Lenient = Some lenient
 
 abbrev pub line_meaning : Statement → Option LineMeaning
 line_meaning line.Nothing = Some nothing

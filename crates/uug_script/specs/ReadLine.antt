@@ -10,7 +10,7 @@ use Rattle.uug_script.specs.declared.line.TheConstants.{LINE_MAX, BYTES_MAX, TUR
 use Rattle.uug_conversation.specs.declared.side.Side.{Side}
 use Rattle.uug_conversation.specs.declared.side.Side.TheVariants.{Caller, Called}
 use Rattle.uug_script.specs.Fields.{◌>>=◌, side_of, name_of, mode_of_word, hex_bytes, byte_of, announcement_of, is_comment}
-use Rattle.uug_script.specs.Meaning.{LineMeaning, nothing, of_end, event, flow, place, job, deny, later, immovable, number, quiet, short, file_meaning, of_side}
+use Rattle.uug_script.specs.Meaning.{LineMeaning, nothing, of_end, event, flow, place, job, deny, later, immovable, number, quiet, short, lenient, file_meaning, of_side}
 
 -- a line that begins with the word of an end
 abbrev pub place_of : Side → List (List ℕ) → Option LineMeaning
@@ -83,6 +83,9 @@ quiet_of ws = one_side ws >>= (λ s. Some (of_end s quiet))
 abbrev pub short_of : List (List ℕ) → Option LineMeaning
 short_of ws = one_side ws >>= (λ s. Some (of_end s short))
 
+abbrev pub lenient_of : List (List ℕ) → Option LineMeaning
+lenient_of ws = one_side ws >>= (λ s. Some (of_end s lenient))
+
 abbrev pub pass_of : List (List ℕ) → Option LineMeaning
 pass_of ws = side_and_number BYTES_MAX ws >>= (λ p. Some (event (Pass p.0 p.1)))
 
@@ -125,7 +128,8 @@ line_by first ws =
     (if bytes_eq first (codes "immovable") then immovable_of ws else
     (if bytes_eq first (codes "number") then number_line_of ws else
     (if bytes_eq first (codes "quiet") then quiet_of ws else
-    (if bytes_eq first (codes "short") then short_of ws else event_by first ws))))))))))
+    (if bytes_eq first (codes "short") then short_of ws else
+    (if bytes_eq first (codes "lenient") then lenient_of ws else event_by first ws)))))))))))
 
 -- a line with no word, and a comment, say nothing
 abbrev pub line_of_words : List (List ℕ) → Option LineMeaning

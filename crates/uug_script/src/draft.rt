@@ -1,7 +1,7 @@
 //! What the lines of a script said so far.
 ghost use Rattle.std.specs.Prelude.{◌≡◌, [], ◌∷◌, ◌++◌, OnOk, IfOk, IfErr, Some};
 ghost use Rattle.uug_script.specs.Fields.{hex_bytes};
-ghost use Rattle.uug_script.specs.Meaning.{place as placed_line, job as job_line, number as number_line, quiet as quiet_line, short as short_line};
+ghost use Rattle.uug_script.specs.Meaning.{place as placed_line, job as job_line, number as number_line, quiet as quiet_line, short as short_line, lenient as lenient_line};
 ghost use Rattle.uug_link.specs.Announced.{announced};
 ghost use Rattle.uug_script.specs.Code.Refusals.{Refuses};
 ghost use Rattle.uug_script.specs.Script.{end_added, flow_events, completed, end_completed, nothing_of_end, nothing_said};
@@ -16,7 +16,7 @@ use hex::FromHexError;
 use std::alloc::{AllocError, Allocator};
 use uug_line::{EndSetup, Event, Setup, Side};
 use uug_link::Announce;
-use uug_session::{Job, MemorySpool, Queue, QueueFault};
+use uug_session::{Job, MemorySpool, Queue, QueueFault, Spool};
 use uug_talk::Name;
 
 /// What an end is called, and what it announces.
@@ -130,6 +130,19 @@ impl<A: Allocator + Copy> EndDraft<A> {
         Ok(())
     }
 
+    fn set_lenient(&mut self) -> Result<(), LineFault>
+        ensures ok { OnOk result
+            (end_added lenient_line (said_of_end self.old) ≡ Some (said_of_end self.new)) }
+        ensures fault { IfErr result (λ fault.
+            Refuses fault (end_added lenient_line (said_of_end self.old))) }
+    {
+        if self.spool.is_lenient() {
+            return Err(LineFault::Bad);
+        }
+        self.spool.set_lenient(true);
+        Ok(())
+    }
+
     fn add_file(&mut self, alloc: A, name: Name, mode: Mode, hex: &[u8]) -> Result<(), LineFault>
         ensures ok { OnOk result
             (file_added name mode.bits hex.now (said_of_end self.old)
@@ -172,6 +185,7 @@ impl<A: Allocator + Copy> EndDraft<A> {
             EndStatement::Number(number) => self.set_number(*number),
             EndStatement::Quiet => self.set_quiet(),
             EndStatement::Short => self.set_short(),
+            EndStatement::Lenient => self.set_lenient(),
         }
     }
 

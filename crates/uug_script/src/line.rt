@@ -2,7 +2,7 @@
 ghost use Rattle.std.specs.Prelude.{◌≡◌, ◌≤◌, ⊤, MatchOption, [], ◌∷◌, List, IsTrue, ◌↔◌, length};
 ghost use Rattle.uug_talk.specs.Words.{words};
 ghost use Rattle.uug_script.specs.Meaning.{meaning_of};
-ghost use Rattle.uug_script.specs.ReadLine.{line_of, place_of, file_of, send_of, request_of, last_name_of, side_and_name, side_and_number, side_and_byte, one_side, call_of, flow_of, deny_of, later_of, immovable_of, number_line_of, quiet_of, short_of, pass_of, drop_of, flip_of, insert_of, timeout_of, hang_up_of, event_by, line_by};
+ghost use Rattle.uug_script.specs.ReadLine.{line_of, place_of, file_of, send_of, request_of, last_name_of, side_and_name, side_and_number, side_and_byte, one_side, call_of, flow_of, deny_of, later_of, immovable_of, number_line_of, quiet_of, short_of, lenient_of, pass_of, drop_of, flip_of, insert_of, timeout_of, hang_up_of, event_by, line_by};
 
 use crate::fields::{read_announce, read_byte, read_name, read_short_mode, read_side, spells};
 use crate::mode::Mode;
@@ -55,6 +55,8 @@ pub(crate) enum EndStatement<'a> {
     Quiet,
     /// Its commands are short.
     Short,
+    /// It refuses what it can't read, and goes on.
+    Lenient,
 }
 
 /// `caller NAME WINDOW SIZE`, or the same of the called end.
@@ -212,6 +214,14 @@ fn read_short(text: &[u8]) -> Option<Statement<'_>>
     Some(Statement::End(side, EndStatement::Short))
 }
 
+/// `lenient SIDE`.
+fn read_lenient(text: &[u8]) -> Option<Statement<'_>>
+    ensures { meaning_of result ≡ lenient_of (words text.now) }
+{
+    let side = read_one_side(text)?;
+    Some(Statement::End(side, EndStatement::Lenient))
+}
+
 /// `pass SIDE N`.
 fn read_pass(text: &[u8]) -> Option<Statement<'_>>
     ensures { meaning_of result ≡ pass_of (words text.now) }
@@ -286,6 +296,8 @@ fn read_by<'a>(first: &[u8], rest: &'a [u8]) -> Option<Statement<'a>>
         read_quiet(rest)
     } else if spells(first, b"short") {
         read_short(rest)
+    } else if spells(first, b"lenient") {
+        read_lenient(rest)
     } else {
         read_event(first, rest)
     }

@@ -22,7 +22,7 @@ use Rattle.uug_conversation.specs.Holdings.{Holdings}
 use Rattle.uug_session.specs.InRange.{BeginsFresh, CanBeWritten, HasSize, IsEndInRange, MayFind}
 use Rattle.uug_conversation.specs.Keeper.{Keeper}
 use Rattle.uug_conversation.specs.Machine as machine
-use Rattle.uug_conversation.specs.DialogueState.{DialogueState, behind_first, end_keeper, first_of, opened_with, replied, taking, with_first_sent}
+use Rattle.uug_conversation.specs.DialogueState.{DialogueState, behind_first, end_keeper, first_of, is_empty, opened_with, replied, taking, with_first_sent}
 use Rattle.uug_conversation.specs.Turns.{Said, all_messages, said_messages}
 use Rattle.uug_conversation.specs.declared.side.Side.{Side}
 use Rattle.uug_conversation.specs.declared.side.Side.TheVariants.{Caller, Called}
@@ -58,7 +58,7 @@ has_size_replied size own talk reply same fit = record {
 has_size_taking : (h : Holdings) (message : List ℕ) (size : ℕ) (talk : DialogueState)
     → HasSize size talk → HasSize size (taking h message talk)
 has_size_taking h message size talk s =
-    has_size_replied size talk.measure talk (machine.step h talk.machine message) s.is s.fit
+    has_size_replied size talk.measure talk (machine.reply_to h (is_empty talk.waiting) talk.machine message) s.is s.fit
 
 first_fits : (size : ℕ) (waiting : List (List ℕ)) (message : List ℕ) → All (Fits size) waiting
     → first_of waiting ≡ Some message → Fits size message

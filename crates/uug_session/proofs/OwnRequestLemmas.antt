@@ -10,6 +10,7 @@ use Rattle.uug_talk.specs.declared.order.Order.TheVariants as order
 use Rattle.uug_talk.specs.Answer.{answer_of}
 use Rattle.uug_talk.specs.Gathering.{Kind, OfCommand, OfFile, Gathering, limit_of}
 use Rattle.uug_talk.specs.Order.{order_of}
+use Rattle.uug_talk.specs.Unread.{refusal_of}
 use Rattle.uug_conversation.specs.declared.awaits.Awaits.{Awaits}
 use Rattle.uug_conversation.specs.declared.awaits.Awaits.TheVariants as awaits
 use Rattle.uug_conversation.specs.declared.job.Job.{Job}
@@ -22,11 +23,11 @@ use Rattle.uug_session.specs.EndStep.{EndState, Identity, EndEvent, end_step}
 use Rattle.uug_session.specs.Engine.{EngineState, end_of}
 use Rattle.uug_conversation.specs.Holdings.{File, Kept, Holdings, to_give}
 use Rattle.uug_conversation.specs.Jobs.{Lists, pass, fail, move_first, moved, moved_once}
-use Rattle.uug_conversation.specs.Machine.{State, Reply, goes_on, on_send, on_request, on_hang_up, on_order, on_given_file_done, on_last_hang_up, sends_file, on_send_yes, on_send_answer, on_sent_job_done, on_request_answer, on_hang_up_answer, on_nothing_more, on_text, on_sent_file, on_asked_file, on_file_of, on_file, on_whole, on_gathered, on_part, gathered_with, opening, step}
+use Rattle.uug_conversation.specs.Machine.{State, Reply, goes_on, on_send, on_request, on_hang_up, on_unread, on_order, on_given_file_done, on_last_hang_up, sends_file, on_send_yes, move_held, on_send_answer, on_sent_job_done, on_request_answer, on_hang_up_answer, on_nothing_more, on_text, on_sent_file, on_asked_file, on_file_of, on_file, on_whole, on_gathered, on_past_limit, on_part, gathered_with, opening, step, comes_early, unless_early, reply_to}
 use Rattle.uug_session.specs.Node.{NodeState, effect_of, struck_jobs}
 use Rattle.uug_session.specs.NodeArriving.{NodeEnd, TakesAll, hearer_of, node_taker}
 use Rattle.uug_conversation.specs.OwnRequests.{OwnRequestEntries, none, not_asked_for, asked_for, sent, KeepsWhatItAskedFor}
-use Rattle.uug_conversation.specs.DialogueState.{DialogueState, end_keeper, opened_with, taking}
+use Rattle.uug_conversation.specs.DialogueState.{DialogueState, end_keeper, is_empty, opened_with, taking}
 use Rattle.uug_conversation.specs.Turns.{Said, the_answer}
 use Rattle.uug_conversation.specs.declared.side.Side.{Side}
 use Rattle.uug_conversation.specs.declared.side.Side.TheVariants.{Caller, Called}
@@ -129,11 +130,15 @@ after_hang_up : (next : Option Order) (l after : Lists) → after.struck ≡ l.s
 after_hang_up None l after same = same_then l.struck after.struck [] [] same refl
 after_hang_up (Some next) l after same = same_then l.struck after.struck [] [] same refl
 
-after_order : (h : Holdings) (r : Result Order BadText) (l : Lists) → KeepsIn l.struck (on_order h r l)
-after_order h (Ok (order.Send source target user temp mode)) l = after_send (h.verdict target) target mode l
-after_order h (Ok (order.Request source target user)) l = after_request (to_give h source) l
-after_order h (Ok order.HangUp) l = after_hang_up (choice h l.ahead).next l (moved (choice h l.ahead).failing l) (chosen h l)
-after_order h (Err fault) l = quiet l.struck
+after_unread : (lenient : Bool) (refusal : Option Answer) (l : Lists) → KeepsIn l.struck (on_unread lenient refusal l)
+after_unread true (Some refusal) l = quiet l.struck
+after_unread _ _ l = quiet l.struck
+
+after_order : (h : Holdings) (refusal : Option Answer) (r : Result Order BadText) (l : Lists) → KeepsIn l.struck (on_order h refusal r l)
+after_order h refusal (Ok (order.Send source target user temp mode)) l = after_send (h.verdict target) target mode l
+after_order h refusal (Ok (order.Request source target user)) l = after_request (to_give h source) l
+after_order h refusal (Ok order.HangUp) l = after_hang_up (choice h l.ahead).next l (moved (choice h l.ahead).failing l) (chosen h l)
+after_order h refusal (Err fault) l = after_unread h.lenient refusal l
 
 -- ---- answers
 
@@ -156,12 +161,6 @@ after_send_yes : (h : Holdings) (jobs : List Job) (l : Lists) → KeepsIn l.stru
 after_send_yes h (job.Send source target user temp ∷ jobs) l = after_sends_file (to_give h (fetched_by source temp)) l
 after_send_yes h _ l = quiet l.struck
 
-after_send_answer : (h : Holdings) (r : Result Answer BadText) (l : Lists) → KeepsIn l.struck (on_send_answer h r l)
-after_send_answer h (Ok answer.SendYes) l = after_send_yes h l.ahead l
-after_send_answer h (Ok answer.SendNever) l = fails h l []
-after_send_answer h (Ok answer.SendLater) l = passes h l []
-after_send_answer h _ l = quiet l.struck
-
 -- a Send job is struck, and nothing was kept
 one_sent : (source target user : List ℕ) (temp : Option (List ℕ)) (s after : List Job) → after ≡ s ++ job.Send source target user temp ∷ []
     → KeepsWhatItAskedFor s after [] []
@@ -172,6 +171,20 @@ one_sent source target user temp s after is = record {
   keeps = refl;
   own = sent none;
 }
+
+after_held : (lenient : Bool) (h : Holdings) (jobs p s f : List Job)
+    → KeepsIn s (goes_on h (moved_once (move_held lenient jobs) (lists p jobs s f)) [])
+after_held true h (job.Send source target user temp ∷ jobs) p s f =
+    let struck = s ++ job.Send source target user temp ∷ [] in
+    one_sent source target user temp s (moved (choice h jobs).failing (lists p jobs struck f)).struck (choice_strikes_nothing h jobs p struck f)
+after_held _ h jobs p s f = passes h (lists p jobs s f) []
+
+after_send_answer : (h : Holdings) (r : Result Answer BadText) (l : Lists) → KeepsIn l.struck (on_send_answer h r l)
+after_send_answer h (Ok answer.SendYes) l = after_send_yes h l.ahead l
+after_send_answer h (Ok answer.SendNever) l = fails h l []
+after_send_answer h (Ok answer.SendHeld) l = after_held h.lenient h l.ahead l.passed l.struck l.failed
+after_send_answer h (Ok answer.SendLater) l = passes h l []
+after_send_answer h _ l = quiet l.struck
 
 after_sent_job : (h : Holdings) (jobs p s f : List Job) (r : Result Answer BadText) → KeepsIn s (on_sent_job_done h jobs r (lists p jobs s f))
 after_sent_job h (job.Send source target user temp ∷ jobs) p s f (Ok answer.DoneYes) =
@@ -200,7 +213,7 @@ after_nothing_more (Ok answer.HangYes) l = quiet l.struck
 after_nothing_more _ l = quiet l.struck
 
 after_text : (h : Holdings) (a : Awaits) (text : List ℕ) (l : Lists) → KeepsIn l.struck (on_text h a text l)
-after_text h awaits.Order text l = after_order h (order_of text) l
+after_text h awaits.Order text l = after_order h (refusal_of text) (order_of text) l
 after_text h awaits.GivenFileDone text l = after_given_file (answer_of text) l
 after_text h awaits.LastHangUp text l = after_last_hang_up (answer_of text) l
 after_text h awaits.SendAnswer text l = after_send_answer h (answer_of text) l
@@ -240,6 +253,8 @@ after_file_of h _ p s f mode bytes = quiet s
 after_file : (h : Holdings) (a : Awaits) (bytes : List ℕ) (l : Lists) → KeepsIn l.struck (on_file h a bytes l)
 after_file h (awaits.SentFile target mode) bytes l = after_kept (h.immovable target) (record { name = target; mode = mode; bytes = bytes }) l
 after_file h (awaits.AskedFile mode) bytes l = after_file_of h l.ahead l.passed l.struck l.failed mode bytes
+after_file h awaits.DroppedSentFile bytes l = quiet l.struck
+after_file h awaits.DroppedAskedFile bytes l = fails h l (the_answer answer.DoneNever ∷ [])
 after_file h _ bytes l = quiet l.struck
 
 -- ---- messages
@@ -252,14 +267,25 @@ after_gathered : (whole : Bool) (kind : Kind) (h : Holdings) (s : State) (bytes 
 after_gathered false kind h s bytes = quiet s.lists.struck
 after_gathered true kind h s bytes = after_whole kind h s.awaits bytes s.lists
 
+after_past_limit : (lenient : Bool) (kind : Kind) (a : Awaits) (l : Lists) → KeepsIn l.struck (on_past_limit lenient kind a l)
+after_past_limit true OfFile a l = quiet l.struck
+after_past_limit _ kind a l = quiet l.struck
+
 after_part : (too_long : Bool) (g : Gathering) (h : Holdings) (s : State) → KeepsIn s.lists.struck (on_part too_long g h s)
-after_part true g h s = quiet s.lists.struck
+after_part true g h s = after_past_limit h.lenient g.kind s.awaits s.lists
 after_part false g h s = after_gathered g.whole g.kind h s g.bytes
 
 after_step : (h : Holdings) (s : State) (message : List ℕ) → KeepsIn s.lists.struck (step h s message)
 after_step h s message =
     let g : Gathering = gathered_with s message in
     after_part (nat_lt (limit_of g.kind) (length g.bytes)) g h s
+
+after_unless_early : (early : Bool) (h : Holdings) (s : State) (message : List ℕ) → KeepsIn s.lists.struck (unless_early early h s message)
+after_unless_early true h s message = quiet s.lists.struck
+after_unless_early false h s message = after_step h s message
+
+after_reply : (h : Holdings) (none_waits : Bool) (s : State) (message : List ℕ) → KeepsIn s.lists.struck (reply_to h none_waits s message)
+after_reply h none_waits s message = after_unless_early (comes_early s.awaits none_waits) h s message
 
 after_opening : (side : Side) (h : Holdings) (l : Lists) → KeepsIn l.struck (opening side h l)
 after_opening Caller h l = chooses h l []
@@ -293,7 +319,9 @@ module _ (id : Identity) (h : Holdings) (struck : List Job) (kept : List Kept) w
       since_reply talk (opening id.side h talk.machine.lists) is (after_opening id.side h talk.machine.lists)
 
   taking_keeps : (message : List ℕ) (talk : DialogueState) → Since talk → Since (taking h message talk)
-  taking_keeps message talk is = since_reply talk (step h talk.machine message) is (after_step h talk.machine message)
+  taking_keeps message talk is =
+      since_reply talk (reply_to h (is_empty talk.waiting) talk.machine message) is
+      (after_reply h (is_empty talk.waiting) talk.machine message)
 
   event_since : (event : EndEvent) (e : EndState DialogueState) → Since e.keeper → Since (end_step (end_keeper id.side h) id event e).state.keeper
   event_since event e is =

@@ -14,10 +14,10 @@ use Rattle.uug_conversation.specs.Machine as machine
 use Rattle.uug_session.specs.Node.{NodeState, effect_of}
 use Rattle.uug_session.specs.NodeArriving.{NodeEnd, GoesOn, TakesAll, hearer_of, node_taker}
 use Rattle.uug_conversation.specs.Sharing.{OnlyMoves, HaveSameJobs, all_jobs}
-use Rattle.uug_conversation.specs.DialogueState.{DialogueState, end_keeper, opened_with, taking}
+use Rattle.uug_conversation.specs.DialogueState.{DialogueState, end_keeper, is_empty, opened_with, taking}
 use Rattle.uug_conversation.specs.declared.side.Side.{Side}
 use Rattle.uug_session.proofs.KeeperLemmas.{piece_keeps, step_keeps, talk_in}
-use Rattle.uug_conversation.proofs.MachineMoveLemmas.{after_opening, after_step, stays, then_moves}
+use Rattle.uug_conversation.proofs.MachineMoveLemmas.{after_opening, after_reply, stays, then_moves}
 
 -- ---- moves
 
@@ -73,7 +73,8 @@ module _ (side : Side) (h : Holdings) (l : Lists) where
 
   taking_moves : (message : List ℕ) (talk : DialogueState) → Moved talk → Moved (taking h message talk)
   taking_moves message talk is =
-      then_moves l talk.machine.lists (machine.step h talk.machine message).state.lists is (after_step h talk.machine message)
+      then_moves l talk.machine.lists (machine.reply_to h (is_empty talk.waiting) talk.machine message).state.lists is
+      (after_reply h (is_empty talk.waiting) talk.machine message)
 
   step_moves : (id : Identity) (event : EndEvent) (e : EndState DialogueState) → Moved e.keeper → Moved (end_step (end_keeper side h) id event e).state.keeper
   step_moves id event e is =

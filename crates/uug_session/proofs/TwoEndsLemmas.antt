@@ -1,8 +1,9 @@
 -- Whatever two ends do that hear each other, each stands where the conversation says.
-use Rattle.std.proofs.Common.{◌≡◌, ℕ, zero, suc, ◌≤◌, List, [], ◌∷◌, ◌++◌, length, take, drop, refl, sym, ap, subst, ◌∙◌, arith}
+use Rattle.std.proofs.Common.{◌≡◌, ℕ, zero, suc, ◌+◌, ◌≤◌, List, [], ◌∷◌, ◌++◌, length, take, drop, refl, sym, ap, subst, ◌∙◌, arith}
 use Rattle.std.proofs.lemmas.List.{append_assoc, length-append, take-append-drop}
 use Rattle.std.proofs.Math.Seq.{take-append_seam, drop-append_seam}
 use Rattle.uug_link.specs.TwoLinks.{IsFrontOf}
+use Rattle.uug_conversation.specs.DialogueState.{is_empty}
 use Rattle.uug_conversation.specs.Holdings.{Kept}
 use Rattle.uug_conversation.specs.Jobs.{Move}
 use Rattle.uug_conversation.specs.Machine.{step}
@@ -12,8 +13,9 @@ use Rattle.uug_conversation.specs.Runs.{Progress, taking, taking_all, progress_a
 use Rattle.uug_conversation.specs.Turns.{other, all_messages}
 use Rattle.uug_conversation.specs.declared.side.Side.{Side}
 use Rattle.uug_conversation.specs.declared.side.Side.TheVariants.{Caller, Called}
-use Rattle.uug_session.specs.TwoEnds.{Talker, progress_of, Two, sends, takes, after_act, Reached, at_first, after, IsTold}
+use Rattle.uug_session.specs.TwoEnds.{Talker, progress_of, Two, sends, takes, after_act, Reached, reply_taken, at_first, after, IsTold}
 use Rattle.uug_conversation.specs.View.{Seen, seen, view, conversation_view, own_messages, others_messages, floor, party}
+use Rattle.uug_conversation.proofs.EarlyLemmas.{when_none_waits}
 
 -- ---- what one end says the other hears
 
@@ -83,6 +85,54 @@ sent_front me a b own others follow k =
     (subst (λ z. IsFrontOf z (own_messages (conversation_view me a b))) (sym (is_at me a b own others follow k).said)
     (front_take_of (floor (length own.taken) (conversation_view me a b)) (own_messages (conversation_view me a b))))
 
+-- an end has sent no more than it may
+within_floor : (me : Side) (a b : Party) (own others : Talker) → AllFollow a b → Keeps me a b own others →
+    length own.sent + length own.waiting ≤ floor (length own.taken) (conversation_view me a b)
+within_floor me a b own others follow k =
+    let all = own_messages (conversation_view me a b) in
+    let n = floor (length own.taken) (conversation_view me a b) in
+    omega (arith, length-append own.sent own.waiting, ap length (is_at me a b own others follow k).said, take_at_most n all)
+
+-- ---- an end says all that it may before the other goes on
+
+-- one message more in front
+floor_by : (me speaker : Side) (bytes : List ℕ) (moves : List Move) (keeps : List Kept) (v w : List Seen) →
+    ((k n : ℕ) → suc k ≤ floor n w → floor k v ≤ n) → (k n : ℕ) →
+    suc k ≤ floor n (seen (other me) speaker bytes moves keeps ∷ w) → floor k (seen me speaker bytes moves keeps ∷ v) ≤ n
+floor_by Caller Caller bytes moves keeps v w more k zero h = absurd (omega (arith, h))
+floor_by Caller Caller bytes moves keeps v w more k (suc n) h = omega (arith, more k n h)
+floor_by Called Called bytes moves keeps v w more k zero h = absurd (omega (arith, h))
+floor_by Called Called bytes moves keeps v w more k (suc n) h = omega (arith, more k n h)
+floor_by Caller Called bytes moves keeps v w more zero n h = omega arith
+floor_by Caller Called bytes moves keeps v w more (suc k) n h = more k n (omega (arith, h))
+floor_by Called Caller bytes moves keeps v w more zero n h = omega arith
+floor_by Called Caller bytes moves keeps v w more (suc k) n h = more k n (omega (arith, h))
+
+-- where the other end may say one message more than k when it has taken n, those n are all that may be said before
+floor_back : (me : Side) (ms : List Message) (k n : ℕ) → suc k ≤ floor n (view (other me) ms) → floor k (view me ms) ≤ n
+floor_back me [] k n h = absurd (omega (arith, h))
+floor_back me (m ∷ ms) k n h =
+    floor_by me m.speaker m.bytes m.moves m.keeps (view me ms) (view (other me) ms) (floor_back me ms) k n h
+
+no_length : (ms : List (List ℕ)) → length ms ≤ 0 → ms ≡ []
+no_length [] h = refl
+no_length (m ∷ ms) h = absurd (omega (arith, h))
+
+-- so nothing waits where an end takes a message
+none_waits : (me : Side) (a b : Party) (own others : Talker) (m : List ℕ) → AllFollow a b → Keeps me a b own others →
+    Keeps (other me) a b others own → IsFrontOf (own.taken ++ m ∷ []) others.sent → own.waiting ≡ []
+none_waits me a b own others m follow k j f =
+    let said : length own.taken + 1 ≤ length others.sent =
+    omega (arith, front_length (own.taken ++ m ∷ []) others.sent f, length-append own.taken (m ∷ [])) in
+    let may : suc (length own.taken) ≤ floor (length others.taken) (conversation_view (other me) a b) =
+    omega (arith, said, within_floor (other me) a b others own follow j) in
+    no_length own.waiting (omega (
+      arith,
+      within_floor me a b own others follow k,
+      floor_back me (conversation_messages a b) (length own.taken) (length others.taken) may,
+      front_length others.taken own.sent j.heard,
+    ))
+
 -- ---- each act keeps it
 
 keeps_when_sends : (me : Side) (a b : Party) (own others : Talker) → Keeps me a b own others →
@@ -104,10 +154,10 @@ other_keeps_when_sends me a b own others p k = record {
   first = k.first;
 }
 
-keeps_when_takes : (me : Side) (a b : Party) (own others : Talker) (m : List ℕ) → Keeps me a b own others →
+takes_at_once : (me : Side) (a b : Party) (own others : Talker) (m : List ℕ) → Keeps me a b own others →
     IsFrontOf (own.taken ++ m ∷ []) others.sent → IsFrontOf others.sent (others_messages (conversation_view me a b)) →
-    Keeps me a b (after_act (takes m) (party me a b) own) others
-keeps_when_takes me a b own others m k f g = record {
+    Keeps me a b (reply_taken (party me a b) own m (step (party me a b).holdings own.state m)) others
+takes_at_once me a b own others m k f g = record {
   machine =
       ap (λ z. record {
         state = (step (party me a b).holdings own.state m).state;
@@ -120,6 +170,14 @@ keeps_when_takes me a b own others m k f g = record {
   heard = f;
   first = front_of_front (own.taken ++ m ∷ []) others.sent (others_messages (conversation_view me a b)) f g;
 }
+
+keeps_when_takes : (me : Side) (a b : Party) (own others : Talker) (m : List ℕ) → own.waiting ≡ [] → Keeps me a b own others →
+    IsFrontOf (own.taken ++ m ∷ []) others.sent → IsFrontOf others.sent (others_messages (conversation_view me a b)) →
+    Keeps me a b (after_act (takes m) (party me a b) own) others
+keeps_when_takes me a b own others m none k f g =
+    subst (λ r. Keeps me a b (reply_taken (party me a b) own m r) others)
+    (sym (when_none_waits (party me a b).holdings (is_empty own.waiting) own.state m (ap is_empty none)))
+    (takes_at_once me a b own others m k f g)
 
 -- what the other end has sent are the first messages that this one is to hear
 sent_to : (me : Side) (a b : Party) (own others : Talker) → AllFollow a b → Keeps (other me) a b others own →
@@ -152,7 +210,8 @@ both_keep a b follow two (after before Called sends r p) =
 both_keep a b follow two (after before Caller (takes m) r p) =
     let k = both_keep a b follow before r in
     record {
-      caller_keeps = keeps_when_takes Caller a b before.caller_end before.called_end m k.caller_keeps p
+      caller_keeps = keeps_when_takes Caller a b before.caller_end before.called_end m
+          (none_waits Caller a b before.caller_end before.called_end m follow k.caller_keeps k.called_keeps p) k.caller_keeps p
           (sent_to Caller a b before.caller_end before.called_end follow k.called_keeps);
       called_keeps = record { machine = k.called_keeps.machine; heard = k.called_keeps.heard; first = k.called_keeps.first };
     }
@@ -160,7 +219,8 @@ both_keep a b follow two (after before Called (takes m) r p) =
     let k = both_keep a b follow before r in
     record {
       caller_keeps = record { machine = k.caller_keeps.machine; heard = k.caller_keeps.heard; first = k.caller_keeps.first };
-      called_keeps = keeps_when_takes Called a b before.called_end before.caller_end m k.called_keeps p
+      called_keeps = keeps_when_takes Called a b before.called_end before.caller_end m
+          (none_waits Called a b before.called_end before.caller_end m follow k.called_keeps k.caller_keeps p) k.called_keeps p
           (sent_to Called a b before.called_end before.caller_end follow k.caller_keeps);
     }
 
@@ -170,13 +230,12 @@ told : (me : Side) (a b : Party) (own others : Talker) → AllFollow a b → Kee
 told me a b own others follow k =
     let at = is_at me a b own others follow k in
     let all = own_messages (conversation_view me a b) in
-    let n = floor (length own.taken) (conversation_view me a b) in
     record {
       taken_first = front_take own.taken (others_messages (conversation_view me a b)) k.first;
       sent_first = front_take own.sent all (sent_front me a b own others follow k);
       waiting_next = sym (drop-append_seam own.sent own.waiting) ∙ ap (drop (length own.sent)) at.said;
       taken_of_sent = front_length own.taken others.sent k.heard;
-      sent_to_floor = omega (arith, length-append own.sent own.waiting, ap length at.said, take_at_most n all);
+      sent_to_floor = omega (arith, within_floor me a b own others follow k);
       machine = machine_at me a b own others k;
       stands = at;
     }

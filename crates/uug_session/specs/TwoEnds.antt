@@ -2,8 +2,9 @@
 -- Nothing is said of when it does (this project's profile).
 use Rattle.std.specs.Prelude.{◌≡◌, ℕ, ◌≤◌, List, [], ◌∷◌, ◌++◌, length, take, drop}
 use Rattle.uug_link.specs.TwoLinks.{IsFrontOf}
+use Rattle.uug_conversation.specs.DialogueState.{is_empty}
 use Rattle.uug_conversation.specs.Holdings.{Kept}
-use Rattle.uug_conversation.specs.Machine.{State, Reply, step}
+use Rattle.uug_conversation.specs.Machine.{State, Reply, reply_to}
 use Rattle.uug_conversation.specs.Party.{Party}
 use Rattle.uug_conversation.specs.Runs.{Progress, opened, progress_at, IsAt}
 use Rattle.uug_conversation.specs.Turns.{other, all_messages}
@@ -75,7 +76,7 @@ after_act sends p t = record {
   sent = t.sent ++ take 1 t.waiting;
   taken = t.taken;
 }
-after_act (takes message) p t = reply_taken p t message (step p.holdings t.state message)
+after_act (takes message) p t = reply_taken p t message (reply_to p.holdings (is_empty t.waiting) t.state message)
 
 -- what two ends may come to
 pub data Reached (a b : Party) : Two → Type 0 where

@@ -1,6 +1,6 @@
 -- Texts and messages whose reading is known, so that a wrong definition does not check.
 use Rattle.std.proofs.Common.{◌≡◌, ◌+◌, [], ◌∷◌, ◌++◌, length, map, replicate, codes, Some, None, Ok, Err, true, false, refl}
-use Rattle.uug_talk.specs.declared.answer.Answer.TheVariants.{SendYes, SendNever, SendLater, GiveYes, GiveNever, GiveLater, DoneYes, DoneYesMaster, DoneNever, DoneLater, HangYes, HangNo}
+use Rattle.uug_talk.specs.declared.answer.Answer.TheVariants.{SendYes, SendNever, SendHeld, SendLater, GiveYes, GiveNever, GiveLater, DoneYes, DoneYesMaster, DoneNever, DoneLater, HangYes, HangNo, WorkNo, RunNever}
 use Rattle.uug_talk.specs.declared.error.BadText.TheVariants as fault
 use Rattle.uug_talk.specs.declared.hail.TheConstants.{HAIL_MAX}
 use Rattle.uug_talk.specs.declared.name.TheConstants.{NAME_MAX}
@@ -13,6 +13,7 @@ use Rattle.uug_talk.specs.Gathering.{OfCommand, OfFile, gathered}
 use Rattle.uug_talk.specs.Name.{name_read}
 use Rattle.uug_talk.specs.Order.{order_of, order_text}
 use Rattle.uug_talk.specs.StreamTexts.{Rest, TooLong, texts_of}
+use Rattle.uug_talk.specs.Unread.{refusal_of}
 use Rattle.uug_talk.specs.Texts.{Passing, Open, Whole, hear}
 
 -- commands
@@ -54,6 +55,7 @@ orders = record {
 pub record AreAnswers : Type 0 where
   pub send_yes : answer_of (codes "SY 0") ≡ Ok SendYes
   pub send_never : answer_of (codes " SN22") ≡ Ok SendNever
+  pub send_held : answer_of (codes "SN80") ≡ Ok SendHeld
   pub send_later : answer_of (codes "SN9") ≡ Ok SendLater
   pub give_yes : answer_of (codes "RYx 0600 0777") ≡ Ok (GiveYes 384)
   pub give_default : answer_of (codes "RY0600") ≡ Ok (GiveYes 438)
@@ -66,6 +68,9 @@ pub record AreAnswers : Type 0 where
   pub done_later : answer_of (codes "CN4") ≡ Ok DoneLater
   pub hang_yes : answer_of (codes "HYes") ≡ Ok HangYes
   pub hang_no : answer_of (codes "HN") ≡ Ok HangNo
+  pub work_no : answer_of (codes "XN") ≡ Ok WorkNo
+  pub run_never : answer_of (codes "EN2") ≡ Ok RunNever
+  pub run_never_else : answer_of (codes "EN") ≡ Ok RunNever
   pub unknown : answer_of (codes "XY") ≡ Err fault.Unknown
   pub split : answer_of (codes "S Y") ≡ Err fault.Unknown
   pub too_long : answer_of (replicate (COMMAND_MAX + 1) 120) ≡ Err fault.TooLong
@@ -74,6 +79,7 @@ pub answers : AreAnswers
 answers = record {
   send_yes = refl;
   send_never = refl;
+  send_held = refl;
   send_later = refl;
   give_yes = refl;
   give_default = refl;
@@ -86,6 +92,9 @@ answers = record {
   done_later = refl;
   hang_yes = refl;
   hang_no = refl;
+  work_no = refl;
+  run_never = refl;
+  run_never_else = refl;
   unknown = refl;
   split = refl;
   too_long = refl;
@@ -101,6 +110,8 @@ pub record AreWritten : Type 0 where
   pub send_later : answer_text SendLater ≡ codes "SN4"
   pub done_never : answer_text DoneNever ≡ codes "CN5"
   pub hang_no : answer_text HangNo ≡ codes "HN"
+  pub work_no : answer_text WorkNo ≡ codes "XN"
+  pub run_never : answer_text RunNever ≡ codes "EN2"
 
 pub written : AreWritten
 written = record {
@@ -112,6 +123,31 @@ written = record {
   send_later = refl;
   done_never = refl;
   hang_no = refl;
+  work_no = refl;
+  run_never = refl;
+}
+
+-- what refuses a command that can't be read
+pub record AreRefusals : Type 0 where
+  pub send : refusal_of (codes "S x") ≡ Some SendNever
+  pub request : refusal_of (codes "  R x y u -") ≡ Some GiveNever
+  pub work : refusal_of (codes "X a/* b u -") ≡ Some WorkNo
+  pub run : refusal_of (codes "E D.1 D.2 u - D.0 0644 n 12 rmail") ≡ Some RunNever
+  pub hang_up : refusal_of (codes "H") ≡ None
+  pub other : refusal_of (codes "Q x") ≡ None
+  pub longer : refusal_of (codes "SS x") ≡ None
+  pub none : refusal_of [] ≡ None
+
+pub refusals : AreRefusals
+refusals = record {
+  send = refl;
+  request = refl;
+  work = refl;
+  run = refl;
+  hang_up = refl;
+  other = refl;
+  longer = refl;
+  none = refl;
 }
 
 -- with messages of 64 bytes, and commands filled up or short

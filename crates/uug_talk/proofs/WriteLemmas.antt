@@ -6,7 +6,7 @@ use Rattle.std.proofs.lemmas.List.{length-append}
 use Rattle.std.proofs.lemmas.List.Elements.{All-from_recursion, All-nil, All-cons}
 use Rattle.std.specs.List.{AllByRecursion}
 use Rattle.uug_talk.specs.declared.answer.Answer.{Answer}
-use Rattle.uug_talk.specs.declared.answer.Answer.TheVariants.{SendYes, SendNever, SendLater, GiveYes, GiveNever, GiveLater, DoneYes, DoneYesMaster, DoneNever, DoneLater, HangYes, HangNo}
+use Rattle.uug_talk.specs.declared.answer.Answer.TheVariants.{SendYes, SendNever, SendHeld, SendLater, GiveYes, GiveNever, GiveLater, DoneYes, DoneYesMaster, DoneNever, DoneLater, HangYes, HangNo, WorkNo, RunNever}
 use Rattle.uug_talk.specs.declared.order.Order.{Order}
 use Rattle.uug_talk.specs.declared.order.Order.TheVariants.{Send, Request, HangUp}
 use Rattle.uug_talk.specs.declared.mode.TheConstants.{MODE_MAX}
@@ -53,6 +53,7 @@ reads_written SendNever h = refl
 reads_written SendLater h = refl
 reads_written (GiveYes mode) h = words-joined _ (IsWord-short 82 (89 ∷ []) (refl, (refl, tt)), (IsWord-digits mode, tt))
 reads_written GiveNever h = refl
+reads_written SendHeld h = absurd h
 reads_written GiveLater h = absurd h
 reads_written DoneYes h = refl
 reads_written DoneYesMaster h = absurd h
@@ -60,6 +61,8 @@ reads_written DoneNever h = refl
 reads_written DoneLater h = absurd h
 reads_written HangYes h = refl
 reads_written HangNo h = refl
+reads_written WorkNo h = refl
+reads_written RunNever h = refl
 
 other_third : (x y z w : ℕ) → z ≢ w → ¬ BeginsWith ((x ∷ y ∷ w ∷ []) ∷ []) (x ∷ y ∷ z ∷ [])
 other_third x y z w n (behind, more, e) = n cc
@@ -70,9 +73,10 @@ no_third x y z (behind, more, e) = absurd cc
 spells_written : (answer : Answer) → IsWritten answer → SpellsAnswer (answer_words answer) answer
 spells_written SendYes h = ([], [], refl)
 spells_written SendNever h = ([], [], refl)
-spells_written SendLater h = ((52 ∷ [], [], refl), other_third 83 78 50 52 (omega arith))
+spells_written SendLater h = ((52 ∷ [], [], refl), other_third 83 78 50 52 (omega arith), other_third 83 78 56 52 (omega arith))
 spells_written (GiveYes mode) h = (([], mode_digits mode ∷ [], refl), (IsModeWord-digits mode, mode_of-digits mode h))
 spells_written GiveNever h = ([], [], refl)
+spells_written SendHeld h = absurd h
 spells_written GiveLater h = absurd h
 spells_written DoneYes h = (([], [], refl), no_third 67 89 77)
 spells_written DoneYesMaster h = absurd h
@@ -80,6 +84,8 @@ spells_written DoneNever h = ([], [], refl)
 spells_written DoneLater h = absurd h
 spells_written HangYes h = ([], [], refl)
 spells_written HangNo h = ([], [], refl)
+spells_written WorkNo h = ([], [], refl)
+spells_written RunNever h = (50 ∷ [], [], refl)
 
 short_written : (answer : Answer) → IsWritten answer → length (answer_text answer) ≤ COMMAND_MAX
 short_written SendYes h = omega arith
@@ -87,6 +93,7 @@ short_written SendNever h = omega arith
 short_written SendLater h = omega arith
 short_written (GiveYes mode) h = omega arith
 short_written GiveNever h = omega arith
+short_written SendHeld h = absurd h
 short_written GiveLater h = absurd h
 short_written DoneYes h = omega arith
 short_written DoneYesMaster h = absurd h
@@ -94,6 +101,8 @@ short_written DoneNever h = omega arith
 short_written DoneLater h = absurd h
 short_written HangYes h = omega arith
 short_written HangNo h = omega arith
+short_written WorkNo h = omega arith
+short_written RunNever h = omega arith
 
 pub ReadsAnswer-written : (text : List ℕ) (answer : Answer) → IsWritten answer → text ≡ answer_text answer → ReadsAnswer text answer
 ReadsAnswer-written text answer h e = subst (λ t. ReadsAnswer t answer) (sym e) (record {
@@ -206,6 +215,7 @@ answer_no_zero SendNever h = no_zero-three 83 78 50 (omega arith) (omega arith) 
 answer_no_zero SendLater h = no_zero-three 83 78 52 (omega arith) (omega arith) (omega arith)
 answer_no_zero (GiveYes mode) h = no_zero-joined (answer_words (GiveYes mode)) (no_zero-two 82 89 (omega arith) (omega arith), (no_zero-digits mode, tt))
 answer_no_zero GiveNever h = no_zero-three 82 78 50 (omega arith) (omega arith) (omega arith)
+answer_no_zero SendHeld h = absurd h
 answer_no_zero GiveLater h = absurd h
 answer_no_zero DoneYes h = no_zero-two 67 89 (omega arith) (omega arith)
 answer_no_zero DoneYesMaster h = absurd h
@@ -213,6 +223,8 @@ answer_no_zero DoneNever h = no_zero-three 67 78 53 (omega arith) (omega arith) 
 answer_no_zero DoneLater h = absurd h
 answer_no_zero HangYes h = no_zero-two 72 89 (omega arith) (omega arith)
 answer_no_zero HangNo h = no_zero-two 72 78 (omega arith) (omega arith)
+answer_no_zero WorkNo h = no_zero-two 88 78 (omega arith) (omega arith)
+answer_no_zero RunNever h = no_zero-three 69 78 50 (omega arith) (omega arith) (omega arith)
 
 order_no_zero : (order : Order) → HasNames order → HasNoZero (order_text order)
 order_no_zero (Send source target user None mode) h = no_zero-joined (order_words (Send source target user None mode)) (

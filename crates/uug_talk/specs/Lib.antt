@@ -13,4 +13,5 @@ pub mod Order
 pub mod Refusal
 pub mod StreamTexts
 pub mod Texts
+pub mod Unread
 pub mod Words

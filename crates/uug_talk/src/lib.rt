@@ -13,6 +13,7 @@ mod mode;
 mod name;
 mod number;
 mod order;
+mod unread;
 mod words;
 
 pub use answer::{Answer, DEFAULT_MODE, read_answer, write_answer};
@@ -27,4 +28,5 @@ pub use mode::{MODE_MAX, mode_digits, read_mode};
 pub use name::{NAME_MAX, Name};
 pub use number::read_number;
 pub use order::{Order, read_order, write_order};
+pub use unread::refusal_of;
 pub use words::{COMMAND_MAX, WRITTEN_MAX, split_word};

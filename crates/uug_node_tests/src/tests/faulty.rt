@@ -65,6 +65,10 @@ impl<A: Allocator + Copy> Spool for FaultySpool<A> {
         }
     }
 
+    fn is_lenient(&self) -> bool {
+        false
+    }
+
     fn faults(&self) -> u64 {
         self.faults
     }

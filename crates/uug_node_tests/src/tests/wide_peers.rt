@@ -12,7 +12,7 @@ use uug_session::{End, Phase};
 const FILE: &[u8] = b"f";
 
 /// A caller that announces the greatest size, and whose link awaits INITC.
-const CALLER_STARTS: Start<'static> = Start {
+pub(super) const CALLER_STARTS: Start<'static> = Start {
     side: Side::Caller,
     size: 4096,
     rows: &[

@@ -11,7 +11,7 @@ returns-in-Some-clause-taken g c =
     let kept = g.S.Spool.kept c.args.spool.now in
     let message = c.args.message.now in
     let next = c.in-Some.reaction in
-    let jobs = c.reaction_to.new.queue in
+    let jobs = c.reaction_unless_early.new.queue in
     let before : DialogueValue = record {
       opened = q.opened;
       machine = state_of q.queue q.awaits q.gather;
@@ -24,9 +24,9 @@ returns-in-Some-clause-taken g c =
       measure = record { size = q.size; short = q.short };
       outgoing = c.say.new.self;
     } in
-    taken_is h kept (g.S.Spool.kept c.reaction_to.new.spool) before after message c.in_ok-told.told next
-    (state_of jobs q.awaits c.reaction_to.new.gather)
-    (ap (λ (x : DialogueValue). x.opened) c.self.view_is ∙ c.requires.opened) c.in-Some.is c.in_ok-told.ensures.reply
+    taken_is h kept (g.S.Spool.kept c.reaction_unless_early.new.spool) before after message c.in_ok-told.told next
+    (state_of jobs q.awaits c.reaction_unless_early.new.gather) c.is_silent.result
+    (ap (λ (x : DialogueValue). x.opened) c.self.view_is ∙ c.requires.opened) c.in-Some.is c.is_silent.ensures c.in_ok-told.ensures.reply
     c.in_ok-told.ensures.kept refl refl (ap (λ z. record { lists = jobs; awaits = next.awaits; gathered = z }) c.gather_for.ensures.bytes)
     c.say.ensures.within c.say.ensures.sayings c.say.ensures.offset
     ∙ ap (λ (x : DialogueValue). taking h message (dialogue_of h kept x)) c.self.view_is

@@ -1,0 +1,92 @@
+-- What a lenient end does with what it can't read, with SN8 and with a file past its limit, and what comes too early: worked
+-- out by hand.
+use Rattle.std.proofs.Common.{◌≡◌, true, false, [], ◌∷◌, ◌++◌, codes, refl}
+use Rattle.uug_talk.specs.declared.answer.Answer.TheVariants as answer
+use Rattle.uug_talk.specs.Gathering.{OfCommand, OfFile}
+use Rattle.uug_conversation.specs.declared.awaits.Awaits.TheVariants as awaits
+use Rattle.uug_conversation.specs.Holdings.{Holdings}
+use Rattle.uug_conversation.specs.Machine.{between, replies, on_text, on_file, on_past_limit, reply_to}
+use Rattle.uug_conversation.specs.Turns.{the_order, the_answer}
+use Rattle.uug_conversation.proofs.FactParties.{y, six_bytes, send, send_nothing, request}
+use Rattle.uug_conversation.proofs.MachineFacts.{ahead, asking, first_passed, first_struck, has_x, order_of_first, order_of_second, two}
+
+-- has one file, x, and is lenient
+abbrev lenient_x : Holdings
+lenient_x = record { file = has_x.file; verdict = has_x.verdict; immovable = has_x.immovable; lenient = true }
+
+-- ---- commands that can't be read
+
+record AreUnread : Type 0 where
+  work : on_text lenient_x awaits.Order (codes "X a/* y u -") two ≡ replies two awaits.Order (the_answer answer.WorkNo ∷ [])
+  run : on_text lenient_x awaits.Order (codes "E x y u - D.0 0644") two ≡ replies two awaits.Order (the_answer answer.RunNever ∷ [])
+  short_send : on_text lenient_x awaits.Order (codes "S x y u") two ≡ replies two awaits.Order (the_answer answer.SendNever ∷ [])
+  short_request : on_text lenient_x awaits.Order (codes "R x y") two ≡ replies two awaits.Order (the_answer answer.GiveNever ∷ [])
+  bad_mode : on_text lenient_x awaits.Order (codes "S x y u - D.0 9") two ≡ replies two awaits.Order (the_answer answer.SendNever ∷ [])
+  unknown : on_text lenient_x awaits.Order (codes "Q x") two ≡ replies two awaits.Bad []
+  longer : on_text lenient_x awaits.Order (codes "SX x") two ≡ replies two awaits.Bad []
+  nothing : on_text lenient_x awaits.Order [] two ≡ replies two awaits.Bad []
+  an_answer : on_text lenient_x awaits.SendAnswer (codes "X a") two ≡ replies two awaits.Bad []
+  good : on_text lenient_x awaits.Order (codes "S x y u - D.0 0600") (ahead []) ≡
+      replies (ahead []) (awaits.SentFile y 384) (the_answer answer.SendYes ∷ [])
+  strict : on_text has_x awaits.Order (codes "X a/* y u -") two ≡ replies two awaits.Bad []
+  strict_send : on_text has_x awaits.Order (codes "S x y u") two ≡ replies two awaits.Bad []
+
+unread : AreUnread
+unread = record {
+  work = refl;
+  run = refl;
+  short_send = refl;
+  short_request = refl;
+  bad_mode = refl;
+  unknown = refl;
+  longer = refl;
+  nothing = refl;
+  an_answer = refl;
+  good = refl;
+  strict = refl;
+  strict_send = refl;
+}
+
+-- ---- SN8
+
+record AreHeld : Type 0 where
+  struck : on_text lenient_x awaits.SendAnswer (codes "SN8") two ≡
+      replies first_struck awaits.SendAnswer (the_order order_of_second ∷ [])
+  strict : on_text has_x awaits.SendAnswer (codes "SN8") two ≡
+      replies first_passed awaits.SendAnswer (the_order order_of_second ∷ [])
+  later : on_text lenient_x awaits.SendAnswer (codes "SN4") two ≡
+      replies first_passed awaits.SendAnswer (the_order order_of_second ∷ [])
+  other_job : on_text lenient_x awaits.SendAnswer (codes "SN8") (ahead (request ∷ send ∷ [])) ≡
+      replies (record { passed = request ∷ []; ahead = send ∷ []; struck = []; failed = [] })
+      awaits.SendAnswer (the_order order_of_first ∷ [])
+
+held : AreHeld
+held = record { struck = refl; strict = refl; later = refl; other_job = refl }
+
+-- ---- a file past its limit
+
+record AreDropped : Type 0 where
+  sent : on_past_limit true OfFile (awaits.SentFile y 384) two ≡ replies two awaits.DroppedSentFile []
+  sent_on : on_past_limit true OfFile awaits.DroppedSentFile two ≡ replies two awaits.DroppedSentFile []
+  asked : on_past_limit true OfFile (awaits.AskedFile 384) two ≡ replies two awaits.DroppedAskedFile []
+  text : on_past_limit true OfCommand awaits.Order two ≡ replies two awaits.Bad []
+  strict : on_past_limit false OfFile (awaits.SentFile y 384) two ≡ replies two awaits.Bad []
+  sent_end : on_file lenient_x awaits.DroppedSentFile six_bytes two ≡ replies two awaits.Order (the_answer answer.DoneNever ∷ [])
+  asked_end : on_file lenient_x awaits.DroppedAskedFile six_bytes asking ≡
+      replies (record { passed = []; ahead = send ∷ []; struck = []; failed = request ∷ send_nothing ∷ [] })
+      awaits.SendAnswer (the_answer answer.DoneNever ∷ the_order order_of_first ∷ [])
+
+dropped : AreDropped
+dropped = record { sent = refl; sent_on = refl; asked = refl; text = refl; strict = refl; sent_end = refl; asked_end = refl }
+
+-- ---- what comes before all that the end said was sent
+
+record AreEarly : Type 0 where
+  sent : reply_to has_x false (between two awaits.SentFileDone) (codes "CY" ++ 0 ∷ []) ≡ replies two awaits.Bad []
+  given : reply_to has_x false (between two awaits.GivenFileDone) (codes "CY" ++ 0 ∷ []) ≡ replies two awaits.Bad []
+  in_time : reply_to has_x true (between two awaits.SentFileDone) (codes "CY" ++ 0 ∷ []) ≡
+      replies first_struck awaits.SendAnswer (the_order order_of_second ∷ [])
+  other : reply_to has_x false (between two awaits.NothingMore) (codes "HY" ++ 0 ∷ []) ≡ replies two awaits.NothingMore []
+
+early : AreEarly
+early = record { sent = refl; given = refl; in_time = refl; other = refl }

@@ -1,0 +1,145 @@
+#!/usr/bin/env bash
+# What Taylor UUCP may queue and this program can't take, with a mail behind it: the mail has to come, and the job in front
+# of it has to be over, whoever calls. With --strict the session ends, and both jobs stay. Needs Debian's packages (apt-get
+# install uucp socat), and root, since uucico runs as the user uucp. Run by hand:
+#     interop/unreadable.sh [PROGRAM]
+# PROGRAM is crates/uucpair/out/uucpair where none is named. CASES has the jobs that are tried. Its last line is the
+# number of sessions in which all went as it should.
+set -u
+root=$(cd "$(dirname "$0")/.." && pwd)
+. "$root/interop/common.sh"
+program=${1:-$root/crates/uucpair/out/uucpair}
+work=$(mktemp -d)
+chmod 755 "$work"
+started=()
+trap 'kill "${started[@]}" 2>/dev/null; rm -rf "$work"' EXIT
+
+cases=${CASES:-wildcard execution long_path long_request high_byte long_file}
+
+as_uucp() {
+    runuser -u uucp -- "$@"
+}
+
+# set_up: Taylor's folders and settings, and a folder of ours
+set_up() {
+    rm -rf "$work/taylor" "$work/ours" "$work/line"
+    mkdir -p "$work"/taylor/{spool,pub,log} "$work"/ours/{send,got}
+    cat >"$work/taylor/config" <<END
+nodename taylor
+spool $work/taylor/spool
+pubdir $work/taylor/pub
+lockdir $work/taylor
+logfile $work/taylor/log/Log
+statfile $work/taylor/log/Stats
+debugfile $work/taylor/log/Debug
+sysfile $work/taylor/sys
+portfile $work/taylor/port
+END
+    cat >"$work/taylor/sys" <<END
+system ours
+time any
+port gate
+chat ""
+protocol g
+remote-send ~
+remote-receive ~
+local-send ~
+local-receive ~
+END
+    cat >"$work/taylor/port" <<END
+port gate
+type pipe
+command /usr/bin/socat - UNIX-CONNECT:$work/line
+END
+    echo "the mail" >"$work/taylor/pub/mail"
+    echo "a file" | tee "$work/taylor/pub/file" >"$work/taylor/pub/caf"$'\xe9'
+    head -c 1048577 /dev/zero >"$work/taylor/pub/long"
+    chmod 644 "$work"/taylor/pub/*
+    # uucico puts a file only where everybody may.
+    chmod 777 "$work/taylor/pub"
+    chown -R uucp:uucp "$work/taylor"
+    : >"$work/ours/jobs"
+}
+
+# letters COUNT: so many
+letters() {
+    head -c "$1" /dev/zero | tr '\0' n
+}
+
+# queue CASE: the job that can't be taken, of a high grade, and the mail of a low one
+queue() {
+    local queue=(as_uucp uucp -I "$work/taylor/config" -r -g B)
+    case $1 in
+    wildcard) "${queue[@]}" 'ours!~/*.txt' "$work/taylor/pub/" ;;
+    execution) as_uucp uux -I "$work/taylor/config" -r -g B "ours!cat !$work/taylor/pub/caf"$'\xe9' ;;
+    long_path) "${queue[@]}" "$work/taylor/pub/file" "ours!~/$(letters 249)" ;;
+    long_request) "${queue[@]}" "ours!~/$(letters 249)" "$work/taylor/pub/asked" ;;
+    high_byte) "${queue[@]}" "$work/taylor/pub/file" "ours!~/caf"$'\xe9' ;;
+    long_file) "${queue[@]}" "$work/taylor/pub/long" 'ours!~/long' ;;
+    esac
+    as_uucp uucp -I "$work/taylor/config" -r -g N "$work/taylor/pub/mail" 'ours!~/mail'
+}
+
+# waiting: how many jobs Taylor has left
+waiting() {
+    as_uucp uustat -I "$work/taylor/config" -a | grep -c .
+}
+
+# judge NAME STATUS [--strict]
+judge() {
+    local left mail=lost wanted="0 jobs, the mail came"
+    left=$(waiting)
+    cmp -s "$work/taylor/pub/mail" "$work/ours/got/mail" && mail=came
+    [ $# = 2 ] || wanted="2 jobs, the mail lost"
+    echo "$1${3:+, $3}: status $2; $(head -1 "$work/out"); $left jobs, the mail $mail"
+    if [ "$left jobs, the mail $mail" = "$wanted" ] && { [ $# = 3 ] || [ "$2" = 0 ]; } &&
+        { [ $# = 2 ] || grep -q badtalk "$work/out"; }; then
+        good=$((good + 1))
+    else
+        cat "$work/err"
+        tail -n 5 "$work/taylor/log/Log"
+    fi
+}
+
+# we_call CASE [--strict]
+we_call() {
+    local status
+    set_up
+    queue "$1"
+    (cd / && exec socat "UNIX-LISTEN:$work/line,mode=666" \
+        "EXEC:runuser -u uucp -- /usr/sbin/uucico -I $work/taylor/config") 2>"$work/socat.err" &
+    started+=($!)
+    wait_for "$work/line"
+    "$program" call "unix:$work/line" "$work/ours" --me ours --peer taylor "${@:2}" >"$work/out" 2>"$work/err"
+    status=$?
+    sleep 1
+    judge "we call, $1" "$status" "${@:2}"
+}
+
+# taylor_calls CASE [--strict]
+taylor_calls() {
+    local status answerer
+    set_up
+    queue "$1"
+    "$program" answer "unix:$work/line" "$work/ours" --me ours --peer taylor "${@:2}" >"$work/out" 2>"$work/err" &
+    answerer=$!
+    started+=("$answerer")
+    wait_for "$work/line"
+    chmod 666 "$work/line"
+    (cd / && as_uucp /usr/sbin/uucico -I "$work/taylor/config" -f -s ours)
+    wait "$answerer"
+    status=$?
+    judge "Taylor calls, $1" "$status" "${@:2}"
+}
+
+good=0
+all=0
+for case in $cases; do
+    for option in "" --strict; do
+        we_call "$case" $option
+        taylor_calls "$case" $option
+        all=$((all + 2))
+    done
+done
+echo "$good of $all sessions"
+[ "$good" = "$all" ]
