@@ -53,6 +53,8 @@ pub struct CallTask<'a> {
     pub seconds: u32,
     /// Whether it is quiet on repeats.
     pub is_quiet: bool,
+    /// Whether it refuses what it can't read, and goes on.
+    pub is_lenient: bool,
     /// Whether it begins to keep a number of its conversations, where it keeps none yet.
     pub is_numbered: bool,
     /// Whether it says on standard error how the end stands.
@@ -228,7 +230,7 @@ fn read_end<'a, A: Allocator + Copy, R: Files + Alloc + Clone + Drop>(
     place.number = read_number_at_start(alloc, rt, task.dir, task.is_numbered)?;
     let jobs = read_queue(alloc, rt, task.dir)?;
     let files = read_send(alloc, rt, task.dir)?;
-    let end = make_end(alloc, rt, task.side, task.dir, place, jobs, files)?;
+    let end = make_end(alloc, rt, task, place, jobs, files)?;
     Ok(end)
 }
 
@@ -247,19 +249,18 @@ fn read_number_at_start<A: Allocator + Copy, R: Files>(
     }
 }
 
-/// An end over the folder `dir`, with these jobs and these files to give.
+/// An end over the folder of the task, with these jobs and these files to give.
 fn make_end<'a, A: Allocator + Copy, R: Files>(
     alloc: A,
     rt: &'a R,
-    side: Side,
-    dir: &str,
+    task: &CallTask<'_>,
     place: Place,
     jobs: Queue<A>,
     files: Vec<Stored<A>, A>,
 ) -> Result<SystemEnd<'a, R, A>, AllocError> {
-    let (jobs_file, number) = make_texts(alloc, rt, dir)?;
-    let spool = make_spool(alloc, rt, dir, files)?;
-    let node = make_node(alloc, side, place, jobs, spool)?;
+    let (jobs_file, number) = make_texts(alloc, rt, task.dir)?;
+    let spool = make_spool(alloc, rt, task, files)?;
+    let node = make_node(alloc, task.side, place, jobs, spool)?;
     let seat = make_seat(alloc, node)?;
     Ok(CallEnd {
         seat,
@@ -268,16 +269,18 @@ fn make_end<'a, A: Allocator + Copy, R: Files>(
     })
 }
 
-/// The spool over the folder `dir`, with these files to give.
+/// The spool over the folder of the task, with these files to give.
 fn make_spool<'a, A: Allocator + Copy, R: Files>(
     alloc: A,
     rt: &'a R,
-    dir: &str,
+    task: &CallTask<'_>,
     files: Vec<Stored<A>, A>,
 ) -> Result<SystemSpool<'a, R, A>, AllocError> {
-    let folder = SystemFolder::new(alloc, rt, dir)?;
+    let folder = SystemFolder::new(alloc, rt, task.dir)?;
     let files = FolderSpool::new(alloc, files, folder);
-    Ok(LocalNames::new(alloc, files))
+    let mut spool = LocalNames::new(alloc, files);
+    spool.set_lenient(task.is_lenient);
+    Ok(spool)
 }
 
 /// The end itself, with these jobs.
