@@ -261,6 +261,8 @@ row "a play with an end that is quiet on repeats does not settle" 1 "" \
     play --settle < <(printf '%squiet caller\n' "$lost")
 row "an end that is quiet twice" 2 "uucpair: bad script at line 2$line_feed" "" \
     play < <(printf 'quiet caller\nquiet caller\n')
+row "an end that is lenient twice" 2 "uucpair: bad script at line 2$line_feed" "" \
+    play < <(printf 'lenient called\nlenient called\n')
 row "a bad script that does not settle" 2 "uucpair: bad script at line 2$line_feed" "" play --settle < <(printf '\ncall me\n')
 row "a ladder that ends at once" 1 "" "${silent_report}session 1${line_feed}event  caller                                               called${line_feed}start           ...---------------------------------------- TEXT Shere=b$line_feed" \
     play --ladder < <(printf 'caller a 2 32\ncalled b 2 32\n')
@@ -390,6 +392,11 @@ folders "send x y u"
 answer_in_the_background --no-quiet
 row "a call that answers each repeat" 0 "" "caller done pending 0 struck 1 failed 0$line_feed" \
     call "unix:$socket" "$a" --me a --peer b --no-quiet </dev/null
+wait "$answerer" || true
+folders "send x y u"
+answer_in_the_background --strict
+row "a call of a strict end" 0 "" "caller done pending 0 struck 1 failed 0$line_feed" \
+    call "unix:$socket" "$a" --me a --peer b --strict </dev/null
 wait "$answerer" || true
 folders "send ~/x y u"
 answer_in_the_background

@@ -173,6 +173,11 @@ fn end_command<'a>(
         ))?
         .arg(flag(
             alloc,
+            "strict",
+            "Ends the session with what it can't read, instead of refusing it",
+        ))?
+        .arg(flag(
+            alloc,
             "number",
             "Keeps the number of its conversations in DIR, from 0 on",
         ))?
@@ -252,6 +257,7 @@ fn end_task<'a>(side: Side, matches: &ArgMatches<'a>) -> CallTask<'a> {
         size: matches.get_one::<u32>("size").unwrap_or(0),
         seconds: matches.get_one::<u32>("timeout").unwrap_or(0),
         is_quiet: !matches.get_flag("no-quiet"),
+        is_lenient: !matches.get_flag("strict"),
         is_numbered: matches.get_flag("number"),
         is_loud: matches.get_flag("verbose"),
     }

@@ -47,6 +47,7 @@ pub const PLAY: &str =
                            a called end that has one lets in only the same
   quiet SIDE               the end is quiet on repeats: it does not answer each data
                            packet that comes out of order
+  lenient SIDE             the end refuses what it can't read, and goes on
   pass SIDE N              the next N bytes on the way to the side arrive
   drop SIDE N              they are lost
   flip SIDE HH             the bits HH of the next byte are inverted

@@ -345,7 +345,7 @@ where
             output,
         ),
         Task::Call(call) => {
-            let mut watcher = SystemWatcher::new(alloc, rt, call.is_loud, terminals.errors)?;
+            let mut watcher = SystemWatcher::new(alloc, rt, &call, terminals.errors)?;
             call_run(alloc, rt, &call, &mut watcher, output)
         }
     }

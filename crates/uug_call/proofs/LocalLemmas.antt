@@ -1,5 +1,5 @@
 -- A file that is given, and one file more, under the name under which it came.
-use Rattle.std.proofs.Common.{◌≡◌, ℕ, List, [], ◌∷◌, ◌++◌, length, map, Option, Some, ap, refl, sym, subst, ◌∙◌, arith}
+use Rattle.std.proofs.Common.{◌≡◌, ℕ, Bool, List, [], ◌∷◌, ◌++◌, length, map, Option, Some, ap, refl, sym, subst, ◌∙◌, arith}
 use Rattle.std.proofs.lemmas.List.{length-map}
 use Rattle.uug_pair.specs.FolderFiles.{FolderFiles}
 use Rattle.uug_pair.specs.Folders.{folder_holdings}
@@ -16,21 +16,23 @@ one_more (n ∷ names) [] name file same = absurd (omega (arith, same))
 one_more (n ∷ names) (f ∷ files) name file same =
     ap (λ (rest : List Kept). kept_file n f.mode f.bytes ∷ rest) (one_more names files name file (omega (arith, same)))
 
-pub kept_more : {F A : Type 0} (files files_after : FolderFiles F A) (names names_after : List (List ℕ)) (now : LocalFiles F A)
-    (name local : List ℕ) (mode : ℕ) (bytes : List ℕ) → record { files = files; names = names } ≡ now
+pub kept_more : {F A : Type 0} (files files_after : FolderFiles F A) (names names_after : List (List ℕ)) (lenient : Bool)
+    (now : LocalFiles F A) (name local : List ℕ) (mode : ℕ) (bytes : List ℕ)
+    → record { files = files; names = names; lenient = lenient } ≡ now
     → length names ≡ length files.stored → names_after ≡ names ++ name ∷ []
     → map kept_of files_after.stored ≡ map kept_of files.stored ++ kept_file local mode bytes ∷ []
     → renamed names_after (map kept_of files_after.stored) ≡ kept_here now ++ kept_file name mode bytes ∷ []
-kept_more files files_after names names_after now name local mode bytes view same named kept =
+kept_more files files_after names names_after lenient now name local mode bytes view same named kept =
     let whole = one_more names (map kept_of files.stored) name (kept_file local mode bytes) (same ∙ sym (length-map files.stored kept_of)) in
     subst (λ (s : LocalFiles _ _). renamed names_after (map kept_of files_after.stored) ≡ kept_here s ++ kept_file name mode bytes ∷ []) view
     (ap (λ (n : List (List ℕ)). renamed n (map kept_of files_after.stored)) named
     ∙ ap (λ (k : List Kept). renamed (names ++ name ∷ []) k) kept ∙ whole)
 
-pub fetched : {F A : Type 0} (files : FolderFiles F A) (names : List (List ℕ)) (now : LocalFiles F A) (shown : Option File)
-    (source : Option (List ℕ)) (local name : List ℕ) → record { files = files; names = names } ≡ now
+pub fetched : {F A : Type 0} (files : FolderFiles F A) (names : List (List ℕ)) (lenient : Bool) (now : LocalFiles F A)
+    (shown : Option File) (source : Option (List ℕ)) (local name : List ℕ)
+    → record { files = files; names = names; lenient = lenient } ≡ now
     → shown ≡ (folder_holdings (map kept_of files.files)).file local → source ≡ Some local → source ≡ local_source name
     → shown ≡ file_by (folder_holdings (map kept_of now.files.files)) (local_source name)
-fetched files names now shown source local name view is some from =
+fetched files names lenient now shown source local name view is some from =
     subst (λ (s : LocalFiles _ _). shown ≡ file_by (folder_holdings (map kept_of s.files.files)) (local_source name)) view
     (is ∙ ap (λ (o : Option (List ℕ)). file_by (folder_holdings (map kept_of files.files)) o) (sym some ∙ from))

@@ -1,5 +1,5 @@
 -- Names whose place in a folder is known, so that a wrong definition does not check.
-use Rattle.std.proofs.Common.{◌≡◌, ℕ, List, [], ◌∷◌, codes, Option, Some, None, refl}
+use Rattle.std.proofs.Common.{◌≡◌, ℕ, false, List, [], ◌∷◌, codes, Option, Some, None, refl}
 use Rattle.uug_pair.specs.Folders.{folder_holdings}
 use Rattle.uug_conversation.specs.Holdings.{File, Holdings, kept_file}
 use Rattle.uug_conversation.specs.declared.verdict.Verdict.{Verdict}
@@ -18,7 +18,7 @@ local : AreLocal
 local = record { plain = refl; public = refl; root = refl; tilde = refl; public_alone = refl; root_alone = refl }
 
 abbrev source : List ℕ → Option File
-source name = (local_holdings (folder_holdings (kept_file (codes "y") 420 (codes "hi") ∷ []))).file name
+source name = (local_holdings false (folder_holdings (kept_file (codes "y") 420 (codes "hi") ∷ []))).file name
 
 abbrev hi : Option File
 hi = Some (record { mode = 420; bytes = codes "hi" })
@@ -35,17 +35,17 @@ given = record { plain = refl; public = refl; root = refl; other = refl; nameles
 
 -- whatever the folder has
 record LeadOut (h : Holdings) : Type 0 where
-  up : (local_holdings h).file (codes "../x") ≡ None
-  deep : (local_holdings h).file (codes "/etc/x") ≡ None
-  public_deep : (local_holdings h).file (codes "~/a/x") ≡ None
-  home : (local_holdings h).file (codes "~user/x") ≡ None
-  twice : (local_holdings h).file (codes "//x") ≡ None
+  up : (local_holdings false h).file (codes "../x") ≡ None
+  deep : (local_holdings false h).file (codes "/etc/x") ≡ None
+  public_deep : (local_holdings false h).file (codes "~/a/x") ≡ None
+  home : (local_holdings false h).file (codes "~user/x") ≡ None
+  twice : (local_holdings false h).file (codes "//x") ≡ None
 
 lead_out : (h : Holdings) → LeadOut h
 lead_out h = record { up = refl; deep = refl; public_deep = refl; home = refl; twice = refl }
 
 abbrev verdict : List ℕ → Verdict
-verdict name = (local_holdings (folder_holdings [])).verdict name
+verdict name = (local_holdings false (folder_holdings [])).verdict name
 
 record AreTaken : Type 0 where
   plain : verdict (codes "y") ≡ Yes

@@ -1,5 +1,5 @@
 -- What a spool has whose files real systems name (this project's profile).
-use Rattle.std.specs.Prelude.{List, ℕ}
+use Rattle.std.specs.Prelude.{Bool, List, ℕ}
 use Rattle.uug_pair.specs.FolderFiles.{FolderFiles}
 
 pub record LocalFiles (F A : Type 0) : Type 0 where
@@ -7,3 +7,5 @@ pub record LocalFiles (F A : Type 0) : Type 0 where
   pub files : FolderFiles F A
   -- the names under which those that were kept came, in the order in which they did
   pub names : List (List ℕ)
+  -- its end refuses what it can't read, and goes on
+  pub lenient : Bool

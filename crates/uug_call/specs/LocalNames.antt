@@ -42,11 +42,12 @@ immovable_by h (Some name) = h.immovable name
 
 -- A file is given and taken as the folder gives and takes its name there; so none whose name there has a slash left, and
 -- none is taken that has a dot in front.
-abbrev pub local_holdings : Holdings → Holdings
-local_holdings h = record {
+abbrev pub local_holdings : (lenient : Bool) → Holdings → Holdings
+local_holdings lenient h = record {
   file = λ name. file_by h (local_source name);
   verdict = λ name. verdict_by h (local_name name);
   immovable = λ name. immovable_by h (local_name name);
+  lenient = lenient;
 }
 
 -- the files that were kept, each under the name under which it came
@@ -56,7 +57,7 @@ renamed (name ∷ names) [] = []
 renamed (name ∷ names) (file ∷ files) = kept_file name file.mode file.bytes ∷ renamed names files
 
 abbrev pub holdings_here : {F A : Type 0} → LocalFiles F A → Holdings
-holdings_here s = local_holdings (folder_holdings (map kept_of s.files.files))
+holdings_here s = local_holdings s.lenient (folder_holdings (map kept_of s.files.files))
 
 abbrev pub kept_here : {F A : Type 0} → LocalFiles F A → List Kept
 kept_here s = renamed s.names (map kept_of s.files.stored)

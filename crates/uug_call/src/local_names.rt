@@ -1,4 +1,4 @@
-ghost use Rattle.std.specs.Prelude.{◌≡◌, ◌<◌, ◌++◌, [], ◌∷◌, MatchOption, Some, map, vec_len, vec_capacity};
+ghost use Rattle.std.specs.Prelude.{◌≡◌, ◌<◌, ◌++◌, [], ◌∷◌, MatchOption, Some, false, map, vec_len, vec_capacity};
 ghost use Rattle.uug_pair.specs.Folders.{folder_holdings};
 ghost use Rattle.uug_conversation.specs.MemoryHoldings.{kept_of};
 ghost use Rattle.uug_conversation.specs.Code.StoredModes.{modes_in_range};
@@ -19,6 +19,7 @@ use uug_talk::Name;
 pub struct LocalNames<F: Folder, A: Allocator> {
     files: FolderSpool<F, A>,
     names: Vec<Name, A>,
+    lenient: bool,
 }
 
 impl<F: Folder, A: Allocator> Model for LocalNames<F, A> {
@@ -27,22 +28,34 @@ impl<F: Folder, A: Allocator> Model for LocalNames<F, A> {
 
     ghost Value = { LocalFiles F A };
 
-    ghost view = { λ s. record { files = s.files; names = s.names.items } };
+    ghost view = { λ s. record {
+      files = s.files;
+      names = s.names.items;
+      lenient = s.lenient;
+    } };
 
     // Each file that was kept came under a name.
     ghost invariant = { λ s. length s.names.items ≡ length s.files.stored };
 }
 
 impl<F: Folder, A: Allocator + Copy> LocalNames<F, A> {
-    /// The spool over a folder that has kept nothing. It takes no memory.
+    /// The spool over a folder that has kept nothing, of an end that is not lenient. It takes no memory.
     pub fn new(alloc: A, files: FolderSpool<F, A>) -> Self
         requires { files.stored ≡ [] }
-        ensures { result ≡ record { files = files; names = [] } }
+        ensures { result ≡ record { files = files; names = []; lenient = false } }
     {
         LocalNames {
             files,
             names: Vec::new(alloc),
+            lenient: false,
         }
+    }
+
+    /// Whether its end refuses what it can't read, and goes on.
+    pub fn set_lenient(&mut self, lenient: bool)
+        ensures { self.new ≡ record self.old { lenient = lenient } }
+    {
+        self.lenient = lenient;
     }
 
     /// The files, under the names that they have in the folder.
@@ -87,11 +100,15 @@ impl<F: Folder, A: Allocator + Copy> Spool for LocalNames<F, A> {
         Ok(())
     }
 
+    fn is_lenient(&self) -> bool {
+        self.lenient
+    }
+
     fn faults(&self) -> u64 {
         self.files.faults()
     }
 
-    ghost modes = { λ s. local_modes (folder_holdings (map kept_of s.files.files))
+    ghost modes = { λ s. local_modes s.lenient (folder_holdings (map kept_of s.files.files))
         (modes_in_range s.files.files) };
 }
 

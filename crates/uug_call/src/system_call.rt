@@ -57,6 +57,8 @@ pub struct CallTask<'a> {
     pub is_quiet: bool,
     /// Whether its commands are short.
     pub is_short: bool,
+    /// Whether it refuses what it can't read, and goes on.
+    pub is_lenient: bool,
     /// Whether it begins to keep a number of its conversations, where it keeps none yet.
     pub is_numbered: bool,
     /// Whether it says on standard error how the end stands.
@@ -293,7 +295,7 @@ fn read_end<'a, A: Allocator + Copy, R: Files + Alloc + Clone + Drop>(
             return Err(fault);
         }
     };
-    match make_end(alloc, rt, task.side, task.dir, place, jobs, files) {
+    match make_end(alloc, rt, task, place, jobs, files) {
         Ok(end) => Ok(end),
         Err(_) => Err(ToolFault::Memory),
     }
@@ -314,20 +316,19 @@ fn read_number_at_start<A: Allocator + Copy, R: Files>(
     }
 }
 
-/// An end over the folder `dir`, with these jobs and these files to give.
+/// An end over the folder of the task, with these jobs and these files to give.
 fn make_end<'a, A: Allocator + Copy, R: Files>(
     alloc: A,
     rt: &'a R,
-    side: Side,
-    dir: &str,
+    task: &CallTask<'_>,
     place: Place,
     jobs: OpenJobs<'a, R, A>,
     files: Vec<Stored<A>, A>,
 ) -> Result<SystemEnd<'a, R, A>, AllocError> {
     let OpenJobs { file, queue } = jobs;
-    let number = SystemText::new(alloc, rt, dir, "number")?;
-    let spool = make_spool(alloc, rt, dir, files)?;
-    let node = make_node(alloc, side, place, queue, spool)?;
+    let number = SystemText::new(alloc, rt, task.dir, "number")?;
+    let spool = make_spool(alloc, rt, task, files)?;
+    let node = make_node(alloc, task.side, place, queue, spool)?;
     let seat = make_seat(alloc, node)?;
     Ok(CallEnd {
         seat,
@@ -336,16 +337,18 @@ fn make_end<'a, A: Allocator + Copy, R: Files>(
     })
 }
 
-/// The spool over the folder `dir`, with these files to give.
+/// The spool over the folder of the task, with these files to give.
 fn make_spool<'a, A: Allocator + Copy, R: Files>(
     alloc: A,
     rt: &'a R,
-    dir: &str,
+    task: &CallTask<'_>,
     files: Vec<Stored<A>, A>,
 ) -> Result<SystemSpool<'a, R, A>, AllocError> {
-    let folder = SystemFolder::new(alloc, rt, dir)?;
+    let folder = SystemFolder::new(alloc, rt, task.dir)?;
     let files = FolderSpool::new(alloc, files, folder);
-    Ok(LocalNames::new(alloc, files))
+    let mut spool = LocalNames::new(alloc, files);
+    spool.set_lenient(task.is_lenient);
+    Ok(spool)
 }
 
 /// The end itself, with these jobs.

@@ -1,6 +1,7 @@
 //! What a person follows on standard error.
 
 use crate::heard::Heard;
+use crate::system_call::CallTask;
 use crate::voice::Voice;
 use crate::watcher::{Standing, Watcher};
 use std::alloc::{AllocError, Allocator};
@@ -23,10 +24,16 @@ pub struct SystemWatcher<'a, R, A: Allocator> {
 }
 
 impl<'a, R: Eprint + Clock, A: Allocator + Copy> SystemWatcher<'a, R, A> {
-    /// A watcher that says something, or nothing. At a terminal it shows how far a long file has come.
-    pub fn new(alloc: A, rt: &'a R, is_loud: bool, at_terminal: bool) -> Result<Self, AllocError> {
-        let observer = if is_loud {
-            Some(Observer::new(alloc)?)
+    /// A watcher that says something of the session of this task, or nothing. At a terminal it shows how far a long file
+    /// has come.
+    pub fn new(
+        alloc: A,
+        rt: &'a R,
+        task: &CallTask<'_>,
+        at_terminal: bool,
+    ) -> Result<Self, AllocError> {
+        let observer = if task.is_loud {
+            Some(Observer::new(alloc, task.is_lenient)?)
         } else {
             None
         };

@@ -1,5 +1,5 @@
 -- The modes of the files that are given are in range where those in the folder are.
-use Rattle.std.specs.Prelude.{◌≡◌, ℕ, ◌≤◌, List, Option, Some, None, ⊤}
+use Rattle.std.specs.Prelude.{◌≡◌, ℕ, ◌≤◌, Bool, List, Option, Some, None, ⊤}
 use Rattle.std.proofs.Common.{refl, subst}
 use Rattle.uug_talk.specs.declared.mode.TheConstants.{MODE_MAX}
 use Rattle.uug_conversation.specs.Holdings.{AreModes, File, Holdings}
@@ -17,5 +17,5 @@ given_in_range : (h : Holdings) → AreModes h → (source : Option (List ℕ)) 
 given_in_range h modes None = tt
 given_in_range h modes (Some name) = in_range (h.file name) (modes name)
 
-pub local_modes : (h : Holdings) → AreModes h → AreModes (local_holdings h)
-local_modes h modes name file found = subst IsInRange found (given_in_range h modes (local_source name))
+pub local_modes : (lenient : Bool) (h : Holdings) → AreModes h → AreModes (local_holdings lenient h)
+local_modes lenient h modes name file found = subst IsInRange found (given_in_range h modes (local_source name))

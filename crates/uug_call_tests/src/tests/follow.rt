@@ -76,8 +76,33 @@ const DONE: Notes = Notes {
     bytes: 5,
 };
 
+const BEGUN: Notes = Notes {
+    begun: 1,
+    done: 0,
+    refused: 0,
+    put_off: 0,
+    bytes: 0,
+};
+
 /// What goes over the line, and what is then told.
-const ROWS: &[(&[Said], Notes)] = &[
+type Row = (&'static [Said], Notes);
+
+/// The other end has the file, which this one takes for no reason to be done.
+const HELD_AND_PUT_OFF: Row = (&[SEND, (Way::In, b"SN8\0")], PUT_OFF);
+
+/// The same of a lenient end.
+const HELD: Row = (
+    &[SEND, (Way::In, b"SN8\0")],
+    Notes {
+        begun: 1,
+        done: 1,
+        refused: 0,
+        put_off: 0,
+        bytes: 0,
+    },
+);
+
+const ROWS: &[Row] = &[
     (&[], NOTHING),
     // the bytes of a file, and the empty message that ends it
     (
@@ -115,6 +140,9 @@ const ROWS: &[(&[Said], Notes)] = &[
     (&[SEND, (Way::In, b"SN2\0")], REFUSED),
     (&[REQUEST, (Way::In, b"RN2\0")], REFUSED),
     (&[SEND, (Way::In, b"SN4\0")], PUT_OFF),
+    HELD_AND_PUT_OFF,
+    // what refuses another job
+    (&[SEND, (Way::Out, b"XN\0"), (Way::Out, b"EN2\0")], BEGUN),
     // an answer to no job, and no text
     (&[(Way::In, b"CY\0")], NOTHING),
     (
@@ -182,8 +210,8 @@ fn show(rt: &impl Abort, said: &[Said], observer: &mut Observer<Global>, notes: 
     }
 }
 
-fn follow(rt: &impl Abort, alloc: Global, said: &[Said]) -> Notes {
-    let mut observer = Observer::new(alloc).expect(rt, "memory for both ways");
+fn follow(rt: &impl Abort, alloc: Global, is_lenient: bool, said: &[Said]) -> Notes {
+    let mut observer = Observer::new(alloc, is_lenient).expect(rt, "memory for both ways");
     let mut notes = NOTHING;
     show(rt, said, &mut observer, &mut notes);
     drop(observer);
@@ -193,7 +221,10 @@ fn follow(rt: &impl Abort, alloc: Global, said: &[Said]) -> Notes {
 #[test]
 fn jobs_are_told_as_they_begin_and_end(rt: HostRuntime) {
     for (place, (said, notes)) in ROWS.iter().enumerate() {
-        let seen = follow(&rt, rt.alloc(), said);
+        let seen = follow(&rt, rt.alloc(), false, said);
         assert_same_at(&rt, seen, *notes, place);
     }
+    let (said, notes) = HELD;
+    let seen = follow(&rt, rt.alloc(), true, said);
+    assert_same_at(&rt, seen, notes, ROWS.len());
 }
