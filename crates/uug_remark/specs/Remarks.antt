@@ -50,7 +50,7 @@ remark_text (wrong field word) = noun field ++ told word ++ codes " is not " ++ 
 remark_text (missing field) = noun field ++ codes " is missing"
 remark_text (too_many word) = codes "unexpected word" ++ told word
 remark_text absent = codes "caller or called is missing"
-remark_text nothing = codes "the end is set up, numbered or quiet already, or has 1024 jobs"
+remark_text nothing = codes "the end is set up, numbered, quiet, short or lenient already, or has 1024 jobs"
 
 abbrev pub wrong_with : Option (List ℕ) → Wrong
 wrong_with None = absent

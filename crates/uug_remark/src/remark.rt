@@ -129,7 +129,7 @@ pub fn add_remark<A: Allocator>(
         Complaint::TooMany(word) => add_unexpected(text, word),
         Complaint::Absent => text.push_str("caller or called is missing"),
         Complaint::Nothing => text.push_str(
-            "the end is set up, numbered or quiet already, or has 1024 jobs",
+            "the end is set up, numbered, quiet, short or lenient already, or has 1024 jobs",
         ),
     }
 }

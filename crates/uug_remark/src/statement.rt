@@ -22,6 +22,8 @@ pub enum StatementKind {
     Number,
     /// `quiet SIDE`.
     Quiet,
+    /// `short SIDE`.
+    Short,
     /// `pass SIDE N`, `drop SIDE N`.
     Move,
     /// `flip SIDE HH`, `insert SIDE HH`.
@@ -59,6 +61,8 @@ pub fn statement_of(first: &[u8]) -> Option<StatementKind>
         Some(StatementKind::Number)
     } else if spells(first, b"quiet") {
         Some(StatementKind::Quiet)
+    } else if spells(first, b"short") {
+        Some(StatementKind::Short)
     } else {
         event_of(first)
     }
@@ -121,7 +125,8 @@ pub fn field_at(statement: StatementKind, place: usize) -> Option<Field>
         StatementKind::Number => pick(&[Field::Side, Field::Number], place),
         StatementKind::Move => pick(&[Field::Side, Field::Count], place),
         StatementKind::Damage => pick(&[Field::Side, Field::Byte], place),
-        StatementKind::Quiet | StatementKind::Tell => pick(&[Field::Side], place),
+        StatementKind::Quiet | StatementKind::Short => pick(&[Field::Side], place),
+        StatementKind::Tell => pick(&[Field::Side], place),
         StatementKind::Call => None,
         StatementKind::Flow => pick(&[Field::Turns], place),
     }
