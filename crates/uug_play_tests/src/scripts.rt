@@ -69,6 +69,10 @@ const BAD_LINES: &[&[u8]] = &[
     b"number caller -1",
     b"number caller 4294967296",
     b"number caller 0x7",
+    b"short",
+    b"short both",
+    b"short caller 1",
+    b"Short caller",
 ];
 
 /// Lines that are good, and how many events they add.
@@ -91,6 +95,8 @@ const GOOD_LINES: &[(&[u8], usize)] = &[
     (b"file called x 7 00fFAb", 0),
     (b"number caller 0004294967295", 0),
     (b"number called 0\nnumber caller 0", 0),
+    (b"short called", 0),
+    (b"  short  caller  \nshort called\nquiet caller", 0),
 ];
 
 /// The job of `SENT`.
@@ -161,7 +167,7 @@ fn reads_verdicts_and_numbers_anywhere(rt: HostRuntime) -> Result<(), Fail> {
 
 #[test]
 fn answers_the_line_behind_the_last(rt: HostRuntime) {
-    let texts: [(&[u8], usize); 9] = [
+    let texts: [(&[u8], usize); 10] = [
         (b"", 1),
         (b"\n", 2),
         (b"# no end", 2),
@@ -172,6 +178,8 @@ fn answers_the_line_behind_the_last(rt: HostRuntime) {
         (b"caller a 2 32\ncalled b 8 32", 2),
         // numbered twice
         (b"number caller 7\nnumber called 7\nnumber caller 7\n", 3),
+        // said twice to be short
+        (b"short caller\nshort called\nshort caller\n", 3),
     ];
     for (text, line) in texts {
         let fault = read_script(rt.alloc(), text).err();
