@@ -261,6 +261,9 @@ row "a play with an end that is quiet on repeats does not settle" 1 "" \
     play --settle < <(printf '%squiet caller\n' "$lost")
 row "an end that is quiet twice" 2 "uucpair: bad script at line 2$line_feed" "" \
     play < <(printf 'quiet caller\nquiet caller\n')
+row "an end whose commands are short twice" 2 \
+    "uucpair: bad script at line 2${line_feed}uucpair: the end is set up, numbered, quiet, short or lenient already, or has 1024 jobs$line_feed" "" \
+    play -v < <(printf 'short caller\nshort caller\n')
 row "an end that is lenient twice" 2 "uucpair: bad script at line 2$line_feed" "" \
     play < <(printf 'lenient called\nlenient called\n')
 row "a bad script that does not settle" 2 "uucpair: bad script at line 2$line_feed" "" play --settle < <(printf '\ncall me\n')
@@ -392,6 +395,11 @@ folders "send x y u"
 answer_in_the_background --no-quiet
 row "a call that answers each repeat" 0 "" "caller done pending 0 struck 1 failed 0$line_feed" \
     call "unix:$socket" "$a" --me a --peer b --no-quiet </dev/null
+wait "$answerer" || true
+folders "send x y u"
+answer_in_the_background --fill-commands
+row "a call that fills up its commands" 0 "" "caller done pending 0 struck 1 failed 0$line_feed" \
+    call "unix:$socket" "$a" --me a --peer b --fill-commands </dev/null
 wait "$answerer" || true
 folders "send x y u"
 answer_in_the_background --strict

@@ -173,6 +173,11 @@ fn end_command<'a>(
         ))?
         .arg(flag(
             alloc,
+            "fill-commands",
+            "Fills up the last packet of each command with zeros",
+        ))?
+        .arg(flag(
+            alloc,
             "strict",
             "Ends the session with what it can't read, instead of refusing it",
         ))?
@@ -257,6 +262,7 @@ fn end_task<'a>(side: Side, matches: &ArgMatches<'a>) -> CallTask<'a> {
         size: matches.get_one::<u32>("size").unwrap_or(0),
         seconds: matches.get_one::<u32>("timeout").unwrap_or(0),
         is_quiet: !matches.get_flag("no-quiet"),
+        is_short: !matches.get_flag("fill-commands"),
         is_lenient: !matches.get_flag("strict"),
         is_numbered: matches.get_flag("number"),
         is_loud: matches.get_flag("verbose"),

@@ -47,6 +47,8 @@ pub const PLAY: &str =
                            a called end that has one lets in only the same
   quiet SIDE               the end is quiet on repeats: it does not answer each data
                            packet that comes out of order
+  short SIDE               the end's commands are short: their last packet ends with
+                           the zero byte, in place of zeros up to the packet size
   lenient SIDE             the end refuses what it can't read, and goes on
   pass SIDE N              the next N bytes on the way to the side arrive
   drop SIDE N              they are lost

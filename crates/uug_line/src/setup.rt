@@ -8,7 +8,7 @@ use uug_talk::Name;
 pub struct EndSetup<A: Allocator> {
     /// What the end is called.
     pub name: Name,
-    /// What the other end shall use, and whether this end is quiet on repeats.
+    /// What the other end shall use, and whether this end is quiet on repeats and its commands are short.
     pub announce: Announce,
     /// Its jobs.
     pub queue: Queue<A>,

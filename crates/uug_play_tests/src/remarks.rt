@@ -38,6 +38,8 @@ const REMARKS: &[(&[u8], &str)] = &[
     (b"quiet", "side is missing"),
     (b"lenient", "side is missing"),
     (b"quiet caller 1", "unexpected word 1"),
+    (b"short", "side is missing"),
+    (b"short caller 1", "unexpected word 1"),
     (b"lenient caller 1", "unexpected word 1"),
     (b"flow 100001", "number 100001 is not 0 to 100000"),
     (b"flip caller 0g", "byte 0g is not 2 hexadecimal digits"),

@@ -69,6 +69,10 @@ const BAD_LINES: &[&[u8]] = &[
     b"number caller -1",
     b"number caller 4294967296",
     b"number caller 0x7",
+    b"short",
+    b"short both",
+    b"short caller 1",
+    b"Short caller",
     b"lenient",
     b"lenient both",
     b"lenient caller 1",
@@ -94,6 +98,8 @@ const GOOD_LINES: &[(&[u8], usize)] = &[
     (b"file called x 7 00fFAb", 0),
     (b"number caller 0004294967295", 0),
     (b"number called 0\nnumber caller 0", 0),
+    (b"short called", 0),
+    (b"  short  caller  \nshort called\nquiet caller", 0),
     (b"lenient called\nlenient caller", 0),
 ];
 
@@ -177,6 +183,8 @@ fn answers_the_line_behind_the_last(rt: HostRuntime) {
         (b"caller a 2 32\ncalled b 8 32", 2),
         // numbered twice
         (b"number caller 7\nnumber called 7\nnumber caller 7\n", 3),
+        // said twice to be short
+        (b"short caller\nshort called\nshort caller\n", 3),
         // lenient twice
         (b"lenient caller\nlenient called\nlenient caller\n", 3),
     ];

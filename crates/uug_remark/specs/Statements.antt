@@ -4,7 +4,7 @@ use Rattle.std.specs.Str.{bytes_eq}
 use Rattle.uug_remark.specs.declared.field.Field.{Field}
 use Rattle.uug_remark.specs.declared.field.Field.TheVariants as fields
 use Rattle.uug_remark.specs.declared.statement.StatementKind.{StatementKind}
-use Rattle.uug_remark.specs.declared.statement.StatementKind.TheVariants.{Place, File, Send, Request, Refuse, Number, Quiet, Lenient, Move, Damage, Tell, Call, Flow}
+use Rattle.uug_remark.specs.declared.statement.StatementKind.TheVariants.{Place, File, Send, Request, Refuse, Number, Quiet, Short, Lenient, Move, Damage, Tell, Call, Flow}
 
 abbrev pub is_refusal : List ℕ → Bool
 is_refusal word = bytes_eq word (codes "deny") || bytes_eq word (codes "later") || bytes_eq word (codes "immovable")
@@ -26,7 +26,8 @@ statement_of word =
     (if is_refusal word then Some Refuse else
     (if bytes_eq word (codes "number") then Some Number else
     (if bytes_eq word (codes "quiet") then Some Quiet else
-    (if bytes_eq word (codes "lenient") then Some Lenient else event_of word)))))))
+    (if bytes_eq word (codes "short") then Some Short else
+    (if bytes_eq word (codes "lenient") then Some Lenient else event_of word))))))))
 
 -- what the words behind the first have to be
 abbrev pub fields_of : StatementKind → List Field
@@ -37,6 +38,7 @@ fields_of Request = fields.Side ∷ fields.Name ∷ fields.Name ∷ fields.Name 
 fields_of Refuse = fields.Side ∷ fields.Name ∷ []
 fields_of Number = fields.Side ∷ fields.Number ∷ []
 fields_of Quiet = fields.Side ∷ []
+fields_of Short = fields.Side ∷ []
 fields_of Lenient = fields.Side ∷ []
 fields_of Move = fields.Side ∷ fields.Count ∷ []
 fields_of Damage = fields.Side ∷ fields.Byte ∷ []

@@ -22,6 +22,8 @@ pub enum StatementKind {
     Number,
     /// `quiet SIDE`.
     Quiet,
+    /// `short SIDE`.
+    Short,
     /// `lenient SIDE`.
     Lenient,
     /// `pass SIDE N`, `drop SIDE N`.
@@ -61,6 +63,8 @@ pub fn statement_of(first: &[u8]) -> Option<StatementKind>
         Some(StatementKind::Number)
     } else if spells(first, b"quiet") {
         Some(StatementKind::Quiet)
+    } else if spells(first, b"short") {
+        Some(StatementKind::Short)
     } else if spells(first, b"lenient") {
         Some(StatementKind::Lenient)
     } else {
@@ -125,9 +129,10 @@ pub fn field_at(statement: StatementKind, place: usize) -> Option<Field>
         StatementKind::Number => pick(&[Field::Side, Field::Number], place),
         StatementKind::Move => pick(&[Field::Side, Field::Count], place),
         StatementKind::Damage => pick(&[Field::Side, Field::Byte], place),
-        StatementKind::Quiet | StatementKind::Lenient | StatementKind::Tell => {
+        StatementKind::Quiet | StatementKind::Short | StatementKind::Lenient => {
             pick(&[Field::Side], place)
         }
+        StatementKind::Tell => pick(&[Field::Side], place),
         StatementKind::Call => None,
         StatementKind::Flow => pick(&[Field::Turns], place),
     }

@@ -9,7 +9,8 @@ pub struct Place {
     pub me: Name,
     /// The name of the other end.
     pub peer: Name,
-    /// The window and the packet size that the other end shall use, and whether this end is quiet on repeats.
+    /// The window and the packet size that the other end shall use, and whether this end is quiet on repeats and its
+    /// commands are short.
     pub announce: Announce,
     /// The number of the next conversation, of an end that keeps one.
     pub number: Option<u32>,

@@ -111,22 +111,51 @@ const QUIET_LINES: [&str; 4] = [
     "quiet caller\nquiet called\n",
 ];
 
-/// The lines that say in the list of this number which ends are quiet on repeats.
-fn quiet_in_list(list: u32) -> &'static str {
-    QUIET_LINES[list as usize / 5 % 4]
+/// The lines that make the commands of neither end short, the caller's, the called end's, and those of both.
+const SHORT_LINES: [&str; 4] = [
+    "",
+    "short caller\n",
+    "short called\n",
+    "short caller\nshort called\n",
+];
+
+/// The lines that say how the ends are set.
+#[derive(Clone, Copy, Debug)]
+struct Settings {
+    quiet: &'static str,
+    short: &'static str,
 }
 
-/// The report of the list of this number, with these events, and with ends that are quiet on repeats as these lines say.
+impl Settings {
+    /// Those of the list of this number. Among the lists each combination occurs.
+    fn of_list(list: u32) -> Self {
+        Settings {
+            quiet: QUIET_LINES[list as usize / 5 % 4],
+            short: SHORT_LINES[list as usize / 20 % 4],
+        }
+    }
+
+    /// The same, where neither end is quiet on repeats.
+    fn plain_of_list(list: u32) -> Self {
+        Settings {
+            quiet: "",
+            short: SHORT_LINES[list as usize / 20 % 4],
+        }
+    }
+}
+
+/// The report of the list of this number, with these events, and with ends that are set so.
 fn report_with(
     alloc: Global,
     list: u32,
-    quiet: &str,
+    settings: Settings,
     events: &[Event],
 ) -> Result<Report<Global>, Fail> {
     let (caller, called) = windows_of_list(list as usize);
     let (small, large) = (SIZES[list as usize % 2], SIZES[list as usize / 2 % 2]);
+    let Settings { quiet, short } = settings;
     let text = format!(in alloc;
-        "caller a {caller} {small}\ncalled b {called} {large}\n{quiet}{JOBS}"
+        "caller a {caller} {small}\ncalled b {called} {large}\n{quiet}{short}{JOBS}"
     )?;
     report_of(alloc, text.as_str(), events)
 }
@@ -140,7 +169,7 @@ fn report_of(alloc: Global, text: &str, events: &[Event]) -> Result<Report<Globa
 /// The report of the list of this number.
 fn report_of_list(alloc: Global, list: u32) -> Result<Report<Global>, Fail> {
     let events = events_of_list(alloc, list)?;
-    report_with(alloc, list, quiet_in_list(list), events.as_slice())
+    report_with(alloc, list, Settings::of_list(list), events.as_slice())
 }
 
 /// The events of the list of this number, and then all is lost that is on the line.
@@ -172,17 +201,24 @@ fn events_up_to_the_end(alloc: Global, list: u32) -> Result<Vec<Event>, Fail> {
     Ok(events)
 }
 
-/// The report of the list of this number as far as all is lost that is on the line, with ends that are quiet on repeats as
-/// these lines say.
-fn report_up_to_silence(alloc: Global, list: u32, quiet: &str) -> Result<Report<Global>, Fail> {
+/// The report of the list of this number as far as all is lost that is on the line, with ends that are set so.
+fn report_up_to_silence(
+    alloc: Global,
+    list: u32,
+    settings: Settings,
+) -> Result<Report<Global>, Fail> {
     let events = events_up_to_silence(alloc, list)?;
-    report_with(alloc, list, quiet, events.as_slice())
+    report_with(alloc, list, settings, events.as_slice())
 }
 
 /// The report of the same list with a clean line behind it.
-fn report_up_to_the_end(alloc: Global, list: u32, quiet: &str) -> Result<Report<Global>, Fail> {
+fn report_up_to_the_end(
+    alloc: Global,
+    list: u32,
+    settings: Settings,
+) -> Result<Report<Global>, Fail> {
     let events = events_up_to_the_end(alloc, list)?;
-    report_with(alloc, list, quiet, events.as_slice())
+    report_with(alloc, list, settings, events.as_slice())
 }
 
 fn is_front(front: &[Vec<u8>], whole: &[Vec<u8>]) -> bool {
@@ -286,7 +322,7 @@ fn settles_well(alloc: Global, report: Report<Global>, list: u32) -> Result<bool
 
 /// Settles the list of this number where it may. Whether all is over then, as it should be.
 fn settle_list(alloc: Global, list: u32) -> Result<Option<bool>, Fail> {
-    let report = report_up_to_silence(alloc, list, "")?;
+    let report = report_up_to_silence(alloc, list, Settings::plain_of_list(list))?;
     if !report.can_settle() {
         drop(report);
         return Ok(None);
@@ -330,16 +366,16 @@ fn may_finish(report: &Report<Global>) -> bool {
 }
 
 /// Whether both ends talk where the list of this number ends in silence.
-fn may_finish_list(alloc: Global, list: u32, quiet: &str) -> Result<bool, Fail> {
-    let report = report_up_to_silence(alloc, list, quiet)?;
+fn may_finish_list(alloc: Global, list: u32, settings: Settings) -> Result<bool, Fail> {
+    let report = report_up_to_silence(alloc, list, settings)?;
     let may_finish = may_finish(&report);
     drop(report);
     Ok(may_finish)
 }
 
 /// Whether both ends are done where the line is clean behind the list of this number.
-fn is_done_behind_list(alloc: Global, list: u32, quiet: &str) -> Result<bool, Fail> {
-    let report = report_up_to_the_end(alloc, list, quiet)?;
+fn is_done_behind_list(alloc: Global, list: u32, settings: Settings) -> Result<bool, Fail> {
+    let report = report_up_to_the_end(alloc, list, settings)?;
     let is_done = is_done(report.caller()) && is_done(report.called());
     drop(report);
     Ok(is_done)
@@ -347,11 +383,11 @@ fn is_done_behind_list(alloc: Global, list: u32, quiet: &str) -> Result<bool, Fa
 
 /// Goes on from the list of this number on a line that is clean, where both ends talk. Whether they do.
 fn finishes_list(rt: &(impl Abort + AllocGlobal), list: u32) -> Result<bool, Fail> {
-    let quiet = quiet_in_list(list);
-    if !may_finish_list(rt.alloc(), list, quiet)? {
+    let settings = Settings::of_list(list);
+    if !may_finish_list(rt.alloc(), list, settings)? {
         return Ok(false);
     }
-    let is_done = is_done_behind_list(rt.alloc(), list, quiet)?;
+    let is_done = is_done_behind_list(rt.alloc(), list, settings)?;
     assert_so_at(rt, is_done, list);
     Ok(true)
 }
