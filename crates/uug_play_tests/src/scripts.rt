@@ -172,7 +172,7 @@ fn reads_verdicts_and_numbers_anywhere(rt: HostRuntime) -> Result<(), Fail> {
 
 #[test]
 fn answers_the_line_behind_the_last(rt: HostRuntime) {
-    let texts: [(&[u8], usize); 10] = [
+    let texts: [(&[u8], usize); 11] = [
         (b"", 1),
         (b"\n", 2),
         (b"# no end", 2),
