@@ -119,11 +119,20 @@ const SHORT_LINES: [&str; 4] = [
     "short caller\nshort called\n",
 ];
 
+/// The lines that make neither end lenient, the caller, the called end, and both.
+const LENIENT_LINES: [&str; 4] = [
+    "",
+    "lenient caller\n",
+    "lenient called\n",
+    "lenient caller\nlenient called\n",
+];
+
 /// The lines that say how the ends are set.
 #[derive(Clone, Copy, Debug)]
 struct Settings {
     quiet: &'static str,
     short: &'static str,
+    lenient: &'static str,
 }
 
 impl Settings {
@@ -132,6 +141,7 @@ impl Settings {
         Settings {
             quiet: QUIET_LINES[list as usize / 5 % 4],
             short: SHORT_LINES[list as usize / 20 % 4],
+            lenient: LENIENT_LINES[(list as usize + list as usize / 4) % 4],
         }
     }
 
@@ -140,6 +150,7 @@ impl Settings {
         Settings {
             quiet: "",
             short: SHORT_LINES[list as usize / 20 % 4],
+            lenient: LENIENT_LINES[(list as usize + list as usize / 4) % 4],
         }
     }
 }
@@ -153,9 +164,13 @@ fn report_with(
 ) -> Result<Report<Global>, Fail> {
     let (caller, called) = windows_of_list(list as usize);
     let (small, large) = (SIZES[list as usize % 2], SIZES[list as usize / 2 % 2]);
-    let Settings { quiet, short } = settings;
+    let Settings {
+        quiet,
+        short,
+        lenient,
+    } = settings;
     let text = format!(in alloc;
-        "caller a {caller} {small}\ncalled b {called} {large}\n{quiet}{short}{JOBS}"
+        "caller a {caller} {small}\ncalled b {called} {large}\n{quiet}{short}{lenient}{JOBS}"
     )?;
     report_of(alloc, text.as_str(), events)
 }
