@@ -5,6 +5,7 @@ ghost use Rattle.uug_pair.specs.Sending.{IsLockFault};
 use crate::part_path::PART_FRONT;
 use std::alloc::{AllocError, Allocator};
 use std::fs::{File, TryLockError};
+use std::io::ErrorKind;
 use std::rt::Files;
 use std::{fs, io};
 use uug_tool::ToolFault;
@@ -25,10 +26,10 @@ pub fn lock_dir<A: Allocator + Copy, R: Files<File = File> + Alloc + Clone + Dro
 ) -> Result<DirLock, ToolFault>
     ensures no_other { IfErr result IsLockFault }
 {
-    let lock = match File::open(rt, dir) {
-        Ok(file) => DirLock { file },
-        Err(_) => return Err(ToolFault::Device),
+    let Ok(file) = open_dir(rt, dir) else {
+        return Err(ToolFault::Device);
     };
+    let lock = DirLock { file };
     match lock.file.try_lock() {
         Ok(()) => (),
         Err(TryLockError::WouldBlock) => return Err(ToolFault::InUse(number)),
@@ -36,6 +37,15 @@ pub fn lock_dir<A: Allocator + Copy, R: Files<File = File> + Alloc + Clone + Dro
     }
     clear_dir(alloc, rt, dir)?;
     Ok(lock)
+}
+
+/// Opens a folder. A pipe, which would wait for a writer, is not opened.
+fn open_dir<R: Files>(rt: &R, dir: &str) -> io::Result<R::File> {
+    if fs::metadata(rt, dir)?.is_dir() {
+        File::open(rt, dir)
+    } else {
+        Err(io::Error::from(ErrorKind::NotADirectory))
+    }
 }
 
 /// Removes what is left of files that were not whole, in `dir` and in `got` below it. What can't be removed is in nobody's
