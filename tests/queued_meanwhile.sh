@@ -46,23 +46,23 @@ feed() {
     done
 }
 
-# One session of each kind over `a` and `b`, in which `a` is the end that has the jobs.
-session_call() {
+# meet NAME DIR OTHER DIR: the end of this name answers over its folder, and the other one calls.
+meet() {
     local status=0
-    "$program" answer "unix:$work/line" "$b" --me b --peer a >"$work/answer.out" 2>"$work/answer.err" &
+    "$program" answer "unix:$work/line" "$2" --me "$1" --peer "$3" >"$work/answer.out" 2>"$work/answer.err" &
     wait_for_line
-    "$program" call "unix:$work/line" "$a" --me a --peer b >"$work/call.out" 2>"$work/call.err" || status=$?
+    "$program" call "unix:$work/line" "$4" --me "$3" --peer "$1" >"$work/call.out" 2>"$work/call.err" || status=$?
     wait $! || status=$?
     return $status
 }
 
+# One session of each kind over `a` and `b`, in which `a` is the end that has the jobs.
+session_call() {
+    meet b "$b" a "$a"
+}
+
 session_answer() {
-    local status=0
-    "$program" answer "unix:$work/line" "$a" --me a --peer b >"$work/answer.out" 2>"$work/answer.err" &
-    wait_for_line
-    "$program" call "unix:$work/line" "$b" --me b --peer a >"$work/call.out" 2>"$work/call.err" || status=$?
-    wait $! || status=$?
-    return $status
+    meet a "$a" b "$b"
 }
 
 session_pair() {
