@@ -15,7 +15,7 @@ use Rattle.uug_remark.specs.Remarks.{remark_text, wrong_at}
 use Rattle.uucpair.specs.declared.command_line.Task.{Task}
 use Rattle.uucpair.specs.declared.command_line.Task.TheVariants.{Version, Scan, ScanVerbose, Play, PlayVerbose, PlaySettled, PlayDrawn, Pair, Call}
 use Rattle.uucpair.specs.declared.stop.Stop.{Stop}
-use Rattle.uucpair.specs.declared.stop.Stop.TheVariants.{Fault, Remarked, File, CommandLine}
+use Rattle.uucpair.specs.declared.stop.Stop.TheVariants.{Fault, Remarked, File, InUse, CommandLine}
 use Rattle.uucpair.specs.Stop.{EndsSo}
 
 abbrev pub version_line : List ℕ
@@ -138,6 +138,7 @@ IsNoTask (CommandLine error) = ⊤
 IsNoTask (Fault fault) = fault ≡ faults.Memory
 IsNoTask (Remarked fault remark) = ⊥
 IsNoTask (File name) = ⊥
+IsNoTask (InUse name) = ⊥
 
 -- there was no task, and nothing was read or written
 pub record HasNoTask (s : Streams) (ends : Result ℕ Stop) : Type 0 where
