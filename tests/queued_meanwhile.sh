@@ -79,22 +79,19 @@ wait_for_line() {
     exit 1
 }
 
-# try KIND: sessions until no more jobs come, and then what has come of them.
+# try KIND: sessions until no more jobs come and none is left, and then what has come of them.
 try() {
-    local feeder sessions=0 i missing=0
+    local feeder sessions=0 behind=0 i missing=0
     new_folders "$1"
     feed "$a" &
     feeder=$!
-    while true; do
-        local is_last=0
-        kill -0 "$feeder" 2>/dev/null || is_last=1
+    while [ "$behind" -eq 0 ] || { [ -s "$a/jobs" ] && [ "$behind" -lt 50 ]; }; do
+        kill -0 "$feeder" 2>/dev/null || behind=$((behind + 1))
         session_"$1" || {
             echo "queued_meanwhile.sh: a session failed; see $work" >&2
             exit 1
         }
         sessions=$((sessions + 1))
-        [ "$is_last" -eq 0 ] || [ -s "$a/jobs" ] || break
-        [ "$sessions" -lt 200 ] || break
     done
     wait "$feeder" || true
     for ((i = 0; i < count; i++)); do
