@@ -1,12 +1,12 @@
 -- What the program does for each task: its answer, what it read, and what it wrote (this project's profile).
 use Rattle.std.specs.Io.KnownBytes.{Keeps}
 use Rattle.std.specs.Prelude.{◌≡◌, ◌≤◌, ◌⊎◌, ℕ, List, Option, Some, None, Result, Err, IfOk, IfErr, OnOk, IfSome, codes, ⊤}
-use Rattle.uug_tool.specs.Listing.{ended}
-use Rattle.uug_tool.specs.Scan.{AppendsListing, IsScanFault}
-use Rattle.uug_tool.specs.Streams.{Appends, ReadsAll}
-use Rattle.uug_tool.specs.declared.fault.ToolFault.{ToolFault}
-use Rattle.uug_tool.specs.declared.fault.ToolFault.TheVariants as faults
-use Rattle.uug_detail.specs.Detailed.{AppendsDetailed}
+use Rattle.uug_scan.specs.Listing.{ended}
+use Rattle.uug_scan.specs.Scan.{AppendsListing, IsScanFault}
+use Rattle.uug_stream.specs.Streams.{Appends, ReadsAll}
+use Rattle.uug_stream.specs.declared.fault.ToolFault.{ToolFault}
+use Rattle.uug_stream.specs.declared.fault.ToolFault.TheVariants as faults
+use Rattle.uug_scan.specs.Detailed.{AppendsDetailed}
 use Rattle.uug_play.specs.Played.{AppendsReport, AppendsVerbosely, BeforeReport, IsFirstBad, IsPlayFault, OnceRead}
 use Rattle.uug_play.specs.Settled.{AppendsSettled}
 use Rattle.uug_ladder.specs.declared.play.Drawn.{Drawn}

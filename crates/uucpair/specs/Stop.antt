@@ -1,8 +1,8 @@
 -- How the program ends (this project's profile).
 use Rattle.std.specs.Prelude.{◌≡◌, ◌==◌, ℕ, List, codes, if◌then◌else◌, None, Some, Result, Ok, Err, IsErrAnd, string_bytes}
-use Rattle.uug_tool.specs.Fault.{status_of}
-use Rattle.uug_tool.specs.declared.fault.ToolFault.{ToolFault}
-use Rattle.uug_tool.specs.declared.fault.ToolFault.TheVariants.{InUse, Memory, Read, Script, Usage}
+use Rattle.uug_stream.specs.Fault.{status_of}
+use Rattle.uug_stream.specs.declared.fault.ToolFault.{ToolFault}
+use Rattle.uug_stream.specs.declared.fault.ToolFault.TheVariants.{InUse, Memory, Read, Script, Usage}
 use Rattle.uucpair.specs.declared.command_line.Task.{Task}
 use Rattle.uucpair.specs.declared.command_line.Task.TheVariants.{Scan, ScanVerbose, Play, PlayVerbose, PlaySettled, PlayDrawn, Pair, Call}
 use Rattle.uucpair.specs.declared.stop.Stop.{Stop}

@@ -3,9 +3,9 @@ use clap::error::ErrorKind;
 use clap::{Arg, ArgAction, ArgMatches, Command, Error, value_parser};
 use std::alloc::{AllocError, Global};
 use std::convert::AsStr;
-use uug_call::CallTask;
 use uug_ladder::Drawn;
 use uug_line::Side;
+use uug_sys::CallTask;
 
 /// The window, the packet size and the seconds of an end that is told none.
 const WINDOW: &str = "7";

@@ -1,11 +1,11 @@
 //! What the program does, from its command line to its status.
 ghost use Rattle.std.specs.Prelude.{◌≡◌, IfErr, IfOk, MatchResult, OnOk, string_bytes};
-ghost use Rattle.uug_tool.specs.declared.fault.ToolFault.TheVariants.{Read as read};
+ghost use Rattle.uug_stream.specs.declared.fault.ToolFault.TheVariants.{Read as read};
 ghost use Rattle.std.specs.Io.KnownBytes.{Keeps};
 ghost use Rattle.uug_ladder.specs.Played.{BeforeWriting, IsDrawingFault};
 ghost use Rattle.uug_play.specs.Played.{BeforeReport, IsPlayFault};
-ghost use Rattle.uug_tool.specs.Scan.{IsScanFault};
-ghost use Rattle.uug_tool.specs.Streams.{Appends};
+ghost use Rattle.uug_scan.specs.Scan.{IsScanFault};
+ghost use Rattle.uug_stream.specs.Streams.{Appends};
 ghost use Rattle.uucpair.specs.Performed.{Does, Performs, Scans, ScansVerbose, streams, version_line};
 ghost use Rattle.uucpair.specs.Stop.{EndsSo, NamesFile, NamesFolder, SaysTooMuch, StopsAs, StopsOnDrawing, StopsOnDrawingFile, StopsOnFile, StopsOnFolders, StopsOnScript, StopsOnScriptFile, status_of_stop};
 
@@ -20,13 +20,12 @@ use std::net::Net;
 use std::rt::{Env, Files};
 use std::time::Clock;
 use std::{env, io};
-use uug_call::{SystemWatcher, call_run};
-use uug_detail::scan_detailed;
 use uug_ladder::{Drawn, play_ladder};
-use uug_pair::pair_run;
 use uug_play::{play_settled, play_stream};
 use uug_remark::play_remarked;
-use uug_tool::{Output, ToolFault, scan_stream, write_all};
+use uug_scan::{READ_LIMIT, scan_detailed, scan_stream};
+use uug_stream::{Output, ToolFault, write_all};
+use uug_sys::{SystemObserver, call_run, pair_run};
 
 /// What is remarked of a script that is too much for a ladder.
 const TOO_MUCH: &str = "a ladder has at most 1000 events, and a picture 1000000 rungs";
@@ -54,7 +53,7 @@ fn show_version<O: Output>(alloc: Global, output: &mut O) -> Result<u8, ToolFaul
 /// Lists the input.
 fn scan<I, O>(alloc: Global, input: &mut I, output: &mut O) -> Result<u8, ToolFault>
 where
-    I: uug_tool::Input,
+    I: uug_stream::Input,
     O: Output,
     ensures scans { Scans (streams (I.to_come input.old) (I.to_come input.new)
         (O.written output.old) (O.written output.new)) result }
@@ -67,13 +66,13 @@ where
 /// Lists the input in detail.
 fn scan_verbose<I, O>(alloc: Global, input: &mut I, output: &mut O) -> Result<u8, ToolFault>
 where
-    I: uug_tool::Input,
+    I: uug_stream::Input,
     O: Output,
     ensures scans { ScansVerbose (streams (I.to_come input.old) (I.to_come input.new)
         (O.written output.old) (O.written output.new)) result }
     ensures no_other { IfErr result IsScanFault }
 {
-    scan_detailed(alloc, input, output)?;
+    scan_detailed(alloc, input, output, READ_LIMIT)?;
     Ok(0)
 }
 
@@ -314,7 +313,7 @@ fn do_task<R, I, O>(
 ) -> Result<u8, ToolFault>
 where
     R: Files<File = File> + Net + AllocGlobal + Eprint + Clock + Clone + Drop,
-    I: uug_tool::Input,
+    I: uug_stream::Input,
     O: Output,
     ensures { Does task.entry (streams (I.to_come input.old) (I.to_come input.new)
         (O.written output.old) (O.written output.new)) (string_bytes remark.new) result }
@@ -345,8 +344,8 @@ where
             output,
         ),
         Task::Call(call) => {
-            let mut watcher = SystemWatcher::new(alloc, rt, &call, terminals.errors)?;
-            call_run(alloc, rt, &call, &mut watcher, output)
+            let observer = SystemObserver::new(alloc, rt, &call, terminals.errors)?;
+            call_run(alloc, rt, &call, observer, output)
         }
     }
 }
@@ -386,7 +385,7 @@ pub fn perform<R, S, I, O>(
 where
     R: Files<File = File> + Net + Eprint + Clock + AllocGlobal + Clone + Drop,
     S: AsStr,
-    I: uug_tool::Input,
+    I: uug_stream::Input,
     O: Output,
     ensures { Performs (streams (I.to_come input.old) (I.to_come input.new)
         (O.written output.old) (O.written output.new)) result }

@@ -6,7 +6,7 @@ ghost use Rattle.uucpair.specs.declared.stop.Stop.TheVariants.{Fault as stop_for
 use clap::error::ErrorKind;
 use std::alloc::AllocError;
 use thiserror::Error;
-use uug_tool::ToolFault;
+use uug_stream::ToolFault;
 
 /// Why the program ends before its task is done. Its text is what the program says on standard error.
 #[derive(Debug, Drop, Error)]

@@ -4,7 +4,7 @@
 ghost use Rattle.std.specs.Prelude.{◌≡◌};
 
 use std::io::Read;
-use uug_tool::{Input, ReadFailed};
+use uug_stream::{Input, ReadFailed};
 
 /// A reader of the system as an input.
 #[derive(Drop)]

@@ -4,7 +4,7 @@
 ghost use Rattle.std.specs.Prelude.{◌≡◌};
 
 use std::io::Write;
-use uug_tool::{Output, WriteFailed};
+use uug_stream::{Output, WriteFailed};
 
 /// A writer of the system as an output.
 #[derive(Drop)]

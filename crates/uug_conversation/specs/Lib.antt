@@ -4,6 +4,8 @@ pub mod Choice
 pub mod Code
 pub mod Conversation
 pub mod Count
+pub mod DialogueState
+pub mod DialogueValue
 pub mod EarlierJobs
 pub mod Entries
 pub mod Exchange
@@ -24,7 +26,6 @@ pub mod Reactions
 pub mod ReadBack
 pub mod Runs
 pub mod Sharing
-pub mod DialogueState
-pub mod DialogueValue
+pub mod Sides
 pub mod Turns
 pub mod View

@@ -1,16 +1,19 @@
 -- What is written of a script that is played and drawn.
-use Rattle.std.proofs.Common.{◌≡◌, ℕ, List, [], ◌++◌, Result, Ok, Err, IfErr, IsErrAnd, ap, sym, subst, ◌∙◌}
+use Rattle.std.proofs.Common.{◌≡◌, ℕ, List, [], ◌++◌, Option, Some, None, IfSome, Result, Ok, Err, IfErr, IsErrAnd, ap, sym, subst, inr, ◌∙◌}
 use Rattle.uug_play.specs.Played.{IsPlayed, result_said}
+use Rattle.uug_play.specs.Whole.{BringsAll}
 use Rattle.uug_script.proofs.ScriptTableLemmas.{script_is_read}
 use Rattle.uug_script.specs.ReportText.{report_text}
 use Rattle.uug_script.specs.ScriptOf.{script_of}
-use Rattle.uug_tool.specs.declared.fault.ToolFault.{ToolFault}
-use Rattle.uug_tool.specs.declared.fault.ToolFault.TheVariants as faults
+use Rattle.uug_stream.specs.Streams.{AppendsFront}
+use Rattle.uug_stream.specs.declared.fault.ToolFault.{ToolFault}
+use Rattle.uug_stream.specs.declared.fault.ToolFault.TheVariants as faults
+use Rattle.uug_ladder.specs.declared.play.Drawn.{Drawn}
 use Rattle.uug_ladder.specs.declared.play.Drawn.TheVariants.{AsText, AsPicture}
 use Rattle.uug_ladder.specs.Fronts.{IsLadderOf, ladder_said}
 use Rattle.uug_ladder.specs.LadderText.{ladder_text}
 use Rattle.uug_ladder.specs.Picture.{picture}
-use Rattle.uug_ladder.specs.Played.{IsShowingFault, IsShown}
+use Rattle.uug_ladder.specs.Played.{BeginsShown, IsShowingFault, IsShown, RunsOutShowing}
 use Rattle.uug_ladder.specs.Rungs.{LadderValue}
 use Rattle.uug_ladder.proofs.FrontLemmas.{one_saying}
 
@@ -39,6 +42,20 @@ picture_shown script text before all status ladder played is none a = record {
   text_is = a ∙ ap (λ t. t ++ picture ladder) none ∙ ap picture (same_ladder script text status ladder played is);
   status_is = played.status_is;
 }
+
+-- ---- what was written when writing gave up
+
+pub begins_shown : (how : Drawn) (bytes text : List ℕ) (status : ℕ) (first left before after : Option (List ℕ)) → BringsAll bytes first left →
+    IsShown how bytes text status → AppendsFront text before after → IfSome first (λ script. BeginsShown how script before after)
+begins_shown how bytes text status None left before after h shown front = tt
+begins_shown how bytes text status (Some all) left before after h shown front =
+    (text, status, subst (λ b. IsShown how b text status) (sym h.0) shown, front)
+
+pub runs_out_showing : (how : Drawn) (bytes text : List ℕ) (status : ℕ) (first left before after : Option (List ℕ)) → BringsAll bytes first left →
+    IsShown how bytes text status → AppendsFront text before after → RunsOutShowing how first left before after
+runs_out_showing how bytes text status None left before after h shown front = tt
+runs_out_showing how bytes text status (Some all) left before after h shown front =
+    inr (h.1, begins_shown how bytes text status (Some all) left before after h shown front)
 
 -- ---- a fault that is handed on by `?`
 

@@ -8,7 +8,7 @@ use Rattle.uug_link.specs.Entries.{EntryValue, text, packet}
 use Rattle.uug_packet.specs.Decoded.{decoded}
 use Rattle.uug_packet.specs.Packet.{PacketValue, control, carry}
 use Rattle.uug_packet.specs.declared.decoding.NoPacket.{NoPacket}
-use Rattle.uug_script.specs.ReportText.{phase_word}
+use Rattle.uug_session.specs.PhaseWords.{phase_word}
 use Rattle.uug_session.specs.declared.phase.Phase.{Phase}
 use Rattle.uug_session.specs.EndStep.{final_text}
 use Rattle.uug_session.specs.Phases.{is_done, is_over}

@@ -6,7 +6,7 @@ use Rattle.uug_conversation.specs.declared.side.Side.{Side}
 use Rattle.uug_conversation.specs.declared.side.Side.TheVariants.{Caller, Called}
 use Rattle.uug_line.specs.declared.verdict.LineVerdict.{LineVerdict}
 use Rattle.uug_line.specs.declared.verdict.LineVerdict.TheVariants.{Clean, Fooled}
-use Rattle.uug_line.specs.Sides.{AtBoth}
+use Rattle.uug_conversation.specs.Sides.{AtBoth}
 use Rattle.uug_line.specs.Told.{SpelledEnd, SpelledReport}
 use Rattle.uug_session.specs.declared.phase.Phase.{Phase}
 use Rattle.uug_session.specs.declared.phase.Phase.TheVariants.{Hail}

@@ -5,9 +5,9 @@ use Rattle.std.specs.Fmt.{decimal}
 use Rattle.uug_packet.specs.Decoded.{decoded}
 use Rattle.uug_packet.specs.Packet.{PacketValue, control, carry}
 use Rattle.uug_packet.specs.declared.decoding.NoPacket.{NoPacket}
-use Rattle.uug_script.specs.ReportText.{phase_word}
-use Rattle.uug_tool.specs.Listing.{control_text}
-use Rattle.uug_detail.specs.Detailed.{byte_words}
+use Rattle.uug_session.specs.PhaseWords.{phase_word}
+use Rattle.uug_scan.specs.Listing.{control_text}
+use Rattle.uug_scan.specs.Detailed.{byte_words}
 use Rattle.uug_ladder.specs.Rungs.{WhatValue, begins, says, sends, times_out, hangs_up, takes, stores, strikes, fails, comes}
 
 -- ---- a packet: its number, its acknowledgement, and how many bytes its message has

@@ -3,7 +3,7 @@ use Rattle.std.specs.Prelude.{◌-◌, List, length, slice_get, Option, Some, No
 use Rattle.uug_conversation.specs.declared.side.Side.{Side}
 use Rattle.uug_conversation.specs.declared.side.Side.TheVariants.{Caller, Called}
 use Rattle.uug_line.specs.Belongings.{Belongings}
-use Rattle.uug_line.specs.Sides.{AtBoth}
+use Rattle.uug_conversation.specs.Sides.{AtBoth}
 use Rattle.uug_line.specs.Told.{SpelledEnd, SpelledReport}
 use Rattle.uug_ladder.specs.declared.moment.Mark.{Mark}
 use Rattle.uug_ladder.specs.declared.moment.Moment.{Moment}

@@ -1,12 +1,13 @@
 -- What is written of a script that is played and drawn (this project's profile).
-use Rattle.std.specs.Prelude.{◌≡◌, ◌⊎◌, ℕ, ◌<◌, ⊤, List, ◌++◌, length, Option, Result, Err}
+use Rattle.std.specs.Io.KnownBytes.{Keeps}
+use Rattle.std.specs.Prelude.{◌≡◌, ◌⊎◌, ℕ, ◌<◌, ⊤, List, [], ◌++◌, length, Option, Some, IfSome, Result, Err}
 use Rattle.uug_play.specs.Played.{result_said}
 use Rattle.uug_script.specs.IsScript.{IsFirstBad, IsScript}
 use Rattle.uug_script.specs.ReportText.{report_text}
 use Rattle.uug_script.specs.Script.{ScriptSays}
-use Rattle.uug_tool.specs.Streams.{Appends}
-use Rattle.uug_tool.specs.declared.fault.ToolFault.{ToolFault}
-use Rattle.uug_tool.specs.declared.fault.ToolFault.TheVariants as tool_faults
+use Rattle.uug_stream.specs.Streams.{Appends, AppendsFront}
+use Rattle.uug_stream.specs.declared.fault.ToolFault.{ToolFault}
+use Rattle.uug_stream.specs.declared.fault.ToolFault.TheVariants as tool_faults
 use Rattle.uug_play.specs.Numbers.{status_of_result}
 use Rattle.uug_ladder.specs.declared.play.Drawn.{Drawn}
 use Rattle.uug_ladder.specs.declared.play.Drawn.TheVariants.{AsText, AsPicture}
@@ -30,6 +31,17 @@ pub record IsShown (how : Drawn) (script text : List ℕ) (status : ℕ) : Type 
 abbrev pub AppendsShown : Drawn → (script : List ℕ) → (status : ℕ) → Option (List ℕ) → Option (List ℕ) → Type 0
 AppendsShown how script status before after =
     (text : List ℕ) × IsShown how script text status × Appends text before after
+
+-- a front of it was appended, or none of it
+abbrev pub BeginsShown : Drawn → (script : List ℕ) → Option (List ℕ) → Option (List ℕ) → Type 0
+BeginsShown how script before after =
+    (text : List ℕ) × (status : ℕ) × IsShown how script text status × AppendsFront text before after
+
+-- Where memory ran out, nothing was written, or the whole script was read and this begun. The first two are the bytes to
+-- come before and after, the others what was written.
+abbrev pub RunsOutShowing : Drawn → (script left before after : Option (List ℕ)) → Type 0
+RunsOutShowing how script left before after =
+    IfSome script (λ bytes. Keeps before after ⊎ ((left ≡ Some []) × BeginsShown how bytes before after))
 
 -- the script has too many events, or its ladder too many rungs for a picture
 pub record HasManyRungs (script : List ℕ) : Type 0 where

@@ -15,8 +15,7 @@ use crate::way::{WayByte, add_bytes};
 use std::alloc::{AllocError, Allocator};
 use uug_line::{Event, Side};
 use uug_link::{Entry, Outbox};
-use uug_script::phase_word;
-use uug_session::Phase;
+use uug_session::{Phase, phase_word};
 
 /// An end sends something, which these are the bytes of.
 fn put<A: Allocator>(

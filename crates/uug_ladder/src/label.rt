@@ -6,9 +6,9 @@ ghost use Rattle.uug_ladder.specs.Rungs.{what_shown};
 
 use crate::rung::What;
 use std::alloc::{AllocError, Allocator};
-use uug_detail::{add_byte, add_control};
 use uug_packet::{Packet, decode};
-use uug_script::phase_word;
+use uug_scan::{add_byte, add_control};
+use uug_session::phase_word;
 
 fn add_data<A: Allocator>(
     text: &mut String<A>,

@@ -10,6 +10,7 @@ mod front;
 mod greeter;
 mod label;
 mod ladder;
+pub mod laws;
 mod moment;
 mod play;
 mod rung;

@@ -1,13 +1,14 @@
 //! A script played, with a picture of its sessions.
-ghost use Rattle.std.specs.Prelude.{◌≡◌, ℕ, ◌≤◌, IfErr, IfOk, IfSome, length, string_bytes};
+ghost use Rattle.std.specs.Prelude.{◌≡◌, ℕ, ◌<◌, ◌≤◌, ◌*◌, IfErr, IfOk, IfSome, OnOk, length, string_bytes};
 ghost use Rattle.std.specs.Io.KnownBytes.{Keeps};
 ghost use Rattle.uug_script.specs.IsScript.{IsFirstBad};
 ghost use Rattle.uug_play.specs.Played.{OnceRead};
-ghost use Rattle.uug_tool.specs.Streams.{ReadsAll};
+ghost use Rattle.uug_stream.specs.Fault.{UnlessRead, UnlessWrite};
+ghost use Rattle.uug_stream.specs.Streams.{CountsFault, ReadsAll};
 ghost use Rattle.uug_ladder.specs.Fronts.{IsLadderOf};
 ghost use Rattle.uug_ladder.specs.LadderText.{ladder_text};
 ghost use Rattle.uug_ladder.specs.Picture.{picture};
-ghost use Rattle.uug_ladder.specs.Played.{AppendsShown, BeforeWriting, IsDrawingFault, IsShowingFault, IsShown, IsTooMuch};
+ghost use Rattle.uug_ladder.specs.Played.{AppendsShown, BeforeWriting, BeginsShown, IsDrawingFault, IsShowingFault, IsShown, IsTooMuch, RunsOutShowing};
 ghost use Rattle.uug_ladder.specs.Rungs.{ladder_shown};
 
 use crate::fault::LadderFault;
@@ -17,7 +18,8 @@ use crate::svg::{ROWS_MAX, add_svg};
 use crate::text::add_ladder;
 use std::alloc::Allocator;
 use uug_play::{Played, play_script, read_whole};
-use uug_tool::{Input, Output, READ_LIMIT, ToolFault, write_all};
+use uug_scan::{PIECE_SIZE, READ_LIMIT};
+use uug_stream::{Input, Output, ToolFault, write_all};
 
 /// How a ladder is written.
 #[derive(Clone, Copy, Debug, PartialEq, Eq)]
@@ -82,7 +84,9 @@ fn show<A: Allocator + Copy>(alloc: A, script: &[u8], how: Drawn) -> Result<Play
 
 /// Reads the input to its end as a script, plays it, and writes the report and behind it the ladder, or the picture of the
 /// ladder alone. The answer is the program's status, as `play_stream` gives it. Nothing is written before all was played.
-/// A script with more than `EVENTS_MAX` events, or a picture of more than `ROWS_MAX` rungs, is answered by `Usage`.
+/// A script with more than `EVENTS_MAX` events, or a picture of more than `ROWS_MAX` rungs, is answered by `Usage`. Of two
+/// faults the one that the work meets first is answered; where a write failed, or memory ran out in writing, a front of
+/// what is shown was written.
 pub fn play_ladder<A: Allocator + Copy, I: Input, O: Output>(
     alloc: A,
     input: &mut I,
@@ -92,11 +96,27 @@ pub fn play_ladder<A: Allocator + Copy, I: Input, O: Output>(
     ensures whole { OnceRead result (ReadsAll (I.to_come input.old) (I.to_come input.new)) }
     ensures shown { IfOk result (λ status. IfSome (I.to_come input.old)
         (λ script. AppendsShown how script status (O.written output.old) (O.written output.new))) }
+    ensures within { OnOk result (IfSome (I.to_come input.old)
+        (λ script. length script < READ_LIMIT * PIECE_SIZE)) }
     ensures script { (line : ℕ) → result ≡ Err (ToolFault.Script line)
         → IfSome (I.to_come input.old) (λ script. IsFirstBad script line) }
     ensures much { result ≡ Err ToolFault.Usage → IfSome (I.to_come input.old) IsTooMuch }
     ensures nothing_written { BeforeWriting result
         (Keeps (O.written output.old) (O.written output.new)) }
+    ensures begun { result ≡ Err ToolFault.Write → IfSome (I.to_come input.old)
+        (λ script. BeginsShown how script (O.written output.old) (O.written output.new)) }
+    ensures memory { result ≡ Err ToolFault.Memory → RunsOutShowing how (I.to_come input.old)
+        (I.to_come input.new) (O.written output.old) (O.written output.new) }
+    ensures input_calm { UnlessRead result
+        (I.fault_count input.new ≡ I.fault_count input.old) }
+    ensures output_calm { UnlessWrite result
+        (O.fault_count output.new ≡ O.fault_count output.old) }
+    ensures read { result ≡ Err ToolFault.Read
+        → CountsFault (I.fault_count input.old) (I.fault_count input.new) }
+    ensures write { result ≡ Err ToolFault.Write
+        → CountsFault (O.fault_count output.old) (O.fault_count output.new) }
+    ensures device { result ≡ Err ToolFault.Device
+        → IfSome (I.to_come input.old) (λ script. READ_LIMIT ≤ length script) }
     ensures no_other { IfErr result IsDrawingFault }
 {
     let script = read_whole(alloc, input, READ_LIMIT)?;

@@ -22,7 +22,7 @@ use Rattle.uug_line.specs.OfBytes.{AreOfBytes, IsOfBytes}
 use Rattle.uug_line.specs.Told.{EndReportValue}
 use Rattle.uug_line.specs.Run.{Run, after_event, after_hearing, calls, calls_again, end_at, first_end, first_run, flipped, goes_through, hears_next, participant, run_of, session_begins, unless_fooled, with_end_at, with_line_to}
 use Rattle.uug_line.specs.RunKeeper.{RunKeeper}
-use Rattle.uug_line.specs.Sides.{AtBoth, at}
+use Rattle.uug_conversation.specs.Sides.{AtBoth, at}
 use Rattle.uug_line.specs.Taking.{line_taker, packet_taken_up, takes_sent}
 use Rattle.uug_line.proofs.SideLemmas.{with_here}
 use Rattle.uug_line.proofs.ByteLemmas.{AllBytes, IsByte, are_bytes}

@@ -17,7 +17,7 @@ use Rattle.uug_conversation.specs.declared.side.Side.{Side}
 use Rattle.uug_line.specs.Belongings.{SetupValue}
 use Rattle.uug_line.specs.LineEndState.{messages_sent, packets_in}
 use Rattle.uug_line.specs.LinkRun.{LinksRan, places_heard}
-use Rattle.uug_line.specs.Sides.{at}
+use Rattle.uug_conversation.specs.Sides.{at}
 use Rattle.uug_line.proofs.World.Invariant.{answer_to, heard_with, moved}
 use Rattle.uug_line.proofs.World.Joining.{IsOpened, LinksOf, Moment, link_end}
 use Rattle.uug_line.proofs.LinkRunLemmas.{arrival_heard, is_run, ran_on}

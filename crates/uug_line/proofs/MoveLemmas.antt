@@ -23,7 +23,7 @@ use Rattle.uug_conversation.specs.View.{own_messages}
 use Rattle.uug_conversation.specs.declared.side.Side.{Side}
 use Rattle.uug_line.specs.Belongings.{Belongings, SetupValue, party}
 use Rattle.uug_line.specs.LineEndState.{messages_sent}
-use Rattle.uug_line.specs.Sides.{AtBoth, at}
+use Rattle.uug_conversation.specs.Sides.{AtBoth, at}
 use Rattle.uug_line.proofs.AnswerLemmas.{taken_message}
 use Rattle.uug_line.proofs.World.Invariant.{answer_to, heard_by, heard_with, moved}
 use Rattle.uug_line.proofs.World.Joining.{IsSoundSession, IsTalk, Joined, LinksOf, Moment, link_end}

@@ -21,7 +21,7 @@ use Rattle.uug_line.specs.PastSessions.{DidTheSame, WasPresent}
 use Rattle.uug_line.specs.Report.{report_of_end}
 use Rattle.uug_line.specs.Run.{Run, end_at, participant, first_run, flipped, with_line_to, hears_next, after_hearing, hung_up, after_event, unless_fooled, goes_through, run_of}
 use Rattle.uug_line.specs.RunKeeper.{RunKeeper, by_themselves}
-use Rattle.uug_line.specs.Sides.{AtBoth, at, at_each}
+use Rattle.uug_conversation.specs.Sides.{AtBoth, at, at_each}
 use Rattle.uug_line.specs.Told.{EndReportValue}
 use Rattle.uug_line.specs.World.{run_of_ends}
 

@@ -29,7 +29,7 @@ use Rattle.uug_line.specs.Settle.{EndMaySettle, MaySettle, Round, events_of, lat
 use Rattle.uug_line.specs.Settled.{AreDone, CanSettle, EndCanSettle, SettlesInto}
 use Rattle.uug_line.specs.Code.Settling.{IsFinished, MayFinish}
 use Rattle.uug_line.specs.Shown.{end_shown, session_shown}
-use Rattle.uug_line.specs.Sides.{AtBoth, at}
+use Rattle.uug_conversation.specs.Sides.{AtBoth, at}
 use Rattle.uug_line.specs.Spelled.{spelled}
 use Rattle.uug_line.specs.StillHeld.{HoldWhatIsLeft}
 use Rattle.uug_line.specs.Told.{EndNow, SpelledEnd, SpelledReport}

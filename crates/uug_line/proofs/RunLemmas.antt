@@ -31,7 +31,7 @@ use Rattle.uug_line.specs.Run.{Run, flipped, after_event, after_hearing, calls, 
 use Rattle.uug_line.specs.RunKeeper.{by_themselves}
 use Rattle.uug_line.specs.RunValue.{CallsAgain, ChangesLine, EndsAs, Happens, HappensAt, IsEnd, IsLastEnd, IsSteadyEnd, IsSteady, Passes, RunValue, StandsAs, hearing_side, held_parts, owned_parts, parts_now, standing_at, told_in_all, with_line}
 use Rattle.uug_line.specs.Shown.{end_shown, session_shown}
-use Rattle.uug_line.specs.Sides.{AtBoth, at, at_each}
+use Rattle.uug_conversation.specs.Sides.{AtBoth, at, at_each}
 use Rattle.uug_line.specs.Spelled.{GiveAsSetUp, spelled, spelled_end, spelled_session}
 use Rattle.uug_line.specs.StillHeld.{HoldWhatIsLeft}
 use Rattle.uug_line.specs.Taking.{line_taker}

@@ -16,7 +16,7 @@ use Rattle.uug_line.specs.Belongings.{Belongings, SetupValue, identity, party}
 use Rattle.uug_line.specs.LineEndState.{LineEndState}
 use Rattle.uug_line.specs.Run.{first_end, parties}
 use Rattle.uug_line.specs.RunKeeper.{by_numbers, by_themselves, has_by, view_at}
-use Rattle.uug_line.specs.Sides.{AtBoth, at}
+use Rattle.uug_conversation.specs.Sides.{AtBoth, at}
 use Rattle.uug_line.specs.LinkRun.{LinksRan}
 use Rattle.uug_line.specs.World.{count_of, counted_end}
 use Rattle.uug_line.proofs.World.Joining.{EndsJoined, Hails, IsSoundSession, IsTalk, Joined, Moment, Spoken, link_end, moment_of}

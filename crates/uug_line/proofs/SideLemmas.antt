@@ -6,7 +6,7 @@ use Rattle.uug_conversation.specs.declared.side.Side.TheVariants.{Caller, Called
 use Rattle.uug_conversation.specs.DialogueState.{DialogueState}
 use Rattle.uug_line.specs.Run.{Run, end_at}
 use Rattle.uug_line.specs.World.{counted, counted_hearer}
-use Rattle.uug_line.specs.Sides.{AtBoth, at, at_each, with_at}
+use Rattle.uug_conversation.specs.Sides.{AtBoth, at, at_each, with_at}
 
 pub each : (P : Side → Type 0) → P Caller → P Called → (side : Side) → P side
 each P caller called Caller = caller

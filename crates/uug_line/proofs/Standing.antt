@@ -26,7 +26,7 @@ use Rattle.uug_line.specs.LinkRun.{LinksRan, after_all}
 use Rattle.uug_line.specs.Report.{end_now, report_of_end}
 use Rattle.uug_line.specs.Run.{Run, end_at, with_end_at, has_now, first_end, session_begins, flipped, with_line_to, after_hearing, calls, hears_next, hung_up, calls_again, participant, after_event, unless_fooled, goes_through, first_run}
 use Rattle.uug_line.specs.RunKeeper.{by_themselves, by_numbers}
-use Rattle.uug_line.specs.Sides.{AtBoth, at, at_each, with_at}
+use Rattle.uug_conversation.specs.Sides.{AtBoth, at, at_each, with_at}
 use Rattle.uug_line.specs.SoundSetup.{IsSoundSetup}
 use Rattle.uug_line.specs.Speaking.{HaveSpoken}
 use Rattle.uug_line.specs.Taking.{line_taker}

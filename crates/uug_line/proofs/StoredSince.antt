@@ -19,7 +19,7 @@ use Rattle.uug_line.specs.Headline.{since}
 use Rattle.uug_line.specs.LineEndState.{LineEndState}
 use Rattle.uug_line.specs.Run.{parties}
 use Rattle.uug_line.specs.RunKeeper.{by_themselves, has_by, view_at}
-use Rattle.uug_line.specs.Sides.{AtBoth, at, at_each}
+use Rattle.uug_conversation.specs.Sides.{AtBoth, at, at_each}
 use Rattle.uug_line.proofs.World.Joining.{IsTalk, EndsJoined, IsSoundSession}
 use Rattle.uug_line.proofs.SideLemmas.{at_each_is}
 use Rattle.uug_line.proofs.World.Steps.{Steps}

@@ -4,7 +4,7 @@ use Rattle.uug_conversation.specs.declared.side.Side.{Side}
 use Rattle.uug_conversation.specs.declared.side.Side.TheVariants.{Caller, Called}
 use Rattle.uug_line.specs.Belongings.{SetupValue}
 use Rattle.uug_line.specs.Headline.{AllKeptToWindows, AllTookFronts, KeptToWindows, StaysInFront, TookFronts}
-use Rattle.uug_line.specs.Sides.{AtBoth}
+use Rattle.uug_conversation.specs.Sides.{AtBoth}
 use Rattle.uug_line.specs.Spelled.{spelled, spelled_session}
 use Rattle.uug_line.specs.Told.{EndReportValue, ReportValue, SpelledEnd}
 

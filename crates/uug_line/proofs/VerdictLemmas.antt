@@ -27,7 +27,7 @@ use Rattle.uug_line.specs.LineEndState.{LineEndState, Participant, does, called_
 use Rattle.uug_line.specs.Report.{report_of_end}
 use Rattle.uug_line.specs.Run.{Run, end_at, participant, has_now, first_end, first_run, session_begins, flipped, with_end_at, with_line_to, hears_next, after_hearing, calls, hung_up, calls_again, after_event, unless_fooled, goes_through, run_of}
 use Rattle.uug_line.specs.RunKeeper.{RunKeeper}
-use Rattle.uug_line.specs.Sides.{AtBoth, at, at_each}
+use Rattle.uug_conversation.specs.Sides.{AtBoth, at, at_each}
 use Rattle.uug_line.specs.World.{report_of}
 use Rattle.uug_line.specs.Told.{EndReportValue}
 use Rattle.uug_line.proofs.FoundLemmas.{BothFound, IsUnsent, CameSo, does_found, came_piece}

@@ -8,7 +8,7 @@ use Rattle.uug_conversation.specs.Holdings.{Kept, Holdings}
 use Rattle.uug_conversation.specs.Jobs.{Lists, at_start, pending}
 use Rattle.uug_conversation.specs.Party.{Party}
 use Rattle.uug_conversation.specs.declared.side.Side.{Side}
-use Rattle.uug_line.specs.Sides.{AtBoth, at}
+use Rattle.uug_conversation.specs.Sides.{AtBoth, at}
 
 -- an end's jobs, all that its spool has kept, and the number of its conversations, where it keeps one
 pub record Belongings : Type 0 where

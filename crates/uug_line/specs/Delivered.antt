@@ -22,7 +22,7 @@ use Rattle.uug_line.specs.Belongings.{SetupValue}
 use Rattle.uug_line.specs.LineEndState.{Participant}
 use Rattle.uug_line.specs.Run.{Run, end_at, after_event, first_run, participant}
 use Rattle.uug_line.specs.RunKeeper.{RunKeeper}
-use Rattle.uug_line.specs.Sides.{AtBoth, at, with_at}
+use Rattle.uug_conversation.specs.Sides.{AtBoth, at, with_at}
 use Rattle.uug_line.specs.WereSent.{HavePlaces}
 
 -- ---- the bytes that came

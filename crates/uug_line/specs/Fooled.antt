@@ -15,7 +15,7 @@ use Rattle.uug_line.specs.LineEndState.{LineEndState}
 use Rattle.uug_line.specs.Report.{report_of_end}
 use Rattle.uug_line.specs.Run.{Run, end_at, run_of}
 use Rattle.uug_line.specs.RunKeeper.{RunKeeper, by_themselves}
-use Rattle.uug_line.specs.Sides.{AtBoth, at, at_each}
+use Rattle.uug_conversation.specs.Sides.{AtBoth, at, at_each}
 use Rattle.uug_line.specs.WereSent.{HavePlaces, WereSent}
 use Rattle.uug_line.specs.World.{run_of_ends}
 use Rattle.uug_line.specs.Told.{EndReportValue}

@@ -8,7 +8,7 @@ use Rattle.uug_conversation.specs.Holdings.{Kept}
 use Rattle.uug_conversation.specs.OwnEntries.{HasOwnEntries}
 use Rattle.uug_conversation.specs.declared.side.Side.{Side}
 use Rattle.uug_line.specs.Belongings.{SetupValue}
-use Rattle.uug_line.specs.Sides.{AtBoth, at}
+use Rattle.uug_conversation.specs.Sides.{AtBoth, at}
 use Rattle.uug_line.specs.Told.{ToldEnd, ToldReport}
 
 -- ---- in a session

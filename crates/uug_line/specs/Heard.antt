@@ -5,7 +5,7 @@ use Rattle.uug_conversation.specs.declared.side.Side.{Side}
 use Rattle.uug_line.specs.Belongings.{SetupValue}
 use Rattle.uug_line.specs.Delivered.{HasHeardAt, HasScanned, came_in}
 use Rattle.uug_line.specs.RunKeeper.{by_themselves}
-use Rattle.uug_line.specs.Sides.{at}
+use Rattle.uug_conversation.specs.Sides.{at}
 use Rattle.uug_line.specs.World.{run_of_ends}
 
 -- of the bytes that have then come to it in the session

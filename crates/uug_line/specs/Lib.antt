@@ -18,7 +18,6 @@ pub mod Setup
 pub mod Settle
 pub mod Settled
 pub mod Shown
-pub mod Sides
 pub mod SoundSetup
 pub mod Spelled
 pub mod StillHeld

@@ -12,7 +12,7 @@ use Rattle.uug_line.specs.Belongings.{SetupValue}
 use Rattle.uug_line.specs.Fooled.{present}
 use Rattle.uug_line.specs.LinkRun.{LinksRan, after_all}
 use Rattle.uug_line.specs.Run.{Run, end_at}
-use Rattle.uug_line.specs.Sides.{AtBoth, at, at_each}
+use Rattle.uug_conversation.specs.Sides.{AtBoth, at, at_each}
 use Rattle.uug_line.specs.Told.{EndReportValue, ReportValue}
 use Rattle.uug_line.specs.WereSent.{passed_at}
 

@@ -6,7 +6,7 @@ use Rattle.uug_line.specs.Belongings.{SetupValue}
 use Rattle.uug_line.specs.OfBytes.{AreOfTypes}
 use Rattle.uug_line.specs.RunValue.{EndsAs, RunValue}
 use Rattle.uug_line.specs.Settle.{line_from}
-use Rattle.uug_line.specs.Sides.{at}
+use Rattle.uug_conversation.specs.Sides.{at}
 use Rattle.uug_line.specs.Spelled.{GiveAsSetUp, spelled}
 use Rattle.uug_line.specs.StillHeld.{HoldWhatIsLeft}
 use Rattle.uug_line.specs.WholeReport.{WholeReport, whole_report}

@@ -8,7 +8,7 @@ use Rattle.uug_line.specs.Fooled.{present}
 use Rattle.uug_line.specs.Report.{report_of_end}
 use Rattle.uug_line.specs.Run.{hung_up}
 use Rattle.uug_line.specs.RunKeeper.{by_themselves}
-use Rattle.uug_line.specs.Sides.{AtBoth, at, at_each}
+use Rattle.uug_conversation.specs.Sides.{AtBoth, at, at_each}
 use Rattle.uug_line.specs.Told.{EndReportValue, ToldEnd}
 use Rattle.uug_line.specs.World.{run_of_ends}
 

@@ -13,7 +13,7 @@ use Rattle.uug_line.specs.Belongings.{Belongings, SetupValue, identity, party, r
 use Rattle.uug_line.specs.LineEndState.{LineEndState, Participant, begins, called_with, changed_line}
 use Rattle.uug_line.specs.Report.{report_of_end}
 use Rattle.uug_line.specs.RunKeeper.{RunKeeper}
-use Rattle.uug_line.specs.Sides.{AtBoth, at, with_at, at_each}
+use Rattle.uug_conversation.specs.Sides.{AtBoth, at, with_at, at_each}
 use Rattle.uug_line.specs.Taking.{line_taker}
 use Rattle.uug_line.specs.Told.{EndReportValue}
 

@@ -10,7 +10,7 @@ use Rattle.uug_conversation.specs.DialogueState.{DialogueState, unopened, end_ke
 use Rattle.uug_conversation.specs.View.{Seen, conversation_view, kept_after, lists_after}
 use Rattle.uug_conversation.specs.declared.side.Side.{Side}
 use Rattle.uug_line.specs.Belongings.{Belongings}
-use Rattle.uug_line.specs.Sides.{AtBoth, at}
+use Rattle.uug_conversation.specs.Sides.{AtBoth, at}
 
 pub record RunKeeper (C : Type 0) : Type 0 where
   -- the keeper of an end in a session of these two parties

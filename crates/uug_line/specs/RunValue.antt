@@ -17,7 +17,7 @@ use Rattle.uug_line.specs.LineEndValue.{BeginsAgain, HasRoom, HearsPiece, IsCall
 use Rattle.uug_line.specs.Told.{EndNow, SpelledEnd, SpelledReport}
 use Rattle.uug_line.specs.Run.{Run, end_at, flipped}
 use Rattle.uug_line.specs.Shown.{session_shown}
-use Rattle.uug_line.specs.Sides.{AtBoth, at}
+use Rattle.uug_conversation.specs.Sides.{AtBoth, at}
 use Rattle.uug_line.specs.Spelled.{spelled_session}
 use Rattle.uug_line.specs.StillHeld.{HoldWhatIsLeft}
 use Rattle.uug_conversation.specs.DialogueState.{DialogueState}

@@ -15,7 +15,7 @@ use Rattle.uug_line.specs.declared.verdict.LineVerdict.TheVariants.{Clean}
 use Rattle.uug_line.specs.Belongings.{SetupValue}
 use Rattle.uug_line.specs.Run.{Run, after_event, end_at, goes_through, has_now, parties}
 use Rattle.uug_line.specs.RunKeeper.{RunKeeper, by_numbers, has_after, view_at}
-use Rattle.uug_line.specs.Sides.{at}
+use Rattle.uug_conversation.specs.Sides.{at}
 use Rattle.uug_line.specs.World.{world}
 
 -- ---- which runs may settle

@@ -8,7 +8,7 @@ use Rattle.uug_line.specs.declared.report.EndReport.{EndReport}
 use Rattle.uug_line.specs.declared.report.SessionReport.{SessionReport}
 use Rattle.uug_line.specs.Belongings.{Belongings}
 use Rattle.uug_line.specs.Told.{EndNow, SpelledEnd}
-use Rattle.uug_line.specs.Sides.{AtBoth}
+use Rattle.uug_conversation.specs.Sides.{AtBoth}
 
 abbrev pub lists_in : {A : Type 0} → List (Vec ℕ A) → List (List ℕ)
 lists_in vectors = map (λ v. v.items) vectors

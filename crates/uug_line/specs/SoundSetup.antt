@@ -6,7 +6,7 @@ use Rattle.uug_conversation.specs.Jobs.{pending}
 use Rattle.uug_conversation.specs.Party.{HasNames}
 use Rattle.uug_conversation.specs.declared.side.Side.{Side}
 use Rattle.uug_line.specs.Belongings.{EndSetupValue, SetupValue}
-use Rattle.uug_line.specs.Sides.{at}
+use Rattle.uug_conversation.specs.Sides.{at}
 
 -- it announces a window, its files have modes, and its pending jobs names
 pub record IsSoundEnd (e : EndSetupValue) : Type 0 where

@@ -4,7 +4,7 @@ use Rattle.uug_packet.specs.Spelling.{canonical}
 use Rattle.uug_conversation.specs.MemoryHoldings.{MemoryHoldings, holdings_of}
 use Rattle.uug_conversation.specs.declared.side.Side.{Side}
 use Rattle.uug_line.specs.Belongings.{SetupValue}
-use Rattle.uug_line.specs.Sides.{AtBoth, at}
+use Rattle.uug_conversation.specs.Sides.{AtBoth, at}
 use Rattle.uug_line.specs.Told.{EndReportValue, ReportValue, SpelledEnd, SpelledReport}
 
 abbrev pub spelled_end : EndReportValue → SpelledEnd

@@ -4,7 +4,7 @@ use Rattle.uug_reader.specs.declared.reader.TheConstants.{READER_SIZE}
 use Rattle.uug_conversation.specs.declared.side.Side.{Side}
 use Rattle.uug_line.specs.declared.verdict.LineVerdict.TheVariants.{Clean}
 use Rattle.uug_line.specs.Run.{Run, end_at}
-use Rattle.uug_line.specs.Sides.{AtBoth, at}
+use Rattle.uug_conversation.specs.Sides.{AtBoth, at}
 
 pub record HoldWhatIsLeft {C : Type 0} (run : Run C) (held : AtBoth (List ℕ)) : Type 0 where
   -- what fits of the bytes that were not taken up: where the run is fooled, the packet that was not sent stands first

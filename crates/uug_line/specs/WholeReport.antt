@@ -9,7 +9,7 @@ use Rattle.uug_line.specs.JournalValue.{journal_by}
 use Rattle.uug_line.specs.LineEndValue.{LineEndValue}
 use Rattle.uug_line.specs.RunValue.{RunValue, held_parts, told_in_all}
 use Rattle.uug_line.specs.Shown.{held_at, owned_by, session_shown, spool_of, stands_so}
-use Rattle.uug_line.specs.Sides.{AtBoth}
+use Rattle.uug_conversation.specs.Sides.{AtBoth}
 use Rattle.uug_line.specs.Told.{SpelledEnd, SpelledReport}
 
 -- an end as the run leaves it: its node, what is on the line from it, and how many of the other's packets it has found or

@@ -10,7 +10,7 @@ use Rattle.uug_line.specs.LineEndState.{LineEndState}
 use Rattle.uug_line.specs.Report.{end_now, report_of_end}
 use Rattle.uug_line.specs.Run.{Run, end_at, has_now, run_of}
 use Rattle.uug_line.specs.RunKeeper.{RunKeeper, by_themselves, by_numbers}
-use Rattle.uug_line.specs.Sides.{at_each}
+use Rattle.uug_conversation.specs.Sides.{at_each}
 use Rattle.uug_line.specs.Told.{ReportValue}
 
 abbrev pub report_of : {C : Type 0} → RunKeeper C → SetupValue → Run C → ReportValue

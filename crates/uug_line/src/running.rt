@@ -15,7 +15,7 @@ ghost use Rattle.uug_line.specs.RunKeeper.{by_themselves};
 ghost use Rattle.uug_line.specs.RunValue.{AllIsSaid, CallsAgain, ChangesLine, EndsAs, Happens, HappensAt, IsSteady, Passes, StandsAs, hearing_side, run_value, with_line};
 ghost use Rattle.uug_line.specs.Setup.{setup_of};
 ghost use Rattle.uug_line.specs.Shown.{lists_in};
-ghost use Rattle.uug_line.specs.Sides.{AtBoth};
+ghost use Rattle.uug_conversation.specs.Sides.{AtBoth};
 ghost use Rattle.uug_line.specs.Spelled.{GiveAsSetUp, spelled};
 ghost use Rattle.uug_line.specs.Heard.{HasHeardBehind, HasScannedBehind};
 ghost use Rattle.uug_line.specs.Fooled.{ArrivalsArePlaces, FindsNothingMore, NamesUnsent};

@@ -13,7 +13,7 @@ ghost use Rattle.uug_line.specs.OfBytes.{AreOfBytes, IsSetupOfBytes};
 ghost use Rattle.uug_line.specs.PastSessions.{StayOver, WasPresent};
 ghost use Rattle.uug_line.specs.Run.{end_at};
 ghost use Rattle.uug_line.specs.RunKeeper.{by_numbers, by_themselves};
-ghost use Rattle.uug_line.specs.Sides.{AtBoth, at};
+ghost use Rattle.uug_conversation.specs.Sides.{AtBoth, at};
 ghost use Rattle.uug_line.specs.SoundSetup.{IsSoundSetup};
 ghost use Rattle.uug_line.specs.Speaking.{HaveSpoken};
 ghost use Rattle.uug_line.specs.Told.{EndReportValue};

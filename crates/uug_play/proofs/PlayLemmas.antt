@@ -1,6 +1,6 @@
 -- What was written when a script was played, or could not be.
 use Rattle.std.proofs.Common.{ℕ, List, Option, Some, None, IfSome, subst, sym, inr}
-use Rattle.uug_tool.specs.Streams.{AppendsFront}
+use Rattle.uug_stream.specs.Streams.{AppendsFront}
 use Rattle.uug_play.specs.Played.{BeginsReport, IsPlayed, RunsOut}
 use Rattle.uug_play.specs.Whole.{BringsAll}
 

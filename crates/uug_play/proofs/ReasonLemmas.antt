@@ -3,7 +3,7 @@ use Rattle.std.proofs.Common.{◌≡◌, ℕ, List, ◌++◌, ap, ◌∙◌, app
 use Rattle.uug_conversation.specs.MemoryHoldings.{MemoryHoldings, holdings_of}
 use Rattle.uug_conversation.specs.declared.side.Side.TheVariants.{Caller, Called}
 use Rattle.uug_line.specs.Belongings.{Belongings}
-use Rattle.uug_line.specs.Sides.{AtBoth}
+use Rattle.uug_conversation.specs.Sides.{AtBoth}
 use Rattle.uug_line.specs.Told.{EndNow, SpelledReport}
 use Rattle.uug_play.specs.Reasons.{end_reasons, holdings_in, reasons_text}
 

@@ -7,13 +7,13 @@ use Rattle.uug_line.specs.declared.verdict.LineVerdict.TheVariants.{Clean}
 use Rattle.uug_line.specs.Belongings.{SetupValue}
 use Rattle.uug_line.specs.OfSomeRun.{IsRunOf}
 use Rattle.uug_line.specs.Settled.{CanSettle, SettlesInto}
-use Rattle.uug_line.specs.Sides.{at}
+use Rattle.uug_conversation.specs.Sides.{at}
 use Rattle.uug_line.specs.Told.{EndNow}
 use Rattle.uug_line.specs.WholeReport.{WholeReport}
 use Rattle.uug_line.specs.Settle.{MaySettle}
 use Rattle.uug_line.specs.World.{world}
 use Rattle.uug_script.specs.ReportText.{report_text}
-use Rattle.uug_tool.specs.Streams.{AppendsFront}
+use Rattle.uug_stream.specs.Streams.{AppendsFront}
 use Rattle.uug_play.specs.declared.unsettled.Unsettled.{Unsettled}
 use Rattle.uug_play.specs.Numbers.{result_of, status_of_result}
 use Rattle.uug_play.specs.Settled.{BeginsSettled, GoesOnFrom, IsBehind, IsRunOfScript, IsSettled, RunsOutSettling}

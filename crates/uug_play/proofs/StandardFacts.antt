@@ -12,8 +12,9 @@ use Rattle.uug_line.specs.declared.verdict.LineVerdict.{LineVerdict}
 use Rattle.uug_line.specs.declared.verdict.LineVerdict.TheVariants.{Clean, Fooled}
 use Rattle.uug_line.specs.Belongings.{Belongings}
 use Rattle.uug_line.specs.Told.{EndNow, SpelledEnd, SpelledReport}
-use Rattle.uug_line.specs.Sides.{AtBoth}
-use Rattle.uug_script.specs.ReportText.{RunResult, ended}
+use Rattle.uug_conversation.specs.Sides.{AtBoth}
+use Rattle.uug_script.specs.ReportText.{RunResult}
+use Rattle.uug_talk.specs.Lines.{ended}
 use Rattle.uug_play.specs.declared.reasons.Reason.TheVariants.{NoFile, NoFileThere, Refused, NoPlace, NoPlaceThere, PutOff, Over, GoesOn}
 use Rattle.uug_play.specs.Numbers.{result_of, status_of_result}
 use Rattle.uug_play.specs.Reasons.{failed_reason, pending_reason, reason_line}

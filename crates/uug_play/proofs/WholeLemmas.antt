@@ -1,7 +1,7 @@
 -- An input is read on.
 use Rattle.std.proofs.Common.{◌≡◌, ℕ, ◌≤◌, List, [], ◌++◌, take, length, Option, Some, None, IfSome, sym, ap, ◌∙◌, arith, append_assoc, length-append}
 use Rattle.std.proofs.lemmas.List.{append-nil}
-use Rattle.uug_tool.specs.Streams.{Moves}
+use Rattle.uug_stream.specs.Streams.{Moves}
 use Rattle.uug_play.specs.Whole.{Brings, BringsAll}
 
 pub brings_more : (n : ℕ) (bytes buffer : List ℕ) (first before after : Option (List ℕ)) → Brings bytes first before →

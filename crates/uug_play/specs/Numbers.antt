@@ -5,7 +5,7 @@ use Rattle.uug_session.specs.Phases.{is_done}
 use Rattle.uug_line.specs.declared.verdict.LineVerdict.{LineVerdict}
 use Rattle.uug_line.specs.declared.verdict.LineVerdict.TheVariants.{Clean, Fooled}
 use Rattle.uug_line.specs.Belongings.{Belongings}
-use Rattle.uug_line.specs.Sides.{AtBoth}
+use Rattle.uug_conversation.specs.Sides.{AtBoth}
 use Rattle.uug_line.specs.Told.{SpelledEnd, SpelledReport}
 use Rattle.uug_script.specs.declared.report.EndNumbers.{EndNumbers}
 use Rattle.uug_script.specs.declared.report.SessionNumbers.{SessionNumbers}

@@ -2,16 +2,16 @@
 use Rattle.std.specs.Io.KnownBytes.{Keeps}
 use Rattle.std.specs.Prelude.{◌≡◌, ◌⊎◌, ℕ, List, [], Option, Some, Result, Ok, Err, IfSome, ⊤}
 use Rattle.uug_conversation.specs.MemoryHoldings.{holdings_of}
-use Rattle.uug_tool.specs.Streams.{Appends, AppendsFront}
-use Rattle.uug_tool.specs.declared.fault.ToolFault.{ToolFault}
-use Rattle.uug_tool.specs.declared.fault.ToolFault.TheVariants as faults
+use Rattle.uug_stream.specs.Streams.{Appends, AppendsFront}
+use Rattle.uug_stream.specs.declared.fault.ToolFault.{ToolFault}
+use Rattle.uug_stream.specs.declared.fault.ToolFault.TheVariants as faults
 use Rattle.uug_line.specs.Belongings.{EndSetupValue, SetupValue}
 use Rattle.uug_line.specs.Spelled.{spelled}
 use Rattle.uug_line.specs.World.{report_of_world}
 pub use Rattle.uug_script.specs.IsScript.{IsFirstBad, IsScript}
 use Rattle.uug_script.specs.ReportText.{RunResult, report_text}
 use Rattle.uug_script.specs.Script.{EndSays, ScriptSays}
-use Rattle.uug_line.specs.Sides.{AtBoth}
+use Rattle.uug_conversation.specs.Sides.{AtBoth}
 use Rattle.uug_conversation.specs.Holdings.{Holdings}
 use Rattle.uug_play.specs.Numbers.{result_of, status_of_result}
 use Rattle.uug_play.specs.Reasons.{reasons_text}

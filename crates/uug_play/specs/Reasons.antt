@@ -15,10 +15,10 @@ use Rattle.uug_conversation.specs.MemoryHoldings.{MemoryHoldings, holdings_of}
 use Rattle.uug_session.specs.Phases.{phase_at}
 use Rattle.uug_conversation.specs.declared.side.Side.{Side}
 use Rattle.uug_conversation.specs.declared.side.Side.TheVariants.{Caller, Called}
-use Rattle.uug_line.specs.Sides.{AtBoth}
+use Rattle.uug_conversation.specs.Sides.{AtBoth}
 use Rattle.uug_line.specs.Told.{EndNow, SpelledReport}
 use Rattle.uug_script.specs.JobWords.{job_text}
-use Rattle.uug_script.specs.ReportText.{ended}
+use Rattle.uug_talk.specs.Lines.{ended}
 use Rattle.uug_play.specs.declared.reasons.Reason.{Reason}
 use Rattle.uug_play.specs.declared.reasons.Reason.TheVariants.{NoFile, NoFileThere, Refused, NoPlace, NoPlaceThere, PutOff, Over, GoesOn}
 

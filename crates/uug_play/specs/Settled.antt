@@ -1,7 +1,7 @@
 -- What is written of a script whose run goes on until it is settled (this project's profile).
 use Rattle.std.specs.Io.KnownBytes.{Keeps}
 use Rattle.std.specs.Prelude.{◌≡◌, ◌⊎◌, ℕ, List, ◌++◌, Option, IfSome, Some, []}
-use Rattle.uug_tool.specs.Streams.{Appends, AppendsFront}
+use Rattle.uug_stream.specs.Streams.{Appends, AppendsFront}
 use Rattle.uug_line.specs.declared.event.Event.{Event}
 use Rattle.uug_line.specs.Belongings.{SetupValue}
 use Rattle.uug_line.specs.OfSomeRun.{IsRunOf}

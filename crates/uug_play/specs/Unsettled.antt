@@ -6,10 +6,10 @@ use Rattle.uug_conversation.specs.declared.side.Side.{Side}
 use Rattle.uug_conversation.specs.declared.side.Side.TheVariants.{Caller, Called}
 use Rattle.uug_line.specs.declared.verdict.LineVerdict.TheVariants.{Clean}
 use Rattle.uug_line.specs.Settled.{EndCanSettle}
-use Rattle.uug_line.specs.Sides.{at}
+use Rattle.uug_conversation.specs.Sides.{at}
 use Rattle.uug_line.specs.Told.{EndNow}
 use Rattle.uug_line.specs.WholeReport.{WholeReport}
-use Rattle.uug_tool.specs.Listing.{ended}
+use Rattle.uug_scan.specs.Listing.{ended}
 use Rattle.uug_play.specs.declared.unsettled.Unsettled.{Unsettled}
 use Rattle.uug_play.specs.declared.unsettled.Unsettled.TheVariants.{Fooled, Silent, Quiet, Late, Holds, OnLine}
 

@@ -1,7 +1,7 @@
 -- Reading an input to its end (this project's profile).
 use Rattle.std.specs.Prelude.{◌≡◌, ℕ, List, [], ◌++◌, Option, Some, None, ⊤}
-use Rattle.uug_tool.specs.declared.fault.ToolFault.{ToolFault}
-use Rattle.uug_tool.specs.declared.fault.ToolFault.TheVariants as faults
+use Rattle.uug_stream.specs.declared.fault.ToolFault.{ToolFault}
+use Rattle.uug_stream.specs.declared.fault.ToolFault.TheVariants as faults
 
 -- where an input tells its bytes, these came first, and the others are still to come
 abbrev pub Brings : List ℕ → Option (List ℕ) → Option (List ℕ) → Type 0

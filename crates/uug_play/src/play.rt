@@ -1,13 +1,15 @@
 ghost use Rattle.std.specs.Prelude.{◌≡◌, ℕ, ◌<◌, ◌≤◌, ◌*◌, IfErr, IfOk, IfSome, OnOk, length};
 ghost use Rattle.std.specs.Io.KnownBytes.{Keeps};
 ghost use Rattle.uug_script.specs.IsScript.{IsFirstBad};
-ghost use Rattle.uug_tool.specs.Streams.{CountsFault, ReadsAll};
+ghost use Rattle.uug_stream.specs.Fault.{UnlessRead, UnlessWrite};
+ghost use Rattle.uug_stream.specs.Streams.{CountsFault, ReadsAll};
 ghost use Rattle.uug_play.specs.Played.{AppendsReport, BeforeReport, BeginsReport, IsPlayFault, OnceRead, RunsOut};
 
 use crate::played::play_script;
 use crate::whole::read_whole;
 use std::alloc::Allocator;
-use uug_tool::{Input, Output, PIECE_SIZE, READ_LIMIT, ToolFault, write_all};
+use uug_scan::{PIECE_SIZE, READ_LIMIT};
+use uug_stream::{Input, Output, ToolFault, write_all};
 
 /// The same as `play_stream`, with this limit of reads.
 pub fn play_within<A: Allocator + Copy, I: Input, O: Output>(
@@ -29,6 +31,10 @@ pub fn play_within<A: Allocator + Copy, I: Input, O: Output>(
         (λ script. BeginsReport script (O.written output.old) (O.written output.new)) }
     ensures memory { result ≡ Err ToolFault.Memory → RunsOut (I.to_come input.old)
         (I.to_come input.new) (O.written output.old) (O.written output.new) }
+    ensures input_calm { UnlessRead result
+        (I.fault_count input.new ≡ I.fault_count input.old) }
+    ensures output_calm { UnlessWrite result
+        (O.fault_count output.new ≡ O.fault_count output.old) }
     ensures read { result ≡ Err ToolFault.Read
         → CountsFault (I.fault_count input.old) (I.fault_count input.new) }
     ensures write { result ≡ Err ToolFault.Write
@@ -65,6 +71,10 @@ pub fn play_stream<A: Allocator + Copy, I: Input, O: Output>(
         (λ script. BeginsReport script (O.written output.old) (O.written output.new)) }
     ensures memory { result ≡ Err ToolFault.Memory → RunsOut (I.to_come input.old)
         (I.to_come input.new) (O.written output.old) (O.written output.new) }
+    ensures input_calm { UnlessRead result
+        (I.fault_count input.new ≡ I.fault_count input.old) }
+    ensures output_calm { UnlessWrite result
+        (O.fault_count output.new ≡ O.fault_count output.old) }
     ensures read { result ≡ Err ToolFault.Read
         → CountsFault (I.fault_count input.old) (I.fault_count input.new) }
     ensures write { result ≡ Err ToolFault.Write

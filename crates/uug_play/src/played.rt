@@ -16,7 +16,7 @@ use uug_script::{
     EndNumbers, ScriptFault, SessionNumbers, ShownEnd, ShownReport, add_report, read_script,
 };
 use uug_session::{MemorySpool, Node};
-use uug_tool::ToolFault;
+use uug_stream::ToolFault;
 
 /// What a script came to.
 #[derive(Drop)]

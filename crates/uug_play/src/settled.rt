@@ -6,7 +6,8 @@ ghost use Rattle.uug_line.specs.Belongings.{SetupValue};
 ghost use Rattle.uug_line.specs.OfSomeRun.{IsRunOf};
 ghost use Rattle.uug_line.specs.Settled.{CanSettle};
 ghost use Rattle.uug_script.specs.IsScript.{IsFirstBad};
-ghost use Rattle.uug_tool.specs.Streams.{CountsFault, ReadsAll};
+ghost use Rattle.uug_stream.specs.Fault.{UnlessRead, UnlessWrite};
+ghost use Rattle.uug_stream.specs.Streams.{CountsFault, ReadsAll};
 ghost use Rattle.uug_play.specs.Played.{BeforeReport, IsPlayFault, IsScriptFault, OnceRead};
 ghost use Rattle.uug_play.specs.Settled.{AppendsSettled, BeginsSettled, GoesOnFrom, IsBehind, IsSettled, RunsOutSettling};
 
@@ -15,7 +16,8 @@ use crate::unsettled::{add_unsettled, why_unsettled};
 use crate::whole::read_whole;
 use std::alloc::{AllocError, Allocator};
 use uug_line::{Report, RunFault, settle};
-use uug_tool::{Input, Output, PIECE_SIZE, READ_LIMIT, ToolFault, write_all};
+use uug_scan::{PIECE_SIZE, READ_LIMIT};
+use uug_stream::{Input, Output, ToolFault, write_all};
 
 /// What the report settles to.
 fn settled<A: Allocator + Copy>(alloc: A, report: Report<A>) -> Result<Played<A>, RunFault>
@@ -88,6 +90,10 @@ pub fn play_settled<A: Allocator + Copy, I: Input, O: Output>(
         (λ script. BeginsSettled script (O.written output.old) (O.written output.new)) }
     ensures memory { result ≡ Err ToolFault.Memory → RunsOutSettling (I.to_come input.old)
         (I.to_come input.new) (O.written output.old) (O.written output.new) }
+    ensures input_calm { UnlessRead result
+        (I.fault_count input.new ≡ I.fault_count input.old) }
+    ensures output_calm { UnlessWrite result
+        (O.fault_count output.new ≡ O.fault_count output.old) }
     ensures read { result ≡ Err ToolFault.Read
         → CountsFault (I.fault_count input.old) (I.fault_count input.new) }
     ensures write { result ≡ Err ToolFault.Write

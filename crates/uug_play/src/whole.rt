@@ -1,12 +1,14 @@
 //! The whole of an input.
 ghost use Rattle.std.specs.Prelude.{◌≡◌, ◌<◌, ◌≤◌, ◌*◌, Err, IfErr, IfOk, IfSome, length};
 ghost use Rattle.uug_play.specs.Whole.{BringsAll, IsReadingFault};
-ghost use Rattle.uug_tool.specs.Streams.{CountsFault};
-ghost use Rattle.uug_tool.specs.declared.fault.ToolFault.TheVariants.{Device as device, Read as read};
-ghost use Rattle.uug_tool.specs.declared.scan.TheConstants.{PIECE_SIZE};
+ghost use Rattle.uug_stream.specs.Fault.{UnlessRead};
+ghost use Rattle.uug_stream.specs.Streams.{CountsFault};
+ghost use Rattle.uug_stream.specs.declared.fault.ToolFault.TheVariants.{Device as device, Read as read};
+ghost use Rattle.uug_scan.specs.declared.scan.TheConstants.{PIECE_SIZE};
 
 use std::alloc::Allocator;
-use uug_tool::{Input, PIECE_SIZE, ToolFault};
+use uug_scan::PIECE_SIZE;
+use uug_stream::{Input, ToolFault};
 
 /// Reads an input to its end, in at most so many reads, the one that finds the end among them; an input that takes more
 /// is a device's fault.
@@ -18,6 +20,7 @@ pub fn read_whole<A: Allocator, I: Input>(
     ensures whole { IfOk result (λ bytes.
         BringsAll bytes.items (I.to_come input.old) (I.to_come input.new)) }
     ensures within { IfOk result (λ bytes. length bytes.items < limit * PIECE_SIZE) }
+    ensures calm { UnlessRead result (I.fault_count input.new ≡ I.fault_count input.old) }
     ensures read { result ≡ Err read
         → CountsFault (I.fault_count input.old) (I.fault_count input.new) }
     ensures device { result ≡ Err device

@@ -6,9 +6,9 @@ use crate::streams::{SlowInput, SlowOutput};
 use std::alloc::Global;
 use std::process::Abort;
 use std::test::Fail;
-use uug_detail::{scan_detailed, scan_detailed_within};
 use uug_refusal::Refusing;
-use uug_tool::{Input, MemoryInput, MemoryOutput, Output, ToolFault, WriteFailed};
+use uug_scan::{READ_LIMIT, scan_detailed};
+use uug_stream::{Input, MemoryInput, MemoryOutput, Output, ToolFault, WriteFailed};
 
 /// A stream: its first bytes, the byte that fills it up and to how many, and the bytes behind; and its detailed listing.
 const STREAMS: [(&[u8], u8, usize, &[u8], &str); 15] = [
@@ -129,7 +129,7 @@ const LINE: &[u8] = b"\x10Sa\0......\x10\x09\x6f\xaa\x3b\xf7";
 fn check_listing(rt: &impl Abort, alloc: Global, bytes: &[u8], most: usize, listing: &str) {
     let mut input = in_pieces(bytes, most, u32::MAX);
     let mut output = MemoryOutput::new(alloc);
-    let result = scan_detailed(alloc, &mut input, &mut output);
+    let result = scan_detailed(alloc, &mut input, &mut output, READ_LIMIT);
     assert_same(rt, result, Ok(()));
     assert_same(rt, output.bytes(), listing.as_bytes());
     assert_same(rt, input.bytes.len(), 0);
@@ -189,7 +189,7 @@ fn lists_each_read_before_the_next(rt: HostRuntime) {
     ] {
         let mut input = in_pieces(LINE, 8, reads);
         let mut output = MemoryOutput::new(rt.alloc());
-        let result = scan_detailed_within(rt.alloc(), &mut input, &mut output, limit);
+        let result = scan_detailed(rt.alloc(), &mut input, &mut output, limit);
         assert_same(&rt, result, Err(fault));
         assert_same_at(&rt, input.reads, left, limit);
         assert_same(&rt, output.bytes(), listing.as_bytes());
@@ -201,7 +201,7 @@ fn reads_of_a_scan(rt: &(impl Abort + AllocGlobal)) -> Result<u32, Fail> {
     for reads in 0..100 {
         let mut input = in_pieces(LINE, 4, reads);
         let mut output = MemoryOutput::new(rt.alloc());
-        let result = scan_detailed(rt.alloc(), &mut input, &mut output);
+        let result = scan_detailed(rt.alloc(), &mut input, &mut output, READ_LIMIT);
         if input.faults() == 0 {
             assert_same(rt, result, Ok(()));
             return Ok(reads);
@@ -223,10 +223,16 @@ fn writes_of_a_scan(
             most: 100,
             writes,
             refusal,
+            refused: 0,
             faults: 0,
         };
-        let result = scan_detailed(rt.alloc(), &mut in_pieces(LINE, 4, 100), &mut output);
-        if output.faults() == 0 {
+        let result = scan_detailed(
+            rt.alloc(),
+            &mut in_pieces(LINE, 4, 100),
+            &mut output,
+            READ_LIMIT,
+        );
+        if output.refused == 0 {
             assert_same(rt, result, Ok(()));
             return Ok(writes);
         }
@@ -257,7 +263,7 @@ fn requests_of_a_scan(rt: &impl Abort, alloc: Global) -> Result<u64, Fail> {
     for nth in 1..100 {
         let heap = Refusing::new(alloc, nth);
         let mut output = MemoryOutput::new(&heap);
-        let result = scan_detailed(&heap, &mut MemoryInput::new(LINE), &mut output);
+        let result = scan_detailed(&heap, &mut MemoryInput::new(LINE), &mut output, READ_LIMIT);
         if !heap.was_refused() {
             assert_same(rt, result, Ok(()));
             return Ok(nth - 1);

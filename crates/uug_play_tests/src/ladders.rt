@@ -6,7 +6,7 @@ use std::process::Abort;
 use std::test::Fail;
 use uug_ladder::{Drawn, EVENTS_MAX, LadderFault, draw, play_ladder};
 use uug_refusal::Refusing;
-use uug_tool::{MemoryInput, MemoryOutput, ToolFault};
+use uug_stream::{MemoryInput, MemoryOutput, ToolFault};
 
 /// What happens while the called end says its name, and the line of that.
 const TEXTS: [(&str, &str); 8] = [

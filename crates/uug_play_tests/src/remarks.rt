@@ -6,7 +6,7 @@ use std::alloc::Global;
 use std::process::Abort;
 use std::test::Fail;
 use uug_remark::play_remarked;
-use uug_tool::{MemoryInput, MemoryOutput, ToolFault};
+use uug_stream::{MemoryInput, MemoryOutput, ToolFault};
 
 /// Third lines behind two that set up the ends, and what is wrong with them.
 const REMARKS: &[(&[u8], &str)] = &[

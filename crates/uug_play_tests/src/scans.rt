@@ -8,10 +8,8 @@ use std::fmt::Display;
 use std::process::Abort;
 use std::test::Fail;
 use uug_refusal::Refusing;
-use uug_tool::{
-    Input, MemoryInput, MemoryOutput, Output, ReadFailed, ToolFault, WriteFailed, scan_stream,
-    scan_within,
-};
+use uug_scan::{scan_stream, scan_within};
+use uug_stream::{Input, MemoryInput, MemoryOutput, Output, ReadFailed, ToolFault, WriteFailed};
 
 /// The packets of a start-up with windows of three and size 64, and of the link behind it.
 const LINK: [u8; 42] = [
@@ -218,10 +216,11 @@ fn writes_of_a_scan(
             most: 100,
             writes,
             refusal,
+            refused: 0,
             faults: 0,
         };
         let result = scan_stream(rt.alloc(), &mut input, &mut output);
-        if output.faults() == 0 {
+        if output.refused == 0 {
             assert_same(rt, result, Ok(()));
             return Ok(writes);
         }

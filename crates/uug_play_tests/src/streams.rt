@@ -1,9 +1,9 @@
-//! Streams that give and take little at a time, and fail.
+//! Streams that give and take little at a time, fail once, and then work: so a fault that is passed over is seen.
 ghost use Rattle.std.specs.Prelude.{None};
 
-use uug_tool::{Input, Output, ReadFailed, WriteFailed};
+use uug_stream::{Input, Output, ReadFailed, WriteFailed};
 
-/// Gives at most so many bytes at a time, in at most so many reads, and then fails.
+/// Gives at most so many bytes at a time. After so many reads one fails, and those behind it give on.
 #[derive(Drop)]
 pub struct SlowInput<'a> {
     pub bytes: &'a [u8],
@@ -18,11 +18,11 @@ impl Input for SlowInput<'_> {
     ghost fault_count = { λ input. input.faults };
 
     fn read(&mut self, buffer: &mut [u8]) -> Result<usize, ReadFailed> {
-        if self.reads == 0 {
-            self.faults = self.faults.saturating_add(1);
+        if self.reads == 0 && self.faults == 0 {
+            self.faults = 1;
             return Err(ReadFailed);
         }
-        self.reads -= 1;
+        self.reads = self.reads.saturating_sub(1);
         let count = self.bytes.len().min(buffer.len()).min(self.most);
         let (front, rest) = self.bytes.split_at(count);
         buffer[..count].copy_from_slice(front);
@@ -35,12 +35,13 @@ impl Input for SlowInput<'_> {
     }
 }
 
-/// Takes at most so many bytes at a time, in at most so many writes, and then refuses.
+/// Takes at most so many bytes at a time. After so many writes one is refused, and those behind it take on.
 #[derive(Drop)]
 pub struct SlowOutput {
     pub most: usize,
     pub writes: u32,
     pub refusal: WriteFailed,
+    pub refused: u64,
     pub faults: u64,
 }
 
@@ -50,11 +51,14 @@ impl Output for SlowOutput {
     ghost fault_count = { λ output. output.faults };
 
     fn write(&mut self, piece: &[u8]) -> Result<usize, WriteFailed> {
-        if self.writes == 0 || self.most == 0 {
-            self.faults = self.faults.saturating_add(1);
+        if self.most == 0 || (self.writes == 0 && self.refused == 0) {
+            self.refused = self.refused.saturating_add(1);
+            if let WriteFailed::Device = self.refusal {
+                self.faults = self.faults.saturating_add(1);
+            }
             return Err(self.refusal);
         }
-        self.writes -= 1;
+        self.writes = self.writes.saturating_sub(1);
         Ok(piece.len().min(self.most))
     }
 

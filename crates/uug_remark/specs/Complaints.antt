@@ -1,7 +1,7 @@
 -- What is wrong with a line of a script (this project's profile): of several things the first.
 use Rattle.std.specs.Prelude.{ℕ, ◌+◌, List, [], ◌∷◌, length, nat_le, Option, Some, None, if◌then◌else◌}
-use Rattle.uug_script.specs.Fields.{is_comment}
-use Rattle.uug_script.specs.declared.line.TheConstants.{LINE_MAX}
+use Rattle.uug_talk.specs.Lines.{is_comment}
+use Rattle.uug_talk.specs.declared.lines.TheConstants.{LINE_MAX}
 use Rattle.uug_talk.specs.Words.{words}
 use Rattle.uug_remark.specs.declared.complaint.Complaint.{Complaint}
 use Rattle.uug_remark.specs.declared.complaint.Complaint.TheVariants as code

@@ -2,7 +2,7 @@
 use Rattle.std.specs.Prelude.{◌&&◌, ℕ, ◌-◌, Bool, List, [], ◌∷◌, ◌++◌, length, codes, nat_le, slice_get, Option, Some, None, if◌then◌else◌}
 use Rattle.std.specs.Char.{is_ascii_graphic}
 use Rattle.std.specs.List.{list_all}
-use Rattle.uug_script.specs.Lines.{lines}
+use Rattle.uug_talk.specs.Lines.{lines}
 use Rattle.uug_remark.specs.declared.field.Field.{Field}
 use Rattle.uug_remark.specs.declared.field.Field.TheVariants.{Side, Name, Copy, Window, Size, Mode, Bytes, Count, Turns, Number, Byte}
 use Rattle.uug_remark.specs.declared.remark.TheConstants.{SHOWN_MAX}

@@ -6,8 +6,7 @@ ghost use Rattle.uug_remark.specs.Statements.{field_at as has_field};
 
 use crate::field::Field;
 use crate::statement::{StatementKind, field_at, statement_of};
-use uug_script::LINE_MAX;
-use uug_talk::split_word;
+use uug_talk::{LINE_MAX, split_word};
 
 /// What is wrong with a line of a script.
 #[derive(Clone, Copy, Debug, PartialEq, Eq)]

@@ -3,6 +3,7 @@
 
 mod complaint;
 mod field;
+pub mod laws;
 mod play;
 mod remark;
 mod statement;

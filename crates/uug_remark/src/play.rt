@@ -1,14 +1,16 @@
 //! A script played, with a remark where it is bad or has jobs that are not done.
-ghost use Rattle.std.specs.Prelude.{◌≡◌, ℕ, IfErr, IfOk, IfSome, string_bytes};
+ghost use Rattle.std.specs.Prelude.{◌≡◌, ℕ, ◌<◌, ◌≤◌, ◌*◌, IfErr, IfOk, IfSome, OnOk, length, string_bytes};
 ghost use Rattle.std.specs.Io.KnownBytes.{Keeps};
-ghost use Rattle.uug_tool.specs.Streams.{ReadsAll};
-ghost use Rattle.uug_play.specs.Played.{AppendsReport, AppendsVerbosely, BeforeReport, IsFirstBad, IsPlayed, IsPlayedVerbosely, IsPlayFault, IsScriptFault, OnceRead};
+ghost use Rattle.uug_stream.specs.Fault.{UnlessRead, UnlessWrite};
+ghost use Rattle.uug_stream.specs.Streams.{CountsFault, ReadsAll};
+ghost use Rattle.uug_play.specs.Played.{AppendsReport, AppendsVerbosely, BeforeReport, BeginsReport, IsFirstBad, IsPlayed, IsPlayedVerbosely, IsPlayFault, IsScriptFault, OnceRead, RunsOut};
 ghost use Rattle.uug_remark.specs.Remarks.{remark_text, wrong_at};
 
 use crate::remark::script_remark;
 use std::alloc::Allocator;
 use uug_play::{PlayedVerbosely, play_script_verbosely, read_whole};
-use uug_tool::{Input, Output, READ_LIMIT, ToolFault, write_all};
+use uug_scan::{PIECE_SIZE, READ_LIMIT};
+use uug_stream::{Input, Output, ToolFault, write_all};
 
 /// Plays a script, and says why jobs are not done. Where it is bad, `remark` becomes what is wrong with its first bad line.
 fn play_text<A: Allocator + Copy>(
@@ -35,7 +37,8 @@ fn play_text<A: Allocator + Copy>(
 }
 
 /// The same as `play_stream` of `uug_play`; and `remark` becomes a line for each job that is not done, which says why, or
-/// where the script is bad, what is wrong with its first bad line. For both memory is taken.
+/// where the script is bad, what is wrong with its first bad line. For both memory is taken. The faults are those of
+/// `play_stream`.
 pub fn play_remarked<A: Allocator + Copy, I: Input, O: Output>(
     alloc: A,
     input: &mut I,
@@ -48,6 +51,8 @@ pub fn play_remarked<A: Allocator + Copy, I: Input, O: Output>(
     ensures reasons { IfOk result (λ status. IfSome (I.to_come input.old)
         (λ script. AppendsVerbosely script (string_bytes remark.new) status
         (O.written output.old) (O.written output.new))) }
+    ensures within { OnOk result (IfSome (I.to_come input.old)
+        (λ script. length script < READ_LIMIT * PIECE_SIZE)) }
     ensures script { (line : ℕ) → result ≡ Err (ToolFault.Script line)
         → IfSome (I.to_come input.old) (λ script. IsFirstBad script line) }
     ensures remark { (line : ℕ) → result ≡ Err (ToolFault.Script line)
@@ -55,6 +60,20 @@ pub fn play_remarked<A: Allocator + Copy, I: Input, O: Output>(
         string_bytes remark.new ≡ remark_text (wrong_at line script)) }
     ensures nothing_written { BeforeReport result
         (Keeps (O.written output.old) (O.written output.new)) }
+    ensures begun { result ≡ Err ToolFault.Write → IfSome (I.to_come input.old)
+        (λ script. BeginsReport script (O.written output.old) (O.written output.new)) }
+    ensures memory { result ≡ Err ToolFault.Memory → RunsOut (I.to_come input.old)
+        (I.to_come input.new) (O.written output.old) (O.written output.new) }
+    ensures input_calm { UnlessRead result
+        (I.fault_count input.new ≡ I.fault_count input.old) }
+    ensures output_calm { UnlessWrite result
+        (O.fault_count output.new ≡ O.fault_count output.old) }
+    ensures read { result ≡ Err ToolFault.Read
+        → CountsFault (I.fault_count input.old) (I.fault_count input.new) }
+    ensures write { result ≡ Err ToolFault.Write
+        → CountsFault (O.fault_count output.old) (O.fault_count output.new) }
+    ensures device { result ≡ Err ToolFault.Device
+        → IfSome (I.to_come input.old) (λ script. READ_LIMIT ≤ length script) }
     ensures no_other { IfErr result IsPlayFault }
 {
     let script = read_whole(alloc, input, READ_LIMIT)?;

@@ -8,7 +8,7 @@ ghost use Rattle.uug_remark.specs.Remarks.{is_told, noun, remark_text, told, wan
 use crate::complaint::{Complaint, complaint_of};
 use crate::field::Field;
 use std::alloc::{AllocError, Allocator};
-use uug_script::split_line;
+use uug_talk::split_line;
 
 /// The longest word that is told.
 const SHOWN_MAX: usize = 40;

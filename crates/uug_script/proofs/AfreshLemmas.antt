@@ -7,7 +7,7 @@ use Rattle.uug_conversation.specs.declared.queue.TheConstants.{JOBS_MAX}
 use Rattle.uug_conversation.specs.declared.side.Side.TheVariants.{Caller, Called}
 use Rattle.uug_script.specs.declared.fault.ScriptFault.{ScriptFault}
 use Rattle.uug_script.specs.declared.script.Script.{Script}
-use Rattle.uug_script.specs.Fields.{◌>>=◌}
+use Rattle.uug_talk.specs.Chained.{◌>>=◌}
 use Rattle.uug_script.specs.IsScript.{LinesAdd, no_line, line_more, IsScript, BeginsAfresh, EndBegins}
 use Rattle.uug_script.specs.Meaning.{EndMeaning, place, file, job, deny, later, immovable, number, quiet, short, lenient, LineMeaning, nothing, of_end, event, flow}
 use Rattle.uug_script.specs.Script.{Place, EndSaid, Said, nothing_said, numbered, placed, quieted, shortened, made_lenient, place_at, end_added, added, with_caller, with_called, EndSays, ScriptSays, end_completed}

@@ -10,7 +10,8 @@ use Rattle.uug_link.specs.declared.announce.BadAnnounce.{BadAnnounce}
 use Rattle.uug_link.specs.declared.announce.BadAnnounce.TheVariants as bad
 use Rattle.uug_link.specs.declared.limits.TheConstants.{MESSAGE_MAX, SIZE_CODES, WINDOW_MAX}
 use Rattle.uug_talk.specs.Number.{number_of}
-use Rattle.uug_script.specs.Fields.{◌>>=◌, code_of_size, announcement, announcement_of}
+use Rattle.uug_talk.specs.Chained.{◌>>=◌}
+use Rattle.uug_script.specs.Fields.{code_of_size, announcement, announcement_of}
 use Rattle.uug_script.specs.Meaning.{announced_by}
 
 -- ---- announcements

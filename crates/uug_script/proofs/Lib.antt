@@ -1,7 +1,6 @@
 pub mod AfreshLemmas
 pub mod FieldLemmas
 pub mod JobLemmas
-pub mod LineLemmas
 pub mod ReportLemmas
 pub mod ScriptFacts
 pub mod ScriptLemmas

@@ -12,10 +12,10 @@ use Rattle.uug_session.specs.declared.phase.Phase.TheVariants.{Ended}
 use Rattle.uug_script.specs.declared.report.EndNumbers.{EndNumbers}
 use Rattle.uug_conversation.specs.declared.side.Side.TheVariants.{Caller, Called}
 use Rattle.uug_line.specs.declared.verdict.LineVerdict.TheVariants.{Clean, Fooled}
-use Rattle.uug_script.specs.Lines.{lines}
+use Rattle.uug_talk.specs.Lines.{lines, ended}
 use Rattle.uug_script.specs.Meaning.{event, lenient, number, of_end, quiet, short}
 use Rattle.uug_script.specs.ReadLine.{line_of}
-use Rattle.uug_script.specs.ReportText.{RunResult, ended, report_text, stored_line, verdict_line}
+use Rattle.uug_script.specs.ReportText.{RunResult, report_text, stored_line, verdict_line}
 use Rattle.uug_script.specs.Script.{ScriptSays, flow_events}
 use Rattle.uug_script.specs.ScriptOf.{script_of}
 

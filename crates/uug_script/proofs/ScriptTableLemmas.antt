@@ -5,7 +5,7 @@ use Rattle.uug_script.specs.declared.fault.ScriptFault.{ScriptFault}
 use Rattle.uug_script.specs.declared.fault.ScriptFault.TheVariants as fault
 use Rattle.uug_script.specs.declared.script.Script.{Script}
 use Rattle.uug_script.specs.IsScript.{LineAdds, LinesAdd, no_line, line_more, IsScript, BadNext, bad_line, no_end, IsFirstBad, IsFaultOf}
-use Rattle.uug_script.specs.Lines.{lines}
+use Rattle.uug_talk.specs.Lines.{lines}
 use Rattle.uug_script.specs.ReadLine.{line_of}
 use Rattle.uug_script.specs.Script.{Said, nothing_said, added, ScriptSays, completed}
 use Rattle.uug_script.specs.ScriptOf.{text_added, or_bad, script_from, script_of, script_said, Faults}

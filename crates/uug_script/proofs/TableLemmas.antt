@@ -4,15 +4,19 @@ use Rattle.std.proofs.lemmas.Bool.Decides.{nat_tests}
 use Rattle.std.specs.Str.{bytes_eq}
 use Rattle.uug_conversation.specs.Holdings.{kept_file}
 use Rattle.uug_conversation.specs.declared.job.Job.TheVariants.{Send, Request}
-use Rattle.uug_talk.specs.Name.{IsName}
+use Rattle.uug_talk.specs.Name.{IsName, name_of}
 use Rattle.uug_talk.specs.Words.{words}
 use Rattle.uug_line.specs.declared.event.Event.TheVariants.{Pass, Drop, Flip, Insert, Timeout, HangUp, Call}
-use Rattle.uug_script.specs.declared.line.TheConstants.{BYTES_MAX, LINE_MAX, TURNS_MAX}
+use Rattle.uug_script.specs.declared.line.TheConstants.{BYTES_MAX, TURNS_MAX}
+use Rattle.uug_talk.specs.declared.lines.TheConstants.{LINE_MAX}
 use Rattle.uug_conversation.specs.declared.side.Side.{Side}
 use Rattle.uug_conversation.specs.declared.side.Side.TheVariants.{Caller, Called}
 use Rattle.uug_talk.specs.declared.call.TheConstants.{NUMBER_MAX}
 use Rattle.uug_talk.specs.Number.{number_of}
-use Rattle.uug_script.specs.Fields.{◌>>=◌, side_word, side_of, name_of, mode_of_word, hex_bytes, byte_of, announcement_of, is_comment}
+use Rattle.uug_talk.specs.Chained.{◌>>=◌}
+use Rattle.uug_session.specs.PhaseWords.{side_word}
+use Rattle.uug_script.specs.Fields.{side_of, mode_of_word, hex_bytes, byte_of, announcement_of}
+use Rattle.uug_talk.specs.Lines.{is_comment}
 use Rattle.hex.specs.Hex.{decode_of}
 use Rattle.uug_script.specs.LineSays.{WritesNumber, NamesCopy, LineSays, TextSays, blank, comment, end_line, file_line, send_line, request_line, deny_line, later_line, immovable_line, number_line, quiet_line, short_line, lenient_line, pass_line, drop_line, flip_line, insert_line, timeout_line, hangup_line, call_line, flow_line}
 use Rattle.uug_script.specs.Meaning.{LineMeaning, nothing, of_end, event, flow, place, file, job, deny, later, immovable, number, quiet, short, lenient, file_meaning, of_side}

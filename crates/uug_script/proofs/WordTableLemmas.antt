@@ -19,12 +19,13 @@ use Rattle.uug_link.specs.declared.limits.TheConstants.{MESSAGE_MAX, SIZE_CODES,
 use Rattle.uug_link.specs.Terms.{size_of_code}
 use Rattle.uug_talk.specs.Mode.{IsOctalDigit, IsModeWord, is_octal_digit, is_mode_word, mode_of, mode_read, octal_value}
 use Rattle.uug_talk.specs.declared.error.BadText.TheVariants as bad_text
-use Rattle.uug_talk.specs.Name.{IsName, IsNameByte, is_name, is_name_byte}
+use Rattle.uug_talk.specs.Name.{IsName, IsNameByte, is_name, is_name_byte, name_of}
 use Rattle.uug_talk.specs.declared.mode.TheConstants.{MODE_MAX}
 use Rattle.uug_talk.specs.declared.name.TheConstants.{NAME_MAX}
 use Rattle.uug_script.specs.declared.fields.TheConstants.{MODE_DIGITS}
 use Rattle.uug_talk.specs.Number.{is_numeral, number_of}
-use Rattle.uug_script.specs.Fields.{◌>>=◌, name_of, mode_of_word, hex_bytes, first_byte, byte_of, code_of_size, announcement, announcement_of}
+use Rattle.uug_talk.specs.Chained.{◌>>=◌}
+use Rattle.uug_script.specs.Fields.{mode_of_word, hex_bytes, first_byte, byte_of, code_of_size, announcement, announcement_of}
 use Rattle.uug_script.specs.LineSays.{WritesNumber, Announces, WritesMode, WritesBytes, dash, pairs}
 use Rattle.uug_talk.proofs.NumberLemmas.{numeral_parses}
 use Rattle.uug_script.proofs.FieldLemmas.{announced_as, code_of_its_size, size_of_its_code}

@@ -1,6 +1,5 @@
 -- What single words of a script's line say (this project's profile), as functions.
-use Rattle.std.specs.Prelude.{◌==◌, ℕ, Bool, List, [], length, codes, nat_eq, nat_le, slice_index, Option, Some, None, Result, Ok, Err, if◌then◌else◌, false}
-use Rattle.std.specs.List.{starts_with}
+use Rattle.std.specs.Prelude.{◌==◌, ℕ, List, [], length, codes, nat_le, slice_index, Option, Some, None, Result, Ok, Err, if◌then◌else◌, false}
 use Rattle.std.specs.Result.{result_ok}
 use Rattle.std.specs.Str.{bytes_eq}
 use Rattle.hex.specs.Hex.{decode_of, decode_sized}
@@ -8,31 +7,16 @@ use Rattle.hex.specs.declared.error.FromHexError.{FromHexError}
 use Rattle.uug_link.specs.Announced.{Announced}
 use Rattle.uug_link.specs.declared.limits.TheConstants.{MESSAGE_MAX, WINDOW_MAX}
 use Rattle.uug_talk.specs.Mode.{mode_read}
-use Rattle.uug_talk.specs.Name.{name_read}
+use Rattle.uug_talk.specs.Chained.{◌>>=◌}
 use Rattle.uug_talk.specs.Number.{number_of}
 use Rattle.uug_script.specs.declared.fields.TheConstants.{MODE_DIGITS}
 use Rattle.uug_conversation.specs.declared.side.Side.{Side}
 use Rattle.uug_conversation.specs.declared.side.Side.TheVariants.{Caller, Called}
 
--- the second step, where the first gave a value
-infixl 10 ◌>>=◌
-abbrev pub ◌>>=◌ : {A B : Type 0} → Option A → (A → Option B) → Option B
-None >>= f = None
-(Some x) >>= f = f x
-
--- the word of an end
-abbrev pub side_word : Side → List ℕ
-side_word Caller = codes "caller"
-side_word Called = codes "called"
-
 abbrev pub side_of : List ℕ → Option Side
 side_of word =
     if bytes_eq word (codes "caller") then Some Caller else
     (if bytes_eq word (codes "called") then Some Called else None)
-
--- the name that the word is
-abbrev pub name_of : List ℕ → Option (List ℕ)
-name_of word = result_ok (name_read word)
 
 -- a mode has one to four octal digits
 abbrev pub mode_of_word : List ℕ → Option ℕ
@@ -70,7 +54,3 @@ announcement window size =
 abbrev pub announcement_of : List ℕ → List ℕ → Option Announced
 announcement_of window size =
     number_of WINDOW_MAX window >>= (λ w. number_of MESSAGE_MAX size >>= (λ s. announcement w s))
-
--- a line whose first word begins so is a comment
-abbrev pub is_comment : List ℕ → Bool
-is_comment word = starts_with nat_eq word (codes "#")

@@ -3,7 +3,7 @@ use Rattle.std.specs.Prelude.{◌≡◌, ℕ, ◌+◌, List, [], ◌∷◌, ◌+
 use Rattle.uug_conversation.specs.Jobs.{at_start}
 use Rattle.uug_script.specs.declared.fault.ScriptFault.{ScriptFault}
 use Rattle.uug_script.specs.declared.fault.ScriptFault.TheVariants as fault
-use Rattle.uug_script.specs.Lines.{lines}
+use Rattle.uug_talk.specs.Lines.{lines}
 use Rattle.uug_script.specs.LineSays.{TextSays}
 use Rattle.uug_script.specs.Meaning.{LineMeaning}
 use Rattle.uug_script.specs.Script.{Said, nothing_said, added, EndSays, ScriptSays, completed}

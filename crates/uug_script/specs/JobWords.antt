@@ -4,7 +4,7 @@ use Rattle.uug_conversation.specs.declared.job.Job.{Job}
 use Rattle.uug_conversation.specs.declared.job.Job.TheVariants.{Send, Request}
 use Rattle.uug_conversation.specs.declared.side.Side.{Side}
 use Rattle.uug_talk.specs.Words.{joined}
-use Rattle.uug_script.specs.Fields.{side_word}
+use Rattle.uug_session.specs.PhaseWords.{side_word}
 
 -- the name of the copy that was made of the file, if one was
 abbrev pub copy_words : Option (List ℕ) → List (List ℕ)

@@ -3,7 +3,6 @@ pub mod Fields
 pub mod IsScript
 pub mod JobWords
 pub mod LineSays
-pub mod Lines
 pub mod Meaning
 pub mod ReadLine
 pub mod ReportShown

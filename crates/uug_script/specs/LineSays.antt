@@ -14,9 +14,10 @@ use Rattle.uug_talk.specs.Order.{AreNames}
 use Rattle.uug_talk.specs.Words.{words}
 use Rattle.uug_line.specs.declared.event.Event.TheVariants.{Pass, Drop, Flip, Insert, Timeout, HangUp, Call}
 use Rattle.uug_script.specs.declared.fields.TheConstants.{MODE_DIGITS}
-use Rattle.uug_script.specs.declared.line.TheConstants.{LINE_MAX, BYTES_MAX, TURNS_MAX}
+use Rattle.uug_talk.specs.declared.lines.TheConstants.{LINE_MAX}
+use Rattle.uug_script.specs.declared.line.TheConstants.{BYTES_MAX, TURNS_MAX}
 use Rattle.uug_conversation.specs.declared.side.Side.{Side}
-use Rattle.uug_script.specs.Fields.{side_word}
+use Rattle.uug_session.specs.PhaseWords.{side_word}
 use Rattle.uug_script.specs.Meaning.{LineMeaning, nothing, of_end, event, flow, place, file, job, deny, later, immovable, number, quiet, short, lenient}
 
 -- the word writes the number in decimal digits, with no sign, and the number is at most this one

@@ -6,10 +6,14 @@ use Rattle.uug_talk.specs.declared.call.TheConstants.{NUMBER_MAX}
 use Rattle.uug_talk.specs.Number.{number_of}
 use Rattle.uug_talk.specs.Words.{words}
 use Rattle.uug_line.specs.declared.event.Event.TheVariants.{Pass, Drop, Flip, Insert, Timeout, HangUp, Call}
-use Rattle.uug_script.specs.declared.line.TheConstants.{LINE_MAX, BYTES_MAX, TURNS_MAX}
+use Rattle.uug_talk.specs.declared.lines.TheConstants.{LINE_MAX}
+use Rattle.uug_script.specs.declared.line.TheConstants.{BYTES_MAX, TURNS_MAX}
 use Rattle.uug_conversation.specs.declared.side.Side.{Side}
 use Rattle.uug_conversation.specs.declared.side.Side.TheVariants.{Caller, Called}
-use Rattle.uug_script.specs.Fields.{◌>>=◌, side_of, name_of, mode_of_word, hex_bytes, byte_of, announcement_of, is_comment}
+use Rattle.uug_talk.specs.Chained.{◌>>=◌}
+use Rattle.uug_script.specs.Fields.{side_of, mode_of_word, hex_bytes, byte_of, announcement_of}
+use Rattle.uug_talk.specs.Name.{name_of}
+use Rattle.uug_talk.specs.Lines.{is_comment}
 use Rattle.uug_script.specs.Meaning.{LineMeaning, nothing, of_end, event, flow, place, job, deny, later, immovable, number, quiet, short, lenient, file_meaning, of_side}
 
 -- a line that begins with the word of an end

@@ -3,18 +3,15 @@ use Rattle.std.specs.Prelude.{ℕ, suc, List, [], ◌∷◌, ◌++◌, codes, Op
 use Rattle.std.specs.Fmt.{decimal}
 use Rattle.hex.specs.Hex.{encode_lower}
 use Rattle.uug_conversation.specs.Holdings.{Kept}
-use Rattle.uug_session.specs.declared.end.End.{End}
-use Rattle.uug_session.specs.declared.end.End.TheVariants.{Done, Refused, WrongName, NoProtocol, PeerClosed, GaveUp, BadTalk, SpoolFault, HungUp, BadSequence}
 use Rattle.uug_talk.specs.Mode.{mode_digits}
-use Rattle.uug_session.specs.declared.phase.Phase.{Phase}
-use Rattle.uug_session.specs.declared.phase.Phase.TheVariants.{Hail, Starting, Talking, Closing, Ended}
+use Rattle.uug_talk.specs.Lines.{ended}
 use Rattle.uug_script.specs.declared.report.EndNumbers.{EndNumbers}
 use Rattle.uug_script.specs.declared.report.SessionNumbers.{SessionNumbers}
 use Rattle.uug_conversation.specs.declared.side.Side.{Side}
 use Rattle.uug_conversation.specs.declared.side.Side.TheVariants.{Caller, Called}
 use Rattle.uug_line.specs.declared.verdict.LineVerdict.{LineVerdict}
 use Rattle.uug_line.specs.declared.verdict.LineVerdict.TheVariants.{Clean, Fooled}
-use Rattle.uug_script.specs.Fields.{side_word}
+use Rattle.uug_session.specs.PhaseWords.{phase_word, side_word}
 
 -- what became of an end's jobs, how many of each, the files that it has stored, in order, and the number of its next
 -- conversation, where it keeps one
@@ -30,29 +27,6 @@ pub record RunResult : Type 0 where
   pub caller : EndResult
   pub called : EndResult
   pub verdict : LineVerdict
-
--- a line feed ends each line
-abbrev pub ended : List ℕ → List ℕ
-ended text = text ++ 10 ∷ []
-
-abbrev pub end_word : End → List ℕ
-end_word Done = codes "done"
-end_word Refused = codes "refused"
-end_word WrongName = codes "wrongname"
-end_word NoProtocol = codes "noprotocol"
-end_word PeerClosed = codes "peerclosed"
-end_word GaveUp = codes "gaveup"
-end_word BadTalk = codes "badtalk"
-end_word SpoolFault = codes "spoolfault"
-end_word HungUp = codes "hungup"
-end_word BadSequence = codes "badsequence"
-
-abbrev pub phase_word : Phase → List ℕ
-phase_word Hail = codes "hail"
-phase_word Starting = codes "starting"
-phase_word Talking = codes "talking"
-phase_word Closing = codes "closing"
-phase_word (Ended end) = end_word end
 
 -- SIDE sent A taken B most C PHASE
 abbrev pub end_line : Side → EndNumbers → List ℕ

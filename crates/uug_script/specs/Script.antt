@@ -8,7 +8,7 @@ use Rattle.uug_line.specs.declared.event.Event.{Event}
 use Rattle.uug_line.specs.declared.event.Event.TheVariants.{Pass}
 use Rattle.uug_script.specs.declared.line.TheConstants.{BYTES_MAX}
 use Rattle.uug_conversation.specs.declared.side.Side.TheVariants.{Caller, Called}
-use Rattle.uug_script.specs.Fields.{◌>>=◌}
+use Rattle.uug_talk.specs.Chained.{◌>>=◌}
 use Rattle.uug_script.specs.Meaning.{EndMeaning, place, file, job, deny, later, immovable, number, quiet, short, lenient, LineMeaning, nothing, of_end, event, flow}
 
 -- an end's name, and what it announces; that it is quiet on repeats, and that its commands are short, is said apart

@@ -11,8 +11,9 @@ use Rattle.uug_script.specs.declared.fault.ScriptFault.TheVariants as fault
 use Rattle.uug_script.specs.declared.line.EndStatement.{EndStatement}
 use Rattle.uug_script.specs.declared.line.Statement.{Statement}
 use Rattle.uug_script.specs.declared.script.Script.{Script}
-use Rattle.uug_script.specs.Fields.{◌>>=◌, hex_bytes}
-use Rattle.uug_script.specs.Lines.{lines}
+use Rattle.uug_talk.specs.Chained.{◌>>=◌}
+use Rattle.uug_script.specs.Fields.{hex_bytes}
+use Rattle.uug_talk.specs.Lines.{lines}
 use Rattle.uug_script.specs.Meaning.{file_meaning, end_meaning, line_meaning}
 use Rattle.uug_script.specs.ReadLine.{line_of}
 use Rattle.uug_script.specs.Script.{Place, EndSaid, Said, nothing_said, end_added, added, EndSays, ScriptSays, completed}

@@ -1,7 +1,8 @@
 //! What single words of a line say.
 ghost use Rattle.std.specs.Prelude.{◌≡◌, ◌≤◌, IfSome};
 ghost use Rattle.std.specs.Str.{bytes_eq};
-ghost use Rattle.uug_script.specs.Fields.{side_of, name_of, mode_of_word, byte_of, announcement_of};
+ghost use Rattle.uug_script.specs.Fields.{side_of, mode_of_word, byte_of, announcement_of};
+ghost use Rattle.uug_talk.specs.Name.{name_of};
 ghost use Rattle.uug_script.specs.Meaning.{announced_by, mode_bits};
 
 use crate::mode::Mode;

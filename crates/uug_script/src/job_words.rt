@@ -1,13 +1,12 @@
 //! A job as the line of a script that gives it.
 ghost use Rattle.std.specs.Prelude.{◌≡◌, ◌∷◌, [], ◌++◌, OnOk, codes, string_bytes};
 ghost use Rattle.uug_talk.specs.Words.{joined};
-ghost use Rattle.uug_script.specs.Fields.{side_word};
+ghost use Rattle.uug_session.specs.PhaseWords.{side_word};
 ghost use Rattle.uug_script.specs.JobWords.{job_text};
 
-use crate::report::side_word;
 use std::alloc::{AllocError, Allocator};
 use uug_line::Side;
-use uug_session::Job;
+use uug_session::{Job, side_word};
 use uug_talk::Name;
 
 /// Appends these five words, with a space between each two.

@@ -1,7 +1,7 @@
 //! Laws of scripts. A call does nothing: its contract is the law.
 ghost use Rattle.std.specs.Prelude.{◌≡◌, ℕ, List, Ok, Err};
 ghost use Rattle.uug_script.specs.declared.fields.TheConstants.{MODE_DIGITS};
-ghost use Rattle.uug_script.specs.declared.line.TheConstants.{LINE_MAX, BYTES_MAX, TURNS_MAX};
+ghost use Rattle.uug_script.specs.declared.line.TheConstants.{BYTES_MAX, TURNS_MAX};
 ghost use Rattle.uug_conversation.specs.declared.side.Side.{Side};
 ghost use Rattle.uug_conversation.specs.declared.job.Job.{Job};
 ghost use Rattle.uug_conversation.specs.Party.{HasNames};
@@ -28,10 +28,9 @@ pub fn a_job_is_written_as_a_line_says_it()
         → LineSays (job_words side given) (of_end side (job given)) }
 {}
 
-/// Each limit of a script is this number: of the bytes of a line, of the bytes that one event passes or drops, of the
-/// turns of one `flow`, and of the octal digits of a mode.
+/// Each limit of a script is this number: of the bytes that one event passes or drops, of the turns of one `flow`, and of
+/// the octal digits of a mode. That of a line is of `uug_talk`.
 pub fn limits()
-    ensures line { LINE_MAX ≡ 65536 }
     ensures bytes { BYTES_MAX ≡ 1000000000 }
     ensures turns { TURNS_MAX ≡ 100000 }
     ensures mode_digits { MODE_DIGITS ≡ 4 }

@@ -6,14 +6,13 @@ ghost use Rattle.uug_script.specs.ReadLine.{line_of, place_of, file_of, send_of,
 
 use crate::fields::{read_announce, read_byte, read_name, read_short_mode, read_side, spells};
 use crate::mode::Mode;
-use crate::words::{four_words, one_word, three_words, two_words};
 use uug_line::{Event, Side};
 use uug_link::Announce;
 use uug_session::Job;
-use uug_talk::{NUMBER_MAX, Name, read_number, split_word};
-
-/// The longest line, in bytes, its spaces included and its line feed not.
-pub const LINE_MAX: usize = 65_536;
+use uug_talk::{
+    LINE_MAX, NUMBER_MAX, Name, four_words, one_word, read_number, split_word, three_words,
+    two_words,
+};
 
 /// The most bytes that one event passes or drops.
 pub const BYTES_MAX: u32 = 1_000_000_000;

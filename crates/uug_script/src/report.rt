@@ -2,13 +2,13 @@
 ghost use Rattle.std.specs.Prelude.{◌≡◌, ◌≤◌, ◌++◌, OnErr, OnOk, IfOk, map, string_bytes};
 ghost use Rattle.uug_conversation.specs.MemoryHoldings.{kept_of};
 ghost use Rattle.uug_talk.specs.Mode.{mode_digits};
-ghost use Rattle.uug_script.specs.Fields.{side_word};
-ghost use Rattle.uug_script.specs.ReportText.{end_word, phase_word, end_line, session_text, sessions_text, jobs_line, hex_text, stored_line, stored_text, number_line, verdict_line, report_text};
+ghost use Rattle.uug_session.specs.PhaseWords.{side_word, end_word, phase_word};
+ghost use Rattle.uug_script.specs.ReportText.{end_line, session_text, sessions_text, jobs_line, hex_text, stored_line, stored_text, number_line, verdict_line, report_text};
 ghost use Rattle.uug_script.specs.ReportShown.{end_shown, report_shown};
 
 use std::alloc::{AllocError, Allocator};
 use uug_line::{LineVerdict, Side};
-use uug_session::{End, Phase, Stored};
+use uug_session::{Phase, Stored, phase_word, side_word};
 use uug_talk::mode_digits;
 
 /// What one end did in one session.
@@ -59,46 +59,6 @@ pub struct ShownReport<'a, A: Allocator> {
     pub called: ShownEnd<'a, A>,
     /// Whether the line fooled an end.
     pub verdict: LineVerdict,
-}
-
-/// The word of an end: `caller` or `called`.
-pub fn side_word(side: Side) -> &'static str
-    ensures { result.now ≡ side_word side }
-{
-    match side {
-        Side::Caller => "caller",
-        Side::Called => "called",
-    }
-}
-
-fn end_word(end: End) -> &'static str
-    ensures { result.now ≡ end_word end }
-{
-    match end {
-        End::Done => "done",
-        End::Refused => "refused",
-        End::WrongName => "wrongname",
-        End::NoProtocol => "noprotocol",
-        End::PeerClosed => "peerclosed",
-        End::GaveUp => "gaveup",
-        End::BadTalk => "badtalk",
-        End::SpoolFault => "spoolfault",
-        End::HungUp => "hungup",
-        End::BadSequence => "badsequence",
-    }
-}
-
-/// The word of where a session stands; one that has ended stands for how it ended, as `done`.
-pub fn phase_word(phase: Phase) -> &'static str
-    ensures { result.now ≡ phase_word phase }
-{
-    match phase {
-        Phase::Hail => "hail",
-        Phase::Starting => "starting",
-        Phase::Talking => "talking",
-        Phase::Closing => "closing",
-        Phase::Ended(end) => end_word(end),
-    }
 }
 
 /// Appends the line of one end in one session.

@@ -4,9 +4,9 @@ ghost use Rattle.uug_script.specs.ScriptOf.{script_of, script_said, Faults};
 
 use crate::draft::Draft;
 use crate::fault::ScriptFault;
-use crate::lines::split_line;
 use std::alloc::Allocator;
 use uug_line::{Event, Setup};
+use uug_talk::split_line;
 
 /// What a script says: the two ends, and what happens.
 #[derive(Drop)]

@@ -14,6 +14,7 @@ pub mod NodeGreeting
 pub mod NodeLoan
 pub mod NodeSteps
 pub mod NumberStanding
+pub mod PhaseWords
 pub mod Phases
 pub mod Says
 pub mod Sending

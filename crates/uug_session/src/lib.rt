@@ -14,6 +14,7 @@ pub mod laws;
 mod node;
 pub mod node_laws;
 mod phase;
+mod phase_words;
 mod place;
 pub mod sending_laws;
 mod sessions;
@@ -28,6 +29,7 @@ pub use greeting::{AwaitedText, Greeted, Greeting, Led};
 pub use item::Item;
 pub use node::Node;
 pub use phase::Phase;
+pub use phase_words::{phase_word, side_word};
 pub use place::Place;
 pub use sessions::NotMade;
 pub use uug_conversation::{

@@ -6,14 +6,15 @@ pub mod GatherLemmas
 pub mod GathersBackLemmas
 pub mod HearLemmas
 pub mod JoinedLemmas
+pub mod LineLemmas
 pub mod ModeLemmas
 pub mod NameLemmas
 pub mod NumberLemmas
 pub mod OrderLemmas
 pub mod RefusedLemmas
 pub mod ResultLemmas
-pub mod StreamTextLemmas
 pub mod StandardFacts
+pub mod StreamTextLemmas
 pub mod TextLemmas
 pub mod WordLemmas
 pub mod WriteLemmas

@@ -1,10 +1,12 @@
 pub mod Answer
 pub mod Call
+pub mod Chained
 pub mod Chunks
 pub mod Gathering
 pub mod Hail
 pub mod HailCalls
 pub mod Held
+pub mod Lines
 pub mod MessagesLeft
 pub mod Mode
 pub mod Name

@@ -1,7 +1,8 @@
 -- What a name is (this project's profile): 1 to NAME_MAX bytes, each a printing character of ASCII
 -- other than the space.
-use Rattle.std.specs.Prelude.{◌≡◌, ◌&&◌, ℕ, Bool, nat_lt, nat_le, Result, Ok, Err, if◌then◌else◌, ◌-◌, ◌<◌, ◌≤◌, List, ◌++◌, length, take, drop, replicate, All}
+use Rattle.std.specs.Prelude.{◌≡◌, ◌&&◌, ℕ, Bool, nat_lt, nat_le, Option, Result, Ok, Err, if◌then◌else◌, ◌-◌, ◌<◌, ◌≤◌, List, ◌++◌, length, take, drop, replicate, All}
 use Rattle.std.specs.List.{list_all}
+use Rattle.std.specs.Result.{result_ok}
 use Rattle.std.proofs.Common.{take-append-drop, length-take-le, ap, ◌∙◌, sym, arith}
 use Rattle.uug_talk.specs.declared.error.BadText.{BadText}
 use Rattle.uug_talk.specs.declared.error.BadText.TheVariants as fault
@@ -24,6 +25,10 @@ is_name bytes = nat_lt 0 (length bytes) && nat_le (length bytes) NAME_MAX && lis
 
 abbrev pub name_read : List ℕ → Result (List ℕ) BadText
 name_read bytes = if is_name bytes then Ok bytes else Err fault.Name
+
+-- the name that a word is, if it is one
+abbrev pub name_of : List ℕ → Option (List ℕ)
+name_of word = result_ok (name_read word)
 
 -- a name's array, from the name: it and zeros
 pub length_of_front : (n : ℕ) (xs : List ℕ) → n ≤ NAME_MAX → length xs ≡ NAME_MAX → length (take n xs) ≡ n

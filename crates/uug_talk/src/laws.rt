@@ -5,6 +5,7 @@ ghost use Rattle.uug_talk.specs.declared.answer.TheConstants.{DEFAULT_MODE};
 ghost use Rattle.uug_talk.specs.declared.chunks.TheConstants.{MESSAGE_MAX};
 ghost use Rattle.uug_talk.specs.declared.gather.TheConstants.{FILE_MAX};
 ghost use Rattle.uug_talk.specs.declared.hail.TheConstants.{HAIL_MAX, TEXT_START};
+ghost use Rattle.uug_talk.specs.declared.lines.TheConstants.{LINE_MAX};
 ghost use Rattle.uug_talk.specs.declared.mode.TheConstants.{MODE_MAX, MODE_DIGITS_MAX};
 ghost use Rattle.uug_talk.specs.declared.name.TheConstants.{NAME_MAX};
 ghost use Rattle.uug_talk.specs.declared.words.TheConstants.{COMMAND_MAX};
@@ -17,7 +18,7 @@ ghost use Rattle.uug_talk.specs.HailCalls.{HailCall, Lead, FindsTooLong, all_use
 ghost use Rattle.uug_talk.specs.StreamTexts.{StreamTexts, HasTexts, Rest, TooLong, texts_of, continued, with_text, no_text};
 ghost use Rattle.uug_talk.specs.Texts.{IsFirstText, IsTooLong, Heard, Passing, Whole, Holds, is_whole, left_to_hear, used_before, hear};
 
-/// Each limit is this number: of the bytes of a name, a command, a handshake text, a message and a file; of
+/// Each limit is this number: of the bytes of a name, a command, a handshake text, a message, a file and a line; of
 /// a mode, of the octal digits in which one is read, and the mode of a file that is given without one. So is the byte
 /// with which a handshake text begins.
 pub fn limits()
@@ -30,6 +31,7 @@ pub fn limits()
     ensures mode_digits { MODE_DIGITS_MAX ≡ 7 }
     ensures default_mode { DEFAULT_MODE ≡ 438 }
     ensures text_start { TEXT_START ≡ 16 }
+    ensures line { LINE_MAX ≡ 65536 }
 {}
 
 /// What is written of a command is read as the command.

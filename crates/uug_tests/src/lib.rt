@@ -1,11 +1,16 @@
 //! Tests of the calls of the crates up to `uug_session`, all in one crate: a crate with tests of its own is proved once
-//! more for them.
+//! more for them. And the example of an end in a program of your own, `example_end`, which they try too.
 #![tactic(auto)]
 
 #[cfg(test)]
 mod assertions;
 #[cfg(test)]
+mod errors;
+pub mod example_end;
+#[cfg(test)]
 mod links;
+#[cfg(test)]
+mod nodes;
 #[cfg(test)]
 mod packets;
 #[cfg(test)]

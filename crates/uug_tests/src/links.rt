@@ -7,6 +7,7 @@ mod fields;
 mod outboxes;
 mod repeats;
 mod runs;
+mod windows;
 
 use crate::assertions::{assert_same, assert_so};
 use crate::packets::number;
@@ -30,6 +31,8 @@ enum Wire<'a> {
     Data(u8, u8, &'a [u8]),
     /// The same in a field of 64 bytes.
     Padded(u8, u8, &'a [u8]),
+    /// The same in a field of 4,096 bytes.
+    Wide(u8, u8, &'a [u8]),
 }
 
 /// What is done to a link.
@@ -63,6 +66,7 @@ fn packet_of(wire: Wire<'_>) -> Packet<'_> {
         Wire::Srj(value) => Control::Srj(number(value)),
         Wire::Data(value, ack, message) => return carrying(1, value, ack, message),
         Wire::Padded(value, ack, message) => return carrying(2, value, ack, message),
+        Wire::Wide(value, ack, message) => return carrying(8, value, ack, message),
     })
 }
 

@@ -15,7 +15,7 @@ fn name(rt: &impl Abort, text: &[u8]) -> Name {
 }
 
 /// An end of this name, whose other end has that name, and which keeps no number.
-fn place(rt: &impl Abort, me: &[u8], peer: &[u8]) -> Place {
+pub fn place(rt: &impl Abort, me: &[u8], peer: &[u8]) -> Place {
     Place {
         me: name(rt, me),
         peer: name(rt, peer),

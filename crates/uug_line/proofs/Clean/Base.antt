@@ -23,7 +23,7 @@ use Rattle.uug_line.specs.Belongings.{Belongings, SetupValue}
 use Rattle.uug_line.specs.LineEndState.{LineEndState, JournalState, Participant, bytes_in, does, found_at, messages_sent, packets_in, took}
 use Rattle.uug_line.specs.Run.{parties}
 use Rattle.uug_line.specs.RunKeeper.{view_at}
-use Rattle.uug_line.specs.Sides.{AtBoth, at}
+use Rattle.uug_conversation.specs.Sides.{AtBoth, at}
 use Rattle.uug_line.specs.Speaking.{HasSpoken}
 use Rattle.uug_line.specs.Taking.{line_taker, packet_taken_up, takes_sent}
 use Rattle.uug_line.proofs.Clean.Ways.{packets_of-append}

@@ -19,7 +19,7 @@ use Rattle.uug_conversation.specs.declared.side.Side.{Side}
 use Rattle.uug_conversation.specs.declared.side.Side.TheVariants.{Caller, Called}
 use Rattle.uug_line.specs.Belongings.{Belongings, SetupValue, party}
 use Rattle.uug_line.specs.LineEndState.{LineEndState}
-use Rattle.uug_line.specs.Sides.{AtBoth, at}
+use Rattle.uug_conversation.specs.Sides.{AtBoth, at}
 use Rattle.uug_line.proofs.Clean.Base.{Base, as_end, seen}
 use Rattle.uug_line.proofs.Clean.Items.{Talks}
 use Rattle.uug_link.proofs.TwoLinksRuns.{within as links_unacked, windows}

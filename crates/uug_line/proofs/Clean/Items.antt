@@ -19,7 +19,7 @@ use Rattle.uug_conversation.specs.View.{Seen}
 use Rattle.uug_conversation.specs.declared.side.Side.{Side}
 use Rattle.uug_line.specs.Belongings.{Belongings, SetupValue}
 use Rattle.uug_line.specs.LineEndState.{LineEndState, bytes_in, found_at, packets_in, took}
-use Rattle.uug_line.specs.Sides.{AtBoth, at}
+use Rattle.uug_conversation.specs.Sides.{AtBoth, at}
 use Rattle.uug_line.specs.Taking.{packet_taken_up, with_packet}
 use Rattle.uug_line.proofs.Clean.Base.{Base, Came, as_end, bytes_written, came_so, more_coming, next_found, packets_written, seen, still_coming, took_packets, took_passed, with_close, written, written-append}
 use Rattle.uug_line.proofs.Clean.Ends.{ClosesThen, TalksOn, TalksOrCloses, closing_end, talks_or_closes}

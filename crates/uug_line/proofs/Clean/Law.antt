@@ -23,7 +23,7 @@ use Rattle.uug_line.specs.OfBytes.{AreOfTypes}
 use Rattle.uug_line.specs.Run.{Run, end_at, first_run, goes_through, parties}
 use Rattle.uug_line.specs.RunKeeper.{by_numbers, has_after, has_by}
 use Rattle.uug_line.specs.Settle.{AreRounds, EndIsSettled, IsSettled, MaySettle, Round, Settles, SettlesFrom, events_of, late, left, passing}
-use Rattle.uug_line.specs.Sides.{AtBoth, at}
+use Rattle.uug_conversation.specs.Sides.{AtBoth, at}
 use Rattle.uug_line.specs.Told.{EndReportValue}
 use Rattle.uug_line.specs.World.{counted, counted_end, run_of_ends, world}
 use Rattle.uug_line.proofs.Clean.Base.{Base, seen}

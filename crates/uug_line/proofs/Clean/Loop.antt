@@ -18,7 +18,7 @@ use Rattle.uug_line.specs.RunKeeper.{by_numbers, by_themselves}
 use Rattle.uug_line.specs.RunValue.{Happens, HappensAt, Passes, RunValue, StandsAs, hearing_side}
 use Rattle.uug_line.specs.Settle.{AllBringOn, AreRounds, IsOver, PassesClean, Round, Settles, behind_two, events_of, late, line_from, one_if_over, passing, run_weight}
 use Rattle.uug_line.specs.Code.Settling.{AreOver, IsFinished, MayFinish, RoundHappens, goes, parts_weight, stops}
-use Rattle.uug_line.specs.Sides.{at}
+use Rattle.uug_conversation.specs.Sides.{at}
 use Rattle.uug_line.specs.World.{counted, run_of_ends, world}
 use Rattle.uug_line.proofs.Clean.Law.{settles_by, settles_of, settles_from}
 use Rattle.uug_line.proofs.PastLemmas.{next_event}

@@ -16,7 +16,7 @@ use Rattle.uug_conversation.specs.View.{Seen}
 use Rattle.uug_conversation.specs.declared.side.Side.{Side}
 use Rattle.uug_line.specs.Belongings.{Belongings, SetupValue, identity}
 use Rattle.uug_line.specs.LineEndState.{LineEndState}
-use Rattle.uug_line.specs.Sides.{AtBoth}
+use Rattle.uug_conversation.specs.Sides.{AtBoth}
 use Rattle.uug_line.specs.Taking.{packet_taken_up, with_packet}
 use Rattle.uug_line.proofs.Clean.Base.{Base, Came, as_end, came_on, came_so, next_found, nothing_came, seen, still_coming, receiver, took_passed, written}
 use Rattle.uug_line.proofs.Clean.Ends.{closing_end, closing_ends, closing_ignores, done_end}

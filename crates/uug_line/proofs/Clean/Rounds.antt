@@ -16,7 +16,7 @@ use Rattle.uug_conversation.specs.View.{Seen}
 use Rattle.uug_conversation.specs.declared.side.Side.{Side}
 use Rattle.uug_line.specs.Belongings.{Belongings, SetupValue}
 use Rattle.uug_line.specs.LineEndState.{LineEndState}
-use Rattle.uug_line.specs.Sides.{AtBoth}
+use Rattle.uug_conversation.specs.Sides.{AtBoth}
 use Rattle.uug_line.proofs.Clean.Base.{Base, as_end, came_on, seen, with_line, written, written-append}
 use Rattle.uug_line.proofs.Clean.Counts.{all_came, none_outstanding, over_too, stuck}
 use Rattle.uug_line.proofs.Clean.Items.{Back, Open, Shutting, ShutsWith, StaysKnown, Talks}

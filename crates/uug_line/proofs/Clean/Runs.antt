@@ -19,7 +19,7 @@ use Rattle.uug_line.specs.LineEndState.{LineEndState, called_with, changed_line,
 use Rattle.uug_line.specs.Run.{Run, after_event, after_hearing, end_at, goes_through, with_end_at, with_line_to}
 use Rattle.uug_line.specs.RunKeeper.{by_numbers}
 use Rattle.uug_line.specs.Settle.{AllBringOn, AreRounds, IsIdle, IsOver, PassesClean, Round, behind_two, events_of, late, line_from, one_if_over, passing, run_weight}
-use Rattle.uug_line.specs.Sides.{AtBoth}
+use Rattle.uug_conversation.specs.Sides.{AtBoth}
 use Rattle.uug_line.specs.Told.{EndReportValue}
 use Rattle.uug_line.proofs.Clean.Base.{Base, seen, receiver, with_line}
 use Rattle.uug_line.proofs.Clean.Items.{Talks}

@@ -10,7 +10,7 @@ use Rattle.uug_conversation.specs.declared.side.Side.{Side}
 use Rattle.uug_conversation.specs.declared.side.Side.TheVariants.{Caller, Called}
 use Rattle.uug_line.specs.Belongings.{Belongings, SetupValue}
 use Rattle.uug_line.specs.LineEndState.{LineEndState}
-use Rattle.uug_line.specs.Sides.{AtBoth}
+use Rattle.uug_conversation.specs.Sides.{AtBoth}
 use Rattle.uug_line.proofs.Clean.Base.{Base, seen, with_line}
 use Rattle.uug_line.proofs.Clean.Counts.{OverAt, all_came, counted_back, floor_within, goes_on, none_outstanding, others_is_own, over_at, stuck}
 use Rattle.uug_line.proofs.Clean.Items.{Talks}

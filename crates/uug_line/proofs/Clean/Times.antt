@@ -11,7 +11,7 @@ use Rattle.uug_session.specs.EndStep.{end_step, time_ran_out}
 use Rattle.uug_conversation.specs.declared.side.Side.{Side}
 use Rattle.uug_line.specs.Belongings.{Belongings, SetupValue}
 use Rattle.uug_line.specs.LineEndState.{LineEndState, bytes_in, does, packets_in}
-use Rattle.uug_line.specs.Sides.{AtBoth, at}
+use Rattle.uug_conversation.specs.Sides.{AtBoth, at}
 use Rattle.uug_line.proofs.Clean.Base.{Base, as_end, bytes_written, packets_written, seen, written}
 use Rattle.uug_line.proofs.Clean.Counts.{counted_back, counted_to, few}
 use Rattle.uug_line.proofs.Clean.Ends.{waits_on}

@@ -13,7 +13,7 @@ use Rattle.uug_line.specs.Told.{EndReportValue, ReportValue}
 use Rattle.uug_session.specs.declared.phase.Phase.{Phase}
 use Rattle.uug_line.specs.Run.{run_of}
 use Rattle.uug_line.specs.RunKeeper.{RunKeeper, by_themselves, by_numbers}
-use Rattle.uug_line.specs.Sides.{AtBoth}
+use Rattle.uug_conversation.specs.Sides.{AtBoth}
 use Rattle.uug_line.specs.World.{counted, report_of, run_of_ends, world}
 
 -- of a session, at one end

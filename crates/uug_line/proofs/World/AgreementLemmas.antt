@@ -7,7 +7,7 @@ use Rattle.uug_session.specs.TwoEnds.{Talker}
 use Rattle.uug_conversation.specs.View.{Seen}
 use Rattle.uug_conversation.specs.declared.side.Side.{Side}
 use Rattle.uug_line.specs.Belongings.{Belongings, SetupValue, party}
-use Rattle.uug_line.specs.Sides.{AtBoth, at}
+use Rattle.uug_conversation.specs.Sides.{AtBoth, at}
 use Rattle.uug_line.proofs.World.Invariant.{IsInvariant}
 use Rattle.uug_line.proofs.World.Joining.{IsSoundSession, IsTalk, Joined, Moment}
 use Rattle.uug_line.proofs.MoveLemmas.{StandsThere, joined_begins, joined_closes, joined_finds_bad, joined_hears, joined_sends, joined_times_out}

@@ -14,7 +14,7 @@ use Rattle.uug_session.specs.TextsHeld.{TextSearch, text_waits, text_stands, tex
 use Rattle.uug_conversation.specs.declared.side.Side.{Side}
 use Rattle.uug_line.specs.Belongings.{Belongings, SetupValue}
 use Rattle.uug_line.specs.LineEndState.{LineEndState, does}
-use Rattle.uug_line.specs.Sides.{AtBoth}
+use Rattle.uug_conversation.specs.Sides.{AtBoth}
 use Rattle.uug_line.specs.Taking.{takes_sent, line_taker, packet_taken_up}
 use Rattle.uug_line.specs.World.{counted_end, counted_hearer}
 use Rattle.uug_line.proofs.World.Joining.{EndsJoined, IsSoundSession}

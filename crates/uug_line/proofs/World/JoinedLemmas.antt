@@ -11,7 +11,7 @@ use Rattle.uug_conversation.specs.DialogueState.{DialogueState, end_keeper}
 use Rattle.uug_conversation.specs.declared.side.Side.{Side}
 use Rattle.uug_line.specs.Belongings.{Belongings, SetupValue, identity}
 use Rattle.uug_line.specs.LineEndState.{LineEndState, JournalState, after_call, does, found_at, took}
-use Rattle.uug_line.specs.Sides.{AtBoth, at}
+use Rattle.uug_conversation.specs.Sides.{AtBoth, at}
 use Rattle.uug_line.specs.Taking.{packet_taken_up}
 use Rattle.uug_line.specs.World.{counted_end}
 use Rattle.uug_line.proofs.World.AgreementLemmas.{is_invariant}

@@ -1,6 +1,6 @@
 -- What is known of an end's steps in a session, from what the crates below promise.
 use Rattle.uug_line.specs.Belongings.{Belongings, SetupValue}
-use Rattle.uug_line.specs.Sides.{AtBoth}
+use Rattle.uug_conversation.specs.Sides.{AtBoth}
 use Rattle.uug_line.proofs.World.JoinedLemmas.{does_joined, packet_joined}
 use Rattle.uug_line.proofs.World.Joining.{IsSoundSession}
 use Rattle.uug_line.proofs.SessionLemmas.{first_counted, first_joined, front, has_joined, to_floor, turned}

@@ -17,7 +17,7 @@ use Rattle.uug_conversation.specs.declared.side.Side.TheVariants.{Caller, Called
 use Rattle.uug_line.specs.Belongings.{Belongings, SetupValue, party}
 use Rattle.uug_line.specs.LineEndState.{JournalState, LineEndState}
 use Rattle.uug_line.specs.LinkRun.{LinksRan}
-use Rattle.uug_line.specs.Sides.{AtBoth, at}
+use Rattle.uug_conversation.specs.Sides.{AtBoth, at}
 use Rattle.uug_line.specs.Speaking.{HasSpoken}
 use Rattle.uug_line.specs.WereSent.{passed_at}
 use Rattle.uug_line.proofs.LinkRunLemmas.{first_of}

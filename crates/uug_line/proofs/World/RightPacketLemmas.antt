@@ -16,7 +16,7 @@ use Rattle.uug_line.specs.Delivered.{came_in}
 use Rattle.uug_line.specs.OfBytes.{AreOfBytes, IsSetupOfBytes}
 use Rattle.uug_line.specs.Run.{Run, end_at}
 use Rattle.uug_line.specs.RunKeeper.{by_numbers, by_themselves}
-use Rattle.uug_line.specs.Sides.{AtBoth, at}
+use Rattle.uug_conversation.specs.Sides.{AtBoth, at}
 use Rattle.uug_line.specs.SoundSetup.{IsSoundSetup}
 use Rattle.uug_line.specs.World.{counted, run_of_ends, world}
 use Rattle.uug_line.proofs.ByteLemmas.{AllBytes, all_bytes}

@@ -16,7 +16,7 @@ use Rattle.uug_line.specs.Belongings.{Belongings, SetupValue, identity}
 use Rattle.uug_line.specs.LineEndState.{LineEndState, Participant, does}
 use Rattle.uug_line.specs.Run.{first_end, parties}
 use Rattle.uug_line.specs.RunKeeper.{by_themselves, by_numbers, view_at}
-use Rattle.uug_line.specs.Sides.{AtBoth, at}
+use Rattle.uug_conversation.specs.Sides.{AtBoth, at}
 use Rattle.uug_line.specs.Taking.{packet_taken_up}
 use Rattle.uug_line.specs.World.{count_of, counted_end}
 use Rattle.uug_line.proofs.World.Joining.{EndsJoined}

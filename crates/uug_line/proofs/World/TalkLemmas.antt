@@ -14,7 +14,7 @@ use Rattle.uug_conversation.specs.declared.side.Side.TheVariants.{Caller, Called
 use Rattle.uug_line.specs.Belongings.{Belongings, SetupValue, party}
 use Rattle.uug_line.specs.Run.{parties}
 use Rattle.uug_line.specs.RunKeeper.{view_at}
-use Rattle.uug_line.specs.Sides.{AtBoth, at}
+use Rattle.uug_conversation.specs.Sides.{AtBoth, at}
 use Rattle.uug_line.proofs.World.Joining.{IsSoundSession}
 use Rattle.uug_conversation.proofs.FitLemmas.{own_fit}
 use Rattle.uug_line.proofs.LowerLemmas.{both_told, over_is}

@@ -7,7 +7,7 @@ use std::alloc::Global;
 use std::process::Abort;
 use std::test::Fail;
 use uug_play::{play_stream, play_within, read_whole};
-use uug_tool::{Input, MemoryInput, MemoryOutput, Output, ToolFault, WriteFailed};
+use uug_stream::{Input, MemoryInput, MemoryOutput, Output, ToolFault, WriteFailed};
 
 /// An input of the script that fails after so many reads.
 fn script_in_reads(most: usize, reads: u32) -> SlowInput<'static> {
@@ -61,15 +61,16 @@ fn writes_of_a_player(
             most: 10,
             writes,
             refusal,
+            refused: 0,
             faults: 0,
         };
         let result = play_stream(rt.alloc(), &mut input, &mut output);
-        if output.faults() == 0 {
+        if output.refused == 0 {
             assert_same(rt, result, Ok(0));
             return Ok(writes);
         }
         assert_same(rt, result, Err(fault));
-        assert_same_at(rt, output.faults(), 1, "wrote on");
+        assert_same_at(rt, output.refused, 1, "wrote on");
     }
     Err("a player that is never done".into())
 }

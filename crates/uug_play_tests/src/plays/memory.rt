@@ -9,7 +9,7 @@ use uug_line::{RunFault, run};
 use uug_play::play_stream;
 use uug_refusal::Refusing;
 use uug_script::read_script;
-use uug_tool::{MemoryInput, MemoryOutput, ToolFault};
+use uug_stream::{MemoryInput, MemoryOutput, ToolFault};
 
 /// Refuses each request of a player in turn, which then never writes. How many requests it makes.
 fn requests_of_a_player(rt: &impl Abort, alloc: Global) -> Result<u64, Fail> {

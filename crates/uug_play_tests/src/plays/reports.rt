@@ -5,7 +5,7 @@ use super::{BROKEN_OFF, SENT_TWICE};
 use crate::assertions::assert_same;
 use std::test::Fail;
 use uug_play::play_stream;
-use uug_tool::{MemoryInput, MemoryOutput, ToolFault};
+use uug_stream::{MemoryInput, MemoryOutput, ToolFault};
 
 /// The report of a session in which the caller sends an empty file.
 const SENT: &str =

@@ -10,7 +10,7 @@ use uug_play::{Unsettled, play_settled, why_unsettled};
 use uug_refusal::Refusing;
 use uug_script::read_script;
 use uug_session::{End, Phase};
-use uug_tool::{MemoryInput, MemoryOutput, ToolFault};
+use uug_stream::{MemoryInput, MemoryOutput, ToolFault};
 
 /// The caller offers a file, and the packet that does is lost.
 const LOST: &str =

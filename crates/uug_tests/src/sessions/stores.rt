@@ -78,3 +78,20 @@ fn gives_and_keeps_files(rt: HostRuntime) {
     assert_gives(&rt, &spool, &names);
     assert_keeps(&rt, &mut spool, &names);
 }
+
+fn assert_gives_and_keeps(rt: &impl Abort, spool: &mut MemorySpool<Global>, x: Name, bytes: &[u8]) {
+    assert_so(rt, spool.add_file(x, 0o644, bytes).is_ok());
+    assert_so(rt, is_file(spool.fetch(&x), 0o644, bytes));
+    assert_same(rt, spool.keep(&x, 0o600, bytes), Ok(()));
+    assert_so(rt, spool.stored().len() == 1);
+    assert_so(rt, is_stored(&spool.stored()[0], x, 0o600, bytes));
+}
+
+// a spool that says that it is out of memory for a long file
+#[test]
+fn gives_and_keeps_a_mib(rt: HostRuntime) {
+    let mut bytes = Vec::new(rt.alloc());
+    assert_so(&rt, bytes.resize(1_048_576, b'm').is_ok());
+    let mut spool = MemorySpool::new(rt.alloc());
+    assert_gives_and_keeps(&rt, &mut spool, name(&rt, b"x"), bytes.as_slice());
+}

@@ -1,4 +1,4 @@
-use Rattle.std.proofs.Common.{arith, rules, subst}
+use Rattle.std.proofs.Common.{arith, rules, subst, ◌∙◌}
 use Rattle.uug_play.specs.Whole.{Brings}
 use Rattle.uug_play.proofs.WholeLemmas.{brings_more, brings_all, brings_some}
 use Rattle.uug_play.proofs.whole.read_whole.Goals as goal
@@ -13,7 +13,7 @@ loop-preserved g c = record {
       (brings_more c.in_ok-count.count c.loop.bytes.items c.read.new.buffer _ _ _ c.loop.invariant.progress c.in_ok-count.ensures.moves);
   read = search rules;
   within = search rules;
-  grown = omega (arith, c.loop.invariant.grown, c.read.ensures.grows);
+  calm = c.in_ok-count.ensures.calm ∙ c.loop.invariant.calm;
 }
 
 pub returns-clause-device : goal.returns-clause-device

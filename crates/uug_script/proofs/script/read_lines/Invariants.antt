@@ -1,5 +1,5 @@
 use Rattle.std.proofs.Common.{◌≡◌, ◌+◌, ◌≤◌, length}
-use Rattle.uug_script.specs.Lines.{lines}
+use Rattle.uug_talk.specs.Lines.{lines}
 use Rattle.uug_script.specs.ScriptOf.{script_from, script_of, said_by}
 use Rattle.uug_script.proofs.script.read_lines.Given as goal
 

@@ -1,7 +1,7 @@
 use Rattle.uug_session.specs.EndStep.{line_lost}
 use Rattle.uug_line.specs.LineEndValue.{BeginsAgain, IsCalled, LineEndValue, live_end_value, told_of}
 use Rattle.uug_line.specs.RunValue.{run_value}
-use Rattle.uug_line.specs.Sides.{AtBoth, at}
+use Rattle.uug_conversation.specs.Sides.{AtBoth, at}
 use Rattle.uug_line.proofs.RunLemmas.{one_more_shown}
 use Rattle.uug_line.proofs.SideLemmas.{each}
 use Rattle.uug_line.proofs.running.RunSoFar.call_again.Goals as goal

@@ -5,7 +5,7 @@ use Rattle.uug_line.specs.LineEndValue.{live_end_value, told_of}
 use Rattle.uug_line.specs.OfSomeRun.{IsOfSomeRun}
 use Rattle.uug_line.specs.Report.{told_by}
 use Rattle.uug_line.specs.Shown.{held_at, owned_by, spool_of, stands_so}
-use Rattle.uug_line.specs.Sides.{AtBoth}
+use Rattle.uug_conversation.specs.Sides.{AtBoth}
 use Rattle.uug_line.specs.Told.{SpelledEnd}
 use Rattle.uug_line.proofs.RunLemmas.{one_more_shown}
 use Rattle.uug_line.proofs.running.RunSoFar.into_report.Goals as goal

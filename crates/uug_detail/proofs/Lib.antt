@@ -1,5 +1,0 @@
-pub mod DecodedLemmas
-pub mod ToldLemmas
-pub mod ScanLemmas
-pub mod LawLemmas
-pub mod StandardFacts

@@ -1,5 +1,0 @@
-use Rattle.uug_detail.proofs.LawLemmas.{entries_adjoin}
-use Rattle.uug_detail.proofs.laws.lines_adjoin.Goals as goal
-
-pub returns : goal.returns
-returns c = entries_adjoin

@@ -1,6 +1,0 @@
-use Rattle.std.proofs.Common.{subst}
-use Rattle.uug_detail.specs.Code.Noise.{IsSized}
-use Rattle.uug_detail.proofs.parts.add_front.Goals as goal
-
-pub add_packet_line-requires-clause-size : goal.add_packet_line-requires-clause-size
-add_packet_line-requires-clause-size g c = subst IsSized c.in-Packet.is c.requires.sized

@@ -1,0 +1,7 @@
+pub mod FolderLemmas
+pub mod JobsAfterLemmas
+pub mod JobsTextLemmas
+pub mod LocalFacts
+pub mod LocalLemmas
+pub mod NumberTextLemmas
+pub mod StandardFacts

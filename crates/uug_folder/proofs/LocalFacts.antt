@@ -1,0 +1,76 @@
+-- Names whose place in a folder is known, so that a wrong definition does not check.
+use Rattle.std.proofs.Common.{◌≡◌, ℕ, false, List, [], ◌∷◌, codes, Option, Some, None, refl}
+use Rattle.uug_folder.specs.Folders.{folder_holdings}
+use Rattle.uug_conversation.specs.Holdings.{File, Holdings, kept_file}
+use Rattle.uug_conversation.specs.declared.verdict.Verdict.{Verdict}
+use Rattle.uug_conversation.specs.declared.verdict.Verdict.TheVariants.{Yes, Never}
+use Rattle.uug_folder.specs.LocalNames.{local_holdings, local_name}
+
+record AreLocal : Type 0 where
+  plain : local_name (codes "y") ≡ Some (codes "y")
+  public : local_name (codes "~/y") ≡ Some (codes "y")
+  root : local_name (codes "/y") ≡ Some (codes "y")
+  tilde : local_name (codes "~") ≡ Some (codes "~")
+  public_alone : local_name (codes "~/") ≡ None
+  root_alone : local_name (codes "/") ≡ None
+
+local : AreLocal
+local = record { plain = refl; public = refl; root = refl; tilde = refl; public_alone = refl; root_alone = refl }
+
+abbrev source : List ℕ → Option File
+source name = (local_holdings false (folder_holdings (kept_file (codes "y") 420 (codes "hi") ∷ []))).file name
+
+abbrev hi : Option File
+hi = Some (record { mode = 420; bytes = codes "hi" })
+
+record AreGiven : Type 0 where
+  plain : source (codes "y") ≡ hi
+  public : source (codes "~/y") ≡ hi
+  root : source (codes "/y") ≡ hi
+  other : source (codes "~/x") ≡ None
+  nameless : source (codes "~/") ≡ None
+
+given : AreGiven
+given = record { plain = refl; public = refl; root = refl; other = refl; nameless = refl }
+
+-- whatever the folder has
+record LeadOut (h : Holdings) : Type 0 where
+  up : (local_holdings false h).file (codes "../x") ≡ None
+  deep : (local_holdings false h).file (codes "/etc/x") ≡ None
+  public_deep : (local_holdings false h).file (codes "~/a/x") ≡ None
+  home : (local_holdings false h).file (codes "~user/x") ≡ None
+  twice : (local_holdings false h).file (codes "//x") ≡ None
+
+lead_out : (h : Holdings) → LeadOut h
+lead_out h = record { up = refl; deep = refl; public_deep = refl; home = refl; twice = refl }
+
+abbrev verdict : List ℕ → Verdict
+verdict name = (local_holdings false (folder_holdings [])).verdict name
+
+record AreTaken : Type 0 where
+  plain : verdict (codes "y") ≡ Yes
+  public : verdict (codes "~/y") ≡ Yes
+  root : verdict (codes "/y") ≡ Yes
+  up : verdict (codes "../x") ≡ Never
+  deep : verdict (codes "/etc/x") ≡ Never
+  public_deep : verdict (codes "~/a/x") ≡ Never
+  public_up : verdict (codes "~/../x") ≡ Never
+  home : verdict (codes "~user/x") ≡ Never
+  twice : verdict (codes "//x") ≡ Never
+  hidden : verdict (codes "~/.x") ≡ Never
+  nameless : verdict (codes "/") ≡ Never
+
+taken : AreTaken
+taken = record {
+  plain = refl;
+  public = refl;
+  root = refl;
+  up = refl;
+  deep = refl;
+  public_deep = refl;
+  public_up = refl;
+  home = refl;
+  twice = refl;
+  hidden = refl;
+  nameless = refl;
+}

@@ -1,0 +1,45 @@
+-- What a folder is given to hold, and which names a spool over it takes.
+use Rattle.std.specs.Prelude.{◌≡◌, ℕ, Bool, true, false, List, [], ◌∷◌, ◌++◌, Option, Some, None, ⊤, if◌then◌else◌, eqb}
+use Rattle.std.specs.List.{list_any}
+use Rattle.uug_conversation.specs.declared.verdict.Verdict.TheVariants.{Yes, Never}
+use Rattle.uug_conversation.specs.Holdings.{Kept, Holdings}
+use Rattle.uug_conversation.specs.MemoryHoldings.{first_named}
+
+-- a file that was put in a folder; its mode is the system's affair
+pub record Placed : Type 0 where
+  pub name : List ℕ
+  pub bytes : List ℕ
+
+abbrev pub placed_file : (name bytes : List ℕ) → Placed
+placed_file name bytes = record { name = name; bytes = bytes }
+
+-- a kept file, as it is put in the folder
+abbrev pub placed_of : Kept → Placed
+placed_of k = placed_file k.name k.bytes
+
+-- where a folder tells what was put in it, this file was put there last, and nothing else
+abbrev pub also_placed : Placed → Option (List Placed) → Option (List Placed)
+also_placed file None = None
+also_placed file (Some files) = Some (files ++ file ∷ [])
+
+-- where a folder tells what was put in it, these files were put there last, in this order
+abbrev pub EndsWith : Option (List Placed) → List Placed → Type 0
+EndsWith None files = ⊤
+EndsWith (Some placed) files = (start : List Placed) × (placed ≡ start ++ files)
+
+abbrev begins_with_dot : List ℕ → Bool
+begins_with_dot [] = false
+begins_with_dot (b ∷ _) = eqb b 46
+
+-- a name with a slash in it leads out of the folder, and one with a dot in front is hidden in it
+abbrev pub is_hidden : List ℕ → Bool
+is_hidden name = if list_any (λ b. eqb b 47) name then true else begins_with_dot name
+
+-- hidden names are never taken, and can't be put in their place; the end is not lenient
+abbrev pub folder_holdings : List Kept → Holdings
+folder_holdings files = record {
+  file = first_named files;
+  verdict = λ name. if is_hidden name then Never else Yes;
+  immovable = is_hidden;
+  lenient = false;
+}

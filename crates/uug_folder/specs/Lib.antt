@@ -1,0 +1,12 @@
+pub mod Code
+pub mod EndReport
+pub mod FolderFiles
+pub mod Folders
+pub mod JobsAfter
+pub mod JobsFile
+pub mod JobsPlan
+pub mod JobsText
+pub mod LocalFiles
+pub mod LocalNames
+pub mod NumberText
+pub mod TextFiles

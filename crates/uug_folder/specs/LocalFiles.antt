@@ -1,0 +1,11 @@
+-- What a spool has whose files real systems name (this project's profile).
+use Rattle.std.specs.Prelude.{Bool, List, ℕ}
+use Rattle.uug_folder.specs.FolderFiles.{FolderFiles}
+
+pub record LocalFiles (F A : Type 0) : Type 0 where
+  -- the files, under the names that they have in the folder
+  pub files : FolderFiles F A
+  -- the names under which those that were kept came, in the order in which they did
+  pub names : List (List ℕ)
+  -- its end refuses what it can't read, and goes on
+  pub lenient : Bool

@@ -1,0 +1,67 @@
+-- Under which name a folder keeps a file that a real system names (this project's profile).
+use Rattle.std.specs.Prelude.{◌≡◌, ℕ, Bool, true, List, [], ◌∷◌, drop, codes, nat_eq, Option, Some, None, map, if◌then◌else◌}
+use Rattle.std.specs.List.{list_any, starts_with}
+use Rattle.uug_conversation.specs.Holdings.{File, Holdings, Kept, kept_file}
+use Rattle.uug_conversation.specs.MemoryHoldings.{kept_of}
+use Rattle.uug_conversation.specs.declared.verdict.Verdict.{Verdict}
+use Rattle.uug_conversation.specs.declared.verdict.Verdict.TheVariants.{Never}
+use Rattle.uug_talk.specs.Name.{name_of}
+use Rattle.uug_folder.specs.Folders.{folder_holdings}
+use Rattle.uug_folder.specs.LocalFiles.{LocalFiles}
+
+-- The public folder and the root of a real system are the folder here: what stands in front of a name in them is dropped.
+abbrev pub behind_root : List ℕ → List ℕ
+behind_root name =
+    if starts_with nat_eq name (codes "~/") then drop 2 name else
+    (if starts_with nat_eq name (codes "/") then drop 1 name else name)
+
+-- the name in the folder, if that is one
+abbrev pub local_name : List ℕ → Option (List ℕ)
+local_name name = name_of (behind_root name)
+
+-- A name with a slash left in it leads out of the folder.
+abbrev pub in_folder : Option (List ℕ) → Option (List ℕ)
+in_folder None = None
+in_folder (Some name) = if list_any (λ b. nat_eq b 47) name then None else Some name
+
+-- the name in the folder of a file that is asked for
+abbrev pub local_source : List ℕ → Option (List ℕ)
+local_source name = in_folder (local_name name)
+
+abbrev pub file_by : Holdings → Option (List ℕ) → Option File
+file_by h None = None
+file_by h (Some name) = h.file name
+
+abbrev pub verdict_by : Holdings → Option (List ℕ) → Verdict
+verdict_by h None = Never
+verdict_by h (Some name) = h.verdict name
+
+abbrev pub immovable_by : Holdings → Option (List ℕ) → Bool
+immovable_by h None = true
+immovable_by h (Some name) = h.immovable name
+
+-- A file is given and taken as the folder gives and takes its name there; so none whose name there has a slash left, and
+-- none is taken that has a dot in front.
+abbrev pub local_holdings : (lenient : Bool) → Holdings → Holdings
+local_holdings lenient h = record {
+  file = λ name. file_by h (local_source name);
+  verdict = λ name. verdict_by h (local_name name);
+  immovable = λ name. immovable_by h (local_name name);
+  lenient = lenient;
+}
+
+-- the files that were kept, each under the name under which it came
+abbrev pub renamed : (names : List (List ℕ)) → List Kept → List Kept
+renamed [] files = []
+renamed (name ∷ names) [] = []
+renamed (name ∷ names) (file ∷ files) = kept_file name file.mode file.bytes ∷ renamed names files
+
+-- each file stands in the folder under the name there of the one under which it came
+abbrev pub StandUnder : (names : List (List ℕ)) → List Kept → Type 0
+StandUnder names files = map local_name names ≡ map (λ (file : Kept). Some file.name) files
+
+abbrev pub holdings_here : {F A : Type 0} → LocalFiles F A → Holdings
+holdings_here s = local_holdings s.lenient (folder_holdings (map kept_of s.files.files))
+
+abbrev pub kept_here : {F A : Type 0} → LocalFiles F A → List Kept
+kept_here s = renamed s.names (map kept_of s.files.stored)

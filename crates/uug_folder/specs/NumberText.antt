@@ -1,0 +1,49 @@
+-- The number of an end's conversations in a file of its folder (this project's profile).
+use Rattle.std.specs.Prelude.{◌≡◌, ◌⊎◌, ℕ, Bool, true, false, List, [], ◌∷◌, Option, Some, None, Result, Ok, Err}
+use Rattle.std.specs.Fmt.{decimal}
+use Rattle.uug_talk.specs.Number.{number_of}
+use Rattle.uug_talk.specs.declared.call.TheConstants.{NUMBER_MAX}
+use Rattle.uug_talk.specs.Lines.{lines, ended}
+use Rattle.uug_stream.specs.declared.fault.ToolFault.{ToolFault}
+use Rattle.uug_stream.specs.declared.fault.ToolFault.TheVariants as faults
+use Rattle.uug_folder.specs.TextFiles.{holding}
+
+-- ---- the text
+
+-- its decimal digits, as a line
+abbrev pub number_line : ℕ → List ℕ
+number_line number = ended (decimal number)
+
+abbrev pub number_of_lines : List (List ℕ) → Option ℕ
+number_of_lines [] = None
+number_of_lines (line ∷ []) = number_of NUMBER_MAX line
+number_of_lines (line ∷ next ∷ more) = None
+
+-- the number of a text that is one line
+abbrev pub number_in : List ℕ → Option ℕ
+number_in text = number_of_lines (lines text)
+
+-- ---- what an end keeps
+
+-- it goes on with the number in its file
+abbrev pub goes_on_with : Option ℕ → Result (Option ℕ) ToolFault
+goes_on_with (Some number) = Ok (Some number)
+goes_on_with None = Err faults.Number
+
+-- without a file it keeps none, but where it is told to: then it begins at 0
+abbrev pub begins_with : (is_told : Bool) → Result (Option ℕ) ToolFault
+begins_with true = Ok (Some 0)
+begins_with false = Ok None
+
+-- what its file then has, where that tells its text: the line of the number that it keeps, and as before where it keeps none
+abbrev pub holding_number : (number : Option ℕ) (before : Option (List ℕ)) → Option (List ℕ)
+holding_number None before = before
+holding_number (Some number) before = holding (number_line number) before
+
+-- its file has it, where that tells its text
+abbrev pub HoldsNumber : (number : Option ℕ) (text : Option (List ℕ)) → Type 0
+HoldsNumber number text = holding_number number text ≡ text
+
+-- its file is as it was before, or has the line of its number as a whole
+abbrev pub IsNumberKept : (number : Option ℕ) (before after : Option (List ℕ)) → Type 0
+IsNumberKept number before after = (after ≡ before) ⊎ (after ≡ holding_number number before)

@@ -1,0 +1,14 @@
+//! What a fault of a folder is to the program.
+ghost use Rattle.std.specs.Prelude.{◌≡◌};
+ghost use Rattle.uug_stream.specs.declared.fault.ToolFault.TheVariants.{Device as device};
+
+use crate::folder::FolderFailed;
+use uug_stream::ToolFault;
+
+impl From<FolderFailed> for ToolFault {
+    ghost from_gives = { λ _ tool. tool ≡ device };
+
+    fn from(_failed: FolderFailed) -> ToolFault {
+        ToolFault::Device
+    }
+}

@@ -1,0 +1,36 @@
+ghost use Rattle.std.specs.Prelude.{◌≡◌, ℕ, ◌≤◌, List, Option, OnOk, OnErr};
+ghost use Rattle.uug_session.specs.Engine.{HasFailed};
+ghost use Rattle.uug_folder.specs.Folders.{Placed, also_placed, placed_file};
+
+use thiserror::Error;
+use uug_talk::Name;
+
+/// The device behind a folder failed.
+#[derive(Clone, Copy, Debug, PartialEq, Eq, Error)]
+#[error("device fault")]
+pub struct FolderFailed;
+
+/// A folder that takes whole files.
+pub trait Folder {
+    /// The files that were put in it and seen on its device, in the order in which they were, where the folder tells
+    /// them.
+    ghost placed: { Self → Option (List Placed) };
+
+    /// How many faults its device had.
+    ghost fault_count: { Self → ℕ };
+
+    /// Puts a whole file in the folder under this name, in the place of one that had it, and sees both on the device.
+    /// After a fault the name has the old file or this one as a whole, but this one does not count as put.
+    fn put(&mut self, name: &Name, bytes: &[u8]) -> Result<(), FolderFailed>
+        ensures ok { OnOk result (placed self.new
+            ≡ also_placed (placed_file name.now bytes.now) (placed self.old)) }
+        ensures stands { OnOk result (fault_count self.new ≡ fault_count self.old) }
+        ensures err { OnErr result (placed self.new ≡ placed self.old) }
+        ensures fault { OnErr result
+            (HasFailed u64.MAX (fault_count self.old) (fault_count self.new)) }
+        ensures grows { fault_count self.old ≤ fault_count self.new };
+
+    /// How many faults the device had, up to the greatest number that fits.
+    fn faults(&self) -> u64
+        ensures { result ≡ fault_count self.now };
+}

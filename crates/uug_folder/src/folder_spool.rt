@@ -1,0 +1,203 @@
+ghost use Rattle.std.specs.Prelude.{◌≡◌, ◌≢◌, ◌<◌, ◌≤◌, ◌⊎◌, [], ◌∷◌, ◌++◌, map, vec_len, vec_capacity, IfOk, OnErr, OnOk};
+ghost use Rattle.uug_conversation.specs.FileView.{shown_file};
+ghost use Rattle.uug_conversation.specs.Holdings.{kept_file};
+ghost use Rattle.uug_conversation.specs.MemoryHoldings.{first_named, kept_of};
+ghost use Rattle.uug_conversation.specs.Code.StoredModes.{modes_in_range};
+ghost use Rattle.uug_folder.specs.Folders.{EndsWith, folder_holdings, is_hidden, placed_of};
+
+use crate::folder::Folder;
+use std::alloc::{AllocError, Allocator};
+use std::marker::Model;
+use uug_session::{FileView, KeepFault, Spool, Stored, Verdict};
+use uug_talk::{MODE_MAX, Name};
+
+/// A spool that puts what it keeps in a folder, and remembers it. A clause sees the files that it has to give, those
+/// that it has kept, and the folder.
+#[derive(Drop)]
+pub struct FolderSpool<F: Folder, A: Allocator> {
+    files: Vec<Stored<A>, A>,
+    stored: Vec<Stored<A>, A>,
+    folder: F,
+    alloc: A,
+}
+
+impl<F: Folder, A: Allocator> Model for FolderSpool<F, A> {
+    ghost use Rattle.std.specs.Prelude.{map};
+    ghost use Rattle.uug_conversation.specs.MemoryHoldings.{kept_of};
+    ghost use Rattle.uug_folder.specs.FolderFiles.{FolderFiles};
+    ghost use Rattle.uug_folder.specs.Folders.{EndsWith, placed_of};
+
+    ghost Value = { FolderFiles F A };
+
+    ghost view = { λ s.
+        record { files = s.files.items; stored = s.stored.items; folder = s.folder } };
+
+    // What was kept is what was put in the folder.
+    ghost invariant = { λ s.
+        EndsWith (F.placed s.folder) (map placed_of (map kept_of s.stored.items)) };
+}
+
+impl<F: Folder, A: Allocator + Copy> FolderSpool<F, A> {
+    /// A spool with these files to give, that has kept none. It takes no memory.
+    pub fn new(alloc: A, files: Vec<Stored<A>, A>, folder: F) -> Self
+        ensures { result ≡ record { files = files.items; stored = []; folder = folder } }
+    {
+        FolderSpool {
+            files,
+            stored: Vec::new(alloc),
+            folder,
+            alloc,
+        }
+    }
+
+    /// The folder. Where it tells what was put in it, the files that the spool has kept are the last of these.
+    pub fn folder(&self) -> &F
+        ensures folder { result.now ≡ self.now.folder }
+        ensures placed { EndsWith (F.placed result.now)
+            (map placed_of (map kept_of self.now.stored)) }
+    {
+        &self.folder
+    }
+
+    /// The files that were kept, in the order in which they were.
+    pub fn stored(&self) -> &[Stored<A>]
+        ensures { result.now ≡ self.now.stored }
+    {
+        self.stored.as_slice()
+    }
+}
+
+impl<F: Folder, A: Allocator + Copy> Spool for FolderSpool<F, A> {
+    ghost holdings = { λ s. folder_holdings (map kept_of s.files) };
+
+    ghost kept = { λ s. map kept_of s.stored };
+
+    ghost faults = { λ s. F.fault_count s.folder };
+
+    fn may_keep(&self, name: &Name) -> Verdict {
+        if is_hidden(name) {
+            Verdict::Never
+        } else {
+            Verdict::Yes
+        }
+    }
+
+    fn fetch(&self, name: &Name) -> Option<FileView<'_>> {
+        first_named(self.files.as_slice(), name)
+    }
+
+    fn keep(&mut self, name: &Name, mode: u16, bytes: &[u8]) -> Result<(), KeepFault> {
+        if is_hidden(name) {
+            return Err(KeepFault::Refused);
+        }
+        put_and_store(
+            &mut self.folder,
+            &mut self.stored,
+            self.alloc,
+            name,
+            mode,
+            bytes,
+        )
+    }
+
+    fn is_lenient(&self) -> bool {
+        false
+    }
+
+    fn faults(&self) -> u64 {
+        self.folder.faults()
+    }
+
+    ghost modes = { λ s. modes_in_range s.files };
+}
+
+/// A name that would be hidden in a folder, or lead out of it.
+fn is_hidden(name: &Name) -> bool
+    ensures { result ≡ is_hidden name.now }
+{
+    let bytes = name.as_bytes();
+    if bytes.contains(&b'/') {
+        return true;
+    }
+    match bytes {
+        [first, ..] => *first == b'.',
+        [] => false,
+    }
+}
+
+/// Puts a file in the folder, and adds it to those that were kept.
+fn put_and_store<F: Folder, A: Allocator + Copy>(
+    folder: &mut F,
+    stored: &mut Vec<Stored<A>, A>,
+    alloc: A,
+    name: &Name,
+    mode: u16,
+    bytes: &[u8],
+) -> Result<(), KeepFault>
+    requires mode { mode ≤ MODE_MAX }
+    requires ends { EndsWith (F.placed folder.old) (map placed_of (map kept_of stored.old.items)) }
+    ensures ends { EndsWith (F.placed folder.new) (map placed_of (map kept_of stored.new.items)) }
+    ensures ok { OnOk result (map kept_of stored.new.items
+        ≡ map kept_of stored.old.items ++ kept_file name.now mode bytes.now ∷ []) }
+    ensures err { OnErr result (map kept_of stored.new.items ≡ map kept_of stored.old.items) }
+    ensures no_refusal { result ≢ Err KeepFault.Refused }
+    ensures stands { result ≢ Err KeepFault.Device
+        → F.fault_count folder.new ≡ F.fault_count folder.old }
+    ensures device { result ≡ Err KeepFault.Device
+        → (F.fault_count folder.old < F.fault_count folder.new)
+        ⊎ (F.fault_count folder.old ≡ u64.MAX) }
+    ensures count { F.fault_count folder.old ≤ F.fault_count folder.new }
+{
+    // All memory is taken before the folder is touched.
+    let Ok(copy) = copy_beside_room(stored, alloc, bytes) else {
+        return Err(KeepFault::Memory);
+    };
+    if folder.put(name, bytes).is_err() {
+        return Err(KeepFault::Device);
+    }
+    push_stored(stored, *name, mode, copy);
+    Ok(())
+}
+
+/// Makes room for one file more, and copies these bytes.
+fn copy_beside_room<A: Allocator + Copy>(
+    stored: &mut Vec<Stored<A>, A>,
+    alloc: A,
+    bytes: &[u8],
+) -> Result<Vec<u8, A>, AllocError>
+    ensures stored { stored.new.items ≡ stored.old.items }
+    ensures room { OnOk result (vec_len stored.new < vec_capacity stored.new) }
+    ensures copy { IfOk result (λ copy. copy.items ≡ bytes.now) }
+{
+    stored.reserve(1)?;
+    bytes.to_vec(alloc)
+}
+
+/// Adds a file to those that were kept, in room that is there.
+fn push_stored<A: Allocator>(
+    stored: &mut Vec<Stored<A>, A>,
+    name: Name,
+    mode: u16,
+    bytes: Vec<u8, A>,
+)
+    requires mode { mode ≤ MODE_MAX }
+    requires room { vec_len stored.old < vec_capacity stored.old }
+    ensures { map kept_of stored.new.items
+        ≡ map kept_of stored.old.items ++ kept_file name mode bytes.items ∷ [] }
+{
+    stored.push_reserved(Stored { name, mode, bytes });
+}
+
+fn first_named<'a, A: Allocator>(files: &'a [Stored<A>], name: &Name) -> Option<FileView<'a>>
+    ensures { shown_file result ≡ first_named (map kept_of files.now) name.now }
+{
+    for file in files {
+        if file.name.as_bytes() == name.as_bytes() {
+            return Some(FileView {
+                mode: file.mode,
+                bytes: file.bytes.as_slice(),
+            });
+        }
+    }
+    None
+}

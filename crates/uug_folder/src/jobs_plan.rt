@@ -1,0 +1,119 @@
+//! What is to become of a file of jobs once its text was read again.
+ghost use Rattle.std.specs.Prelude.{◌≡◌, ◌≤◌, IfErr, IfOk, OnErr, OnOk};
+ghost use Rattle.uug_folder.specs.TextFiles.{holding, IsReadFault};
+ghost use Rattle.uug_folder.specs.JobsFile.{settled, settled_by};
+ghost use Rattle.uug_folder.specs.JobsPlan.{HasFailedIn, HoldsPlanned, IsCarried, IsFeasible, IsPlanned, carried, fault_without_memory};
+
+use crate::folder::FolderFailed;
+use crate::jobs_file::JobsFile;
+use crate::meanwhile::jobs_after;
+use crate::rewrites::Rewrites;
+use crate::text_file::TextFile;
+use std::alloc::{AllocError, Allocator};
+use uug_session::Queue;
+use uug_stream::ToolFault;
+
+/// What is to become of a file of jobs.
+#[derive(Drop)]
+pub enum JobsPlan<A: Allocator> {
+    /// This text is written.
+    Write(Vec<u8, A>),
+    /// It stays as it is.
+    Keep,
+    /// It stays as it is, since its text could not be read.
+    Failed,
+}
+
+impl<A: Allocator + Copy> JobsPlan<A> {
+    /// Reads the text of a file again, if it is to be written, and plans what is to stay of it when these jobs are pending,
+    /// done and given up.
+    pub fn new<J: TextFile, B: Allocator, C: Allocator>(
+        alloc: A,
+        rewrites: Rewrites,
+        jobs: &mut JobsFile<J, B>,
+        queue: &Queue<C>,
+    ) -> Result<Self, AllocError>
+        ensures before { jobs.new.before ≡ jobs.old.before }
+        ensures text { J.text jobs.new.file ≡ J.text jobs.old.file }
+        ensures ok { IfOk result (λ plan. IsPlanned plan
+            (settled_by rewrites jobs.old.before.items queue.now (J.text jobs.old.file))
+            (J.text jobs.old.file) (J.fault_count jobs.old.file) (J.fault_count jobs.new.file)) }
+        ensures err { OnErr result (J.fault_count jobs.new.file ≡ J.fault_count jobs.old.file) }
+    {
+        match rewrites {
+            Rewrites::IfAnyIsOver if queue.struck().is_empty() && queue.failed().is_empty() => {
+                Ok(JobsPlan::Keep)
+            }
+            _ => JobsPlan::rewritten(alloc, jobs, queue),
+        }
+    }
+
+    /// The plan of a file that is written.
+    fn rewritten<J: TextFile, B: Allocator, C: Allocator>(
+        alloc: A,
+        jobs: &mut JobsFile<J, B>,
+        queue: &Queue<C>,
+    ) -> Result<Self, AllocError>
+        ensures before { jobs.new.before ≡ jobs.old.before }
+        ensures text { J.text jobs.new.file ≡ J.text jobs.old.file }
+        ensures ok { IfOk result (λ plan. IsPlanned plan
+            (settled jobs.old.before.items queue.now (J.text jobs.old.file))
+            (J.text jobs.old.file) (J.fault_count jobs.old.file) (J.fault_count jobs.new.file)) }
+        ensures err { OnErr result (J.fault_count jobs.new.file ≡ J.fault_count jobs.old.file) }
+    {
+        match settled_text(alloc, &mut jobs.file, jobs.before.as_slice(), queue) {
+            Ok(text) => Ok(JobsPlan::Write(text)),
+            Err(ToolFault::Memory) => Err(AllocError),
+            Err(_) => Ok(JobsPlan::Failed),
+        }
+    }
+}
+
+impl<A: Allocator> JobsPlan<A> {
+    /// Does to the file what is planned.
+    pub fn carry_out<J: TextFile>(&self, file: &mut J) -> Result<(), FolderFailed>
+        ensures ok { OnOk result (J.text file.new ≡ carried self.now (J.text file.old)) }
+        ensures feasible { OnOk result (IsFeasible self.now) }
+        ensures stands { OnOk result (J.fault_count file.new ≡ J.fault_count file.old) }
+        ensures holds { OnOk result (HoldsPlanned self.now (J.text file.new)) }
+        ensures err { OnErr result (IsCarried self.now (J.text file.old) (J.text file.new)) }
+        ensures fault { OnErr result
+            (HasFailedIn self.now (J.fault_count file.old) (J.fault_count file.new)) }
+        ensures grows { J.fault_count file.old ≤ J.fault_count file.new }
+    {
+        match self {
+            JobsPlan::Write(text) => file.replace(text.as_slice()),
+            JobsPlan::Keep => Ok(()),
+            JobsPlan::Failed => Err(FolderFailed),
+        }
+    }
+
+    /// What is answered where memory is refused before anything was written: the device's fault, if it came before.
+    pub fn fault_without_memory(&self) -> ToolFault
+        ensures { result ≡ fault_without_memory self.now }
+    {
+        match self {
+            JobsPlan::Failed => ToolFault::Device,
+            _ => ToolFault::Memory,
+        }
+    }
+}
+
+/// What is to stay of the text of a file of jobs.
+fn settled_text<J: TextFile, A: Allocator + Copy, B: Allocator>(
+    alloc: A,
+    file: &mut J,
+    before: &[u8],
+    queue: &Queue<B>,
+) -> Result<Vec<u8, A>, ToolFault>
+    ensures text { J.text file.new ≡ J.text file.old }
+    ensures ok { IfOk result (λ text. holding text.items (J.text file.old)
+        ≡ settled before.now queue.now (J.text file.old)) }
+    ensures stands { OnOk result (J.fault_count file.new ≡ J.fault_count file.old) }
+    ensures fault { IfErr result (λ fault.
+        IsReadFault fault (J.fault_count file.old) (J.fault_count file.new)) }
+{
+    let now = file.read(alloc)?;
+    let text = jobs_after(alloc, before, now.as_slice(), queue)?;
+    Ok(text)
+}

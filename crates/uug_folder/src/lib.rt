@@ -1,0 +1,29 @@
+//! The folder of an end: its jobs as a text, the files that come, names as real systems write them, the number of its
+//! conversations, and the lines of its report. Nothing here calls the system: folders and files are traits.
+#![tactic(auto)]
+
+mod faults;
+mod folder;
+mod folder_spool;
+mod jobs_file;
+mod jobs_plan;
+mod jobs_text;
+pub mod laws;
+mod local_names;
+mod meanwhile;
+mod number_text;
+mod report;
+mod rewrites;
+mod text_file;
+
+pub use folder::{Folder, FolderFailed};
+pub use folder_spool::FolderSpool;
+pub use jobs_file::JobsFile;
+pub use jobs_plan::JobsPlan;
+pub use jobs_text::{JobsFault, read_jobs, write_jobs};
+pub use local_names::LocalNames;
+pub use meanwhile::jobs_after;
+pub use number_text::{NUMBER_LINE_MAX, number_at_start, number_line, read_number_text};
+pub use report::{add_failed, add_state};
+pub use rewrites::Rewrites;
+pub use text_file::TextFile;

@@ -1,0 +1,162 @@
+ghost use Rattle.std.specs.Prelude.{◌≡◌, ◌<◌, ◌++◌, [], ◌∷◌, MatchOption, Some, false, map, vec_len, vec_capacity};
+ghost use Rattle.uug_folder.specs.Folders.{folder_holdings};
+ghost use Rattle.uug_conversation.specs.MemoryHoldings.{kept_of};
+ghost use Rattle.uug_conversation.specs.Code.StoredModes.{modes_in_range};
+ghost use Rattle.uug_folder.specs.Code.LocalModes.{local_modes};
+ghost use Rattle.uug_folder.specs.LocalNames.{StandUnder, behind_root, holdings_here, in_folder, kept_here, local_name, local_source};
+
+use crate::folder::Folder;
+use crate::folder_spool::FolderSpool;
+use std::alloc::Allocator;
+use std::marker::Model;
+use uug_session::{FileView, KeepFault, Spool, Verdict};
+use uug_talk::Name;
+
+/// The spool over a folder, for another end that names files as real systems do: `~/x` and `/x` are `x` in the folder,
+/// and no other path is taken or given. A clause sees the files in the folder, and the names under which those that were kept
+/// came.
+#[derive(Drop)]
+pub struct LocalNames<F: Folder, A: Allocator> {
+    files: FolderSpool<F, A>,
+    names: Vec<Name, A>,
+    lenient: bool,
+}
+
+impl<F: Folder, A: Allocator> Model for LocalNames<F, A> {
+    ghost use Rattle.std.specs.Prelude.{map};
+    ghost use Rattle.uug_conversation.specs.MemoryHoldings.{kept_of};
+    ghost use Rattle.uug_folder.specs.LocalFiles.{LocalFiles};
+    ghost use Rattle.uug_folder.specs.LocalNames.{StandUnder};
+
+    ghost Value = { LocalFiles F A };
+
+    ghost view = { λ s. record {
+      files = s.files;
+      names = s.names.items;
+      lenient = s.lenient;
+    } };
+
+    // Each file that was kept stands in the folder under the name there of the one under which it came.
+    ghost invariant = { λ s. StandUnder s.names.items (map kept_of s.files.stored) };
+}
+
+impl<F: Folder, A: Allocator + Copy> LocalNames<F, A> {
+    /// The spool over a folder that has kept nothing, of an end that is not lenient. It takes no memory.
+    pub fn new(alloc: A, files: FolderSpool<F, A>) -> Self
+        requires { files.stored ≡ [] }
+        ensures { result ≡ record { files = files; names = []; lenient = false } }
+    {
+        LocalNames {
+            files,
+            names: Vec::new(alloc),
+            lenient: false,
+        }
+    }
+
+    /// Whether its end refuses what it can't read, and goes on.
+    pub fn set_lenient(&mut self, lenient: bool)
+        ensures { self.new ≡ record self.old { lenient = lenient } }
+    {
+        self.lenient = lenient;
+    }
+
+    /// The files, under the names that they have in the folder: each that was kept stands there under the name that is
+    /// made of the one under which it came.
+    pub fn files(&self) -> &FolderSpool<F, A>
+        ensures files { result.now ≡ self.now.files }
+        ensures names { StandUnder self.now.names (map kept_of result.now.stored) }
+    {
+        &self.files
+    }
+}
+
+impl<F: Folder, A: Allocator + Copy> Spool for LocalNames<F, A> {
+    ghost holdings = { λ s. holdings_here s };
+
+    ghost kept = { λ s. kept_here s };
+
+    ghost faults = { λ s. F.fault_count s.files.folder };
+
+    fn may_keep(&self, name: &Name) -> Verdict {
+        match local_name(name) {
+            Some(local) => self.files.may_keep(&local),
+            None => Verdict::Never,
+        }
+    }
+
+    fn fetch(&self, name: &Name) -> Option<FileView<'_>> {
+        self.files.fetch(&local_source(name)?)
+    }
+
+    fn keep(&mut self, name: &Name, mode: u16, bytes: &[u8]) -> Result<(), KeepFault> {
+        let Some(local) = local_name(name) else {
+            return Err(KeepFault::Refused);
+        };
+        if self.files.may_keep(&local) == Verdict::Never {
+            return Err(KeepFault::Refused);
+        }
+        // All memory is taken before the folder is touched.
+        if self.names.reserve(1).is_err() {
+            return Err(KeepFault::Memory);
+        }
+        self.files.keep(&local, mode, bytes)?;
+        push_name(&mut self.names, *name);
+        Ok(())
+    }
+
+    fn is_lenient(&self) -> bool {
+        self.lenient
+    }
+
+    fn faults(&self) -> u64 {
+        self.files.faults()
+    }
+
+    ghost modes = { λ s. local_modes s.lenient (folder_holdings (map kept_of s.files.files))
+        (modes_in_range s.files.files) };
+}
+
+/// The name in the folder of a file that a real system names, if there is one.
+fn local_name(name: &Name) -> Option<Name>
+    ensures { result ≡ local_name name.now }
+{
+    Name::new(behind_root(name.as_bytes())).ok()
+}
+
+/// The name in the folder of a file that a real system asks for, if there is one. None leads out of the folder.
+fn local_source(name: &Name) -> Option<Name>
+    ensures { result ≡ local_source name.now }
+{
+    in_folder(local_name(name)?)
+}
+
+/// The name, where it has no slash in it.
+fn in_folder(name: Name) -> Option<Name>
+    ensures { result ≡ in_folder (Some name) }
+{
+    if name.as_bytes().contains(&b'/') {
+        return None;
+    }
+    Some(name)
+}
+
+/// A name without what says that it is in the public folder or the root of a system.
+fn behind_root(name: &[u8]) -> &[u8]
+    ensures { result.now ≡ behind_root name.now }
+{
+    if name.starts_with(b"~/") {
+        &name[2..]
+    } else if name.starts_with(b"/") {
+        &name[1..]
+    } else {
+        name
+    }
+}
+
+/// Adds a name, in room that is there.
+fn push_name<A: Allocator>(names: &mut Vec<Name, A>, name: Name)
+    requires room { vec_len names.old < vec_capacity names.old }
+    ensures { names.new.items ≡ names.old.items ++ name ∷ [] }
+{
+    names.push_reserved(name);
+}

@@ -1,0 +1,194 @@
+//! The text of a file of jobs after a session, whatever became of it meanwhile.
+ghost use Rattle.std.specs.Str.{bytes_eq};
+ghost use Rattle.std.specs.Prelude.{◌≡◌, ◌&&◌, ◌++◌, ◌<◌, IfOk, OnOk, MatchOption, IfSome, None, Some, length, remove};
+ghost use Rattle.uug_conversation.specs.Jobs.{pending};
+ghost use Rattle.uug_talk.specs.Lines.{lines};
+ghost use Rattle.uug_folder.specs.JobsText.{job_said, jobs_text, says_of};
+ghost use Rattle.uug_folder.specs.JobsAfter.{IsLeft, IsTaken, behind, is_job, jobs_after, lines_left, without_first, without_said};
+
+use crate::jobs_text::{job_in, write_jobs};
+use std::alloc::{AllocError, Allocator};
+use uug_session::{Job, Queue};
+use uug_talk::{Name, split_line};
+
+/// The text in place of the one that is in a file of jobs now, when a session is over that began with the text before.
+/// Where the file only grew, what was appended stays behind the jobs that are pending. Where it was changed otherwise,
+/// each job that was struck or has failed is taken out of it once, by a line that says it, and all else stays.
+pub fn jobs_after<A: Allocator + Copy, B: Allocator>(
+    alloc: A,
+    before: &[u8],
+    now: &[u8],
+    queue: &Queue<B>,
+) -> Result<Vec<u8, A>, AllocError>
+    ensures { IfOk result (λ text. text.items ≡ jobs_after before.now now.now queue.now) }
+{
+    match behind(before, now) {
+        Some(appended) => text_with(alloc, queue.pending(), appended),
+        None => text_without(alloc, queue.struck(), queue.failed(), now),
+    }
+}
+
+/// What stands behind the first text in the second one, if that begins with it.
+fn behind<'a>(first: &[u8], text: &'a [u8]) -> Option<&'a [u8]>
+    ensures { MatchOption result (behind first.now text.now ≡ None)
+        (λ rest. behind first.now text.now ≡ Some rest.now) }
+{
+    text.strip_prefix(first)
+}
+
+/// The text of these jobs, and behind it what was appended.
+fn text_with<A: Allocator + Copy>(
+    alloc: A,
+    jobs: &[Job],
+    appended: &[u8],
+) -> Result<Vec<u8, A>, AllocError>
+    ensures { IfOk result (λ text. text.items ≡ jobs_text jobs.now ++ appended.now) }
+{
+    let mut text = write_jobs(alloc, jobs)?.into_bytes();
+    text.extend_from_slice(appended)?;
+    Ok(text)
+}
+
+/// What is left of a text where these jobs were struck, and those have failed.
+fn text_without<A: Allocator + Copy>(
+    alloc: A,
+    struck: &[Job],
+    failed: &[Job],
+    now: &[u8],
+) -> Result<Vec<u8, A>, AllocError>
+    ensures { IfOk result (λ text. text.items ≡ lines_left (struck.now ++ failed.now) (lines now.now)) }
+{
+    let mut over = struck.to_vec(alloc)?;
+    over.extend_from_slice(failed)?;
+    let mut text = Vec::new(alloc);
+    add_lines_left(&mut text, &mut over, now)?;
+    Ok(text)
+}
+
+/// Appends what is left of these lines, where these jobs are over. A job is taken out of them with its line.
+fn add_lines_left<A: Allocator>(
+    text: &mut Vec<u8, A>,
+    over: &mut Vec<Job, A>,
+    now: &[u8],
+) -> Result<(), AllocError>
+    ensures { OnOk result (text.new.items
+        ≡ text.old.items ++ lines_left over.old.items (lines now.now)) }
+{
+    let mut rest = now;
+    while let Some((line, behind)) = split_line(rest) {
+        add_line_left(text, over, line)?;
+        rest = behind;
+    }
+    Ok(())
+}
+
+/// Appends a line, unless it says a job that is over. Then that job is taken out.
+fn add_line_left<A: Allocator>(
+    text: &mut Vec<u8, A>,
+    over: &mut Vec<Job, A>,
+    line: &[u8],
+) -> Result<(), AllocError>
+    ensures { OnOk result (IsLeft (without_said (job_said (says_of line.now)) over.old.items) line.now
+        over.old.items over.new.items text.old.items text.new.items) }
+{
+    if takes_out(over, line) {
+        return Ok(());
+    }
+    text.extend_from_slice(line)?;
+    text.extend_from_slice(b"\n")
+}
+
+/// Takes the job that a line says out of these, if it is among them. The answer is whether it was.
+fn takes_out<A: Allocator>(jobs: &mut Vec<Job, A>, line: &[u8]) -> bool
+    ensures { IsTaken result (without_said (job_said (says_of line.now)) jobs.old.items)
+        jobs.old.items jobs.new.items }
+{
+    match job_in(line) {
+        Some(job) => take_first(jobs, &job),
+        None => false,
+    }
+}
+
+/// Takes the first job that is this one out of these. The answer is whether there was one.
+fn take_first<A: Allocator>(jobs: &mut Vec<Job, A>, job: &Job) -> bool
+    ensures { IsTaken result (without_first job.now jobs.old.items)
+        jobs.old.items jobs.new.items }
+{
+    match place_of(jobs, job) {
+        Some(place) => {
+            jobs.remove(place);
+            true
+        }
+        None => false,
+    }
+}
+
+/// The place of the first of these jobs that is this one, if there is one.
+fn place_of(jobs: &[Job], job: &Job) -> Option<usize>
+    ensures within { IfSome result (λ place. place < length jobs.now) }
+    ensures first { MatchOption result (without_first job.now jobs.now ≡ None)
+        (λ place. without_first job.now jobs.now ≡ Some (remove jobs.now place)) }
+{
+    for i in 0..jobs.len() {
+        if is_job(&jobs[i], job) {
+            return Some(i);
+        }
+    }
+    None
+}
+
+/// Whether two jobs have the same words.
+fn is_job(job: &Job, other: &Job) -> bool
+    ensures { result ≡ is_job job.now other.now }
+{
+    match (job, other) {
+        (
+            Job::Send {
+                source,
+                target,
+                user,
+                ..
+            },
+            Job::Send {
+                source: source_there,
+                target: target_there,
+                user: user_there,
+                ..
+            },
+        )
+        | (
+            Job::Request {
+                source,
+                target,
+                user,
+            },
+            Job::Request {
+                source: source_there,
+                target: target_there,
+                user: user_there,
+            },
+        ) => has_words(source, target, user, source_there, target_there, user_there),
+        _ => false,
+    }
+}
+
+/// Whether these words are those.
+fn has_words(
+    source: &Name,
+    target: &Name,
+    user: &Name,
+    other_source: &Name,
+    other_target: &Name,
+    other_user: &Name,
+) -> bool
+    ensures { result ≡ (bytes_eq source.now other_source.now
+        && (bytes_eq target.now other_target.now && bytes_eq user.now other_user.now)) }
+{
+    is_name(source, other_source) && is_name(target, other_target) && is_name(user, other_user)
+}
+
+fn is_name(name: &Name, other: &Name) -> bool
+    ensures { result ≡ bytes_eq name.now other.now }
+{
+    name.as_bytes() == other.as_bytes()
+}

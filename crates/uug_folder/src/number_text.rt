@@ -1,0 +1,59 @@
+//! The number of an end's conversations as the text of a file.
+ghost use Rattle.std.specs.Prelude.{◌≡◌, ◌≤◌, MatchOption, Some};
+ghost use Rattle.uug_folder.specs.NumberText.{begins_with, goes_on_with, number_in, number_line};
+
+use arrayvec::ArrayVec;
+use itoa::Buffer;
+use uug_stream::ToolFault;
+use uug_talk::{NUMBER_MAX, read_number, split_line};
+
+/// The most bytes of the line of a number.
+pub const NUMBER_LINE_MAX: usize = 11;
+
+/// The number of a text that is one line of decimal digits. Its line feed may lack, and zeros in front are read.
+pub fn read_number_text(text: &[u8]) -> Option<u32>
+    ensures { result ≡ number_in text.now }
+{
+    let (line, behind) = split_line(text)?;
+    match split_line(behind) {
+        Some(_) => None,
+        None => read_number(line, NUMBER_MAX),
+    }
+}
+
+/// The text of a number: its decimal digits and a line feed.
+pub fn number_line(number: u32) -> ArrayVec<u8, NUMBER_LINE_MAX>
+    ensures text { result.items ≡ number_line number }
+    // The number is read as the one given.
+    ensures read_back { number_in result.items ≡ Some number }
+{
+    written_line(number)
+}
+
+fn written_line(number: u32) -> ArrayVec<u8, NUMBER_LINE_MAX>
+    ensures text { result.items ≡ number_line number }
+    ensures within { number ≤ NUMBER_MAX }
+{
+    let mut line = ArrayVec::new();
+    let Ok(()) = line.try_extend_from_slice(Buffer::new().format(number).as_bytes()) else {
+        unreachable!();
+    };
+    line.push(b'\n');
+    line
+}
+
+/// The number that an end keeps whose folder has this text of one, if it has any. Without a text it keeps none, but where it
+/// is told to: then it begins at 0.
+pub fn number_at_start(text: Option<&[u8]>, is_told: bool) -> Result<Option<u32>, ToolFault>
+    ensures { MatchOption text.entry (result ≡ begins_with is_told)
+        (λ text. result ≡ goes_on_with (number_in text.now)) }
+{
+    match text {
+        Some(text) => match read_number_text(text) {
+            Some(number) => Ok(Some(number)),
+            None => Err(ToolFault::Number),
+        },
+        None if is_told => Ok(Some(0)),
+        None => Ok(None),
+    }
+}

@@ -1,0 +1,38 @@
+ghost use Rattle.std.specs.Prelude.{◌≡◌, ℕ, ◌≤◌, List, Option, IfOk, IfErr, OnOk, OnErr};
+ghost use Rattle.uug_session.specs.Engine.{HasFailed};
+ghost use Rattle.uug_folder.specs.TextFiles.{holding, IsReadFault, IsWhole};
+
+use crate::folder::FolderFailed;
+use std::alloc::Allocator;
+use uug_stream::ToolFault;
+
+/// A file of an end whose text is replaced as a whole: that of its jobs, or that of its number.
+pub trait TextFile {
+    /// The text that is in it, where the file tells it.
+    ghost text: { Self → Option (List ℕ) };
+
+    /// How many faults its device had.
+    ghost fault_count: { Self → ℕ };
+
+    /// The text that is in it now. A file that is not there has an empty one.
+    fn read<B: Allocator + Copy>(&mut self, alloc: B) -> Result<Vec<u8, B>, ToolFault>
+        ensures same { text self.new ≡ text self.old }
+        ensures told { IfOk result (λ found. holding found.items (text self.old) ≡ text self.old) }
+        ensures stands { OnOk result (fault_count self.new ≡ fault_count self.old) }
+        ensures fault { IfErr result (λ fault.
+            IsReadFault fault (fault_count self.old) (fault_count self.new)) };
+
+    /// Puts this text in the place of the one that is in the file. After a fault the file is as before, or has this text,
+    /// which may be gone again with the power.
+    fn replace(&mut self, bytes: &[u8]) -> Result<(), FolderFailed>
+        ensures ok { OnOk result (text self.new ≡ holding bytes.now (text self.old)) }
+        ensures stands { OnOk result (fault_count self.new ≡ fault_count self.old) }
+        ensures err { OnErr result (IsWhole bytes.now (text self.old) (text self.new)) }
+        ensures fault { OnErr result
+            (HasFailed u64.MAX (fault_count self.old) (fault_count self.new)) }
+        ensures grows { fault_count self.old ≤ fault_count self.new };
+
+    /// How many faults the device had, up to the greatest number that fits.
+    fn faults(&self) -> u64
+        ensures { result ≡ fault_count self.now };
+}

@@ -1,8 +1,0 @@
-use Rattle.std.proofs.Common.{ap}
-use Rattle.uug_session.specs.Engine.{EngineState}
-use Rattle.uug_pair.proofs.KeepingLemmas.{keeps_same}
-use Rattle.uug_pair.proofs.seat.Seat.hang_up.Goals as goal
-
-pub returns-clause-jobs : goal.returns-clause-jobs
-returns-clause-jobs g c =
-    keeps_same _ _ _ _ (ap (λ (e : EngineState). e.dialogue) c.hang_up.ensures.stage) (ap g.S.Spool.kept c.hang_up.ensures.spool)

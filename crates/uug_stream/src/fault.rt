@@ -1,0 +1,80 @@
+ghost use Rattle.std.specs.Prelude.{◌≡◌};
+ghost use Rattle.uug_stream.specs.Fault.{status_of, fault_of};
+ghost use Rattle.uug_stream.specs.declared.fault.ToolFault.TheVariants.{Memory as memory, Read as read};
+
+use crate::input::ReadFailed;
+use crate::output::WriteFailed;
+use std::alloc::AllocError;
+use thiserror::Error;
+
+/// Why a tool of the program gave up.
+#[derive(Clone, Copy, Debug, PartialEq, Eq, Error)]
+pub enum ToolFault {
+    /// The input refused a read.
+    #[error("device fault")]
+    Read,
+    /// The output refused a write, and not for memory.
+    #[error("device fault")]
+    Write,
+    /// Memory ran out.
+    #[error("out of memory")]
+    Memory,
+    /// The first bad line of a script, counted from 1.
+    #[error("bad script at line {0}")]
+    Script(usize),
+    /// The first bad line of a folder's jobs, counted from 1.
+    #[error("bad jobs at line {0}")]
+    Jobs(usize),
+    /// The text of the file `number` of a folder is no number.
+    #[error("bad number file")]
+    Number,
+    /// A device gave more than the program takes, or failed otherwise.
+    #[error("device fault")]
+    Device,
+    /// Another run works in the folder of this number, counted from 0 in the order of the arguments.
+    #[error("device fault")]
+    InUse(usize),
+    /// An argument is out of its range.
+    #[error("bad usage")]
+    Usage,
+}
+
+impl ToolFault {
+    /// The status that the program ends with: 2 for what the caller gave, 3 for devices, 4 for memory.
+    pub fn status(self) -> u8
+        ensures { result ≡ status_of self }
+    {
+        match self {
+            ToolFault::Script(_) | ToolFault::Jobs(_) | ToolFault::Number | ToolFault::Usage => 2,
+            ToolFault::Device | ToolFault::InUse(_) | ToolFault::Read | ToolFault::Write => 3,
+            ToolFault::Memory => 4,
+        }
+    }
+}
+
+impl From<ReadFailed> for ToolFault {
+    ghost from_gives = { λ _ fault. fault ≡ read };
+
+    fn from(_refused: ReadFailed) -> ToolFault {
+        ToolFault::Read
+    }
+}
+
+impl From<WriteFailed> for ToolFault {
+    ghost from_gives = { λ refused fault. fault ≡ fault_of refused };
+
+    fn from(refused: WriteFailed) -> ToolFault {
+        match refused {
+            WriteFailed::Device => ToolFault::Write,
+            WriteFailed::Memory => ToolFault::Memory,
+        }
+    }
+}
+
+impl From<AllocError> for ToolFault {
+    ghost from_gives = { λ _ fault. fault ≡ memory };
+
+    fn from(_refused: AllocError) -> ToolFault {
+        ToolFault::Memory
+    }
+}

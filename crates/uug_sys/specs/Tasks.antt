@@ -1,0 +1,53 @@
+-- What a task of one end says (this project's profile).
+use Rattle.std.specs.Prelude.{◌≡◌, ◌≢◌, ◌<◌, ◌≤◌, ◌*◌, ℕ, List, [], Some, None}
+use Rattle.std.specs.Duration.{as_nanos}
+use Rattle.uug_link.specs.Announced.{announced}
+use Rattle.uug_link.specs.Terms.{IsSize, IsWindow}
+use Rattle.uug_talk.specs.Name.{IsName}
+use Rattle.uug_conversation.specs.Jobs.{Lists}
+use Rattle.uug_conversation.specs.declared.side.Side.{Side}
+use Rattle.uug_session.specs.EndStep.{Identity}
+use Rattle.uug_session.specs.Engine.{BeginsSession, all_ahead}
+use Rattle.uug_session.specs.Node.{NodeState}
+use Rattle.uug_session.specs.Sessions.{HoldsNothing}
+use Rattle.uug_session.specs.declared.place.Place.{Place}
+use Rattle.uug_folder.specs.JobsText.{IsQueueOf}
+use Rattle.uug_transfer.specs.BufferedNodes.{IsCleared}
+use Rattle.uug_sys.specs.Places.{Announces}
+use Rattle.uug_transfer.specs.LineNames.{line_of, shown}
+use Rattle.uug_sys.specs.declared.call.CallTask.{CallTask}
+use Rattle.uug_sys.specs.declared.call.Terms.{Terms}
+use Rattle.uug_sys.specs.declared.call.TheConstants.{SECONDS_MAX}
+
+-- a task that may be run: its numbers are in their ranges, its line is one, and its names are names
+pub record IsTask (task : CallTask) : Type 0 where
+  pub seconds : (0 < task.seconds) × (task.seconds ≤ SECONDS_MAX)
+  pub window : IsWindow task.window
+  pub size : IsSize task.size
+  pub line : line_of task.line.now ≢ None
+  pub me : IsName task.me.now
+  pub peer : IsName task.peer.now
+
+-- The line, the names and what is announced are as the task says, and the line waits for as long. No number is read yet.
+pub record IsSaidBy (task : CallTask) (terms : Terms) : Type 0 where
+  pub line : line_of task.line.now ≡ Some (shown terms.line)
+  pub me : terms.place.me ≡ task.me.now
+  pub peer : terms.place.peer ≡ task.peer.now
+  pub announces : Announces task.window task.size task.is_quiet task.is_short (announced terms.place.announce)
+  pub number : terms.place.number ≡ None
+  pub seconds : as_nanos terms.patience ≡ task.seconds * 1000000000
+  pub within : (0 < task.seconds) × (task.seconds ≤ SECONDS_MAX)
+
+-- which end it is, by its place
+abbrev pub identity_at : Side → Place → Identity
+identity_at side place = record { side = side; me = place.me; peer = place.peer }
+
+-- An end of this side stands at its line, at this place and with the jobs of this text: what it says first is to be written,
+-- and nothing else has become of it.
+pub record StandsAt (side : Side) (place : Place) (text : List ℕ) (now : NodeState) : Type 0 where
+  pub jobs : Lists
+  pub read : IsQueueOf text jobs
+  pub first : NodeState
+  pub begins : BeginsSession (identity_at side place) (announced place.announce) place.number (all_ahead jobs) [] first.engine
+  pub held : HoldsNothing first
+  pub cleared : IsCleared first now

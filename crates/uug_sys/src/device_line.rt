@@ -1,0 +1,148 @@
+//! A line over a terminal device. The system has no time for its reads and writes, so they are waited for before.
+ghost use Rattle.std.specs.Prelude.{◌≡◌, ◌<◌, ◌≤◌, length, IfOk, None};
+ghost use Rattle.uug_transfer.specs.ReadOutcomes.{IsWithin};
+
+use crate::stream_line::read_some;
+use mio::unix::SourceFd;
+use mio::{Events, Interest, Poll, Token};
+use std::alloc::Allocator;
+use std::fs::{File, OpenOptions};
+use std::io;
+use std::io::Write;
+use std::net::Net;
+use std::os::fd::{AsFd, AsRawFd};
+use std::os::unix::net::UnixStream;
+use std::rt::Files;
+use std::time::Duration;
+use uug_transfer::{EndLine, LineFailed, ReadOutcome};
+
+/// The device is the one thing that is waited for.
+const DEVICE: Token = Token(0);
+
+/// What is needed to wait for a terminal device.
+#[derive(Drop)]
+struct Waiting<A: Allocator> {
+    poll: Poll,
+    events: Events<A>,
+    patience: Duration,
+}
+
+impl<A: Allocator + Copy> Waiting<A> {
+    /// What is needed to wait for this device for so long.
+    fn new<R: Net>(alloc: A, rt: &R, file: &File, patience: Duration) -> io::Result<Self> {
+        let poll = Poll::new(rt)?;
+        let events = Events::with_capacity(alloc, 1)?;
+        make_ready(file, &poll)?;
+        Ok(Waiting {
+            poll,
+            events,
+            patience,
+        })
+    }
+
+    /// Waits for the device, and says whether it became ready.
+    fn wait(&mut self, file: &File, interest: Interest) -> io::Result<bool> {
+        let fd = file.as_raw_fd();
+        self.poll
+            .registry()
+            .reregister(&mut SourceFd(&fd), DEVICE, interest)?;
+        self.poll.poll(&mut self.events, Some(self.patience))?;
+        Ok(!self.events.is_empty())
+    }
+}
+
+/// A line over a terminal device, as it was set before.
+#[derive(Drop)]
+pub struct DeviceLine<A: Allocator> {
+    file: File,
+    waiting: Waiting<A>,
+    faults: u64,
+}
+
+impl<A: Allocator + Copy> DeviceLine<A> {
+    /// Opens the device at this path. Its calls wait for so long.
+    pub fn open<R: Files<File = File> + Net>(
+        alloc: A,
+        rt: &R,
+        path: &str,
+        patience: Duration,
+    ) -> io::Result<Self>
+        ensures { IfOk result (λ line. ⟦<DeviceLine<A> as EndLine>⟧.fault_count line ≡ 0) }
+    {
+        let file = OpenOptions::new().read(true).write(true).open(rt, path)?;
+        let waiting = Waiting::new(alloc, rt, &file, patience)?;
+        Ok(DeviceLine {
+            file,
+            waiting,
+            faults: 0,
+        })
+    }
+}
+
+/// Has the device be waited for. None of its own calls waits then: that is a state of the open device, which this handle
+/// shares with another, made for a moment, that has a call to set it.
+fn make_ready(file: &File, poll: &Poll) -> io::Result<()> {
+    UnixStream::from(file.as_fd().try_clone_to_owned()?).set_nonblocking(true)?;
+    let fd = file.as_raw_fd();
+    poll.registry()
+        .register(&mut SourceFd(&fd), DEVICE, Interest::READABLE)
+}
+
+/// Writes some of a piece, once the device takes any. None is written where it takes none for as long as it is waited for.
+fn write_in_time<A: Allocator + Copy>(
+    file: &mut File,
+    waiting: &mut Waiting<A>,
+    piece: &[u8],
+) -> io::Result<usize>
+    ensures { IfOk result (λ n. n ≤ length piece.now) }
+{
+    if waiting.wait(file, Interest::WRITABLE)? {
+        return file.write(piece);
+    }
+    Ok(0)
+}
+
+/// Reads once the device has something.
+fn read_in_time<A: Allocator + Copy>(
+    file: &mut File,
+    waiting: &mut Waiting<A>,
+    buffer: &mut [u8],
+) -> io::Result<ReadOutcome>
+    requires { 0 < length buffer.old }
+    ensures { IfOk result (λ outcome. IsWithin (length buffer.old) outcome) }
+{
+    if waiting.wait(file, Interest::READABLE)? {
+        return read_some(file, buffer);
+    }
+    Ok(ReadOutcome::TimedOut)
+}
+
+impl<A: Allocator + Copy> EndLine for DeviceLine<A> {
+    ghost fault_count = { λ line. line.faults };
+
+    ghost received = { λ _. None };
+
+    fn write(&mut self, piece: &[u8]) -> Result<usize, LineFailed> {
+        match write_in_time(&mut self.file, &mut self.waiting, piece) {
+            Ok(count) if count > 0 => Ok(count),
+            _ => {
+                self.faults = self.faults.saturating_add(1);
+                Err(LineFailed)
+            }
+        }
+    }
+
+    fn read(&mut self, buffer: &mut [u8]) -> Result<ReadOutcome, LineFailed> {
+        match read_in_time(&mut self.file, &mut self.waiting, buffer) {
+            Ok(outcome) => Ok(outcome),
+            Err(_) => {
+                self.faults = self.faults.saturating_add(1);
+                Err(LineFailed)
+            }
+        }
+    }
+
+    fn faults(&self) -> u64 {
+        self.faults
+    }
+}

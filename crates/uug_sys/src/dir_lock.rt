@@ -1,0 +1,77 @@
+//! The folder of an end for one run alone.
+ghost use Rattle.std.specs.Prelude.{IfErr};
+ghost use Rattle.uug_sys.specs.Faults.{IsLockFault};
+
+use crate::part_path::PART_FRONT;
+use std::alloc::{AllocError, Allocator};
+use std::fs::{File, TryLockError};
+use std::io::ErrorKind;
+use std::rt::Files;
+use std::{fs, io};
+use uug_stream::ToolFault;
+
+/// The lock on the folder of an end. The system gives it back when this is dropped, and when the process dies.
+#[derive(Drop)]
+pub struct DirLock {
+    file: File,
+}
+
+/// Locks the folder `dir`, which is that of this number among the program's arguments, and removes what runs that were
+/// killed left of files that were not whole. Nothing is made in it. A folder that another run holds is `InUse`.
+pub fn lock_dir<A: Allocator + Copy, R: Files<File = File> + Alloc + Clone + Drop>(
+    alloc: A,
+    rt: &R,
+    dir: &str,
+    number: usize,
+) -> Result<DirLock, ToolFault>
+    ensures no_other { IfErr result IsLockFault }
+{
+    let Ok(file) = open_dir(rt, dir) else {
+        return Err(ToolFault::Device);
+    };
+    let lock = DirLock { file };
+    match lock.file.try_lock() {
+        Ok(()) => (),
+        Err(TryLockError::WouldBlock) => return Err(ToolFault::InUse(number)),
+        Err(TryLockError::Error(_)) => return Err(ToolFault::Device),
+    }
+    clear_dir(alloc, rt, dir)?;
+    Ok(lock)
+}
+
+/// Opens a folder. A pipe, which would wait for a writer, is not opened.
+fn open_dir<R: Files>(rt: &R, dir: &str) -> io::Result<R::File> {
+    if fs::metadata(rt, dir)?.is_dir() {
+        File::open(rt, dir)
+    } else {
+        Err(io::Error::from(ErrorKind::NotADirectory))
+    }
+}
+
+/// Removes what is left of files that were not whole, in `dir` and in `got` below it. What can't be removed is in nobody's
+/// way.
+fn clear_dir<A: Allocator + Copy, R: Files + Alloc + Clone + Drop>(
+    alloc: A,
+    rt: &R,
+    dir: &str,
+) -> Result<(), AllocError> {
+    let got = format!(in alloc; "{dir}/got")?;
+    remove_parts(rt, dir);
+    remove_parts(rt, got.as_str());
+    Ok(())
+}
+
+/// Removes the files in a folder whose names begin as those of files that are not whole.
+fn remove_parts<R: Files + Alloc + Clone + Drop>(rt: &R, dir: &str) {
+    let Ok(entries) = fs::read_dir(rt, dir) else {
+        return;
+    };
+    for entry in entries {
+        let Ok(entry) = entry else {
+            return;
+        };
+        if entry.file_name().starts_with(PART_FRONT) {
+            let _ = fs::remove_file(rt, entry.path().as_str());
+        }
+    }
+}

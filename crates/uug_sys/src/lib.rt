@@ -1,0 +1,34 @@
+//! What the crates of transfers take from the system: folders, files that are replaced whole, locks, sockets and devices,
+//! and two ends or one end over them.
+#![tactic(auto)]
+
+mod atomic_file;
+mod call;
+mod device_line;
+mod dir_lock;
+pub mod laws;
+mod no_file;
+mod opened_jobs;
+mod pair;
+mod part_path;
+mod send_folder;
+mod sockets;
+mod stream_line;
+mod system_folder;
+mod system_observer;
+mod system_text;
+mod voice;
+mod wire_line;
+
+pub use call::{CallTask, SECONDS_MAX, call_run};
+pub use device_line::DeviceLine;
+pub use dir_lock::{DirLock, lock_dir};
+pub use no_file::NoFile;
+pub use opened_jobs::{OpenJobs, open_jobs};
+pub use pair::{TURNS_MAX, pair_run};
+pub use send_folder::{FILES_MAX, GIVEN_MODE, TEXT_MAX, read_send, read_text};
+pub use stream_line::StreamLine;
+pub use system_folder::SystemFolder;
+pub use system_observer::SystemObserver;
+pub use system_text::SystemText;
+pub use wire_line::WireLine;

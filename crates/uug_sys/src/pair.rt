@@ -1,0 +1,356 @@
+//! Two folders, and the socket between their ends.
+ghost use Rattle.std.specs.Prelude.{◌≡◌, ◌≢◌, ◌≤◌, ◌↔◌, ◌&&◌, false, IfErr, IfOk, None};
+ghost use Rattle.uug_talk.specs.Name.{IsName};
+ghost use Rattle.uug_link.specs.Announced.{announced};
+ghost use Rattle.uug_conversation.specs.Turns.{other};
+ghost use Rattle.uug_session.specs.Node.{node_of, spool_of};
+ghost use Rattle.uug_session.specs.Sessions.{HoldsNothing};
+ghost use Rattle.uug_stream.specs.Streams.{CountsFault};
+ghost use Rattle.uug_transfer.specs.FaultInjection.{is_in_range};
+ghost use Rattle.uug_sys.specs.Faults.{IsReadingFault, IsRunFault};
+ghost use Rattle.uug_sys.specs.Places.{Announces, BeginsInPair, StandsInPair, name_at};
+ghost use Rattle.uug_transfer.specs.BufferedNodes.{node_in};
+ghost use Rattle.uug_transfer.specs.Turns.{HasRoom};
+
+use crate::dir_lock::lock_dir;
+use crate::no_file::NoFile;
+use crate::opened_jobs::{OpenJobs, open_jobs};
+use crate::send_folder::read_send;
+use crate::system_folder::SystemFolder;
+use crate::system_text::SystemText;
+use crate::wire_line::WireLine;
+use std::alloc::{AllocError, Allocator};
+use std::fs::File;
+use std::net::Net;
+use std::os::unix::net::{UnixListener, UnixStream};
+use std::rt::Files;
+use std::{fs, io};
+use uug_folder::FolderSpool;
+use uug_link::Announce;
+use uug_session::{Node, Place, Queue, Side, Spool, Stored};
+use uug_stream::{Output, ToolFault};
+use uug_talk::Name;
+use uug_transfer::{BufferedNode, FaultInjector, Line, TransferEnd, pair_over};
+
+/// The most turns that two ends take.
+pub const TURNS_MAX: u32 = 1_000_000;
+
+/// The window that both ends announce.
+const WINDOW: u8 = 7;
+
+/// The packet size that both ends announce.
+const SIZE: usize = 64;
+
+/// The name of the end that calls.
+const CALLER: &[u8] = b"a";
+
+/// The name of the end that is called.
+const CALLED: &[u8] = b"b";
+
+/// The files of an end in a folder of the system.
+type SystemSpool<'a, R, A> = FolderSpool<SystemFolder<'a, R, A>, A>;
+
+/// An end over a folder of the system.
+type SystemEnd<'a, R, A> = TransferEnd<SystemSpool<'a, R, A>, SystemText<'a, R, A>, NoFile, A>;
+
+/// Runs the caller `a` over the folder `dir_a` and the called end `b` over `dir_b`, over a Unix socket that is made at the
+/// path `socket`. Every Nth packet is lost, and every Nth changed, for an N of its own each, if one is given. What stands
+/// in a folder is said in `docs/PROTOCOL.md`. Both folders are locked before anything in them is read: `InUse` says which
+/// of them another run holds. The answer is the program's status.
+pub fn pair_run<A: Allocator + Copy, R: Files<File = File> + Net + Alloc + Clone + Drop, O: Output>(
+    alloc: A,
+    rt: &R,
+    socket: &str,
+    dir_a: &str,
+    dir_b: &str,
+    drop_every: Option<u32>,
+    flip_every: Option<u32>,
+    output: &mut O,
+) -> Result<u8, ToolFault>
+    ensures usage { (result ≡ Err ToolFault.Usage) ↔
+        ((is_in_range drop_every && is_in_range flip_every) ≡ false) }
+    ensures status { IfOk result (λ status. status ≤ 1) }
+    ensures write { result ≡ Err ToolFault.Write
+        → CountsFault (O.fault_count output.old) (O.fault_count output.new) }
+    ensures no_other { IfErr result IsRunFault }
+{
+    let Some(injector) = FaultInjector::new(drop_every, flip_every) else {
+        return Err(ToolFault::Usage);
+    };
+    let lock_a = lock_dir(alloc, rt, dir_a, 0)?;
+    let result = match lock_dir(alloc, rt, dir_b, 1) {
+        Ok(lock_b) => {
+            let result = run_locked(alloc, rt, socket, dir_a, dir_b, injector, output);
+            drop(lock_b);
+            result
+        }
+        Err(fault) => Err(fault),
+    };
+    drop(lock_a);
+    result
+}
+
+/// Runs both ends over their folders, which are locked.
+fn run_locked<A: Allocator + Copy, R: Files + Net + Alloc + Clone + Drop, O: Output>(
+    alloc: A,
+    rt: &R,
+    socket: &str,
+    dir_a: &str,
+    dir_b: &str,
+    injector: FaultInjector,
+    output: &mut O,
+) -> Result<u8, ToolFault>
+    ensures status { IfOk result (λ status. status ≤ 1) }
+    ensures write { result ≡ Err ToolFault.Write
+        → CountsFault (O.fault_count output.old) (O.fault_count output.new) }
+    ensures no_other { IfErr result IsRunFault }
+    ensures no_usage { result ≢ Err ToolFault.Usage }
+{
+    let (mut caller, mut called) = make_ends(alloc, rt, dir_a, dir_b, injector)?;
+    let result = run_ends(alloc, rt, socket, &mut caller, &mut called, output);
+    drop(caller);
+    drop(called);
+    result
+}
+
+/// Joins both ends by a socket, and runs them.
+fn run_ends<'a, A: Allocator + Copy, R: Files + Net + Alloc + Clone + Drop, O: Output>(
+    alloc: A,
+    rt: &R,
+    socket: &str,
+    caller: &mut SystemEnd<'a, R, A>,
+    called: &mut SystemEnd<'a, R, A>,
+    output: &mut O,
+) -> Result<u8, ToolFault>
+    ensures status { IfOk result (λ status. status ≤ 1) }
+    ensures write { result ≡ Err ToolFault.Write
+        → CountsFault (O.fault_count output.old) (O.fault_count output.new) }
+    ensures no_other { IfErr result IsRunFault }
+    ensures no_usage { result ≢ Err ToolFault.Usage }
+{
+    let mut line = connect(rt, socket)?;
+    pair_over(alloc, caller, called, &mut line, TURNS_MAX, output)
+}
+
+/// Both ends over their folders, as these stand.
+fn make_ends<'a, A: Allocator + Copy, R: Files + Alloc + Clone + Drop>(
+    alloc: A,
+    rt: &'a R,
+    dir_a: &str,
+    dir_b: &str,
+    injector: FaultInjector,
+) -> Result<(SystemEnd<'a, R, A>, SystemEnd<'a, R, A>), ToolFault>
+    ensures caller { IfOk result (λ ends.
+        StandsInPair Side.Caller ends.0.jobs.before.items (node_in ends.0.buffered)) }
+    ensures called { IfOk result (λ ends.
+        StandsInPair Side.Called ends.1.jobs.before.items (node_in ends.1.buffered)) }
+    ensures no_other { IfErr result IsReadingFault }
+{
+    let jobs = open_both(alloc, rt, dir_a, dir_b)?;
+    let files = match read_sends(alloc, rt, dir_a, dir_b) {
+        Ok(files) => files,
+        Err(fault) => {
+            drop(jobs);
+            return Err(fault);
+        }
+    };
+    let (caller, called) = Given::both(jobs, files);
+    let Ok(caller) = make_end(alloc, rt, Side::Caller, dir_a, caller, injector) else {
+        drop(called);
+        return Err(ToolFault::Memory);
+    };
+    match make_end(
+        alloc,
+        rt,
+        Side::Called,
+        dir_b,
+        called,
+        FaultInjector::none(),
+    ) {
+        Ok(called) => Ok((caller, called)),
+        Err(_) => {
+            drop(caller);
+            Err(ToolFault::Memory)
+        }
+    }
+}
+
+/// What an end begins with: its jobs, and the files that it has to give.
+#[derive(Drop)]
+struct Given<'a, R: Files, A: Allocator> {
+    jobs: OpenJobs<'a, R, A>,
+    files: Vec<Stored<A>, A>,
+}
+
+impl<'a, R: Files, A: Allocator> Given<'a, R, A> {
+    /// What the caller begins with, and the called end.
+    fn both(
+        (caller_jobs, called_jobs): (OpenJobs<'a, R, A>, OpenJobs<'a, R, A>),
+        (caller_files, called_files): (Vec<Stored<A>, A>, Vec<Stored<A>, A>),
+    ) -> (Self, Self) {
+        let caller = Given {
+            jobs: caller_jobs,
+            files: caller_files,
+        };
+        let called = Given {
+            jobs: called_jobs,
+            files: called_files,
+        };
+        (caller, called)
+    }
+}
+
+/// The jobs of both folders.
+fn open_both<'a, A: Allocator + Copy, R: Files>(
+    alloc: A,
+    rt: &'a R,
+    dir_a: &str,
+    dir_b: &str,
+) -> Result<(OpenJobs<'a, R, A>, OpenJobs<'a, R, A>), ToolFault>
+    ensures { IfErr result IsReadingFault }
+{
+    let caller = open_jobs(alloc, rt, dir_a)?;
+    match open_jobs(alloc, rt, dir_b) {
+        Ok(called) => Ok((caller, called)),
+        Err(fault) => {
+            drop(caller);
+            Err(fault)
+        }
+    }
+}
+
+/// The files that both folders have to give.
+fn read_sends<A: Allocator + Copy, R: Files + Alloc + Clone + Drop>(
+    alloc: A,
+    rt: &R,
+    dir_a: &str,
+    dir_b: &str,
+) -> Result<(Vec<Stored<A>, A>, Vec<Stored<A>, A>), ToolFault>
+    ensures { IfErr result IsReadingFault }
+{
+    let caller = read_send(alloc, rt, dir_a)?;
+    match read_send(alloc, rt, dir_b) {
+        Ok(called) => Ok((caller, called)),
+        Err(fault) => {
+            drop(caller);
+            Err(fault)
+        }
+    }
+}
+
+/// An end over the folder `dir`, which begins with this.
+fn make_end<'a, A: Allocator + Copy, R: Files>(
+    alloc: A,
+    rt: &'a R,
+    side: Side,
+    dir: &str,
+    given: Given<'a, R, A>,
+    injector: FaultInjector,
+) -> Result<SystemEnd<'a, R, A>, AllocError>
+    ensures { IfOk result (λ end.
+        StandsInPair side end.jobs.before.items (node_in end.buffered)) }
+{
+    let Given { jobs, files } = given;
+    let OpenJobs { file, queue } = jobs;
+    let spool = make_spool(alloc, rt, dir, files)?;
+    let node = make_node(alloc, side, queue, spool)?;
+    let buffered = BufferedNode::new(alloc, node, injector)?;
+    Ok(TransferEnd {
+        buffered,
+        jobs: file,
+        number: NoFile,
+    })
+}
+
+/// The spool over the folder `dir`, with these files to give.
+fn make_spool<'a, A: Allocator + Copy, R: Files>(
+    alloc: A,
+    rt: &'a R,
+    dir: &str,
+    files: Vec<Stored<A>, A>,
+) -> Result<SystemSpool<'a, R, A>, AllocError> {
+    let folder = SystemFolder::new(alloc, rt, dir)?;
+    Ok(FolderSpool::new(alloc, files, folder))
+}
+
+/// The caller `a`, or the called end `b`, with these jobs.
+fn make_node<S: Spool + Drop, A: Allocator + Copy>(
+    alloc: A,
+    side: Side,
+    jobs: Queue<A>,
+    spool: S,
+) -> Result<Node<S, A>, AllocError>
+    ensures begins { IfOk result (λ node. BeginsInPair side jobs (node_of node).engine) }
+    ensures nothing_held { IfOk result (λ node. HoldsNothing (node_of node)) }
+    ensures spool { IfOk result (λ node. spool_of node ≡ spool) }
+{
+    let place = place(side);
+    let made = match side {
+        Side::Caller => Node::caller(alloc, place, jobs, spool),
+        Side::Called => Node::called(alloc, place, jobs, spool),
+    };
+    match made {
+        Ok(node) => Ok(node),
+        Err(refused) => {
+            drop(refused);
+            Err(AllocError)
+        }
+    }
+}
+
+/// Where the end on this side stands. It keeps no number of its conversations.
+fn place(side: Side) -> Place
+    ensures me { result.me ≡ name_at side }
+    ensures peer { result.peer ≡ name_at (other side) }
+    ensures announce { Announces WINDOW SIZE false false (announced result.announce) }
+    ensures number { result.number ≡ None }
+{
+    let Ok(announce) = Announce::new(WINDOW, SIZE) else {
+        unreachable!();
+    };
+    let (caller, called) = (name(CALLER), name(CALLED));
+    let (me, peer) = match side {
+        Side::Caller => (caller, called),
+        Side::Called => (called, caller),
+    };
+    Place {
+        me,
+        peer,
+        announce,
+        number: None,
+    }
+}
+
+/// The name of these bytes, which are one.
+fn name(bytes: &[u8]) -> Name
+    requires { IsName bytes.now }
+    ensures { result ≡ bytes.now }
+{
+    let Ok(name) = Name::new(bytes) else {
+        unreachable!();
+    };
+    name
+}
+
+/// The line over a socket that is made at this path. When both ends have it the path is not needed any more, and is
+/// removed, as it is where they don't get it.
+fn connect<R: Files + Net>(rt: &R, socket: &str) -> Result<WireLine<UnixStream>, ToolFault>
+    ensures room { IfOk result (λ line. HasRoom (⟦<WireLine<UnixStream> as Line>⟧.unread line)) }
+    ensures no_other { IfErr result IsReadingFault }
+{
+    let Ok(listener) = UnixListener::bind(rt, socket) else {
+        return Err(ToolFault::Device);
+    };
+    let line = meet(rt, &listener, socket);
+    let _ = fs::remove_file(rt, socket);
+    line.map_err(|_| ToolFault::Device)
+}
+
+/// Both ends of a socket that listens at this path.
+fn meet<R: Net>(rt: &R, listener: &UnixListener, socket: &str) -> io::Result<WireLine<UnixStream>>
+    ensures { IfOk result (λ line. HasRoom (⟦<WireLine<UnixStream> as Line>⟧.unread line)) }
+{
+    let caller = UnixStream::connect(rt, socket)?;
+    let (called, _) = listener.accept()?;
+    Ok(WireLine::new(caller, called))
+}

@@ -1,0 +1,215 @@
+//! What is in the folder of an end at the start: its jobs, and the files that it has to give.
+ghost use Rattle.std.specs.Prelude.{◌≡◌, ◌+◌, ◌<◌, ◌≤◌, IfOk, IfErr, IfSome, OnOk, length};
+ghost use Rattle.uug_sys.specs.Faults.{IsFolderFault};
+
+use std::alloc::Allocator;
+use std::fs::{DirEntry, File, ReadDir};
+use std::io::{ErrorKind, Read};
+use std::rt::Files;
+use std::{fs, io};
+use uug_session::Stored;
+use uug_stream::ToolFault;
+use uug_talk::{FILE_MAX, Name};
+
+/// The most files that a folder may have to give.
+pub const FILES_MAX: usize = 256;
+
+/// The mode of each file that is given.
+pub const GIVEN_MODE: u16 = 0o644;
+
+/// The most bytes of a text in a folder, such as that of its jobs.
+pub const TEXT_MAX: usize = 16_777_216;
+
+/// Memory that was refused is no fault of the system's, which has an error of its own for it.
+fn fault_of(error: io::Error) -> ToolFault
+    ensures { IsFolderFault result }
+{
+    if error.kind() == ErrorKind::OutOfMemory && error.raw_os_error().is_none() {
+        ToolFault::Memory
+    } else {
+        ToolFault::Device
+    }
+}
+
+/// All that comes from a reader, unless it is more than so many bytes.
+fn read_within<A: Allocator, R: Read + Drop>(
+    alloc: A,
+    reader: R,
+    most: usize,
+) -> io::Result<Option<Vec<u8, A>>>
+    requires { most < u64.MAX }
+    ensures within { IfOk result (λ found. IfSome found (λ bytes. length bytes.items ≤ most)) }
+{
+    let mut bytes = Vec::new(alloc);
+    let mut front = reader.take(most as u64 + 1);
+    front.read_to_end(&mut bytes)?;
+    if bytes.len() > most {
+        return Ok(None);
+    }
+    Ok(Some(bytes))
+}
+
+/// Whether there is a regular file at a path, at the end of links too: a link that leads nowhere has none. So no pipe
+/// is opened, which would wait for a writer.
+fn is_file<R: Files>(rt: &R, path: &str) -> io::Result<bool> {
+    match fs::metadata(rt, path) {
+        Ok(metadata) => Ok(metadata.is_file()),
+        Err(error) => match error.kind() {
+            ErrorKind::NotFound | ErrorKind::NotADirectory | ErrorKind::FilesystemLoop => Ok(false),
+            _ => Err(error),
+        },
+    }
+}
+
+/// The bytes of the regular file at a path, unless they are more than so many.
+fn read_file<A: Allocator, R: Files>(
+    alloc: A,
+    rt: &R,
+    path: &str,
+    most: usize,
+) -> io::Result<Option<Vec<u8, A>>>
+    requires { most < u64.MAX }
+    ensures within { IfOk result (λ found. IfSome found (λ bytes. length bytes.items ≤ most)) }
+{
+    read_within(alloc, File::open(rt, path)?, most)
+}
+
+fn given<A: Allocator>(name: Name, bytes: Vec<u8, A>) -> Stored<A> {
+    Stored {
+        name,
+        mode: GIVEN_MODE,
+        bytes,
+    }
+}
+
+/// Adds a file to those that are given, unless it is too large.
+fn add_given<A: Allocator, R: Files>(
+    files: &mut Vec<Stored<A>, A>,
+    alloc: A,
+    rt: &R,
+    name: Name,
+    path: &str,
+) -> Result<(), ToolFault>
+    ensures one { length files.new.items ≤ length files.old.items + 1 }
+    ensures no_other { IfErr result IsFolderFault }
+{
+    if let Some(bytes) = read_file(alloc, rt, path, FILE_MAX).map_err(fault_of)? {
+        files.reserve(1)?;
+        files.push_reserved(given(name, bytes));
+    }
+    Ok(())
+}
+
+/// The text of the file of this name in the folder `dir`, if there is one.
+pub fn read_text<A: Allocator + Copy, R: Files>(
+    alloc: A,
+    rt: &R,
+    dir: &str,
+    name: &str,
+) -> Result<Option<Vec<u8, A>>, ToolFault>
+    ensures within { IfOk result (λ found. IfSome found (λ text. length text.items ≤ TEXT_MAX)) }
+    ensures no_other { IfErr result IsFolderFault }
+{
+    let path = format!(in alloc; "{dir}/{name}")?;
+    read_text_at(alloc, rt, path.as_str())
+}
+
+/// The text of the file at a path, if there is one.
+pub(crate) fn read_text_at<A: Allocator + Copy, R: Files>(
+    alloc: A,
+    rt: &R,
+    path: &str,
+) -> Result<Option<Vec<u8, A>>, ToolFault>
+    ensures within { IfOk result (λ found. IfSome found (λ text. length text.items ≤ TEXT_MAX)) }
+    ensures no_other { IfErr result IsFolderFault }
+{
+    match fs::metadata(rt, path) {
+        Ok(metadata) if metadata.is_file() => {
+            let text = read_file(alloc, rt, path, TEXT_MAX).map_err(fault_of)?;
+            Ok(Some(text.ok_or(ToolFault::Device)?))
+        }
+        Err(error) if error.kind() == ErrorKind::NotFound => Ok(None),
+        _ => Err(ToolFault::Device),
+    }
+}
+
+/// The files in the folder `send` below `dir`. A missing folder is an empty one. What has a name that is no `Name`, or is
+/// no regular file, is skipped, and so is a file of more than `FILE_MAX` bytes, which still counts among the
+/// `FILES_MAX`.
+pub fn read_send<A: Allocator + Copy, R: Files + Alloc + Clone + Drop>(
+    alloc: A,
+    rt: &R,
+    dir: &str,
+) -> Result<Vec<Stored<A>, A>, ToolFault>
+    ensures within { IfOk result (λ files. length files.items ≤ FILES_MAX) }
+    ensures no_other { IfErr result IsFolderFault }
+{
+    let mut files = Vec::new(alloc);
+    add_sends(&mut files, alloc, rt, dir)?;
+    Ok(files)
+}
+
+/// Adds the files in the folder `send` below `dir` to those that are given, of which there are none.
+fn add_sends<A: Allocator + Copy, R: Files + Alloc + Clone + Drop>(
+    files: &mut Vec<Stored<A>, A>,
+    alloc: A,
+    rt: &R,
+    dir: &str,
+) -> Result<(), ToolFault>
+    requires { length files.old.items ≡ 0 }
+    ensures within { OnOk result (length files.new.items ≤ FILES_MAX) }
+    ensures no_other { IfErr result IsFolderFault }
+{
+    let path = format!(in alloc; "{dir}/send")?;
+    match fs::read_dir(rt, path.as_str()) {
+        Ok(entries) => add_entries(files, alloc, rt, entries),
+        Err(error) if error.kind() == ErrorKind::NotFound => Ok(()),
+        Err(error) => Err(fault_of(error)),
+    }
+}
+
+/// Adds the files of these entries to those that are given, of which there are none.
+fn add_entries<A: Allocator + Copy, R: Files + Alloc + Clone + Drop>(
+    files: &mut Vec<Stored<A>, A>,
+    alloc: A,
+    rt: &R,
+    entries: ReadDir<R, R::A>,
+) -> Result<(), ToolFault>
+    requires { length files.old.items ≡ 0 }
+    ensures within { OnOk result (length files.new.items ≤ FILES_MAX) }
+    ensures no_other { IfErr result IsFolderFault }
+{
+    let mut count = 0;
+    for entry in entries {
+        let entry = entry.map_err(fault_of)?;
+        add_entry(files, alloc, rt, &entry, &mut count)?;
+    }
+    Ok(())
+}
+
+/// Adds the file of an entry, if it has one that may be given. Each of them is counted.
+fn add_entry<A: Allocator + Copy, R: Files + Alloc + Clone + Drop>(
+    files: &mut Vec<Stored<A>, A>,
+    alloc: A,
+    rt: &R,
+    entry: &DirEntry<R, R::A>,
+    count: &mut usize,
+) -> Result<(), ToolFault>
+    requires counted { length files.old.items ≤ count.old }
+    requires within { count.old ≤ FILES_MAX }
+    ensures counted { OnOk result (length files.new.items ≤ count.new) }
+    ensures within { OnOk result (count.new ≤ FILES_MAX) }
+    ensures no_other { IfErr result IsFolderFault }
+{
+    let Ok(name) = Name::new(entry.file_name().as_bytes()) else {
+        return Ok(());
+    };
+    if !is_file(rt, entry.path().as_str()).map_err(fault_of)? {
+        return Ok(());
+    }
+    if *count >= FILES_MAX {
+        return Err(ToolFault::Device);
+    }
+    *count += 1;
+    add_given(files, alloc, rt, name, entry.path().as_str())
+}

@@ -1,0 +1,97 @@
+//! What a person follows on standard error.
+
+use crate::call::CallTask;
+use crate::voice::Voice;
+use std::alloc::{AllocError, Allocator};
+use std::time::Clock;
+use uug_follow::{Observer, Way};
+use uug_session::Phase;
+use uug_transfer::{ReadOutcome, SessionObserver, SessionStatus};
+
+/// Says on standard error what becomes of a session: its phases, the jobs of both ends, and what was lost.
+#[derive(Drop)]
+pub struct SystemObserver<'a, R, A: Allocator> {
+    /// Nobody looks where nothing is to be said.
+    observer: Option<Observer<A>>,
+    voice: Voice<'a, R, A>,
+    /// What was said of the session last.
+    phase: Option<Phase>,
+    /// How many bytes were written and read, and how often nothing came, up to the greatest numbers.
+    written: u64,
+    read: u64,
+    silences: u64,
+}
+
+impl<'a, R: Eprint + Clock, A: Allocator + Copy> SystemObserver<'a, R, A> {
+    /// An observer that says something of the session of this task, or nothing. At a terminal it shows how far a long file
+    /// has come.
+    pub fn new(
+        alloc: A,
+        rt: &'a R,
+        task: &CallTask<'_>,
+        at_terminal: bool,
+    ) -> Result<Self, AllocError> {
+        let observer = if task.is_loud {
+            Some(Observer::new(alloc, task.is_lenient)?)
+        } else {
+            None
+        };
+        Ok(SystemObserver {
+            observer,
+            voice: Voice::new(alloc, rt, at_terminal),
+            phase: None,
+            written: 0,
+            read: 0,
+            silences: 0,
+        })
+    }
+
+    /// All that went over the line.
+    fn say_counts(&mut self) {
+        let Some(observer) = &self.observer else {
+            return;
+        };
+        self.voice
+            .say_counts("wrote", self.written, observer.counts(Way::Out));
+        self.voice
+            .say_counts("read", self.read, observer.counts(Way::In));
+        self.voice.say_silences(self.silences);
+    }
+
+    /// These bytes go over the line.
+    fn see(&mut self, way: Way, piece: &[u8]) {
+        let Some(observer) = &mut self.observer else {
+            return;
+        };
+        observer.see(way, piece, &mut self.voice);
+        if let Some((job, bytes)) = observer.job() {
+            self.voice.show_progress(&job, bytes);
+        }
+    }
+}
+
+impl<R: Eprint + Clock, A: Allocator + Copy> SessionObserver for SystemObserver<'_, R, A> {
+    fn wrote(&mut self, piece: &[u8]) {
+        self.written = self.written.saturating_add(piece.len() as u64);
+        self.see(Way::Out, piece);
+    }
+
+    fn read(&mut self, outcome: ReadOutcome, piece: &[u8]) {
+        match outcome {
+            ReadOutcome::Bytes(count) => self.read = self.read.saturating_add(count as u64),
+            ReadOutcome::TimedOut => self.silences = self.silences.saturating_add(1),
+            ReadOutcome::Eof => {}
+        }
+        self.see(Way::In, piece);
+    }
+
+    fn note(&mut self, status: SessionStatus) {
+        if self.observer.is_some() && self.phase != Some(status.phase) {
+            self.voice.say_status(status);
+        }
+        self.phase = Some(status.phase);
+        if status.is_over {
+            self.say_counts();
+        }
+    }
+}

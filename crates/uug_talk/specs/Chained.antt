@@ -1,0 +1,8 @@
+-- Steps of which each may give no value.
+use Rattle.std.specs.Prelude.{Option, Some, None}
+
+-- the second step, where the first gave a value
+infixl 10 ◌>>=◌
+abbrev pub ◌>>=◌ : {A B : Type 0} → Option A → (A → Option B) → Option B
+None >>= f = None
+(Some x) >>= f = f x

@@ -1,4 +1,0 @@
-pub mod StreamLemmas
-pub mod ScanLemmas
-pub mod OneListing
-pub mod StandardFacts

@@ -1,6 +1,0 @@
-pub use Rattle.uug_reader.specs.Cut
-pub use Rattle.uug_reader.specs.Scan as StreamScan
-pub mod Fault
-pub mod Listing
-pub mod Scan
-pub mod Streams

@@ -1,0 +1,10 @@
+pub mod BudgetLemmas
+pub mod EndLemmas
+pub mod KeepingLemmas
+pub mod LineNameFacts
+pub mod LineNameLemmas
+pub mod NumberLemmas
+pub mod OutgoingLemmas
+pub mod ReceivedLemmas
+pub mod ReportLemmas
+pub mod RoomLemmas

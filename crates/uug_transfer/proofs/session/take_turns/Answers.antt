@@ -1,0 +1,78 @@
+use Rattle.std.proofs.Common.{ap, ◌∙◌, refl, arith}
+use Rattle.uug_session.specs.Node.{NodeState}
+use Rattle.uug_transfer.specs.BufferedNodes.{node_in}
+use Rattle.uug_transfer.proofs.NumberLemmas.{later, same, unless_refused}
+use Rattle.uug_transfer.proofs.KeepingLemmas.{keeps_later, keeps_same}
+use Rattle.uug_transfer.proofs.ReceivedLemmas.{room_of, spends_at_start, spends_more, spends_same, within_then}
+use Rattle.uug_transfer.proofs.session.take_turns.Goals as goal
+
+pub loop-buffer-init : goal.loop-buffer-init
+loop-buffer-init g c = record {
+  jobs = keeps_same _ _ (node_in c.args.buffered.now) (node_in c.args.buffered.now) refl refl;
+  number = record { stands = λ number h. h };
+  spends = spends_at_start _ _ _ _ c.new-budget.ensures.bytes c.new-budget.ensures.silences;
+  calm = refl;
+}
+
+pub loop-buffer-preserved : goal.loop-buffer-preserved
+loop-buffer-preserved g c = record {
+  jobs = keeps_later _ _ _ _ _ _ c.loop-buffer.invariant.jobs
+      (keeps_later _ _ _ _ _ _
+      (keeps_same _ _ _ _ (ap (λ (n : NodeState). n.engine.dialogue) c.write_all.ensures.node)
+      (ap g.S.Spool.kept c.write_all.ensures.spool)) c.take_outcome.ensures.jobs);
+  number = later c.loop-buffer.invariant.number (later (same c.write_all.ensures.node) c.in_ok-take_outcome.ensures.number);
+  spends = spends_same _ _ _ _ _ _ c.note.ensures.received
+      (spends_more _ _ _ _ _ _ _ _ _ c.in_ok-outcome.outcome c.read.new.buffer
+      (spends_same _ _ _ _ _ _ c.write_all.ensures.received c.loop-buffer.invariant.spends)
+      (c.lasts.ensures.0 c.loop-buffer-test.true) c.in_ok-outcome.ensures.within (room_of _ _ c.loop-buffer.buffer c.room-room.ensures.bytes)
+      (omega (arith, c.in_ok-outcome.ensures.size)) c.in_ok-outcome.ensures.received
+      c.spend.ensures.bytes c.spend.ensures.silences);
+  calm = c.note.ensures.calm ∙ (c.in_ok-outcome.ensures.calm ∙ (c.in_ok-write_all.ensures.calm ∙ c.loop-buffer.invariant.calm));
+}
+
+pub returns-in_err-take_outcome-clause-jobs : goal.returns-in_err-take_outcome-clause-jobs
+returns-in_err-take_outcome-clause-jobs g c = keeps_later _ _ _ _ _ _ c.loop-buffer.invariant.jobs
+    (keeps_later _ _ _ _ _ _
+    (keeps_same _ _ _ _ (ap (λ (n : NodeState). n.engine.dialogue) c.write_all.ensures.node)
+    (ap g.S.Spool.kept c.write_all.ensures.spool)) c.take_outcome.ensures.jobs)
+
+pub returns-in_err-outcome-clause-jobs : goal.returns-in_err-outcome-clause-jobs
+returns-in_err-outcome-clause-jobs g c = keeps_later _ _ _ _ _ _ c.loop-buffer.invariant.jobs
+    (keeps_same _ _ _ _ (ap (λ (n : NodeState). n.engine.dialogue) c.write_all.ensures.node)
+    (ap g.S.Spool.kept c.write_all.ensures.spool))
+
+pub returns-in_err-write_all-clause-jobs : goal.returns-in_err-write_all-clause-jobs
+returns-in_err-write_all-clause-jobs g c = keeps_later _ _ _ _ _ _ c.loop-buffer.invariant.jobs
+    (keeps_same _ _ _ _ (ap (λ (n : NodeState). n.engine.dialogue) c.write_all.ensures.node)
+    (ap g.S.Spool.kept c.write_all.ensures.spool))
+
+pub returns-in_err-outcome-clause-number : goal.returns-in_err-outcome-clause-number
+returns-in_err-outcome-clause-number g c =
+    unless_refused _ _ (later c.loop-buffer.invariant.number (same c.write_all.ensures.node))
+
+pub returns-in_err-write_all-clause-number : goal.returns-in_err-write_all-clause-number
+returns-in_err-write_all-clause-number g c =
+    unless_refused _ _ (later c.loop-buffer.invariant.number (same c.write_all.ensures.node))
+
+pub returns-in_err-write_all-clause-within : goal.returns-in_err-write_all-clause-within
+returns-in_err-write_all-clause-within g c =
+    within_then _ _ _ _ _ (spends_same _ _ _ _ _ _ c.write_all.ensures.received c.loop-buffer.invariant.spends)
+
+pub returns-then-has_ended-clause-within : goal.returns-then-has_ended-clause-within
+returns-then-has_ended-clause-within g c =
+    within_then _ _ _ _ _ (spends_same _ _ _ _ _ _ c.write_all.ensures.received c.loop-buffer.invariant.spends)
+
+pub returns-in_err-outcome-clause-within : goal.returns-in_err-outcome-clause-within
+returns-in_err-outcome-clause-within g c =
+    within_then _ _ _ _ _ (spends_same _ _ _ _ _ _ (c.in_err-outcome.ensures.nothing ∙ c.write_all.ensures.received)
+    c.loop-buffer.invariant.spends)
+
+pub returns-in_err-take_outcome-clause-within : goal.returns-in_err-take_outcome-clause-within
+returns-in_err-take_outcome-clause-within g c =
+    within_then _ _ _ _ _ (spends_more _ _ _ _ _ _ _ _ _ c.in_ok-outcome.outcome c.read.new.buffer
+    (spends_same _ _ _ _ _ _ c.write_all.ensures.received c.loop-buffer.invariant.spends)
+    (c.lasts.ensures.0 c.loop-buffer-test.true) c.in_ok-outcome.ensures.within (room_of _ _ c.loop-buffer.buffer c.room-room.ensures.bytes)
+    (omega (arith, c.in_ok-outcome.ensures.size)) c.in_ok-outcome.ensures.received refl refl)
+
+pub returns-clause-within : goal.returns-clause-within
+returns-clause-within g c = within_then _ _ _ _ _ c.loop-buffer.invariant.spends

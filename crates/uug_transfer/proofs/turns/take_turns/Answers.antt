@@ -1,0 +1,26 @@
+use Rattle.std.proofs.Common.{◌∙◌, refl}
+use Rattle.uug_transfer.specs.BufferedNodes.{node_in}
+use Rattle.uug_transfer.proofs.KeepingLemmas.{keeps_later, keeps_same}
+use Rattle.uug_transfer.proofs.turns.take_turns.Goals as goal
+
+pub returns-in_err-take_turn-clause-caller_jobs : goal.returns-in_err-take_turn-clause-caller_jobs
+returns-in_err-take_turn-clause-caller_jobs g c = keeps_later _ _ _ _ _ _ c.loop.invariant.caller_jobs c.take_turn.ensures.caller_jobs
+
+pub returns-in_err-take_turn-clause-called_jobs : goal.returns-in_err-take_turn-clause-called_jobs
+returns-in_err-take_turn-clause-called_jobs g c = keeps_later _ _ _ _ _ _ c.loop.invariant.called_jobs c.take_turn.ensures.called_jobs
+
+pub loop-preserved : goal.loop-preserved
+loop-preserved g c = record {
+  caller_jobs = keeps_later _ _ _ _ _ _ c.loop.invariant.caller_jobs c.take_turn.ensures.caller_jobs;
+  called_jobs = keeps_later _ _ _ _ _ _ c.loop.invariant.called_jobs c.take_turn.ensures.called_jobs;
+  room = c.in_ok-take_turn.ensures.room;
+  calm = c.in_ok-take_turn.ensures.calm ∙ c.loop.invariant.calm;
+}
+
+pub loop-init : goal.loop-init
+loop-init g c = record {
+  caller_jobs = keeps_same _ _ (node_in c.args.caller.now) (node_in c.args.caller.now) refl refl;
+  called_jobs = keeps_same _ _ (node_in c.args.called.now) (node_in c.args.called.now) refl refl;
+  room = c.requires;
+  calm = refl;
+}

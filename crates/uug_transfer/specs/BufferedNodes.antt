@@ -1,0 +1,75 @@
+-- One end at a line, and what becomes of it (this project's profile).
+use Rattle.std.specs.Prelude.{◌≡◌, ◌++◌, ℕ, List, []}
+use Rattle.uug_session.specs.Engine.{Does, EngineState, bare, stage_late, with_outbox}
+use Rattle.uug_conversation.specs.Holdings.{Holdings, Kept}
+use Rattle.uug_session.specs.Node.{NodeState, node_of, struck_jobs}
+use Rattle.uug_session.specs.NodeArriving.{TakesAll}
+use Rattle.uug_conversation.specs.OwnRequests.{KeepsWhatItAskedFor}
+use Rattle.uug_conversation.specs.Sharing.{HaveSameJobs}
+use Rattle.uug_conversation.specs.DialogueValue.{dialogue_has_parted}
+use Rattle.uug_transfer.specs.Outgoing.{count_behind, outgoing_from}
+use Rattle.uug_transfer.specs.declared.fault_injector.FaultInjector.{FaultInjector}
+use Rattle.uug_transfer.specs.declared.buffered_node.BufferedNode.{BufferedNode}
+
+-- the end itself, all but its files
+abbrev pub node_in : {S A : Type 0} → BufferedNode S A → NodeState
+node_in buffered = node_of buffered.node
+
+-- the bytes that are still to be written for it
+abbrev pub to_write : {S A : Type 0} → BufferedNode S A → List ℕ
+to_write buffered = buffered.outgoing.items
+
+-- what is done to the packets that it emits
+abbrev pub injector_in : {S A : Type 0} → BufferedNode S A → FaultInjector
+injector_in buffered = buffered.injector
+
+-- its files
+abbrev pub spool_in : {S A : Type 0} → BufferedNode S A → S
+spool_in buffered = buffered.node.spool
+
+-- Whatever happened: its three lists have the same jobs together, each as often; what it had kept and what it had struck
+-- stays in front; and each Request job that it struck since has an entry of its own in what it kept since.
+pub record KeepsJobs (kept kept_after : List Kept) (before after : NodeState) : Type 0 where
+  pub same : HaveSameJobs before.engine.dialogue.machine.lists after.engine.dialogue.machine.lists
+  pub requests : KeepsWhatItAskedFor (struck_jobs before) (struck_jobs after) kept kept_after
+
+-- ---- what goes out
+
+-- with nothing left in its outbox, and all else the same
+pub record IsCleared (before after : NodeState) : Type 0 where
+  pub entries : after.engine.outbox.entries ≡ []
+  pub engine : after.engine ≡ with_outbox after.engine.outbox before.engine
+  pub texts : after.texts ≡ before.texts
+  pub packets : after.packets ≡ before.packets
+
+-- What it had emitted is to be written behind what was, as far as it is not lost, and the packets in it were counted.
+pub record SendsOut (injector injector_after : FaultInjector) (bytes bytes_after : List ℕ) (before after : NodeState) : Type 0 where
+  pub goes_out : bytes_after ≡ bytes
+      ++ outgoing_from injector.drop_every injector.flip_every injector.count before.engine.outbox.entries
+  pub count : injector_after.count ≡ count_behind injector.count before.engine.outbox.entries
+  pub drop_every : injector_after.drop_every ≡ injector.drop_every
+  pub flip_every : injector_after.flip_every ≡ injector.flip_every
+  pub cleared : IsCleared before after
+
+-- The piece has come, and all that is found in it was taken up; what it then had emitted is to be written.
+pub record Hears (h : Holdings) (kept kept_after : List Kept) (failure : Type 0) (piece : List ℕ)
+    (injector injector_after : FaultInjector) (bytes bytes_after : List ℕ) (before after : NodeState) : Type 0 where
+  pub between : NodeState
+  pub takes : TakesAll h kept kept_after failure piece before between
+  pub sends : SendsOut injector injector_after bytes bytes_after between after
+
+-- a timeout does to its session, its link and its conversation what the step of one says
+abbrev pub LateStep : (before after : EngineState) → Type 0
+LateStep before after = Does (stage_late before.number before.identity (dialogue_has_parted before.dialogue) before.stage before.link before.dialogue)
+    (bare after) before after
+
+-- A timeout; what it then had emitted is to be written.
+pub record Waits (injector injector_after : FaultInjector) (bytes bytes_after : List ℕ) (before after : NodeState) : Type 0 where
+  pub between : NodeState
+  pub late : LateStep before.engine between.engine
+  pub sends : SendsOut injector injector_after bytes bytes_after between after
+
+-- it has taken a timeout
+abbrev pub IsLate : (before after : NodeState) → Type 0
+IsLate before after = bare after.engine ≡ (stage_late before.engine.number before.engine.identity (dialogue_has_parted before.engine.dialogue)
+    before.engine.stage before.engine.link before.engine.dialogue).state

@@ -1,0 +1,53 @@
+-- How an end stands, and what is said of it when its session is over (this project's profile).
+use Rattle.std.specs.Prelude.{◌++◌, ◌&&◌, ℕ, Bool, true, false, List, Option, length, if◌then◌else◌}
+use Rattle.uug_conversation.specs.declared.side.Side.{Side}
+use Rattle.uug_conversation.specs.declared.side.Side.TheVariants.{Caller, Called}
+use Rattle.uug_conversation.specs.Jobs.{Lists, pending}
+use Rattle.uug_session.specs.Node.{NodeState}
+use Rattle.uug_session.specs.Phases.{is_done, phase_at}
+use Rattle.uug_session.specs.declared.phase.Phase.{Phase}
+use Rattle.uug_folder.specs.EndReport.{state_line, failed_lines}
+use Rattle.uug_transfer.specs.declared.status.SessionStatus.{SessionStatus}
+
+abbrev pub jobs_of_end : NodeState → Lists
+jobs_of_end n = n.engine.dialogue.machine.lists
+
+abbrev pub phase_of_end : NodeState → Phase
+phase_of_end n = phase_at n.engine.stage n.engine.link.phase
+
+abbrev pub number_of_end : NodeState → Option ℕ
+number_of_end n = n.engine.number
+
+-- what an observer is told
+abbrev pub status_of : (is_over : Bool) → NodeState → SessionStatus
+status_of is_over n = record {
+  phase = phase_of_end n;
+  pending = length (pending (jobs_of_end n));
+  struck = length (jobs_of_end n).struck;
+  failed = length (jobs_of_end n).failed;
+  is_over = is_over;
+}
+
+-- ---- what is printed
+
+-- of one end: how it stands, and then the jobs that it has given up
+abbrev pub report_of : Side → NodeState → List ℕ
+report_of side end = state_line side (phase_of_end end) (jobs_of_end end) ++ failed_lines side (jobs_of_end end).failed
+
+-- of two: how both stand, and then the jobs that each has given up, the caller's first
+abbrev pub report_of_both : (caller called : NodeState) → List ℕ
+report_of_both caller called =
+    state_line Caller (phase_of_end caller) (jobs_of_end caller)
+    ++ state_line Called (phase_of_end called) (jobs_of_end called)
+    ++ failed_lines Caller (jobs_of_end caller).failed
+    ++ failed_lines Called (jobs_of_end called).failed
+
+-- ---- the status
+
+-- 0 where the session is done, and 1 where it is not
+abbrev pub status_of_phase : Phase → ℕ
+status_of_phase phase = if is_done phase then 0 else 1
+
+-- 0 where both sessions are done, and 1 where one is not
+abbrev pub status_of_phases : (caller called : Phase) → ℕ
+status_of_phases caller called = if is_done caller && is_done called then 0 else 1

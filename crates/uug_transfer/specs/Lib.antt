@@ -1,0 +1,10 @@
+pub mod BufferedNodes
+pub mod EndOver
+pub mod Ends
+pub mod FaultInjection
+pub mod LineNames
+pub mod Outgoing
+pub mod ReadBudgets
+pub mod ReadOutcomes
+pub mod Received
+pub mod Turns

@@ -1,0 +1,26 @@
+-- How long an end stays at its line (this project's profile).
+use Rattle.std.specs.Prelude.{ℕ, ◌+◌, ◌*◌, ◌-◌, ◌<◌}
+use Rattle.uug_transfer.specs.declared.read_outcome.ReadOutcome.{ReadOutcome}
+use Rattle.uug_transfer.specs.declared.read_outcome.ReadOutcome.TheVariants.{Bytes, TimedOut, Eof}
+use Rattle.uug_transfer.specs.declared.read_budget.TheConstants.{SILENCES_MAX}
+
+-- so many bytes more are read
+abbrev pub bytes_left : (left : ℕ) → ReadOutcome → ℕ
+bytes_left left (Bytes n) = left - n
+bytes_left left TimedOut = left
+bytes_left left Eof = 0
+
+-- so many silences more are waited for, where no byte comes between them
+abbrev pub silences_left : (left : ℕ) → ReadOutcome → ℕ
+silences_left left (Bytes n) = SILENCES_MAX
+silences_left left TimedOut = left - 1
+silences_left left Eof = left
+
+-- there is something left of both
+pub record Lasts (bytes silences : ℕ) : Type 0 where
+  pub reads : 0 < bytes
+  pub waits : 0 < silences
+
+-- no more turns than that, since each brings a byte or a silence
+abbrev pub turns_left : (bytes silences : ℕ) → ℕ
+turns_left bytes silences = bytes * (SILENCES_MAX + 1) + silences

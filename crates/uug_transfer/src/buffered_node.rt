@@ -1,0 +1,171 @@
+ghost use Rattle.std.specs.Prelude.{◌≡◌, ◌≤◌, ◌↔◌, [], drop, length, IfOk, IsTrue, OnOk};
+ghost use Rattle.uug_session.specs.Engine.{HasFailed, IsEnded};
+ghost use Rattle.uug_session.specs.Node.{node_of};
+ghost use Rattle.uug_session.specs.NumberStanding.{KeepsNumber};
+ghost use Rattle.uug_transfer.specs.Ends.{status_of};
+ghost use Rattle.uug_transfer.specs.BufferedNodes.{injector_in, node_in, spool_in, to_write, Hears, IsLate, KeepsJobs, SendsOut, Waits};
+
+use crate::fault_injector::FaultInjector;
+use crate::outgoing::add_outgoing;
+use crate::status::SessionStatus;
+use std::alloc::{AllocError, Allocator};
+use std::mem;
+use uug_session::node_laws::a_number_stands_as_the_session_does;
+use uug_session::{Node, Phase, Spool};
+
+/// One end at something that is written and read: a node, and the bytes that are still to be written for it. It is given
+/// what is read, and says what is to be written. What its node emits goes through an injector, which may lose packets or
+/// change them, as a line may. Without memory for a call it can only be hung up.
+#[derive(Drop)]
+pub struct BufferedNode<S: Spool, A: Allocator> {
+    node: Node<S, A>,
+    outgoing: Vec<u8, A>,
+    injector: FaultInjector,
+}
+
+impl<S: Spool + Drop, A: Allocator + Copy> BufferedNode<S, A> {
+    /// A buffer for what this node emits, which goes through this injector. What it has emitted so far is to be written.
+    pub fn new(alloc: A, node: Node<S, A>, injector: FaultInjector) -> Result<Self, AllocError>
+        ensures jobs { IfOk result (λ buffered. KeepsJobs (S.kept node.spool) (S.kept (spool_in buffered))
+            (node_of node) (node_in buffered)) }
+        ensures sends { IfOk result (λ buffered.
+            SendsOut injector (injector_in buffered) [] (to_write buffered) (node_of node) (node_in buffered)) }
+        ensures spool { IfOk result (λ buffered. spool_in buffered ≡ node.spool) }
+    {
+        let mut buffered = BufferedNode {
+            node,
+            outgoing: Vec::new(alloc),
+            injector,
+        };
+        buffered.note_emitted()?;
+        Ok(buffered)
+    }
+
+    /// What is still to be written.
+    pub fn outgoing(&self) -> &[u8]
+        ensures { result.now ≡ to_write self.now }
+    {
+        &self.outgoing
+    }
+
+    /// The first bytes that were to be written were written.
+    pub fn written(&mut self, count: usize)
+        requires { count ≤ length (to_write self.old) }
+        ensures outgoing { to_write self.new ≡ drop count (to_write self.old) }
+        ensures node { node_in self.new ≡ node_in self.old }
+        ensures spool { spool_in self.new ≡ spool_in self.old }
+        ensures injector { injector_in self.new ≡ injector_in self.old }
+    {
+        self.outgoing.drain(..count);
+    }
+
+    /// These bytes were read.
+    pub fn arrive(&mut self, piece: &[u8]) -> Result<(), AllocError>
+        ensures jobs { KeepsJobs (S.kept (spool_in self.old)) (S.kept (spool_in self.new))
+            (node_in self.old) (node_in self.new) }
+        ensures number { OnOk result
+            (KeepsNumber (node_in self.old).engine (node_in self.new).engine) }
+        ensures hears { OnOk result
+            (Hears (S.holdings (spool_in self.old)) (S.kept (spool_in self.old))
+            (S.kept (spool_in self.new))
+            (HasFailed u64.MAX (S.faults (spool_in self.old)) (S.faults (spool_in self.new)))
+            piece.now
+            (injector_in self.old) (injector_in self.new) (to_write self.old) (to_write self.new) (node_in self.old)
+            (node_in self.new)) }
+    {
+        a_number_stands_as_the_session_does();
+        let Ok(()) = self.node.arrive(piece) else {
+            return Err(AllocError);
+        };
+        self.note_emitted()
+    }
+
+    /// A timeout.
+    pub fn time_out(&mut self) -> Result<(), AllocError>
+        ensures jobs { KeepsJobs (S.kept (spool_in self.old)) (S.kept (spool_in self.new))
+            (node_in self.old) (node_in self.new) }
+        ensures waits { OnOk result
+            (Waits (injector_in self.old) (injector_in self.new) (to_write self.old) (to_write self.new)
+            (node_in self.old) (node_in self.new)) }
+        ensures late { OnOk result (IsLate (node_in self.old) (node_in self.new)) }
+        ensures number { OnOk result
+            (KeepsNumber (node_in self.old).engine (node_in self.new).engine) }
+        ensures spool { spool_in self.new ≡ spool_in self.old }
+    {
+        a_number_stands_as_the_session_does();
+        self.node.on_timeout()?;
+        self.note_emitted()
+    }
+
+    /// There is nothing to be written or read any more: the session is over.
+    pub fn hang_up(&mut self)
+        ensures jobs { KeepsJobs (S.kept (spool_in self.old)) (S.kept (spool_in self.new))
+            (node_in self.old) (node_in self.new) }
+        ensures over { IsEnded (node_in self.new).engine.stage }
+        ensures number { KeepsNumber (node_in self.old).engine (node_in self.new).engine }
+        ensures outgoing { to_write self.new ≡ to_write self.old }
+        ensures spool { spool_in self.new ≡ spool_in self.old }
+        ensures injector { injector_in self.new ≡ injector_in self.old }
+    {
+        a_number_stands_as_the_session_does();
+        self.node.hang_up();
+    }
+
+    /// Gives its injector to another end, and takes the one that that end had.
+    pub fn exchange_injectors<T: Spool + Drop>(&mut self, other: &mut BufferedNode<T, A>)
+        ensures here { injector_in self.new ≡ injector_in other.old }
+        ensures there { injector_in other.new ≡ injector_in self.old }
+        ensures outgoing { to_write self.new ≡ to_write self.old }
+        ensures other_outgoing { to_write other.new ≡ to_write other.old }
+        ensures node { node_in self.new ≡ node_in self.old }
+        ensures other_node { node_in other.new ≡ node_in other.old }
+        ensures spool { spool_in self.new ≡ spool_in self.old }
+        ensures other_spool { spool_in other.new ≡ spool_in other.old }
+    {
+        mem::swap(&mut self.injector, &mut other.injector);
+    }
+
+    /// Whether the session is over.
+    pub fn has_ended(&self) -> bool
+        ensures { IsTrue result ↔ IsEnded (node_in self.now).engine.stage }
+    {
+        match self.node.phase() {
+            Phase::Ended(_) => true,
+            _ => false,
+        }
+    }
+
+    /// The node.
+    pub fn node(&self) -> &Node<S, A>
+        ensures { node_of result.now ≡ node_in self.now }
+    {
+        &self.node
+    }
+
+    /// How far its session has come, and whether it has left its line.
+    pub fn status(&self, is_over: bool) -> SessionStatus
+        ensures { result ≡ status_of is_over (node_in self.now) }
+    {
+        let queue = self.node.queue();
+        SessionStatus {
+            phase: self.node.phase(),
+            pending: queue.pending().len(),
+            struck: queue.struck().len(),
+            failed: queue.failed().len(),
+            is_over,
+        }
+    }
+
+    /// What the node has emitted is to be written behind the rest, as far as it is not lost.
+    fn note_emitted(&mut self) -> Result<(), AllocError>
+        ensures sends { OnOk result
+            (SendsOut (injector_in self.old) (injector_in self.new) (to_write self.old) (to_write self.new)
+            (node_in self.old) (node_in self.new)) }
+        ensures dialogue { (node_in self.new).engine.dialogue ≡ (node_in self.old).engine.dialogue }
+        ensures spool { spool_in self.new ≡ spool_in self.old }
+    {
+        add_outgoing(&mut self.outgoing, self.node.outbox(), &mut self.injector)?;
+        self.node.clear_outbox();
+        Ok(())
+    }
+}

@@ -1,0 +1,97 @@
+ghost use Rattle.std.specs.Prelude.{◌≡◌, ◌+◌, ◌<◌, ◌&&◌, min, true, is_some, IfSome, None};
+ghost use Rattle.std.specs.Option.{ForSome};
+ghost use Rattle.uug_transfer.specs.FaultInjection.{fate_of, is_in_range, is_nth};
+
+use crate::packet_fate::PacketFate;
+
+/// The least N of which every Nth packet may be lost or changed.
+pub const EVERY_MIN: u32 = 2;
+
+/// The greatest such N.
+pub const EVERY_MAX: u32 = 1_000_000;
+
+/// What is done to packets before they are written. They are counted from 1, over both directions, in the order in which they are
+/// emitted, those that are lost included.
+#[derive(Drop)]
+pub struct FaultInjector {
+    /// The N of which every Nth packet is lost, if any is.
+    pub drop_every: Option<u32>,
+    /// The N of which every Nth packet is changed, if any is.
+    pub flip_every: Option<u32>,
+    /// How many packets were counted. At the greatest number the count stands.
+    pub count: u64,
+    pub ghost drops: { ForSome drop_every (λ n. 0 < n) },
+    pub ghost flips: { ForSome flip_every (λ n. 0 < n) },
+}
+
+impl FaultInjector {
+    /// Every Nth packet is to be lost, and every Nth changed, for an N of its own each. None where an N is less than
+    /// `EVERY_MIN` or more than `EVERY_MAX`.
+    pub fn new(drop_every: Option<u32>, flip_every: Option<u32>) -> Option<Self>
+        ensures some { is_some result ≡ (is_in_range drop_every && is_in_range flip_every) }
+        ensures drop_every { IfSome result (λ injector. injector.drop_every ≡ drop_every) }
+        ensures flip_every { IfSome result (λ injector. injector.flip_every ≡ flip_every) }
+        ensures count { IfSome result (λ injector. injector.count ≡ 0) }
+    {
+        if !is_in_range(drop_every) || !is_in_range(flip_every) {
+            return None;
+        }
+        Some(FaultInjector {
+            drop_every,
+            flip_every,
+            count: 0,
+        })
+    }
+
+    /// One that does nothing: each packet goes out as it is.
+    pub fn none() -> Self
+        ensures drop_every { result.drop_every ≡ None }
+        ensures flip_every { result.flip_every ≡ None }
+        ensures count { result.count ≡ 0 }
+    {
+        FaultInjector {
+            drop_every: None,
+            flip_every: None,
+            count: 0,
+        }
+    }
+
+    /// Counts a packet, and says what becomes of it.
+    pub fn next(&mut self) -> PacketFate
+        ensures count { self.new.count ≡ min (self.old.count + 1) u64.MAX }
+        ensures fate { result ≡ fate_of self.old.drop_every self.old.flip_every self.new.count }
+        ensures drop_every { self.new.drop_every ≡ self.old.drop_every }
+        ensures flip_every { self.new.flip_every ≡ self.old.flip_every }
+    {
+        self.count = self.count.saturating_add(1);
+        if is_nth(self.drop_every, self.count) {
+            PacketFate::Lost
+        } else if is_nth(self.flip_every, self.count) {
+            PacketFate::Changed
+        } else {
+            PacketFate::Goes
+        }
+    }
+}
+
+/// Whether a line may be made to do something to every Nth packet, where there is an N.
+fn is_in_range(every: Option<u32>) -> bool
+    ensures value { result ≡ is_in_range every }
+    ensures some { result ≡ true → ForSome every (λ n. 0 < n) }
+{
+    match every {
+        Some(n) => n >= EVERY_MIN && n <= EVERY_MAX,
+        None => true,
+    }
+}
+
+/// Whether the packet of this number is an Nth one, where there is an N.
+fn is_nth(every: Option<u32>, number: u64) -> bool
+    requires { ForSome every (λ n. 0 < n) }
+    ensures { result ≡ is_nth every number }
+{
+    match every {
+        Some(n) => number % u64::from(n) == 0,
+        None => false,
+    }
+}

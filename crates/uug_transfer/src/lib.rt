@@ -1,0 +1,43 @@
+//! One end at a line, and two ends in turn: what is written and read until a session is over, and what is written of its
+//! jobs then. Nothing here calls the system: lines, files and outputs are traits.
+#![tactic(auto)]
+
+mod buffered_node;
+mod call;
+mod call_plan;
+mod end_line;
+mod end_plan;
+mod end_report;
+mod fault_injector;
+pub mod laws;
+mod line;
+mod line_name;
+mod monitor;
+mod outgoing;
+mod packet_fate;
+mod pair;
+mod pair_plan;
+mod read_budget;
+mod read_outcome;
+mod session;
+mod status;
+mod transfer_end;
+mod turn_fault;
+mod turns;
+
+pub use buffered_node::BufferedNode;
+pub use call::call_over;
+pub use end_line::EndLine;
+pub use fault_injector::{EVERY_MAX, EVERY_MIN, FaultInjector};
+pub use line::{Line, LineFailed, UNREAD_MAX};
+pub use line_name::{LineName, read_line_name};
+pub use monitor::{LineMonitor, SessionObserver};
+pub use packet_fate::PacketFate;
+pub use pair::pair_over;
+pub use read_budget::{BYTES_MAX, SILENCES_MAX};
+pub use read_outcome::ReadOutcome;
+pub use session::run_session;
+pub use status::SessionStatus;
+pub use transfer_end::TransferEnd;
+pub use turn_fault::TurnFault;
+pub use turns::run_turns;

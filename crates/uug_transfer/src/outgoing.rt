@@ -1,0 +1,74 @@
+//! What goes out of what an end has emitted.
+ghost use Rattle.std.specs.Prelude.{◌≡◌, ◌++◌, OnOk};
+ghost use Rattle.uug_link.specs.Entries.{shown_entry};
+ghost use Rattle.uug_transfer.specs.Outgoing.{count_behind, count_with, flipped, outgoing_from, outgoing_of, outgoing_of_entry};
+
+use crate::fault_injector::FaultInjector;
+use crate::packet_fate::PacketFate;
+use std::alloc::{AllocError, Allocator};
+use uug_link::{Entry, Outbox};
+
+/// Appends what goes out of all that an outbox holds. Each packet is counted, and no text.
+pub(crate) fn add_outgoing<A: Allocator + Copy>(
+    outgoing: &mut Vec<u8, A>,
+    outbox: &Outbox<A>,
+    injector: &mut FaultInjector,
+) -> Result<(), AllocError>
+    ensures bytes { OnOk result (outgoing.new.items ≡ outgoing.old.items
+        ++ outgoing_from injector.old.drop_every injector.old.flip_every injector.old.count
+        outbox.now.entries) }
+    ensures count { OnOk result (injector.new.count
+        ≡ count_behind injector.old.count outbox.now.entries) }
+    ensures drop_every { injector.new.drop_every ≡ injector.old.drop_every }
+    ensures flip_every { injector.new.flip_every ≡ injector.old.flip_every }
+{
+    for i in 0..outbox.len() {
+        add_entry(outgoing, outbox.entry(i), injector)?;
+    }
+    Ok(())
+}
+
+/// Appends what goes out of an entry.
+fn add_entry<A: Allocator>(
+    outgoing: &mut Vec<u8, A>,
+    entry: Entry<'_>,
+    injector: &mut FaultInjector,
+) -> Result<(), AllocError>
+    ensures bytes { OnOk result (outgoing.new.items ≡ outgoing.old.items
+        ++ outgoing_of_entry injector.old.drop_every injector.old.flip_every injector.old.count
+        (shown_entry entry.entry)) }
+    ensures count { injector.new.count ≡ count_with injector.old.count (shown_entry entry.entry) }
+    ensures drop_every { injector.new.drop_every ≡ injector.old.drop_every }
+    ensures flip_every { injector.new.flip_every ≡ injector.old.flip_every }
+{
+    match entry {
+        Entry::Text(bytes) => outgoing.extend_from_slice(bytes),
+        Entry::Packet { bytes, .. } => add_packet(outgoing, bytes, injector.next()),
+    }
+}
+
+/// Appends what goes out of a packet.
+fn add_packet<A: Allocator>(
+    outgoing: &mut Vec<u8, A>,
+    packet: &[u8],
+    fate: PacketFate,
+) -> Result<(), AllocError>
+    ensures { OnOk result (outgoing.new.items ≡ outgoing.old.items ++ outgoing_of fate packet.now) }
+{
+    match fate {
+        PacketFate::Goes => outgoing.extend_from_slice(packet),
+        PacketFate::Lost => Ok(()),
+        PacketFate::Changed => add_flipped(outgoing, packet),
+    }
+}
+
+/// Appends a packet with the lowest bit of its last byte turned over.
+fn add_flipped<A: Allocator>(outgoing: &mut Vec<u8, A>, packet: &[u8]) -> Result<(), AllocError>
+    ensures { OnOk result (outgoing.new.items ≡ outgoing.old.items ++ flipped packet.now) }
+{
+    if let Some((last, front)) = packet.split_last() {
+        outgoing.extend_from_slice(front)?;
+        outgoing.push(*last ^ 1)?;
+    }
+    Ok(())
+}

@@ -1,0 +1,10 @@
+/// What becomes of a packet on the line.
+#[derive(Clone, Copy, Debug, PartialEq, Eq)]
+pub enum PacketFate {
+    /// It goes out as it is.
+    Goes,
+    /// It does not go out.
+    Lost,
+    /// It goes out with the lowest bit of its last byte turned over.
+    Changed,
+}

@@ -1,0 +1,187 @@
+//! Two ends over a line, from their first turn to the report.
+ghost use Rattle.std.specs.Prelude.{◌≡◌, ◌≤◌, ◌⊎◌, IfErr, IfOk, OnOk};
+ghost use Rattle.uug_session.specs.Engine.{HasFailed, IsEnded};
+ghost use Rattle.uug_stream.specs.Streams.{CountsFault};
+ghost use Rattle.uug_folder.specs.JobsFile.{IsSettled, settled_by};
+ghost use Rattle.uug_folder.specs.declared.rewrites.Rewrites.TheVariants.{Always as always};
+ghost use Rattle.uug_transfer.specs.BufferedNodes.{node_in, spool_in, KeepsJobs};
+ghost use Rattle.uug_transfer.specs.EndOver.{HasFault, IfWritten, IsEndFault, IsPrinted, LeaveBoth, UnlessDevice, files_of};
+ghost use Rattle.uug_transfer.specs.Ends.{jobs_of_end, phase_of_end, report_of_both, status_of_phases};
+ghost use Rattle.uug_transfer.specs.Turns.{HasRoom};
+
+use crate::call::fault_behind_line;
+use crate::line::Line;
+use crate::pair_plan::PairPlan;
+use crate::transfer_end::TransferEnd;
+use crate::turn_fault::TurnFault;
+use crate::turns::run_turns;
+use std::alloc::Allocator;
+use uug_folder::TextFile;
+use uug_session::{Phase, Spool};
+use uug_stream::{Output, ToolFault};
+
+/// Two ends take at most so many turns at a line. Then the file of jobs of each is read again, and what is to stay of it
+/// is written: the jobs that are pending, and what was put into it meanwhile; and its number to its own file, if it keeps
+/// one. The report goes to the output, also where the line has failed. The answer is the program's status: 0 where both
+/// sessions are done, and 1 where one is not. Of several faults the first is answered, and none of them keeps what comes
+/// behind it from being done, except running out of memory before the first write.
+pub fn pair_over<S, L, J, N, O, A>(
+    alloc: A,
+    caller: &mut TransferEnd<S, J, N, A>,
+    called: &mut TransferEnd<S, J, N, A>,
+    line: &mut L,
+    limit: u32,
+    output: &mut O,
+) -> Result<u8, ToolFault>
+where
+    S: Spool + Drop,
+    L: Line,
+    J: TextFile,
+    N: TextFile,
+    O: Output,
+    A: Allocator + Copy,
+    requires { HasRoom (L.unread line.old) }
+    ensures caller_kept { KeepsJobs (S.kept (spool_in caller.old.buffered))
+        (S.kept (spool_in caller.new.buffered))
+        (node_in caller.old.buffered) (node_in caller.new.buffered) }
+    ensures called_kept { KeepsJobs (S.kept (spool_in called.old.buffered))
+        (S.kept (spool_in called.new.buffered))
+        (node_in called.old.buffered) (node_in called.new.buffered) }
+    ensures caller_over { IsEnded (node_in caller.new.buffered).engine.stage }
+    ensures called_over { IsEnded (node_in called.new.buffered).engine.stage }
+    // A file of jobs is as before, or has what is to stay of it.
+    ensures caller_jobs { IsSettled always caller.old.jobs.before.items
+        (jobs_of_end (node_in caller.new.buffered))
+        (J.text caller.old.jobs.file) (J.text caller.new.jobs.file) }
+    ensures called_jobs { IsSettled always called.old.jobs.before.items
+        (jobs_of_end (node_in called.new.buffered))
+        (J.text called.old.jobs.file) (J.text called.new.jobs.file) }
+    ensures caller_ok { OnOk result (J.text caller.new.jobs.file
+        ≡ settled_by always caller.old.jobs.before.items
+        (jobs_of_end (node_in caller.new.buffered)) (J.text caller.old.jobs.file)) }
+    ensures called_ok { OnOk result (J.text called.new.jobs.file
+        ≡ settled_by always called.old.jobs.before.items
+        (jobs_of_end (node_in called.new.buffered)) (J.text called.old.jobs.file)) }
+    // On every way out all files are written, unless their devices fail, or none is, for want of memory.
+    ensures files { LeaveBoth result caller.old.jobs.before.items called.old.jobs.before.items
+        (node_in caller.new.buffered) (node_in called.new.buffered)
+        (files_of J.text J.fault_count N.text N.fault_count caller.old)
+        (files_of J.text J.fault_count N.text N.fault_count caller.new)
+        (files_of J.text J.fault_count N.text N.fault_count called.old)
+        (files_of J.text J.fault_count N.text N.fault_count called.new) }
+    ensures report { IsPrinted result
+        (report_of_both (node_in caller.new.buffered) (node_in called.new.buffered))
+        (O.written output.old) (O.written output.new)
+        (O.fault_count output.old) (O.fault_count output.new)
+        (HasFault (files_of J.text J.fault_count N.text N.fault_count caller.old)
+        (files_of J.text J.fault_count N.text N.fault_count caller.new)
+        ⊎ HasFault (files_of J.text J.fault_count N.text N.fault_count called.old)
+        (files_of J.text J.fault_count N.text N.fault_count called.new)) }
+    ensures status { IfOk result (λ status. status
+        ≡ status_of_phases (phase_of_end (node_in caller.new.buffered))
+        (phase_of_end (node_in called.new.buffered))) }
+    // Where the line or a file has failed, that is answered, whatever fails later but memory.
+    ensures line_calm { IfWritten result (L.fault_count line.new ≡ L.fault_count line.old) }
+    ensures caller_calm { UnlessDevice result (J.fault_count caller.new.jobs.file
+        ≡ J.fault_count caller.old.jobs.file) }
+    ensures called_calm { UnlessDevice result (J.fault_count called.new.jobs.file
+        ≡ J.fault_count called.old.jobs.file) }
+    ensures device { result ≡ Err ToolFault.Device
+        → HasFailed u64.MAX (L.fault_count line.old) (L.fault_count line.new)
+        ⊎ (HasFault (files_of J.text J.fault_count N.text N.fault_count caller.old)
+        (files_of J.text J.fault_count N.text N.fault_count caller.new)
+        ⊎ HasFault (files_of J.text J.fault_count N.text N.fault_count called.old)
+        (files_of J.text J.fault_count N.text N.fault_count called.new)) }
+    ensures write { result ≡ Err ToolFault.Write
+        → CountsFault (O.fault_count output.old) (O.fault_count output.new) }
+    ensures no_other { IfErr result IsEndFault }
+{
+    match run_turns(&mut caller.buffered, &mut called.buffered, line, limit) {
+        Ok(()) => match leave(alloc, caller, called, output) {
+            Ok(()) => Ok(status(
+                caller.buffered.node().phase(),
+                called.buffered.node().phase(),
+            )),
+            Err(fault) => Err(fault),
+        },
+        Err(TurnFault::Line) => {
+            let left = leave(alloc, caller, called, output);
+            Err(fault_behind_line(left))
+        }
+        Err(TurnFault::Memory) => Err(ToolFault::Memory),
+    }
+}
+
+/// What is to stay of the jobs of each end is written to its file, its number to its own, if it keeps one, and the report
+/// to the output.
+fn leave<S, J, N, O, A>(
+    alloc: A,
+    caller: &mut TransferEnd<S, J, N, A>,
+    called: &mut TransferEnd<S, J, N, A>,
+    output: &mut O,
+) -> Result<(), ToolFault>
+where
+    S: Spool + Drop,
+    J: TextFile,
+    N: TextFile,
+    O: Output,
+    A: Allocator + Copy,
+    ensures caller { caller.new.buffered ≡ caller.old.buffered }
+    ensures called { called.new.buffered ≡ called.old.buffered }
+    // A file of jobs is as before, or has what is to stay of it.
+    ensures caller_jobs { IsSettled always caller.old.jobs.before.items
+        (jobs_of_end (node_in caller.old.buffered))
+        (J.text caller.old.jobs.file) (J.text caller.new.jobs.file) }
+    ensures called_jobs { IsSettled always called.old.jobs.before.items
+        (jobs_of_end (node_in called.old.buffered))
+        (J.text called.old.jobs.file) (J.text called.new.jobs.file) }
+    ensures caller_ok { OnOk result (J.text caller.new.jobs.file
+        ≡ settled_by always caller.old.jobs.before.items
+        (jobs_of_end (node_in caller.old.buffered)) (J.text caller.old.jobs.file)) }
+    ensures called_ok { OnOk result (J.text called.new.jobs.file
+        ≡ settled_by always called.old.jobs.before.items
+        (jobs_of_end (node_in called.old.buffered)) (J.text called.old.jobs.file)) }
+    // On every way out all files are written, unless their devices fail, or none is, for want of memory.
+    ensures files { LeaveBoth result caller.old.jobs.before.items called.old.jobs.before.items
+        (node_in caller.old.buffered) (node_in called.old.buffered)
+        (files_of J.text J.fault_count N.text N.fault_count caller.old)
+        (files_of J.text J.fault_count N.text N.fault_count caller.new)
+        (files_of J.text J.fault_count N.text N.fault_count called.old)
+        (files_of J.text J.fault_count N.text N.fault_count called.new) }
+    ensures report { IsPrinted result
+        (report_of_both (node_in caller.old.buffered) (node_in called.old.buffered))
+        (O.written output.old) (O.written output.new)
+        (O.fault_count output.old) (O.fault_count output.new)
+        (HasFault (files_of J.text J.fault_count N.text N.fault_count caller.old)
+        (files_of J.text J.fault_count N.text N.fault_count caller.new)
+        ⊎ HasFault (files_of J.text J.fault_count N.text N.fault_count called.old)
+        (files_of J.text J.fault_count N.text N.fault_count called.new)) }
+    ensures caller_calm { UnlessDevice result (J.fault_count caller.new.jobs.file
+        ≡ J.fault_count caller.old.jobs.file) }
+    ensures called_calm { UnlessDevice result (J.fault_count called.new.jobs.file
+        ≡ J.fault_count called.old.jobs.file) }
+    ensures device { result ≡ Err ToolFault.Device
+        → (HasFault (files_of J.text J.fault_count N.text N.fault_count caller.old)
+        (files_of J.text J.fault_count N.text N.fault_count caller.new)
+        ⊎ HasFault (files_of J.text J.fault_count N.text N.fault_count called.old)
+        (files_of J.text J.fault_count N.text N.fault_count called.new)) }
+    ensures write { result ≡ Err ToolFault.Write
+        → CountsFault (O.fault_count output.old) (O.fault_count output.new) }
+    ensures no_other { IfErr result IsEndFault }
+{
+    match PairPlan::new(alloc, caller, called) {
+        Ok(plan) => plan.write(caller, called, output),
+        Err(fault) => Err(fault),
+    }
+}
+
+/// 0 where both sessions are done, and 1 where one is not.
+fn status(caller: Phase, called: Phase) -> u8
+    ensures { result ≡ status_of_phases caller called }
+{
+    if caller.is_done() && called.is_done() {
+        0
+    } else {
+        1
+    }
+}

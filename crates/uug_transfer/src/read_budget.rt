@@ -1,0 +1,71 @@
+ghost use Rattle.std.specs.Prelude.{◌≡◌, ◌≤◌, ◌<◌, ◌↔◌, IsTrue};
+ghost use Rattle.uug_transfer.specs.ReadBudgets.{bytes_left, silences_left, Lasts};
+ghost use Rattle.uug_transfer.specs.declared.read_budget.TheConstants.{SILENCES_MAX};
+
+use crate::read_outcome::ReadOutcome;
+use uug_link::TIMEOUTS_MAX;
+
+/// So many bytes are read of a session at most.
+pub const BYTES_MAX: u64 = 1_099_511_627_776;
+
+/// So many silences in a row are waited for at most. An end has given up by itself before.
+pub const SILENCES_MAX: u8 = TIMEOUTS_MAX + 1;
+
+/// How much more an end reads, and how often it waits, before it takes the line for gone.
+#[derive(Clone, Copy)]
+pub(crate) struct ReadBudget {
+    /// So many bytes more.
+    pub(crate) bytes: u64,
+    /// So many silences more in a row.
+    pub(crate) silences: u8,
+}
+
+impl ReadBudget {
+    /// For a session of so many bytes.
+    pub(crate) fn new(bytes: u64) -> Self
+        ensures bytes { result.bytes ≡ bytes }
+        ensures silences { result.silences ≡ SILENCES_MAX }
+    {
+        ReadBudget {
+            bytes,
+            silences: SILENCES_MAX,
+        }
+    }
+
+    /// Whether there is any left.
+    pub(crate) fn lasts(&self) -> bool
+        ensures { IsTrue result ↔ Lasts self.now.bytes self.now.silences }
+    {
+        self.bytes > 0 && self.silences > 0
+    }
+
+    /// How many bytes the next read may bring to a buffer of this size.
+    pub(crate) fn room(&self, size: usize) -> usize
+        requires bytes { 0 < self.now.bytes }
+        requires size { 0 < size }
+        ensures some { 0 < result }
+        ensures size { result ≤ size }
+        ensures bytes { result ≤ self.now.bytes }
+    {
+        if self.bytes < size as u64 {
+            self.bytes as usize
+        } else {
+            size
+        }
+    }
+
+    /// A read came to this.
+    pub(crate) fn spend(&mut self, outcome: ReadOutcome)
+        ensures bytes { self.new.bytes ≡ bytes_left self.old.bytes outcome }
+        ensures silences { self.new.silences ≡ silences_left self.old.silences outcome }
+    {
+        match outcome {
+            ReadOutcome::Bytes(count) => {
+                self.bytes = self.bytes.saturating_sub(count as u64);
+                self.silences = SILENCES_MAX;
+            }
+            ReadOutcome::TimedOut => self.silences = self.silences.saturating_sub(1),
+            ReadOutcome::Eof => self.bytes = 0,
+        }
+    }
+}

@@ -1,0 +1,227 @@
+//! Two ends take turns at a line.
+ghost use Rattle.std.specs.Prelude.{◌≡◌, ◌<◌, ◌≤◌, ◌↔◌, length, IsTrue, OnOk};
+ghost use Rattle.uug_session.specs.Engine.{HasFailed, IsEnded};
+ghost use Rattle.uug_transfer.specs.BufferedNodes.{node_in, spool_in, to_write, IsLate, KeepsJobs};
+ghost use Rattle.uug_transfer.specs.Turns.{HasRoom, IsQuiet, UnlessLineFailed};
+
+use crate::buffered_node::BufferedNode;
+use crate::line::{Line, UNREAD_MAX};
+use crate::turn_fault::TurnFault;
+use std::alloc::{AllocError, Allocator};
+use uug_session::{Side, Spool};
+
+/// Lets two ends take turns at a line until both sessions are over, and at most so many. In a turn the caller, and then
+/// the called end, writes what it has to write, as far as there is room, and takes all that is unread for it. Where
+/// nothing is unread and nothing is to be written, a turn is a timeout at each end. What both emit goes through the
+/// caller's injector. After the last turn the line is gone for both, also where it failed or memory ran out.
+pub fn run_turns<S: Spool + Drop, T: Spool + Drop, L: Line, A: Allocator + Copy>(
+    caller: &mut BufferedNode<S, A>,
+    called: &mut BufferedNode<T, A>,
+    line: &mut L,
+    limit: u32,
+) -> Result<(), TurnFault>
+    requires { HasRoom (L.unread line.old) }
+    ensures caller_jobs { KeepsJobs (S.kept (spool_in caller.old)) (S.kept (spool_in caller.new))
+        (node_in caller.old) (node_in caller.new) }
+    ensures called_jobs { KeepsJobs (T.kept (spool_in called.old)) (T.kept (spool_in called.new))
+        (node_in called.old) (node_in called.new) }
+    ensures caller_over { IsEnded (node_in caller.new).engine.stage }
+    ensures called_over { IsEnded (node_in called.new).engine.stage }
+    ensures calm { UnlessLineFailed result (L.fault_count line.new ≡ L.fault_count line.old) }
+    ensures fault { result ≡ Err TurnFault.Line
+        → HasFailed u64.MAX (L.fault_count line.old) (L.fault_count line.new) }
+    ensures grows { L.fault_count line.old ≤ L.fault_count line.new }
+{
+    let result = take_turns(caller, called, line, limit);
+    caller.hang_up();
+    called.hang_up();
+    result
+}
+
+/// The turns themselves.
+fn take_turns<S: Spool + Drop, T: Spool + Drop, L: Line, A: Allocator + Copy>(
+    caller: &mut BufferedNode<S, A>,
+    called: &mut BufferedNode<T, A>,
+    line: &mut L,
+    limit: u32,
+) -> Result<(), TurnFault>
+    requires { HasRoom (L.unread line.old) }
+    ensures caller_jobs { KeepsJobs (S.kept (spool_in caller.old)) (S.kept (spool_in caller.new))
+        (node_in caller.old) (node_in caller.new) }
+    ensures called_jobs { KeepsJobs (T.kept (spool_in called.old)) (T.kept (spool_in called.new))
+        (node_in called.old) (node_in called.new) }
+    ensures calm { UnlessLineFailed result (L.fault_count line.new ≡ L.fault_count line.old) }
+    ensures fault { result ≡ Err TurnFault.Line
+        → HasFailed u64.MAX (L.fault_count line.old) (L.fault_count line.new) }
+    ensures grows { L.fault_count line.old ≤ L.fault_count line.new }
+{
+    let mut buffer = [0; UNREAD_MAX];
+    for _ in 0..limit {
+        if caller.has_ended() && called.has_ended() {
+            return Ok(());
+        }
+        take_turn(caller, called, line, &mut buffer)?;
+    }
+    Ok(())
+}
+
+/// One turn of both ends.
+fn take_turn<S: Spool + Drop, T: Spool + Drop, L: Line, A: Allocator + Copy>(
+    caller: &mut BufferedNode<S, A>,
+    called: &mut BufferedNode<T, A>,
+    line: &mut L,
+    buffer: &mut [u8],
+) -> Result<(), TurnFault>
+    requires room { HasRoom (L.unread line.old) }
+    requires buffer { 0 < length buffer.old }
+    ensures caller_jobs { KeepsJobs (S.kept (spool_in caller.old)) (S.kept (spool_in caller.new))
+        (node_in caller.old) (node_in caller.new) }
+    ensures called_jobs { KeepsJobs (T.kept (spool_in called.old)) (T.kept (spool_in called.new))
+        (node_in called.old) (node_in called.new) }
+    ensures caller_late { IsQuiet (L.unread line.old) (to_write caller.old) (to_write called.old)
+        → OnOk result (IsLate (node_in caller.old) (node_in caller.new)) }
+    ensures called_late { IsQuiet (L.unread line.old) (to_write caller.old) (to_write called.old)
+        → OnOk result (IsLate (node_in called.old) (node_in called.new)) }
+    ensures room { OnOk result (HasRoom (L.unread line.new)) }
+    ensures calm { UnlessLineFailed result (L.fault_count line.new ≡ L.fault_count line.old) }
+    ensures fault { result ≡ Err TurnFault.Line
+        → HasFailed u64.MAX (L.fault_count line.old) (L.fault_count line.new) }
+    ensures grows { L.fault_count line.old ≤ L.fault_count line.new }
+{
+    if is_quiet(caller.outgoing(), called.outgoing(), line) {
+        caller.time_out()?;
+        time_out_with(caller, called)?;
+        return Ok(());
+    }
+    move_end(caller, line, Side::Caller, buffer)?;
+    move_end_with(caller, called, line, Side::Called, buffer)
+}
+
+/// A timeout of an end that has the injector of another for so long.
+fn time_out_with<S: Spool + Drop, T: Spool + Drop, A: Allocator + Copy>(
+    owner: &mut BufferedNode<S, A>,
+    buffered: &mut BufferedNode<T, A>,
+) -> Result<(), AllocError>
+    ensures owner { node_in owner.new ≡ node_in owner.old }
+    ensures owner_spool { spool_in owner.new ≡ spool_in owner.old }
+    ensures jobs { KeepsJobs (T.kept (spool_in buffered.old)) (T.kept (spool_in buffered.new))
+        (node_in buffered.old) (node_in buffered.new) }
+    ensures late { OnOk result (IsLate (node_in buffered.old) (node_in buffered.new)) }
+{
+    owner.exchange_injectors(buffered);
+    let late = buffered.time_out();
+    owner.exchange_injectors(buffered);
+    late
+}
+
+/// An end moves that has the injector of another for so long.
+fn move_end_with<S: Spool + Drop, T: Spool + Drop, L: Line, A: Allocator + Copy>(
+    owner: &mut BufferedNode<S, A>,
+    buffered: &mut BufferedNode<T, A>,
+    line: &mut L,
+    side: Side,
+    buffer: &mut [u8],
+) -> Result<(), TurnFault>
+    requires room { HasRoom (L.unread line.old) }
+    requires buffer { 0 < length buffer.old }
+    ensures owner { node_in owner.new ≡ node_in owner.old }
+    ensures owner_spool { spool_in owner.new ≡ spool_in owner.old }
+    ensures jobs { KeepsJobs (T.kept (spool_in buffered.old)) (T.kept (spool_in buffered.new))
+        (node_in buffered.old) (node_in buffered.new) }
+    ensures room { OnOk result (HasRoom (L.unread line.new)) }
+    ensures calm { UnlessLineFailed result (L.fault_count line.new ≡ L.fault_count line.old) }
+    ensures fault { result ≡ Err TurnFault.Line
+        → HasFailed u64.MAX (L.fault_count line.old) (L.fault_count line.new) }
+    ensures grows { L.fault_count line.old ≤ L.fault_count line.new }
+{
+    owner.exchange_injectors(buffered);
+    let moved = move_end(buffered, line, side, buffer);
+    owner.exchange_injectors(buffered);
+    moved
+}
+
+/// Whether nothing is unread and nothing is to be written.
+fn is_quiet<L: Line>(from_caller: &[u8], from_called: &[u8], line: &L) -> bool
+    ensures quiet { IsTrue result ↔ IsQuiet (L.unread line.now) from_caller.now from_called.now }
+{
+    from_caller.is_empty()
+        && from_called.is_empty()
+        && line.unread(Side::Caller) == 0
+        && line.unread(Side::Called) == 0
+}
+
+/// An end writes what it may, and takes what is unread for it.
+fn move_end<S: Spool + Drop, L: Line, A: Allocator + Copy>(
+    buffered: &mut BufferedNode<S, A>,
+    line: &mut L,
+    side: Side,
+    buffer: &mut [u8],
+) -> Result<(), TurnFault>
+    requires room { HasRoom (L.unread line.old) }
+    requires buffer { 0 < length buffer.old }
+    ensures jobs { KeepsJobs (S.kept (spool_in buffered.old)) (S.kept (spool_in buffered.new))
+        (node_in buffered.old) (node_in buffered.new) }
+    ensures room { OnOk result (HasRoom (L.unread line.new)) }
+    ensures calm { UnlessLineFailed result (L.fault_count line.new ≡ L.fault_count line.old) }
+    ensures fault { result ≡ Err TurnFault.Line
+        → HasFailed u64.MAX (L.fault_count line.old) (L.fault_count line.new) }
+    ensures grows { L.fault_count line.old ≤ L.fault_count line.new }
+{
+    let to = match side {
+        Side::Caller => Side::Called,
+        Side::Called => Side::Caller,
+    };
+    write_some(buffered, line, to)?;
+    take_unread(buffered, line, side, buffer)
+}
+
+/// Writes as much as there is room for, in one write: each write costs a socket room of its own, so that many small ones
+/// could wait where one does not.
+fn write_some<S: Spool + Drop, L: Line, A: Allocator + Copy>(
+    buffered: &mut BufferedNode<S, A>,
+    line: &mut L,
+    to: Side,
+) -> Result<(), TurnFault>
+    requires { HasRoom (L.unread line.old) }
+    ensures node { node_in buffered.new ≡ node_in buffered.old }
+    ensures spool { spool_in buffered.new ≡ spool_in buffered.old }
+    ensures room { OnOk result (HasRoom (L.unread line.new)) }
+    ensures calm { UnlessLineFailed result (L.fault_count line.new ≡ L.fault_count line.old) }
+    ensures fault { result ≡ Err TurnFault.Line
+        → HasFailed u64.MAX (L.fault_count line.old) (L.fault_count line.new) }
+    ensures grows { L.fault_count line.old ≤ L.fault_count line.new }
+{
+    let outgoing = buffered.outgoing();
+    let count = outgoing.len().min(UNREAD_MAX - line.unread(to));
+    if count == 0 {
+        return Ok(());
+    }
+    let written = line.write(to, &outgoing[..count])?;
+    buffered.written(written);
+    Ok(())
+}
+
+/// Takes all that is unread for the end on this side.
+fn take_unread<S: Spool + Drop, L: Line, A: Allocator + Copy>(
+    buffered: &mut BufferedNode<S, A>,
+    line: &mut L,
+    at: Side,
+    buffer: &mut [u8],
+) -> Result<(), TurnFault>
+    requires room { HasRoom (L.unread line.old) }
+    requires buffer { 0 < length buffer.old }
+    ensures jobs { KeepsJobs (S.kept (spool_in buffered.old)) (S.kept (spool_in buffered.new))
+        (node_in buffered.old) (node_in buffered.new) }
+    ensures room { OnOk result (HasRoom (L.unread line.new)) }
+    ensures all { OnOk result (L.unread line.new at ≡ 0) }
+    ensures calm { UnlessLineFailed result (L.fault_count line.new ≡ L.fault_count line.old) }
+    ensures fault { result ≡ Err TurnFault.Line
+        → HasFailed u64.MAX (L.fault_count line.old) (L.fault_count line.new) }
+    ensures grows { L.fault_count line.old ≤ L.fault_count line.new }
+{
+    while line.unread(at) > 0 {
+        let count = line.read(at, buffer)?;
+        buffered.arrive(&buffer[..count])?;
+    }
+    Ok(())
+}

@@ -1,0 +1,367 @@
+//! What is told to somebody who sees the messages of two ends. The clauses say what is counted; these rows say what is told
+//! of jobs.
+
+use crate::calls::assertions::{assert_same, assert_same_at};
+use arrayvec::ArrayVec;
+use std::alloc::Global;
+use std::process::Abort;
+use uug_follow::{Journal, News, Observer, Outcome, Way, news_line};
+use uug_packet::{PACKET_MAX, Packet, Seq, encode};
+
+/// How many jobs began, and how they ended, with all bytes of their files.
+#[derive(Clone, Copy, Debug, PartialEq, Eq)]
+struct Notes {
+    begun: u8,
+    done: u8,
+    refused: u8,
+    put_off: u8,
+    bytes: u64,
+}
+
+impl Journal for Notes {
+    fn note(&mut self, news: &News) {
+        match news {
+            News::Begins(_) => self.begun = self.begun.saturating_add(1),
+            News::Ends(_, outcome, bytes) => {
+                self.bytes = self.bytes.saturating_add(*bytes);
+                match outcome {
+                    Outcome::Done => self.done = self.done.saturating_add(1),
+                    Outcome::Never => self.refused = self.refused.saturating_add(1),
+                    Outcome::Later => self.put_off = self.put_off.saturating_add(1),
+                }
+            }
+        }
+    }
+}
+
+/// A message that goes one way.
+type Said = (Way, &'static [u8]);
+
+const SEND: Said = (Way::Out, b"S x y u - x 0644\0");
+
+const REQUEST: Said = (Way::Out, b"R x y u -\0");
+
+const OTHERS_REQUEST: Said = (Way::In, b"R x y u -\0");
+
+const NOTHING: Notes = Notes {
+    begun: 0,
+    done: 0,
+    refused: 0,
+    put_off: 0,
+    bytes: 0,
+};
+
+const REFUSED: Notes = Notes {
+    begun: 1,
+    done: 0,
+    refused: 1,
+    put_off: 0,
+    bytes: 0,
+};
+
+const PUT_OFF: Notes = Notes {
+    begun: 1,
+    done: 0,
+    refused: 0,
+    put_off: 1,
+    bytes: 0,
+};
+
+/// A job is done whose file has five bytes.
+const DONE: Notes = Notes {
+    begun: 1,
+    done: 1,
+    refused: 0,
+    put_off: 0,
+    bytes: 5,
+};
+
+const BEGUN: Notes = Notes {
+    begun: 1,
+    done: 0,
+    refused: 0,
+    put_off: 0,
+    bytes: 0,
+};
+
+/// What goes over the line, and what is then told.
+type Row = (&'static [Said], Notes);
+
+/// The other end has the file, which this one takes for no reason to be done.
+const HELD_AND_PUT_OFF: Row = (&[SEND, (Way::In, b"SN8\0")], PUT_OFF);
+
+/// The same of a lenient end.
+const HELD: Row = (
+    &[SEND, (Way::In, b"SN8\0")],
+    Notes {
+        begun: 1,
+        done: 1,
+        refused: 0,
+        put_off: 0,
+        bytes: 0,
+    },
+);
+
+const ROWS: &[Row] = &[
+    (&[], NOTHING),
+    // the bytes of a file, and the empty message that ends it
+    (
+        &[
+            SEND,
+            (Way::In, b"SY\0"),
+            (Way::Out, b"abc"),
+            (Way::Out, b"CN"),
+            (Way::Out, b""),
+            (Way::In, b"CY\0"),
+        ],
+        DONE,
+    ),
+    // those of a request come the other way
+    (
+        &[
+            REQUEST,
+            (Way::In, b"RY 0644\0"),
+            (Way::In, b"abcde"),
+            (Way::In, b""),
+            (Way::Out, b"CY\0"),
+        ],
+        DONE,
+    ),
+    (
+        &[
+            OTHERS_REQUEST,
+            (Way::Out, b"RY 0644\0"),
+            (Way::Out, b"abcde"),
+            (Way::Out, b""),
+            (Way::In, b"CYM\0"),
+        ],
+        DONE,
+    ),
+    (&[SEND, (Way::In, b"SN2\0")], REFUSED),
+    (&[REQUEST, (Way::In, b"RN2\0")], REFUSED),
+    (&[SEND, (Way::In, b"SN4\0")], PUT_OFF),
+    HELD_AND_PUT_OFF,
+    // what refuses another job
+    (&[SEND, (Way::Out, b"XN\0"), (Way::Out, b"EN2\0")], BEGUN),
+    // an answer to no job, and no text
+    (&[(Way::In, b"CY\0")], NOTHING),
+    (
+        &[
+            (Way::In, b"hello\0"),
+            (Way::Out, b"H\0"),
+            (Way::In, b"HY\0"),
+        ],
+        NOTHING,
+    ),
+];
+
+/// The numbers of the next packets, one each way.
+#[derive(Drop)]
+struct Next {
+    outward: u8,
+    inward: u8,
+}
+
+impl Next {
+    /// The number of a packet that goes this way.
+    fn step(&mut self, way: Way) -> u8 {
+        match way {
+            Way::Out => step(&mut self.outward),
+            Way::In => step(&mut self.inward),
+        }
+    }
+}
+
+/// The first data packet of a link has this number.
+const FIRST: u8 = 1;
+
+/// The number, after which the next one comes.
+fn step(next: &mut u8) -> u8 {
+    let seq = *next % 8;
+    *next = (seq + 1) % 8;
+    seq
+}
+
+fn number(rt: &impl Abort, value: u8) -> Seq {
+    Seq::new(value).expect(rt, "a number")
+}
+
+/// Writes the packet of this number, with the smallest field. A longer message is cut.
+fn write_packet(rt: &impl Abort, seq: u8, message: &[u8], out: &mut ArrayVec<u8, PACKET_MAX>) {
+    let packet = Packet::Carry {
+        seq: number(rt, seq),
+        ack: number(rt, 0),
+        k: 1,
+        message: &message[..message.len().min(32)],
+    };
+    encode(&packet, out);
+}
+
+/// Shows these messages, each of them in a packet of its own.
+fn show<J: Journal>(
+    rt: &impl Abort,
+    said: &[Said],
+    observer: &mut Observer<Global>,
+    notes: &mut J,
+) {
+    let mut next = Next {
+        outward: FIRST,
+        inward: FIRST,
+    };
+    let mut packet = ArrayVec::new();
+    for (way, message) in said {
+        write_packet(rt, next.step(*way), message, &mut packet);
+        observer.see(*way, packet.as_slice(), notes);
+    }
+}
+
+fn follow(rt: &impl Abort, alloc: Global, is_lenient: bool, said: &[Said]) -> Notes {
+    let mut observer = Observer::new(alloc, is_lenient).expect(rt, "memory for both ways");
+    let mut notes = NOTHING;
+    show(rt, said, &mut observer, &mut notes);
+    drop(observer);
+    notes
+}
+
+#[test]
+fn jobs_are_told_as_they_begin_and_end(rt: HostRuntime) {
+    for (place, (said, notes)) in ROWS.iter().enumerate() {
+        let seen = follow(&rt, rt.alloc(), false, said);
+        assert_same_at(&rt, seen, *notes, place);
+    }
+    let (said, notes) = HELD;
+    let seen = follow(&rt, rt.alloc(), true, said);
+    assert_same_at(&rt, seen, notes, ROWS.len());
+}
+
+/// The lines of all news, in the order in which they came, of a session that takes no time.
+#[derive(Drop)]
+struct Lines {
+    alloc: Global,
+    text: Vec<u8>,
+}
+
+impl Journal for Lines {
+    fn note(&mut self, news: &News) {
+        if let Ok(line) = news_line(self.alloc, 0, 0, news) {
+            let _ = self.text.extend_from_slice(line.as_bytes());
+        }
+    }
+}
+
+/// A second job of this end, and one of the other end.
+const SEND_Q: Said = (Way::Out, b"S q z u - q 0644\0");
+
+const OTHERS_SEND: Said = (Way::In, b"S p w u - p 0644\0");
+
+/// What goes over the line in a session with several jobs, and the lines that are told of it.
+const ORDERS: &[(&[Said], &str)] = &[
+    // a job begins after another has ended, and its bytes are counted from none
+    (
+        &[
+            SEND,
+            (Way::In, b"SY\0"),
+            (Way::Out, b"abc"),
+            (Way::Out, b""),
+            (Way::In, b"CY\0"),
+            SEND_Q,
+            (Way::In, b"SY\0"),
+            (Way::Out, b"de"),
+            (Way::Out, b"fgh"),
+            (Way::Out, b""),
+            (Way::In, b"CY\0"),
+        ],
+        "uucpair: 0 s: send x y\n\
+        uucpair: 0 s: send x y: done 3 bytes in 0 s\n\
+        uucpair: 0 s: send q z\n\
+        uucpair: 0 s: send q z: done 5 bytes in 0 s\n",
+    ),
+    // one is refused before its file goes, and the next is put off behind it
+    (
+        &[
+            SEND,
+            (Way::In, b"SN2\0"),
+            SEND_Q,
+            (Way::In, b"SY\0"),
+            (Way::Out, b"de"),
+            (Way::Out, b""),
+            (Way::In, b"CN4\0"),
+            REQUEST,
+            (Way::In, b"RN4\0"),
+        ],
+        "uucpair: 0 s: send x y\n\
+        uucpair: 0 s: send x y: refused 0 bytes in 0 s\n\
+        uucpair: 0 s: send q z\n\
+        uucpair: 0 s: send q z: put off 2 bytes in 0 s\n\
+        uucpair: 0 s: request x y\n\
+        uucpair: 0 s: request x y: put off 0 bytes in 0 s\n",
+    ),
+    // the other end's jobs come behind this end's
+    (
+        &[
+            REQUEST,
+            (Way::In, b"RY 0644\0"),
+            (Way::In, b"abcd"),
+            (Way::In, b""),
+            (Way::Out, b"CY\0"),
+            (Way::Out, b"H\0"),
+            (Way::In, b"HN\0"),
+            OTHERS_SEND,
+            (Way::Out, b"SY\0"),
+            (Way::In, b"e"),
+            (Way::In, b""),
+            (Way::Out, b"CY\0"),
+            OTHERS_REQUEST,
+            (Way::Out, b"RY 0644\0"),
+            (Way::Out, b""),
+            (Way::In, b"CY\0"),
+            (Way::In, b"H\0"),
+            (Way::Out, b"HY\0"),
+            (Way::In, b"HY\0"),
+        ],
+        "uucpair: 0 s: request x y\n\
+        uucpair: 0 s: request x y: done 4 bytes in 0 s\n\
+        uucpair: 0 s: peer's send p w\n\
+        uucpair: 0 s: peer's send p w: done 1 bytes in 0 s\n\
+        uucpair: 0 s: peer's request x y\n\
+        uucpair: 0 s: peer's request x y: done 0 bytes in 0 s\n",
+    ),
+    // of one that is followed by another before it is answered no end is told
+    (
+        &[
+            SEND,
+            SEND_Q,
+            (Way::In, b"SY\0"),
+            (Way::Out, b"de"),
+            (Way::Out, b""),
+            (Way::In, b"CY\0"),
+            (Way::In, b"CY\0"),
+        ],
+        "uucpair: 0 s: send x y\n\
+        uucpair: 0 s: send q z\n\
+        uucpair: 0 s: send q z: done 2 bytes in 0 s\n",
+    ),
+];
+
+fn tell(rt: &impl Abort, alloc: Global, said: &[Said], lines: &mut Lines) {
+    let mut observer = Observer::new(alloc, false).expect(rt, "memory for both ways");
+    show(rt, said, &mut observer, lines);
+    drop(observer);
+}
+
+fn assert_told(rt: &impl Abort, alloc: Global, said: &[Said], text: &str) {
+    let mut lines = Lines {
+        alloc,
+        text: Vec::new(alloc),
+    };
+    tell(rt, alloc, said, &mut lines);
+    assert_same(rt, lines.text.as_slice(), text.as_bytes());
+}
+
+// news that come late or twice, or that are of the wrong job; bytes of one job that are counted at the next
+#[test]
+fn news_of_several_jobs_come_in_order(rt: HostRuntime) {
+    for (said, text) in ORDERS {
+        assert_told(&rt, rt.alloc(), said, text);
+    }
+}

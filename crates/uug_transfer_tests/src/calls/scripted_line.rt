@@ -1,0 +1,105 @@
+//! A line that does what a table says.
+ghost use Rattle.std.specs.Prelude.{◌≡◌, ◌≤◌, length, None};
+
+use super::{Manner, MemoryEndAtLine, Other};
+use uug_transfer::{EndLine, LineFailed, ReadOutcome};
+
+/// A line with its other end in memory.
+#[derive(Drop)]
+pub(super) struct ScriptedLine {
+    other: MemoryEndAtLine,
+    manner: Manner,
+    /// How many bytes have come.
+    came: usize,
+    /// How many calls were made.
+    calls: usize,
+    faults: u64,
+}
+
+impl ScriptedLine {
+    pub(super) fn new(other: MemoryEndAtLine, manner: Manner) -> Self {
+        ScriptedLine {
+            other,
+            manner,
+            came: 0,
+            calls: 0,
+            faults: 0,
+        }
+    }
+
+    pub(super) fn other(&self) -> &MemoryEndAtLine {
+        &self.other
+    }
+
+    /// Counts a call, and says whether it fails.
+    fn fails(&mut self) -> bool
+        ensures { self.new.faults ≡ self.old.faults }
+    {
+        self.calls = self.calls.saturating_add(1);
+        self.calls > self.manner.fails_at
+    }
+
+    /// So many bytes may come now.
+    fn room(&self, buffer: &[u8]) -> usize {
+        let left = self.manner.ends_behind.saturating_sub(self.came);
+        buffer.len().min(self.manner.at_once).min(left)
+    }
+}
+
+/// Puts the first bytes at the front of the buffer, as many as fit in so much room, and says how many.
+fn copy_front(bytes: &[u8], buffer: &mut [u8], room: usize) -> usize
+    ensures given { result ≤ length bytes.now }
+    ensures room { result ≤ length buffer.old }
+{
+    let count = bytes.len().min(room).min(buffer.len());
+    buffer[..count].copy_from_slice(&bytes[..count]);
+    count
+}
+
+const BABBLE: &[u8] = b"babble\0";
+
+impl EndLine for ScriptedLine {
+    ghost fault_count = { λ line. line.faults };
+
+    ghost received = { λ _. None };
+
+    fn write(&mut self, piece: &[u8]) -> Result<usize, LineFailed> {
+        if self.fails() {
+            self.faults = self.faults.saturating_add(1);
+            return Err(LineFailed);
+        }
+        let piece = &piece[..piece.len().min(self.manner.takes.max(1))];
+        if self.manner.other == Other::Speaks {
+            let _ = self.other.arrive(piece);
+        }
+        Ok(piece.len())
+    }
+
+    fn read(&mut self, buffer: &mut [u8]) -> Result<ReadOutcome, LineFailed> {
+        if self.fails() {
+            self.faults = self.faults.saturating_add(1);
+            return Err(LineFailed);
+        }
+        let room = self.room(buffer);
+        if room == 0 {
+            return Ok(ReadOutcome::Eof);
+        }
+        let count = match self.manner.other {
+            Other::Speaks => copy_front(self.other.outgoing(), buffer, room),
+            Other::Babbles => copy_front(BABBLE, buffer, room),
+            Other::IsMute => 0,
+        };
+        if self.manner.other == Other::Speaks {
+            self.other.written(count);
+        }
+        self.came = self.came.saturating_add(count);
+        if count == 0 {
+            return Ok(ReadOutcome::TimedOut);
+        }
+        Ok(ReadOutcome::Bytes(count))
+    }
+
+    fn faults(&self) -> u64 {
+        self.faults
+    }
+}

@@ -1,0 +1,16 @@
+//! Two ends: jobs as a text, a line and folders in memory of which one call fails, and a socket and folders of the system.
+
+mod assertions;
+mod ends;
+mod errors;
+mod failing;
+mod jobs;
+mod memory_folder;
+mod memory_jobs;
+mod memory_line;
+mod over_memory;
+mod runs;
+mod short_output;
+mod stages;
+mod tasks;
+mod wires;
