@@ -1,9 +1,9 @@
 -- What is left of an end when its session is over.
-use Rattle.std.proofs.Common.{◌≡◌, ◌⊎◌, inl, inr, ℕ, ◌<◌, ◌≤◌, List, [], ◌++◌, Option, Some, None, Result, Ok, Err, refl, sym, ap, subst, ◌∙◌, arith}
+use Rattle.std.proofs.Common.{◌≡◌, ◌⊎◌, inl, inr, ℕ, ◌≤◌, List, [], Option, Some, None, Result, Ok, Err, refl, sym, ap, subst, ◌∙◌, arith}
 use Rattle.std.proofs.lemmas.List.{append-nil}
 use Rattle.std.specs.Prelude.{IfErr}
 use Rattle.uug_session.specs.Engine.{HasFailed, faults_max}
-use Rattle.uug_stream.specs.Streams.{Appends, AppendsFront, CountsFault}
+use Rattle.uug_stream.specs.Streams.{Appends, AppendsFront}
 use Rattle.uug_stream.specs.declared.fault.ToolFault.{ToolFault}
 use Rattle.uug_stream.specs.declared.fault.ToolFault.TheVariants as faults
 use Rattle.uug_folder.specs.JobsPlan.{IsCarriedOut, IsPlanned}

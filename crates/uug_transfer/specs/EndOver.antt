@@ -1,6 +1,5 @@
 -- What is left of an end when its session is over: its files and the report (this project's profile).
 use Rattle.std.specs.Prelude.{◌≡◌, ◌⊎◌, ℕ, List, Option, Result, Ok, Err, ⊤}
-use Rattle.uug_conversation.specs.Jobs.{Lists}
 use Rattle.uug_session.specs.Engine.{HasFailed, faults_max}
 use Rattle.uug_session.specs.Node.{NodeState}
 use Rattle.uug_stream.specs.Streams.{Appends, AppendsFront, CountsFault}

@@ -1,5 +1,5 @@
 -- How an end stands, and what is said of it when its session is over (this project's profile).
-use Rattle.std.specs.Prelude.{◌++◌, ◌&&◌, ℕ, Bool, true, false, List, Option, length, if◌then◌else◌}
+use Rattle.std.specs.Prelude.{◌++◌, ◌&&◌, ℕ, Bool, List, Option, length, if◌then◌else◌}
 use Rattle.uug_conversation.specs.declared.side.Side.{Side}
 use Rattle.uug_conversation.specs.declared.side.Side.TheVariants.{Caller, Called}
 use Rattle.uug_conversation.specs.Jobs.{Lists, pending}
