@@ -57,7 +57,7 @@ link_late number id parted closed e c n = refl
 link_late number id parted gave_up e c n = refl
 link_late number id parted halted e c n = refl
 
-held_late : (number : Option ℕ) (k : Keeper DialogueState) (id : Identity) (stage : Stage) (s : State) (c : DialogueState) (n : NodeState)
+pub held_late : (number : Option ℕ) (k : Keeper DialogueState) (id : Identity) (stage : Stage) (s : State) (c : DialogueState) (n : NodeState)
     → HoldsOn (stage_step k id stage time_ran_out (record { stage = stage; link = s; keeper = c; number = number })) stage n
 held_late number k id (hailing g) s c n = greeting_late number (nat_lt (g.timeouts + 1) TIMEOUTS_MAX) id g s c n
 held_late number k id linked s c n = link_late number id (k.has_parted c) (step s timed_out).outcome (step s timed_out) c n

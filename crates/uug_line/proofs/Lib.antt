@@ -1,32 +1,32 @@
-mod AnswerLemmas
+pub mod AnswerLemmas
 mod ByteLemmas
 mod CameLemmas
 mod CarriedLemmas
 mod EmittedByteLemmas
-mod EndCallLemmas
-mod FoundLemmas
+pub mod EndCallLemmas
+pub mod FoundLemmas
 mod HeardLemmas
 mod GreetedLemmas
-mod LinkLemmas
+pub mod LinkLemmas
 mod LinkRunLemmas
 mod LowerLemmas
 mod MachineLemmas
-mod MoveLemmas
+pub mod MoveLemmas
 mod ItemLemmas
 mod JournalLemmas
 mod PastLemmas
 mod PieceLemmas
-mod PlaceLemmas
+pub mod PlaceLemmas
 mod SendLemmas
-mod SessionLemmas
-mod SpeakLemmas
+pub mod SessionLemmas
+pub mod SpeakLemmas
 mod Standing
-mod StepLemmas
-mod StoredSince
+pub mod StepLemmas
+pub mod StoredSince
 mod ToldLemmas
 mod VerdictLemmas
 mod RunLemmas
-mod SideLemmas
+pub mod SideLemmas
 mod SightingLemmas
 mod SpokenLemmas
 mod SpeakingLemmas
@@ -34,4 +34,4 @@ mod TakenLemmas
 mod ReportLemmas
 mod Clean
 mod Facts
-mod World
+pub mod World

@@ -90,7 +90,7 @@ any_places (p ∷ ps) emitted (j ∷ js) from least_from below h =
 
 -- ---- a packet that was sent has a place behind those found before it
 
-last_place : (found emitted : List PacketValue) (places choice : List ℕ) (p : PacketValue)
+pub last_place : (found emitted : List PacketValue) (places choice : List ℕ) (p : PacketValue)
     (from least_from : ℕ) → least_from ≤ from → StandAt (found ++ p ∷ []) choice emitted from →
     HavePlaces found places emitted least_from → (i : ℕ) × IsPlace p emitted (passed_at places least_from) i
 last_place [] emitted [] [] p from least_from below h least = absurd h

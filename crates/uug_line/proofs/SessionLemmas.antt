@@ -30,7 +30,7 @@ use Rattle.uug_link.proofs.TwoLinksRuns.{fronts}
 module _ (setup : SetupValue) (brought : AtBoth Belongings) where
   -- ---- seen from the other side
 
-  joined_turned : (side : Side) (m n : Moment) → Joined setup brought side m n → Joined setup brought (other side) n m
+  pub joined_turned : (side : Side) (m n : Moment) → Joined setup brought side m n → Joined setup brought (other side) n m
   joined_turned side m n j =
       let back = other_twice side in
       record {

@@ -37,7 +37,7 @@ struck_in parties side taken = (lists_after side parties.at_caller parties.at_ca
 abbrev pub stored_in : AtBoth Party → Side → ℕ → List Kept
 stored_in parties side taken = kept_after taken (view_at parties side)
 
-session_own : (parties : AtBoth Party) (giver : Side) (own others : ℕ) →
+pub session_own : (parties : AtBoth Party) (giver : Side) (own others : ℕ) →
     own ≤ floor others (view_at parties (other giver)) → others ≤ floor own (view_at parties giver) →
     OwnEntries (at giver parties).holdings (at giver parties).jobs (struck_in parties giver own)
     (struck_in parties (other giver) others) (stored_in parties (other giver) others)
@@ -221,10 +221,10 @@ pub record OwnPlaces (setup : SetupValue) (now : AtBoth Belongings) (giver : Sid
   pub stored : (at (other giver) now).kept ≡ (at (other giver) setup).belongings.kept
       ++ since (at (other giver) setup).belongings.kept (at (other giver) now).kept
 
-since_is : {A : Type 0} (before more now : List A) → now ≡ before ++ more → since before now ≡ more
+pub since_is : {A : Type 0} (before more now : List A) → now ≡ before ++ more → since before now ≡ more
 since_is before more now e = ap (drop (length before)) e ∙ drop-append_seam before more
 
-front_stays : {A : Type 0} (before more now : List A) → now ≡ before ++ more → now ≡ before ++ since before now
+pub front_stays : {A : Type 0} (before more now : List A) → now ≡ before ++ more → now ≡ before ++ since before now
 front_stays before more now e = e ∙ ap (λ z. before ++ z) (sym (since_is before more now e))
 
 pub own_places : (setup : SetupValue) (now : AtBoth Belongings) (giver : Side) → OwnSince setup now giver →

@@ -15,14 +15,14 @@ use Rattle.uug_line.proofs.World.Joining.{Moment}
 
 -- ---- what is emitted
 
-messages_sent_append : (es more : List Emitted) → messages_sent (es ++ more) ≡ messages_sent es ++ messages_sent more
+pub messages_sent_append : (es more : List Emitted) → messages_sent (es ++ more) ≡ messages_sent es ++ messages_sent more
 messages_sent_append [] more = refl
 messages_sent_append (says_text text ∷ es) more = messages_sent_append es more
 messages_sent_append (sends_packet e ∷ es) more =
     ap (λ (l : List (List ℕ)). sent_by e.first e.packet ++ l) (messages_sent_append es more)
     ∙ sym (append_assoc (sent_by e.first e.packet) (messages_sent es) (messages_sent more))
 
-packets_in_append : (es more : List Emitted) → packets_in (es ++ more) ≡ packets_in es ++ packets_in more
+pub packets_in_append : (es more : List Emitted) → packets_in (es ++ more) ≡ packets_in es ++ packets_in more
 packets_in_append [] more = refl
 packets_in_append (says_text text ∷ es) more = packets_in_append es more
 packets_in_append (sends_packet e ∷ es) more = ap (λ (l : List PacketValue). e.packet ∷ l) (packets_in_append es more)
@@ -48,7 +48,7 @@ texts_are_no_packets : (texts : List (List ℕ)) → packets_in (map says_text t
 texts_are_no_packets [] = refl
 texts_are_no_packets (text ∷ texts) = texts_are_no_packets texts
 
-leave_sends_nothing : (parted : Bool) (side : Side) → messages_sent (leave parted side) ≡ []
+pub leave_sends_nothing : (parted : Bool) (side : Side) → messages_sent (leave parted side) ≡ []
 leave_sends_nothing true side = refl
 leave_sends_nothing false side = refl
 
