@@ -1,0 +1,7 @@
+mod EndsFacts
+mod EventLemmas
+mod HonestLemmas
+mod Joins
+mod StandsLemmas
+mod StepJoins
+mod TwoCoursesLaw

@@ -1,0 +1,13 @@
+//! Laws of two ends that are told each by the events that happen to it. The functions do nothing.
+ghost use Rattle.std.specs.Prelude.{List};
+ghost use Rattle.uug_conversation.specs.Sides.{AtBoth};
+ghost use Rattle.uug_ends.specs.Beginnings.{AreSound, EndBeginning};
+ghost use Rattle.uug_ends.specs.TwoCourses.{EventAt, KeepsPromises, NoneIsFooled};
+
+/// Whatever happens at two ends, each with whatever line, device and spool: where in some order of it neither was fooled, each
+/// has taken the first messages that the other has sent, no job was struck before its file was stored, whole, and no end has
+/// had more unacknowledged packets than the other announced.
+pub fn two_ends_keep_their_promises()
+    ensures { (ends : AtBoth EndBeginning) (order : List EventAt) → AreSound ends
+        → NoneIsFooled ends order → KeepsPromises ends order }
+{}
