@@ -1,3 +1,4 @@
 pub mod Beginnings
 pub mod Courses
+pub mod NodeRuns
 pub mod TwoCourses

@@ -1,8 +1,12 @@
 //! Laws of two ends that are told each by the events that happen to it. The functions do nothing.
-ghost use Rattle.std.specs.Prelude.{List};
+ghost use Rattle.std.specs.Prelude.{ℕ, List};
+ghost use Rattle.uug_conversation.specs.Holdings.{Holdings};
 ghost use Rattle.uug_conversation.specs.Sides.{AtBoth};
 ghost use Rattle.uug_ends.specs.Beginnings.{AreSound, EndBeginning};
+ghost use Rattle.uug_ends.specs.NodeRuns.{IsLedByEvents};
 ghost use Rattle.uug_ends.specs.TwoCourses.{EventAt, KeepsPromises, NoneIsFooled};
+ghost use Rattle.uug_link.specs.Entries.{EntryValue};
+ghost use Rattle.uug_session.specs.NodeCalls.{Beside, Make, NodeCall};
 
 /// Whatever happens at two ends, each with whatever line, device and spool: where in some order of it neither was fooled, each
 /// has taken the first messages that the other has sent, no job was struck before its file was stored, whole, and no end has
@@ -10,4 +14,11 @@ ghost use Rattle.uug_ends.specs.TwoCourses.{EventAt, KeepsPromises, NoneIsFooled
 pub fn two_ends_keep_their_promises()
     ensures { (ends : AtBoth EndBeginning) (order : List EventAt) → AreSound ends
         → NoneIsFooled ends order → KeepsPromises ends order }
+{}
+
+/// Whatever a node is called with, some events lead it from how it was to how it is then.
+pub fn calls_are_events()
+    ensures { (h : Holdings) (most : ℕ) (calls : List NodeCall) (added : List EntryValue)
+        (old new : Beside) → Make h most calls added old new
+        → IsLedByEvents h old.kept new.kept old.node new.node }
 {}
