@@ -2,6 +2,7 @@ mod EndsFacts
 mod EventLemmas
 mod HonestLemmas
 mod Joins
+mod LineEventLemmas
 mod NodeRunLemmas
 mod StandsLemmas
 mod StepJoins

@@ -1,4 +1,5 @@
 pub mod Beginnings
 pub mod Courses
+pub mod LineEvents
 pub mod NodeRuns
 pub mod TwoCourses

@@ -1,11 +1,14 @@
 //! Laws of two ends that are told each by the events that happen to it. The functions do nothing.
 ghost use Rattle.std.specs.Prelude.{ℕ, List};
-ghost use Rattle.uug_conversation.specs.Holdings.{Holdings};
+ghost use Rattle.uug_conversation.specs.Holdings.{Holdings, Kept};
 ghost use Rattle.uug_conversation.specs.Sides.{AtBoth};
 ghost use Rattle.uug_ends.specs.Beginnings.{AreSound, EndBeginning};
+ghost use Rattle.uug_ends.specs.LineEvents.{HasListened, IsLedByLine, LineEvent};
 ghost use Rattle.uug_ends.specs.NodeRuns.{IsLedByEvents};
 ghost use Rattle.uug_ends.specs.TwoCourses.{EventAt, KeepsPromises, NoneIsFooled};
 ghost use Rattle.uug_link.specs.Entries.{EntryValue};
+ghost use Rattle.uug_session.specs.EndStep.{Emitted};
+ghost use Rattle.uug_session.specs.Node.{NodeState};
 ghost use Rattle.uug_session.specs.NodeCalls.{Beside, Make, NodeCall};
 
 /// Whatever happens at two ends, each with whatever line, device and spool: where in some order of it neither was fooled, each
@@ -21,4 +24,12 @@ pub fn calls_are_events()
     ensures { (h : Holdings) (most : ℕ) (calls : List NodeCall) (added : List EntryValue)
         (old new : Beside) → Make h most calls added old new
         → IsLedByEvents h old.kept new.kept old.node new.node }
+{}
+
+/// What comes at the line of a node, and was taken up, is some events to it, which lead it there.
+pub fn what_is_heard_happens()
+    ensures { (h : Holdings) (kept kept_after : List Kept) (es : List LineEvent)
+        (emitted : List Emitted) (before after : NodeState)
+        → HasListened h kept kept_after es emitted before after
+        → IsLedByLine h kept kept_after es before after }
 {}
