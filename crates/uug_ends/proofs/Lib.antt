@@ -7,3 +7,4 @@ mod NodeRunLemmas
 mod StandsLemmas
 mod StepJoins
 mod TwoCoursesLaw
+mod TwoNodesLaw

@@ -3,3 +3,4 @@ pub mod Courses
 pub mod LineEvents
 pub mod NodeRuns
 pub mod TwoCourses
+pub mod TwoNodes

@@ -1,11 +1,15 @@
 //! Laws of two ends that are told each by the events that happen to it. The functions do nothing.
 ghost use Rattle.std.specs.Prelude.{ℕ, List};
 ghost use Rattle.uug_conversation.specs.Holdings.{Holdings, Kept};
-ghost use Rattle.uug_conversation.specs.Sides.{AtBoth};
+ghost use Rattle.uug_conversation.specs.OwnEntries.{HasOwnEntries};
+ghost use Rattle.uug_conversation.specs.Sides.{AtBoth, at};
+ghost use Rattle.uug_conversation.specs.Turns.{other};
+ghost use Rattle.uug_conversation.specs.declared.side.Side.{Side};
 ghost use Rattle.uug_ends.specs.Beginnings.{AreSound, EndBeginning};
 ghost use Rattle.uug_ends.specs.LineEvents.{HasListened, IsLedByLine, LineEvent};
 ghost use Rattle.uug_ends.specs.NodeRuns.{IsLedByEvents};
 ghost use Rattle.uug_ends.specs.TwoCourses.{EventAt, KeepsPromises, NoneIsFooled};
+ghost use Rattle.uug_ends.specs.TwoNodes.{HaveRun, Stands, kept_at, struck_at};
 ghost use Rattle.uug_link.specs.Entries.{EntryValue};
 ghost use Rattle.uug_session.specs.EndStep.{Emitted};
 ghost use Rattle.uug_session.specs.Node.{NodeState};
@@ -32,4 +36,17 @@ pub fn what_is_heard_happens()
         (emitted : List Emitted) (before after : NodeState)
         → HasListened h kept kept_after es emitted before after
         → IsLedByLine h kept kept_after es before after }
+{}
+
+/// Two nodes that some events led, each beside its spool, are two ends that are told by these events; so where in some order of
+/// them neither was fooled, no job of theirs was struck before its file was stored, whole, at the end to which it went.
+pub fn two_nodes_keep_their_promises()
+    ensures stand { (ends : AtBoth EndBeginning) (order : List EventAt) (kept : AtBoth (List Kept))
+        (nodes : AtBoth NodeState) → HaveRun ends order kept nodes → (side : Side)
+        → Stands ends order kept nodes side }
+    ensures stored { (ends : AtBoth EndBeginning) (order : List EventAt) (kept : AtBoth (List Kept))
+        (nodes : AtBoth NodeState) → AreSound ends → NoneIsFooled ends order
+        → HaveRun ends order kept nodes → (giver : Side)
+        → HasOwnEntries (at giver ends).holdings (struck_at ends nodes giver)
+        (struck_at ends nodes (other giver)) (kept_at ends kept (other giver)) }
 {}
