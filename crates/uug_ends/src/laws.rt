@@ -5,13 +5,14 @@ ghost use Rattle.uug_conversation.specs.OwnEntries.{HasOwnEntries};
 ghost use Rattle.uug_conversation.specs.Sides.{AtBoth, at};
 ghost use Rattle.uug_conversation.specs.Turns.{other};
 ghost use Rattle.uug_conversation.specs.declared.side.Side.{Side};
-ghost use Rattle.uug_ends.specs.Beginnings.{AreSound, EndBeginning};
+ghost use Rattle.uug_ends.specs.Beginnings.{AreSound, EndBeginning, identity_of};
 ghost use Rattle.uug_ends.specs.LineEvents.{HasListened, IsLedByLine, LineEvent};
-ghost use Rattle.uug_ends.specs.NodeRuns.{IsLedByEvents};
+ghost use Rattle.uug_ends.specs.NodeRuns.{BeginsAsEnd, IsLedByEvents};
 ghost use Rattle.uug_ends.specs.TwoCourses.{EventAt, KeepsPromises, NoneIsFooled};
 ghost use Rattle.uug_ends.specs.TwoNodes.{HaveRun, Stands, kept_at, struck_at};
 ghost use Rattle.uug_link.specs.Entries.{EntryValue};
 ghost use Rattle.uug_session.specs.EndStep.{Emitted};
+ghost use Rattle.uug_session.specs.Engine.{BeginsSession};
 ghost use Rattle.uug_session.specs.Node.{NodeState};
 ghost use Rattle.uug_session.specs.NodeCalls.{Beside, Make, NodeCall};
 
@@ -36,6 +37,13 @@ pub fn what_is_heard_happens()
         (emitted : List Emitted) (before after : NodeState)
         → HasListened h kept kept_after es emitted before after
         → IsLedByLine h kept kept_after es before after }
+{}
+
+/// A node that begins a session is an end that comes so to it.
+pub fn a_node_begins_as_an_end()
+    ensures { (side : Side) (b : EndBeginning) (entries : List EntryValue) (n : NodeState)
+        → BeginsSession (identity_of side b) b.own b.number b.lists entries n.engine
+        → BeginsAsEnd side b n }
 {}
 
 /// Two nodes that some events led, each beside its spool, are two ends that are told by these events; so where in some order of
