@@ -1,8 +1,10 @@
 mod EndsFacts
 mod EventLemmas
+mod GoneLemmas
 mod HonestLemmas
 mod Joins
 mod LineEventLemmas
+mod MovedLemmas
 mod NodeRunLemmas
 mod StandsLemmas
 mod StepJoins

@@ -1,5 +1,6 @@
 pub mod Beginnings
 pub mod Courses
+pub mod Gone
 pub mod LineEvents
 pub mod NodeRuns
 pub mod TwoCourses

@@ -1,15 +1,17 @@
 //! Laws of two ends that are told each by the events that happen to it. The functions do nothing.
-ghost use Rattle.std.specs.Prelude.{ℕ, List};
+ghost use Rattle.std.specs.Prelude.{◌≡◌, ℕ, List, []};
 ghost use Rattle.uug_conversation.specs.Holdings.{Holdings, Kept};
 ghost use Rattle.uug_conversation.specs.OwnEntries.{HasOwnEntries};
 ghost use Rattle.uug_conversation.specs.Sides.{AtBoth, at};
 ghost use Rattle.uug_conversation.specs.Turns.{other};
+ghost use Rattle.uug_conversation.specs.declared.job.Job.{Job};
 ghost use Rattle.uug_conversation.specs.declared.side.Side.{Side};
 ghost use Rattle.uug_ends.specs.Beginnings.{AreSound, EndBeginning, identity_of};
+ghost use Rattle.uug_ends.specs.Gone.{FileWasKept, IsGone};
 ghost use Rattle.uug_ends.specs.LineEvents.{HasListened, IsLedByLine, LineEvent};
 ghost use Rattle.uug_ends.specs.NodeRuns.{BeginsAsEnd, IsLedByEvents};
 ghost use Rattle.uug_ends.specs.TwoCourses.{EventAt, KeepsPromises, NoneIsFooled};
-ghost use Rattle.uug_ends.specs.TwoNodes.{HaveRun, Stands, kept_at, struck_at};
+ghost use Rattle.uug_ends.specs.TwoNodes.{HaveRun, Stands, holdings_at, kept_at, kept_by_both, lists_of, struck_at};
 ghost use Rattle.uug_link.specs.Entries.{EntryValue};
 ghost use Rattle.uug_session.specs.EndStep.{Emitted};
 ghost use Rattle.uug_session.specs.Engine.{BeginsSession};
@@ -57,4 +59,16 @@ pub fn two_nodes_keep_their_promises()
         → HaveRun ends order kept nodes → (giver : Side)
         → HasOwnEntries (at giver ends).holdings (struck_at ends nodes giver)
         (struck_at ends nodes (other giver)) (kept_at ends kept (other giver)) }
+{}
+
+/// A job that is gone from an end's pending jobs, and did not fail, has its file, whole, under its target among those that the
+/// other end's spool has kept in the session, and a Request its own: where none of its jobs was struck before, and in some
+/// order of what happened at both ends neither was fooled.
+pub fn the_file_of_a_job_that_is_gone_was_kept()
+    ensures { (ends : AtBoth EndBeginning) (order : List EventAt) (kept : AtBoth (List Kept))
+        (nodes : AtBoth NodeState) → AreSound ends → NoneIsFooled ends order
+        → HaveRun ends order kept nodes → (side : Side) (job : Job)
+        → (at side ends).lists.struck ≡ []
+        → IsGone job (at side ends).lists (lists_of (at side nodes))
+        → FileWasKept (holdings_at ends) (kept_by_both ends kept) side job }
 {}
