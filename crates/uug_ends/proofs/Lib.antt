@@ -5,7 +5,7 @@ mod HonestLemmas
 mod Joins
 mod LineEventLemmas
 mod MovedLemmas
-mod NodeRunLemmas
+pub mod NodeRunLemmas
 mod StandsLemmas
 mod StepJoins
 mod TwoCoursesLaw

@@ -1,6 +1,7 @@
 pub mod BudgetLemmas
 pub mod EndLemmas
 pub mod KeepingLemmas
+pub mod LedLemmas
 pub mod LineNameFacts
 pub mod LineNameLemmas
 pub mod NumberLemmas

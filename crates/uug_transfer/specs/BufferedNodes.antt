@@ -4,6 +4,7 @@ use Rattle.uug_session.specs.Engine.{Does, EngineState, bare, stage_late, with_o
 use Rattle.uug_conversation.specs.Holdings.{Holdings, Kept}
 use Rattle.uug_session.specs.Node.{NodeState, node_of, struck_jobs}
 use Rattle.uug_session.specs.NodeArriving.{TakesAll}
+use Rattle.uug_ends.specs.NodeRuns.{IsLedByEvents}
 use Rattle.uug_conversation.specs.OwnRequests.{KeepsWhatItAskedFor}
 use Rattle.uug_conversation.specs.Sharing.{HaveSameJobs}
 use Rattle.uug_conversation.specs.DialogueValue.{dialogue_has_parted}
@@ -32,6 +33,11 @@ spool_in buffered = buffered.node.spool
 pub record KeepsJobs (kept kept_after : List Kept) (before after : NodeState) : Type 0 where
   pub same : HaveSameJobs before.engine.dialogue.machine.lists after.engine.dialogue.machine.lists
   pub requests : KeepsWhatItAskedFor (struck_jobs before) (struck_jobs after) kept kept_after
+
+-- Whatever happened: some events led it there, beside a spool that gives and accepts what it did.
+pub record IsLed (h h_after : Holdings) (kept kept_after : List Kept) (before after : NodeState) : Type 0 where
+  pub same : h_after ≡ h
+  pub led : IsLedByEvents h kept kept_after before after
 
 -- ---- what goes out
 

@@ -1,9 +1,10 @@
 ghost use Rattle.std.specs.Prelude.{◌≡◌, ◌≤◌, ◌↔◌, [], drop, length, IfOk, IsTrue, OnOk};
-ghost use Rattle.uug_session.specs.Engine.{HasFailed, IsEnded};
+ghost use Rattle.uug_session.specs.Engine.{HasFailed, IsEnded, with_outbox};
 ghost use Rattle.uug_session.specs.Node.{node_of};
 ghost use Rattle.uug_session.specs.NumberStanding.{KeepsNumber};
 ghost use Rattle.uug_transfer.specs.Ends.{status_of};
-ghost use Rattle.uug_transfer.specs.BufferedNodes.{injector_in, node_in, spool_in, to_write, Hears, IsLate, KeepsJobs, SendsOut, Waits};
+ghost use Rattle.uug_ends.specs.NodeRuns.{IsLedByEvents};
+ghost use Rattle.uug_transfer.specs.BufferedNodes.{injector_in, node_in, spool_in, to_write, Hears, IsLate, IsLed, KeepsJobs, SendsOut, Waits};
 
 use crate::fault_injector::FaultInjector;
 use crate::outgoing::add_outgoing;
@@ -28,6 +29,8 @@ impl<S: Spool + Drop, A: Allocator + Copy> BufferedNode<S, A> {
     pub fn new(alloc: A, node: Node<S, A>, injector: FaultInjector) -> Result<Self, AllocError>
         ensures jobs { IfOk result (λ buffered. KeepsJobs (S.kept node.spool) (S.kept (spool_in buffered))
             (node_of node) (node_in buffered)) }
+        ensures led { IfOk result (λ buffered. IsLedByEvents (S.holdings node.spool)
+            (S.kept node.spool) (S.kept (spool_in buffered)) (node_of node) (node_in buffered)) }
         ensures sends { IfOk result (λ buffered.
             SendsOut injector (injector_in buffered) [] (to_write buffered) (node_of node) (node_in buffered)) }
         ensures spool { IfOk result (λ buffered. spool_in buffered ≡ node.spool) }
@@ -63,6 +66,10 @@ impl<S: Spool + Drop, A: Allocator + Copy> BufferedNode<S, A> {
     pub fn arrive(&mut self, piece: &[u8]) -> Result<(), AllocError>
         ensures jobs { KeepsJobs (S.kept (spool_in self.old)) (S.kept (spool_in self.new))
             (node_in self.old) (node_in self.new) }
+        ensures led { IsLed (S.holdings (spool_in self.old))
+            (S.holdings (spool_in self.new))
+            (S.kept (spool_in self.old)) (S.kept (spool_in self.new))
+            (node_in self.old) (node_in self.new) }
         ensures number { OnOk result
             (KeepsNumber (node_in self.old).engine (node_in self.new).engine) }
         ensures hears { OnOk result
@@ -84,6 +91,10 @@ impl<S: Spool + Drop, A: Allocator + Copy> BufferedNode<S, A> {
     pub fn time_out(&mut self) -> Result<(), AllocError>
         ensures jobs { KeepsJobs (S.kept (spool_in self.old)) (S.kept (spool_in self.new))
             (node_in self.old) (node_in self.new) }
+        ensures led { IsLed (S.holdings (spool_in self.old))
+            (S.holdings (spool_in self.new))
+            (S.kept (spool_in self.old)) (S.kept (spool_in self.new))
+            (node_in self.old) (node_in self.new) }
         ensures waits { OnOk result
             (Waits (injector_in self.old) (injector_in self.new) (to_write self.old) (to_write self.new)
             (node_in self.old) (node_in self.new)) }
@@ -100,6 +111,10 @@ impl<S: Spool + Drop, A: Allocator + Copy> BufferedNode<S, A> {
     /// There is nothing to be written or read any more: the session is over.
     pub fn hang_up(&mut self)
         ensures jobs { KeepsJobs (S.kept (spool_in self.old)) (S.kept (spool_in self.new))
+            (node_in self.old) (node_in self.new) }
+        ensures led { IsLed (S.holdings (spool_in self.old))
+            (S.holdings (spool_in self.new))
+            (S.kept (spool_in self.old)) (S.kept (spool_in self.new))
             (node_in self.old) (node_in self.new) }
         ensures over { IsEnded (node_in self.new).engine.stage }
         ensures number { KeepsNumber (node_in self.old).engine (node_in self.new).engine }
@@ -161,7 +176,8 @@ impl<S: Spool + Drop, A: Allocator + Copy> BufferedNode<S, A> {
         ensures sends { OnOk result
             (SendsOut (injector_in self.old) (injector_in self.new) (to_write self.old) (to_write self.new)
             (node_in self.old) (node_in self.new)) }
-        ensures dialogue { (node_in self.new).engine.dialogue ≡ (node_in self.old).engine.dialogue }
+        ensures engine { (node_in self.new).engine
+            ≡ with_outbox (node_in self.new).engine.outbox (node_in self.old).engine }
         ensures spool { spool_in self.new ≡ spool_in self.old }
     {
         add_outgoing(&mut self.outgoing, self.node.outbox(), &mut self.injector)?;

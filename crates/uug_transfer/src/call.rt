@@ -6,7 +6,7 @@ ghost use Rattle.uug_stream.specs.Streams.{CountsFault};
 ghost use Rattle.uug_folder.specs.JobsFile.{IsSettled, settled_by};
 ghost use Rattle.uug_folder.specs.NumberText.{IsNumberKept, holding_number};
 ghost use Rattle.uug_folder.specs.declared.rewrites.Rewrites.TheVariants.{IfAnyIsOver as if_any_is_over};
-ghost use Rattle.uug_transfer.specs.BufferedNodes.{node_in, spool_in, KeepsJobs};
+ghost use Rattle.uug_transfer.specs.BufferedNodes.{node_in, spool_in, IsLed, KeepsJobs};
 ghost use Rattle.uug_transfer.specs.EndOver.{HasFault, IsEndFault, IsPrinted, Leaves, UnlessDevice, fault_behind_line, files_of, UnlessMemory};
 ghost use Rattle.uug_transfer.specs.Ends.{jobs_of_end, number_of_end, phase_of_end, report_of, status_of_phase};
 ghost use Rattle.uug_transfer.specs.Received.{ReadsWithin};
@@ -45,6 +45,10 @@ where
     A: Allocator + Copy,
     ensures kept { KeepsJobs (S.kept (spool_in end.old.buffered))
         (S.kept (spool_in end.new.buffered))
+        (node_in end.old.buffered) (node_in end.new.buffered) }
+    ensures led { IsLed (S.holdings (spool_in end.old.buffered))
+        (S.holdings (spool_in end.new.buffered))
+        (S.kept (spool_in end.old.buffered)) (S.kept (spool_in end.new.buffered))
         (node_in end.old.buffered) (node_in end.new.buffered) }
     ensures over { IsEnded (node_in end.new.buffered).engine.stage }
     ensures within { ReadsWithin most SILENCES_MAX (L.received line.old) (L.received line.new) }

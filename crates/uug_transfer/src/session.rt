@@ -2,7 +2,7 @@
 ghost use Rattle.std.specs.Prelude.{◌≡◌, ◌≤◌, [], length, OnErr, OnOk};
 ghost use Rattle.uug_session.specs.Engine.{HasFailed, IsEnded};
 ghost use Rattle.uug_session.specs.NumberStanding.{KeepsNumber};
-ghost use Rattle.uug_transfer.specs.BufferedNodes.{injector_in, node_in, spool_in, to_write, KeepsJobs};
+ghost use Rattle.uug_transfer.specs.BufferedNodes.{injector_in, node_in, spool_in, to_write, IsLed, KeepsJobs};
 ghost use Rattle.uug_transfer.specs.ReadOutcomes.{IsWithin, TakesOutcome, UnlessRefused};
 ghost use Rattle.uug_transfer.specs.Received.{ReadsWithin};
 ghost use Rattle.uug_transfer.specs.Turns.{UnlessLineFailed};
@@ -28,6 +28,10 @@ pub fn run_session<S: Spool + Drop, L: EndLine, A: Allocator + Copy>(
 ) -> Result<(), TurnFault>
     ensures jobs { KeepsJobs (S.kept (spool_in buffered.old)) (S.kept (spool_in buffered.new))
         (node_in buffered.old) (node_in buffered.new) }
+    ensures led { IsLed (S.holdings (spool_in buffered.old))
+        (S.holdings (spool_in buffered.new))
+        (S.kept (spool_in buffered.old)) (S.kept (spool_in buffered.new))
+        (node_in buffered.old) (node_in buffered.new) }
     ensures number { UnlessRefused result
         (KeepsNumber (node_in buffered.old).engine (node_in buffered.new).engine) }
     ensures over { IsEnded (node_in buffered.new).engine.stage }
@@ -51,6 +55,10 @@ fn take_turns<S: Spool + Drop, L: EndLine, A: Allocator + Copy>(
     most: u64,
 ) -> Result<(), TurnFault>
     ensures jobs { KeepsJobs (S.kept (spool_in buffered.old)) (S.kept (spool_in buffered.new))
+        (node_in buffered.old) (node_in buffered.new) }
+    ensures led { IsLed (S.holdings (spool_in buffered.old))
+        (S.holdings (spool_in buffered.new))
+        (S.kept (spool_in buffered.old)) (S.kept (spool_in buffered.new))
         (node_in buffered.old) (node_in buffered.new) }
     ensures number { UnlessRefused result
         (KeepsNumber (node_in buffered.old).engine (node_in buffered.new).engine) }
@@ -106,6 +114,10 @@ fn take_outcome<S: Spool + Drop, A: Allocator + Copy>(
     requires within { IsWithin (length buffer.now) outcome }
     requires goes_on { IsEnded (node_in buffered.old).engine.stage → ⊥ }
     ensures jobs { KeepsJobs (S.kept (spool_in buffered.old)) (S.kept (spool_in buffered.new))
+        (node_in buffered.old) (node_in buffered.new) }
+    ensures led { IsLed (S.holdings (spool_in buffered.old))
+        (S.holdings (spool_in buffered.new))
+        (S.kept (spool_in buffered.old)) (S.kept (spool_in buffered.new))
         (node_in buffered.old) (node_in buffered.new) }
     ensures number { OnOk result
         (KeepsNumber (node_in buffered.old).engine (node_in buffered.new).engine) }

@@ -1,7 +1,7 @@
 //! Two ends take turns at a line.
 ghost use Rattle.std.specs.Prelude.{◌≡◌, ◌<◌, ◌≤◌, ◌↔◌, length, IsTrue, OnOk};
 ghost use Rattle.uug_session.specs.Engine.{HasFailed, IsEnded};
-ghost use Rattle.uug_transfer.specs.BufferedNodes.{node_in, spool_in, to_write, IsLate, KeepsJobs};
+ghost use Rattle.uug_transfer.specs.BufferedNodes.{node_in, spool_in, to_write, IsLate, IsLed, KeepsJobs};
 ghost use Rattle.uug_transfer.specs.Turns.{HasRoom, IsQuiet, UnlessLineFailed};
 
 use crate::buffered_node::BufferedNode;
@@ -24,6 +24,14 @@ pub fn run_turns<S: Spool + Drop, T: Spool + Drop, L: Line, A: Allocator + Copy>
     ensures caller_jobs { KeepsJobs (S.kept (spool_in caller.old)) (S.kept (spool_in caller.new))
         (node_in caller.old) (node_in caller.new) }
     ensures called_jobs { KeepsJobs (T.kept (spool_in called.old)) (T.kept (spool_in called.new))
+        (node_in called.old) (node_in called.new) }
+    ensures caller_led { IsLed (S.holdings (spool_in caller.old))
+        (S.holdings (spool_in caller.new))
+        (S.kept (spool_in caller.old)) (S.kept (spool_in caller.new))
+        (node_in caller.old) (node_in caller.new) }
+    ensures called_led { IsLed (T.holdings (spool_in called.old))
+        (T.holdings (spool_in called.new))
+        (T.kept (spool_in called.old)) (T.kept (spool_in called.new))
         (node_in called.old) (node_in called.new) }
     ensures caller_over { IsEnded (node_in caller.new).engine.stage }
     ensures called_over { IsEnded (node_in called.new).engine.stage }
@@ -49,6 +57,14 @@ fn take_turns<S: Spool + Drop, T: Spool + Drop, L: Line, A: Allocator + Copy>(
     ensures caller_jobs { KeepsJobs (S.kept (spool_in caller.old)) (S.kept (spool_in caller.new))
         (node_in caller.old) (node_in caller.new) }
     ensures called_jobs { KeepsJobs (T.kept (spool_in called.old)) (T.kept (spool_in called.new))
+        (node_in called.old) (node_in called.new) }
+    ensures caller_led { IsLed (S.holdings (spool_in caller.old))
+        (S.holdings (spool_in caller.new))
+        (S.kept (spool_in caller.old)) (S.kept (spool_in caller.new))
+        (node_in caller.old) (node_in caller.new) }
+    ensures called_led { IsLed (T.holdings (spool_in called.old))
+        (T.holdings (spool_in called.new))
+        (T.kept (spool_in called.old)) (T.kept (spool_in called.new))
         (node_in called.old) (node_in called.new) }
     ensures calm { UnlessLineFailed result (L.fault_count line.new ≡ L.fault_count line.old) }
     ensures fault { result ≡ Err TurnFault.Line
@@ -78,6 +94,14 @@ fn take_turn<S: Spool + Drop, T: Spool + Drop, L: Line, A: Allocator + Copy>(
         (node_in caller.old) (node_in caller.new) }
     ensures called_jobs { KeepsJobs (T.kept (spool_in called.old)) (T.kept (spool_in called.new))
         (node_in called.old) (node_in called.new) }
+    ensures caller_led { IsLed (S.holdings (spool_in caller.old))
+        (S.holdings (spool_in caller.new))
+        (S.kept (spool_in caller.old)) (S.kept (spool_in caller.new))
+        (node_in caller.old) (node_in caller.new) }
+    ensures called_led { IsLed (T.holdings (spool_in called.old))
+        (T.holdings (spool_in called.new))
+        (T.kept (spool_in called.old)) (T.kept (spool_in called.new))
+        (node_in called.old) (node_in called.new) }
     ensures caller_late { IsQuiet (L.unread line.old) (to_write caller.old) (to_write called.old)
         → OnOk result (IsLate (node_in caller.old) (node_in caller.new)) }
     ensures called_late { IsQuiet (L.unread line.old) (to_write caller.old) (to_write called.old)
@@ -106,6 +130,10 @@ fn time_out_with<S: Spool + Drop, T: Spool + Drop, A: Allocator + Copy>(
     ensures owner_spool { spool_in owner.new ≡ spool_in owner.old }
     ensures jobs { KeepsJobs (T.kept (spool_in buffered.old)) (T.kept (spool_in buffered.new))
         (node_in buffered.old) (node_in buffered.new) }
+    ensures led { IsLed (T.holdings (spool_in buffered.old))
+        (T.holdings (spool_in buffered.new))
+        (T.kept (spool_in buffered.old)) (T.kept (spool_in buffered.new))
+        (node_in buffered.old) (node_in buffered.new) }
     ensures late { OnOk result (IsLate (node_in buffered.old) (node_in buffered.new)) }
 {
     owner.exchange_injectors(buffered);
@@ -127,6 +155,10 @@ fn move_end_with<S: Spool + Drop, T: Spool + Drop, L: Line, A: Allocator + Copy>
     ensures owner { node_in owner.new ≡ node_in owner.old }
     ensures owner_spool { spool_in owner.new ≡ spool_in owner.old }
     ensures jobs { KeepsJobs (T.kept (spool_in buffered.old)) (T.kept (spool_in buffered.new))
+        (node_in buffered.old) (node_in buffered.new) }
+    ensures led { IsLed (T.holdings (spool_in buffered.old))
+        (T.holdings (spool_in buffered.new))
+        (T.kept (spool_in buffered.old)) (T.kept (spool_in buffered.new))
         (node_in buffered.old) (node_in buffered.new) }
     ensures room { OnOk result (HasRoom (L.unread line.new)) }
     ensures calm { UnlessLineFailed result (L.fault_count line.new ≡ L.fault_count line.old) }
@@ -160,6 +192,10 @@ fn move_end<S: Spool + Drop, L: Line, A: Allocator + Copy>(
     requires room { HasRoom (L.unread line.old) }
     requires buffer { 0 < length buffer.old }
     ensures jobs { KeepsJobs (S.kept (spool_in buffered.old)) (S.kept (spool_in buffered.new))
+        (node_in buffered.old) (node_in buffered.new) }
+    ensures led { IsLed (S.holdings (spool_in buffered.old))
+        (S.holdings (spool_in buffered.new))
+        (S.kept (spool_in buffered.old)) (S.kept (spool_in buffered.new))
         (node_in buffered.old) (node_in buffered.new) }
     ensures room { OnOk result (HasRoom (L.unread line.new)) }
     ensures calm { UnlessLineFailed result (L.fault_count line.new ≡ L.fault_count line.old) }
@@ -211,6 +247,10 @@ fn take_unread<S: Spool + Drop, L: Line, A: Allocator + Copy>(
     requires room { HasRoom (L.unread line.old) }
     requires buffer { 0 < length buffer.old }
     ensures jobs { KeepsJobs (S.kept (spool_in buffered.old)) (S.kept (spool_in buffered.new))
+        (node_in buffered.old) (node_in buffered.new) }
+    ensures led { IsLed (S.holdings (spool_in buffered.old))
+        (S.holdings (spool_in buffered.new))
+        (S.kept (spool_in buffered.old)) (S.kept (spool_in buffered.new))
         (node_in buffered.old) (node_in buffered.new) }
     ensures room { OnOk result (HasRoom (L.unread line.new)) }
     ensures all { OnOk result (L.unread line.new at ≡ 0) }

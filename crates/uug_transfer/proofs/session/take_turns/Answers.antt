@@ -3,12 +3,14 @@ use Rattle.uug_session.specs.Node.{NodeState}
 use Rattle.uug_transfer.specs.BufferedNodes.{node_in}
 use Rattle.uug_transfer.proofs.NumberLemmas.{later, same, unless_refused}
 use Rattle.uug_transfer.proofs.KeepingLemmas.{keeps_later, keeps_same}
+use Rattle.uug_transfer.proofs.LedLemmas.{led_kept, led_later, led_same}
 use Rattle.uug_transfer.proofs.ReceivedLemmas.{room_of, spends_at_start, spends_more, spends_same, within_then}
 use Rattle.uug_transfer.proofs.session.take_turns.Goals as goal
 
 pub loop-buffer-init : goal.loop-buffer-init
 loop-buffer-init g c = record {
   jobs = keeps_same _ _ (node_in c.args.buffered.now) (node_in c.args.buffered.now) refl refl;
+  led = led_same _ _ (node_in c.args.buffered.now);
   number = record { stands = λ number h. h };
   spends = spends_at_start _ _ _ _ c.new-budget.ensures.bytes c.new-budget.ensures.silences;
   calm = refl;
@@ -20,6 +22,10 @@ loop-buffer-preserved g c = record {
       (keeps_later _ _ _ _ _ _
       (keeps_same _ _ _ _ (ap (λ (n : NodeState). n.engine.dialogue) c.write_all.ensures.node)
       (ap g.S.Spool.kept c.write_all.ensures.spool)) c.take_outcome.ensures.jobs);
+  led = led_later _ _ _ _ _ _ _ _ _ c.loop-buffer.invariant.led
+      (led_later _ _ _ _ _ _ _ _ _
+      (led_kept g.S.Spool.holdings g.S.Spool.kept _ _ _ _ c.write_all.ensures.spool c.write_all.ensures.node)
+      c.take_outcome.ensures.led);
   number = later c.loop-buffer.invariant.number (later (same c.write_all.ensures.node) c.in_ok-take_outcome.ensures.number);
   spends = spends_same _ _ _ _ _ _ c.note.ensures.received
       (spends_more _ _ _ _ _ _ _ _ _ c.in_ok-outcome.outcome c.read.new.buffer
@@ -76,3 +82,10 @@ returns-in_err-take_outcome-clause-within g c =
 
 pub returns-clause-within : goal.returns-clause-within
 returns-clause-within g c = within_then _ _ _ _ _ c.loop-buffer.invariant.spends
+
+pub returns-in_err-take_outcome-clause-led : goal.returns-in_err-take_outcome-clause-led
+returns-in_err-take_outcome-clause-led g c =
+    led_later _ _ _ _ _ _ _ _ _ c.loop-buffer.invariant.led
+    (led_later _ _ _ _ _ _ _ _ _
+    (led_kept g.S.Spool.holdings g.S.Spool.kept _ _ _ _ c.write_all.ensures.spool c.write_all.ensures.node)
+    c.take_outcome.ensures.led)
