@@ -3,7 +3,7 @@ mod EventLemmas
 mod GoneLemmas
 mod HonestLemmas
 mod Joins
-mod LineEventLemmas
+pub mod LineEventLemmas
 mod MovedLemmas
 pub mod NodeRunLemmas
 mod StandsLemmas

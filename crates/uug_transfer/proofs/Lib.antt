@@ -4,6 +4,7 @@ pub mod KeepingLemmas
 pub mod LedLemmas
 pub mod LineNameFacts
 pub mod LineNameLemmas
+pub mod ListeningLemmas
 pub mod NumberLemmas
 pub mod OutgoingLemmas
 pub mod ReceivedLemmas

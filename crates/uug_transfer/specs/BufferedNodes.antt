@@ -73,6 +73,8 @@ LateStep before after = Does (stage_late before.number before.identity (dialogue
 pub record Waits (injector injector_after : FaultInjector) (bytes bytes_after : List ℕ) (before after : NodeState) : Type 0 where
   pub between : NodeState
   pub late : LateStep before.engine between.engine
+  pub texts : between.texts ≡ before.texts
+  pub packets : between.packets ≡ before.packets
   pub sends : SendsOut injector injector_after bytes bytes_after between after
 
 -- it has taken a timeout

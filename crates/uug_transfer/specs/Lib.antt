@@ -3,6 +3,7 @@ pub mod EndOver
 pub mod Ends
 pub mod FaultInjection
 pub mod LineNames
+pub mod Listening
 pub mod Outgoing
 pub mod ReadBudgets
 pub mod ReadOutcomes

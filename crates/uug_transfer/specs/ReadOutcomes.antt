@@ -34,8 +34,9 @@ abbrev pub TakesOutcome : (h : Holdings) (kept kept_after : List Kept) (failure 
 TakesOutcome h kept kept_after failure (Bytes n) buffer injector injector_after bytes bytes_after before after =
     Hears h kept kept_after failure (take n buffer) injector injector_after bytes bytes_after before after
 TakesOutcome h kept kept_after failure TimedOut buffer injector injector_after bytes bytes_after before after =
-    Waits injector injector_after bytes bytes_after before after
-TakesOutcome h kept kept_after failure Eof buffer injector injector_after bytes bytes_after before after = after ≡ before
+    Waits injector injector_after bytes bytes_after before after × (kept_after ≡ kept)
+TakesOutcome h kept kept_after failure Eof buffer injector injector_after bytes bytes_after before after =
+    (after ≡ before) × (kept_after ≡ kept)
 
 -- the fact, unless memory was refused
 abbrev pub UnlessRefused : {T : Type 0} → Result T TurnFault → Type 0 → Type 0

@@ -1,5 +1,6 @@
 ghost use Rattle.std.specs.Prelude.{◌≡◌, ◌≤◌, ◌↔◌, [], drop, length, IfOk, IsTrue, OnOk};
-ghost use Rattle.uug_session.specs.Engine.{HasFailed, IsEnded, with_outbox};
+ghost use Rattle.uug_conversation.specs.DialogueValue.{dialogue_has_parted};
+ghost use Rattle.uug_session.specs.Engine.{HasFailed, IsEnded, hung_up, with_outbox, with_stage};
 ghost use Rattle.uug_session.specs.Node.{node_of};
 ghost use Rattle.uug_session.specs.NumberStanding.{KeepsNumber};
 ghost use Rattle.uug_transfer.specs.Ends.{status_of};
@@ -116,6 +117,11 @@ impl<S: Spool + Drop, A: Allocator + Copy> BufferedNode<S, A> {
             (S.holdings (spool_in self.new))
             (S.kept (spool_in self.old)) (S.kept (spool_in self.new))
             (node_in self.old) (node_in self.new) }
+        ensures lost { (node_in self.new).engine
+            ≡ with_stage (hung_up (dialogue_has_parted (node_in self.old).engine.dialogue)
+            (node_in self.old).engine.stage) (node_in self.old).engine }
+        ensures bytes { ((node_in self.new).texts ≡ (node_in self.old).texts)
+            × ((node_in self.new).packets ≡ (node_in self.old).packets) }
         ensures over { IsEnded (node_in self.new).engine.stage }
         ensures number { KeepsNumber (node_in self.old).engine (node_in self.new).engine }
         ensures outgoing { to_write self.new ≡ to_write self.old }

@@ -9,6 +9,7 @@ ghost use Rattle.uug_folder.specs.declared.rewrites.Rewrites.TheVariants.{IfAnyI
 ghost use Rattle.uug_transfer.specs.BufferedNodes.{node_in, spool_in, IsLed, KeepsJobs};
 ghost use Rattle.uug_transfer.specs.EndOver.{HasFault, IsEndFault, IsPrinted, Leaves, UnlessDevice, fault_behind_line, files_of, UnlessMemory};
 ghost use Rattle.uug_transfer.specs.Ends.{jobs_of_end, number_of_end, phase_of_end, report_of, status_of_phase};
+ghost use Rattle.uug_transfer.specs.Listening.{HearsLine};
 ghost use Rattle.uug_transfer.specs.Received.{ReadsWithin};
 ghost use Rattle.uug_transfer.specs.declared.read_budget.TheConstants.{SILENCES_MAX};
 
@@ -50,6 +51,11 @@ where
         (S.holdings (spool_in end.new.buffered))
         (S.kept (spool_in end.old.buffered)) (S.kept (spool_in end.new.buffered))
         (node_in end.old.buffered) (node_in end.new.buffered) }
+    // What its line has brought, where the line tells that, led it there, and nothing else did.
+    ensures heard { UnlessMemory result (HearsLine (S.holdings (spool_in end.old.buffered))
+        (S.kept (spool_in end.old.buffered)) (S.kept (spool_in end.new.buffered))
+        (L.received line.old) (L.received line.new)
+        (node_in end.old.buffered) (node_in end.new.buffered)) }
     ensures over { IsEnded (node_in end.new.buffered).engine.stage }
     ensures within { ReadsWithin most SILENCES_MAX (L.received line.old) (L.received line.new) }
     // The file of jobs is as before, or has what is to stay of it.

@@ -3,6 +3,7 @@ ghost use Rattle.std.specs.Prelude.{◌≡◌, ◌≤◌, [], length, OnErr, OnO
 ghost use Rattle.uug_session.specs.Engine.{HasFailed, IsEnded};
 ghost use Rattle.uug_session.specs.NumberStanding.{KeepsNumber};
 ghost use Rattle.uug_transfer.specs.BufferedNodes.{injector_in, node_in, spool_in, to_write, IsLed, KeepsJobs};
+ghost use Rattle.uug_transfer.specs.Listening.{HearsLine};
 ghost use Rattle.uug_transfer.specs.ReadOutcomes.{IsWithin, TakesOutcome, UnlessRefused};
 ghost use Rattle.uug_transfer.specs.Received.{ReadsWithin};
 ghost use Rattle.uug_transfer.specs.Turns.{UnlessLineFailed};
@@ -35,6 +36,10 @@ pub fn run_session<S: Spool + Drop, L: EndLine, A: Allocator + Copy>(
     ensures number { UnlessRefused result
         (KeepsNumber (node_in buffered.old).engine (node_in buffered.new).engine) }
     ensures over { IsEnded (node_in buffered.new).engine.stage }
+    ensures heard { UnlessRefused result (HearsLine (S.holdings (spool_in buffered.old))
+        (S.kept (spool_in buffered.old)) (S.kept (spool_in buffered.new))
+        (L.received line.old) (L.received line.new)
+        (node_in buffered.old) (node_in buffered.new)) }
     ensures within { ReadsWithin most SILENCES_MAX (L.received line.old) (L.received line.new) }
     ensures calm { UnlessLineFailed result (L.fault_count line.new ≡ L.fault_count line.old) }
     ensures fault { result ≡ Err TurnFault.Line
@@ -62,6 +67,10 @@ fn take_turns<S: Spool + Drop, L: EndLine, A: Allocator + Copy>(
         (node_in buffered.old) (node_in buffered.new) }
     ensures number { UnlessRefused result
         (KeepsNumber (node_in buffered.old).engine (node_in buffered.new).engine) }
+    ensures heard { UnlessRefused result (HearsLine (S.holdings (spool_in buffered.old))
+        (S.kept (spool_in buffered.old)) (S.kept (spool_in buffered.new))
+        (L.received line.old) (L.received line.new)
+        (node_in buffered.old) (node_in buffered.new)) }
     ensures within { ReadsWithin most SILENCES_MAX (L.received line.old) (L.received line.new) }
     ensures calm { UnlessLineFailed result (L.fault_count line.new ≡ L.fault_count line.old) }
     ensures fault { result ≡ Err TurnFault.Line

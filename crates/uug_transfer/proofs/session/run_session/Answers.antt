@@ -1,7 +1,9 @@
+use Rattle.std.proofs.Common.{ap}
 use Rattle.uug_transfer.specs.BufferedNodes.{node_in}
 use Rattle.uug_transfer.proofs.NumberLemmas.{later_unless}
 use Rattle.uug_transfer.proofs.KeepingLemmas.{keeps_later}
 use Rattle.uug_transfer.proofs.LedLemmas.{led_later}
+use Rattle.uug_transfer.proofs.ListeningLemmas.{heard_then, hears_lost}
 use Rattle.uug_transfer.proofs.session.run_session.Goals as goal
 
 pub returns-clause-jobs : goal.returns-clause-jobs
@@ -12,3 +14,8 @@ returns-clause-number g c = later_unless c.take_turns-result.result (node_in c.a
 
 pub returns-clause-led : goal.returns-clause-led
 returns-clause-led g c = led_later _ _ _ _ _ _ _ _ _ c.take_turns-result.ensures.led c.hang_up.ensures.led
+
+pub returns-clause-heard : goal.returns-clause-heard
+returns-clause-heard g c =
+    heard_then c.take_turns-result.result _ _ c.take_turns-result.ensures.heard
+    (λ heard. hears_lost _ _ _ _ _ _ _ _ _ _ heard c.hang_up.ensures.lost (ap g.S.Spool.kept c.hang_up.ensures.spool) c.note.ensures.received)

@@ -4,6 +4,7 @@ use Rattle.uug_transfer.specs.BufferedNodes.{node_in}
 use Rattle.uug_transfer.proofs.NumberLemmas.{later, same, unless_refused}
 use Rattle.uug_transfer.proofs.KeepingLemmas.{keeps_later, keeps_same}
 use Rattle.uug_transfer.proofs.LedLemmas.{led_kept, led_later, led_same}
+use Rattle.uug_transfer.proofs.ListeningLemmas.{front_read, hears_at_first, hears_read, hears_same}
 use Rattle.uug_transfer.proofs.ReceivedLemmas.{room_of, spends_at_start, spends_more, spends_same, within_then}
 use Rattle.uug_transfer.proofs.session.take_turns.Goals as goal
 
@@ -11,6 +12,7 @@ pub loop-buffer-init : goal.loop-buffer-init
 loop-buffer-init g c = record {
   jobs = keeps_same _ _ (node_in c.args.buffered.now) (node_in c.args.buffered.now) refl refl;
   led = led_same _ _ (node_in c.args.buffered.now);
+  heard = hears_at_first _ _ _ (node_in c.args.buffered.now);
   number = record { stands = λ number h. h };
   spends = spends_at_start _ _ _ _ c.new-budget.ensures.bytes c.new-budget.ensures.silences;
   calm = refl;
@@ -26,6 +28,14 @@ loop-buffer-preserved g c = record {
       (led_later _ _ _ _ _ _ _ _ _
       (led_kept g.S.Spool.holdings g.S.Spool.kept _ _ _ _ c.write_all.ensures.spool c.write_all.ensures.node)
       c.take_outcome.ensures.led);
+  heard = hears_same _ _ _ _ _ _ _ _ _ _
+      (hears_read _ _ _ _ _ _ c.in_ok-outcome.outcome c.read.new.buffer _ _ _ _ _ _ _ _ _ _ _
+      (ap g.S.Spool.holdings c.write_all.ensures.spool ∙ c.loop-buffer.invariant.led.same)
+      (hears_same _ _ _ _ _ _ _ _ _ _ c.loop-buffer.invariant.heard c.write_all.ensures.node
+      (ap g.S.Spool.kept c.write_all.ensures.spool) c.write_all.ensures.received)
+      c.in_ok-take_outcome.ensures.takes c.in_ok-outcome.ensures.received
+      (front_read c.in_ok-outcome.outcome c.read.new.buffer _ _ c.in_ok-outcome.ensures.within (omega (arith, c.in_ok-outcome.ensures.size))))
+      refl refl c.note.ensures.received;
   number = later c.loop-buffer.invariant.number (later (same c.write_all.ensures.node) c.in_ok-take_outcome.ensures.number);
   spends = spends_same _ _ _ _ _ _ c.note.ensures.received
       (spends_more _ _ _ _ _ _ _ _ _ c.in_ok-outcome.outcome c.read.new.buffer
@@ -89,3 +99,20 @@ returns-in_err-take_outcome-clause-led g c =
     (led_later _ _ _ _ _ _ _ _ _
     (led_kept g.S.Spool.holdings g.S.Spool.kept _ _ _ _ c.write_all.ensures.spool c.write_all.ensures.node)
     c.take_outcome.ensures.led)
+
+pub returns-in_err-write_all-clause-heard : goal.returns-in_err-write_all-clause-heard
+returns-in_err-write_all-clause-heard g c =
+    unless_refused _ _
+    (hears_same _ _ _ _ _ _ _ _ _ _ c.loop-buffer.invariant.heard c.write_all.ensures.node
+    (ap g.S.Spool.kept c.write_all.ensures.spool) c.write_all.ensures.received)
+
+pub returns-then-has_ended-clause-heard : goal.returns-then-has_ended-clause-heard
+returns-then-has_ended-clause-heard g c =
+    hears_same _ _ _ _ _ _ _ _ _ _ c.loop-buffer.invariant.heard c.write_all.ensures.node
+    (ap g.S.Spool.kept c.write_all.ensures.spool) c.write_all.ensures.received
+
+pub returns-in_err-outcome-clause-heard : goal.returns-in_err-outcome-clause-heard
+returns-in_err-outcome-clause-heard g c =
+    unless_refused _ _
+    (hears_same _ _ _ _ _ _ _ _ _ _ c.loop-buffer.invariant.heard c.write_all.ensures.node
+    (ap g.S.Spool.kept c.write_all.ensures.spool) (c.in_err-outcome.ensures.nothing ∙ c.write_all.ensures.received))

@@ -1,0 +1,28 @@
+-- That what a line has brought led its end, and nothing else did (this project's profile).
+use Rattle.std.specs.Prelude.{◌≡◌, List, [], ◌∷◌, ◌++◌, Option, Some, None}
+use Rattle.uug_conversation.specs.Holdings.{Holdings, Kept}
+use Rattle.uug_session.specs.EndStep.{Emitted}
+use Rattle.uug_session.specs.Node.{NodeState}
+use Rattle.uug_ends.specs.LineEvents.{HasListened, LineEvent, brings_bytes, brings_nothing, is_at_end, is_left}
+use Rattle.uug_transfer.specs.Received.{Received, line_end, piece, silence}
+
+-- what reads bring, of what comes at a line: an end that hangs up reads nothing
+abbrev pub reads_in : List LineEvent → List Received
+reads_in [] = []
+reads_in (brings_bytes bytes failures ∷ es) = piece bytes ∷ reads_in es
+reads_in (brings_nothing ∷ es) = silence ∷ reads_in es
+reads_in (is_at_end ∷ es) = line_end ∷ reads_in es
+reads_in (is_left ∷ es) = reads_in es
+
+-- where a line tells what it has brought, these came last
+abbrev pub all_received : List Received → Option (List Received) → Option (List Received)
+all_received more None = None
+all_received more (Some rs) = Some (rs ++ more)
+
+-- Just what the line has brought since came to the end, and was taken up; the end has emitted this by it, and may have hung up.
+pub record HearsLine (h : Holdings) (kept kept_after : List Kept) (received received_after : Option (List Received))
+    (before after : NodeState) : Type 0 where
+  pub events : List LineEvent
+  pub says : List Emitted
+  pub listened : HasListened h kept kept_after events says before after
+  pub told : received_after ≡ all_received (reads_in events) received
