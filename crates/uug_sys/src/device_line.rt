@@ -122,6 +122,8 @@ impl<A: Allocator + Copy> EndLine for DeviceLine<A> {
 
     ghost received = { λ _. None };
 
+    ghost taken = { λ _. None };
+
     fn write(&mut self, piece: &[u8]) -> Result<usize, LineFailed> {
         match write_in_time(&mut self.file, &mut self.waiting, piece) {
             Ok(count) if count > 0 => Ok(count),

@@ -27,6 +27,8 @@ impl<T: Read + Write> EndLine for StreamLine<T> {
 
     ghost received = { λ _. None };
 
+    ghost taken = { λ _. None };
+
     fn write(&mut self, piece: &[u8]) -> Result<usize, LineFailed> {
         match self.stream.write(piece) {
             Ok(count) if count > 0 => Ok(count),

@@ -9,3 +9,4 @@ pub mod ReadBudgets
 pub mod ReadOutcomes
 pub mod Received
 pub mod Turns
+pub mod Writing

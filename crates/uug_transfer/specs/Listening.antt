@@ -20,9 +20,14 @@ all_received more None = None
 all_received more (Some rs) = Some (rs ++ more)
 
 -- Just what the line has brought since came to the end, and was taken up; the end has emitted this by it, and may have hung up.
-pub record HearsLine (h : Holdings) (kept kept_after : List Kept) (received received_after : Option (List Received))
-    (before after : NodeState) : Type 0 where
+pub record HearsSaying (h : Holdings) (kept kept_after : List Kept) (received received_after : Option (List Received))
+    (says : List Emitted) (before after : NodeState) : Type 0 where
   pub events : List LineEvent
-  pub says : List Emitted
   pub listened : HasListened h kept kept_after events says before after
   pub told : received_after ≡ all_received (reads_in events) received
+
+-- whatever it has emitted
+pub record HearsLine (h : Holdings) (kept kept_after : List Kept) (received received_after : Option (List Received))
+    (before after : NodeState) : Type 0 where
+  pub says : List Emitted
+  pub heard : HearsSaying h kept kept_after received received_after says before after

@@ -36,7 +36,7 @@ TakesOutcome h kept kept_after failure (Bytes n) buffer injector injector_after 
 TakesOutcome h kept kept_after failure TimedOut buffer injector injector_after bytes bytes_after before after =
     Waits injector injector_after bytes bytes_after before after × (kept_after ≡ kept)
 TakesOutcome h kept kept_after failure Eof buffer injector injector_after bytes bytes_after before after =
-    (after ≡ before) × (kept_after ≡ kept)
+    (after ≡ before) × (kept_after ≡ kept) × (injector_after ≡ injector) × (bytes_after ≡ bytes)
 
 -- the fact, unless memory was refused
 abbrev pub UnlessRefused : {T : Type 0} → Result T TurnFault → Type 0 → Type 0

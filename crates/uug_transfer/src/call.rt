@@ -1,16 +1,17 @@
 //! One end at its line, from its first turn to the report.
-ghost use Rattle.std.specs.Prelude.{◌≡◌, ◌≤◌, ◌⊎◌, IfErr, IfOk, OnOk};
+ghost use Rattle.std.specs.Prelude.{◌≡◌, ◌≤◌, ◌⊎◌, [], IfErr, IfOk, OnOk};
 ghost use Rattle.uug_session.specs.Engine.{HasFailed, IsEnded};
 ghost use Rattle.uug_session.specs.NumberStanding.{KeepsNumber};
 ghost use Rattle.uug_stream.specs.Streams.{CountsFault};
 ghost use Rattle.uug_folder.specs.JobsFile.{IsSettled, settled_by};
 ghost use Rattle.uug_folder.specs.NumberText.{IsNumberKept, holding_number};
 ghost use Rattle.uug_folder.specs.declared.rewrites.Rewrites.TheVariants.{IfAnyIsOver as if_any_is_over};
-ghost use Rattle.uug_transfer.specs.BufferedNodes.{node_in, spool_in, IsLed, KeepsJobs};
+ghost use Rattle.uug_transfer.specs.BufferedNodes.{injector_in, node_in, spool_in, to_write, IsLed, KeepsJobs};
 ghost use Rattle.uug_transfer.specs.EndOver.{HasFault, IsEndFault, IsPrinted, Leaves, UnlessDevice, fault_behind_line, files_of, UnlessMemory};
 ghost use Rattle.uug_transfer.specs.Ends.{jobs_of_end, number_of_end, phase_of_end, report_of, status_of_phase};
 ghost use Rattle.uug_transfer.specs.Listening.{HearsLine};
 ghost use Rattle.uug_transfer.specs.Received.{ReadsWithin};
+ghost use Rattle.uug_transfer.specs.Writing.{TalksAtLine};
 ghost use Rattle.uug_transfer.specs.declared.read_budget.TheConstants.{SILENCES_MAX};
 
 use crate::call_plan::CallPlan;
@@ -55,6 +56,15 @@ where
     ensures heard { UnlessMemory result (HearsLine (S.holdings (spool_in end.old.buffered))
         (S.kept (spool_in end.old.buffered)) (S.kept (spool_in end.new.buffered))
         (L.received line.old) (L.received line.new)
+        (node_in end.old.buffered) (node_in end.new.buffered)) }
+    // The line has taken, where it tells that, the first bytes of what there was to write: what was to be written before, and
+    // then what goes out of what the end has emitted by what its line brought.
+    ensures talked { (node_in end.old.buffered).engine.outbox.entries ≡ [] → UnlessMemory result
+        (TalksAtLine (S.holdings (spool_in end.old.buffered))
+        (S.kept (spool_in end.old.buffered)) (S.kept (spool_in end.new.buffered))
+        (L.received line.old) (L.received line.new)
+        (injector_in end.old.buffered) (to_write end.old.buffered)
+        (L.taken line.old) (L.taken line.new)
         (node_in end.old.buffered) (node_in end.new.buffered)) }
     ensures over { IsEnded (node_in end.new.buffered).engine.stage }
     ensures within { ReadsWithin most SILENCES_MAX (L.received line.old) (L.received line.new) }

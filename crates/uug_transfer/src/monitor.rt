@@ -32,6 +32,7 @@ impl<L: EndLine, O: SessionObserver> LineMonitor<L, O> {
     pub fn new(line: L, observer: O) -> Self
         ensures faults { ⟦<LineMonitor<L, O> as EndLine>⟧.fault_count result ≡ L.fault_count line }
         ensures received { ⟦<LineMonitor<L, O> as EndLine>⟧.received result ≡ L.received line }
+        ensures taken { ⟦<LineMonitor<L, O> as EndLine>⟧.taken result ≡ L.taken line }
     {
         LineMonitor { line, observer }
     }
@@ -41,6 +42,8 @@ impl<L: EndLine, O: SessionObserver> EndLine for LineMonitor<L, O> {
     ghost fault_count = { λ monitor. L.fault_count monitor.line };
 
     ghost received = { λ monitor. L.received monitor.line };
+
+    ghost taken = { λ monitor. L.taken monitor.line };
 
     fn write(&mut self, piece: &[u8]) -> Result<usize, LineFailed> {
         let count = self.line.write(piece)?;

@@ -7,6 +7,7 @@ ghost use Rattle.uug_transfer.specs.Listening.{HearsLine};
 ghost use Rattle.uug_transfer.specs.ReadOutcomes.{IsWithin, TakesOutcome, UnlessRefused};
 ghost use Rattle.uug_transfer.specs.Received.{ReadsWithin};
 ghost use Rattle.uug_transfer.specs.Turns.{UnlessLineFailed};
+ghost use Rattle.uug_transfer.specs.Writing.{TakesFront, TalksAtLine, also_taken};
 ghost use Rattle.uug_transfer.specs.declared.read_budget.TheConstants.{SILENCES_MAX};
 
 use crate::buffered_node::BufferedNode;
@@ -40,6 +41,13 @@ pub fn run_session<S: Spool + Drop, L: EndLine, A: Allocator + Copy>(
         (S.kept (spool_in buffered.old)) (S.kept (spool_in buffered.new))
         (L.received line.old) (L.received line.new)
         (node_in buffered.old) (node_in buffered.new)) }
+    ensures talked { (node_in buffered.old).engine.outbox.entries ≡ [] → UnlessRefused result
+        (TalksAtLine (S.holdings (spool_in buffered.old))
+        (S.kept (spool_in buffered.old)) (S.kept (spool_in buffered.new))
+        (L.received line.old) (L.received line.new)
+        (injector_in buffered.old) (to_write buffered.old)
+        (L.taken line.old) (L.taken line.new)
+        (node_in buffered.old) (node_in buffered.new)) }
     ensures within { ReadsWithin most SILENCES_MAX (L.received line.old) (L.received line.new) }
     ensures calm { UnlessLineFailed result (L.fault_count line.new ≡ L.fault_count line.old) }
     ensures fault { result ≡ Err TurnFault.Line
@@ -71,6 +79,13 @@ fn take_turns<S: Spool + Drop, L: EndLine, A: Allocator + Copy>(
         (S.kept (spool_in buffered.old)) (S.kept (spool_in buffered.new))
         (L.received line.old) (L.received line.new)
         (node_in buffered.old) (node_in buffered.new)) }
+    ensures talked { (node_in buffered.old).engine.outbox.entries ≡ [] → UnlessRefused result
+        (TalksAtLine (S.holdings (spool_in buffered.old))
+        (S.kept (spool_in buffered.old)) (S.kept (spool_in buffered.new))
+        (L.received line.old) (L.received line.new)
+        (injector_in buffered.old) (to_write buffered.old)
+        (L.taken line.old) (L.taken line.new)
+        (node_in buffered.old) (node_in buffered.new)) }
     ensures within { ReadsWithin most SILENCES_MAX (L.received line.old) (L.received line.new) }
     ensures calm { UnlessLineFailed result (L.fault_count line.new ≡ L.fault_count line.old) }
     ensures fault { result ≡ Err TurnFault.Line
@@ -100,8 +115,13 @@ fn write_all<S: Spool + Drop, L: EndLine, A: Allocator + Copy>(
 ) -> Result<(), LineFailed>
     ensures node { node_in buffered.new ≡ node_in buffered.old }
     ensures spool { spool_in buffered.new ≡ spool_in buffered.old }
+    ensures injector { injector_in buffered.new ≡ injector_in buffered.old }
     ensures all { OnOk result (to_write buffered.new ≡ []) }
     ensures received { L.received line.new ≡ L.received line.old }
+    ensures taken { OnOk result (L.taken line.new
+        ≡ also_taken (to_write buffered.old) (L.taken line.old)) }
+    ensures taken_some { OnErr result (TakesFront (to_write buffered.old)
+        (L.taken line.old) (L.taken line.new)) }
     ensures calm { OnOk result (L.fault_count line.new ≡ L.fault_count line.old) }
     ensures fault { OnErr result
         (HasFailed u64.MAX (L.fault_count line.old) (L.fault_count line.new)) }

@@ -63,6 +63,8 @@ impl EndLine for ScriptedLine {
 
     ghost received = { λ _. None };
 
+    ghost taken = { λ _. None };
+
     fn write(&mut self, piece: &[u8]) -> Result<usize, LineFailed> {
         if self.fails() {
             self.faults = self.faults.saturating_add(1);

@@ -3,7 +3,7 @@ use Rattle.uug_transfer.specs.BufferedNodes.{node_in}
 use Rattle.uug_transfer.proofs.NumberLemmas.{later_unless}
 use Rattle.uug_transfer.proofs.KeepingLemmas.{keeps_later}
 use Rattle.uug_transfer.proofs.LedLemmas.{led_later}
-use Rattle.uug_transfer.proofs.ListeningLemmas.{heard_then, hears_lost}
+use Rattle.uug_transfer.proofs.ListeningLemmas.{heard_then, line_lost, talks_lost}
 use Rattle.uug_transfer.proofs.session.run_session.Goals as goal
 
 pub returns-clause-jobs : goal.returns-clause-jobs
@@ -18,4 +18,10 @@ returns-clause-led g c = led_later _ _ _ _ _ _ _ _ _ c.take_turns-result.ensures
 pub returns-clause-heard : goal.returns-clause-heard
 returns-clause-heard g c =
     heard_then c.take_turns-result.result _ _ c.take_turns-result.ensures.heard
-    (λ heard. hears_lost _ _ _ _ _ _ _ _ _ _ heard c.hang_up.ensures.lost (ap g.S.Spool.kept c.hang_up.ensures.spool) c.note.ensures.received)
+    (λ heard. line_lost _ _ _ _ _ _ _ _ _ _ heard c.hang_up.ensures.lost (ap g.S.Spool.kept c.hang_up.ensures.spool) c.note.ensures.received)
+
+pub returns-clause-talked : goal.returns-clause-talked
+returns-clause-talked g c cleared =
+    heard_then c.take_turns-result.result _ _ (c.take_turns-result.ensures.talked cleared)
+    (λ talked. talks_lost _ _ _ _ _ _ _ _ _ _ _ _ _ _ _ talked c.hang_up.ensures.lost (ap g.S.Spool.kept c.hang_up.ensures.spool)
+    c.note.ensures.received c.note.ensures.taken)

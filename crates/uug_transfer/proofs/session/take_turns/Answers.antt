@@ -4,7 +4,7 @@ use Rattle.uug_transfer.specs.BufferedNodes.{node_in}
 use Rattle.uug_transfer.proofs.NumberLemmas.{later, same, unless_refused}
 use Rattle.uug_transfer.proofs.KeepingLemmas.{keeps_later, keeps_same}
 use Rattle.uug_transfer.proofs.LedLemmas.{led_kept, led_later, led_same}
-use Rattle.uug_transfer.proofs.ListeningLemmas.{front_read, hears_at_first, hears_read, hears_same}
+use Rattle.uug_transfer.proofs.ListeningLemmas.{front_read, line_at_first, line_read, line_same, talks_at_first, talks_noted, talks_over, talks_read, talks_some, talks_written}
 use Rattle.uug_transfer.proofs.ReceivedLemmas.{room_of, spends_at_start, spends_more, spends_same, within_then}
 use Rattle.uug_transfer.proofs.session.take_turns.Goals as goal
 
@@ -12,7 +12,8 @@ pub loop-buffer-init : goal.loop-buffer-init
 loop-buffer-init g c = record {
   jobs = keeps_same _ _ (node_in c.args.buffered.now) (node_in c.args.buffered.now) refl refl;
   led = led_same _ _ (node_in c.args.buffered.now);
-  heard = hears_at_first _ _ _ (node_in c.args.buffered.now);
+  heard = line_at_first _ _ _ (node_in c.args.buffered.now);
+  talks = λ cleared. talks_at_first _ _ _ _ _ _ (node_in c.args.buffered.now) cleared;
   number = record { stands = λ number h. h };
   spends = spends_at_start _ _ _ _ c.new-budget.ensures.bytes c.new-budget.ensures.silences;
   calm = refl;
@@ -28,14 +29,24 @@ loop-buffer-preserved g c = record {
       (led_later _ _ _ _ _ _ _ _ _
       (led_kept g.S.Spool.holdings g.S.Spool.kept _ _ _ _ c.write_all.ensures.spool c.write_all.ensures.node)
       c.take_outcome.ensures.led);
-  heard = hears_same _ _ _ _ _ _ _ _ _ _
-      (hears_read _ _ _ _ _ _ c.in_ok-outcome.outcome c.read.new.buffer _ _ _ _ _ _ _ _ _ _ _
+  heard = line_same _ _ _ _ _ _ _ _ _ _
+      (line_read _ _ _ _ _ _ c.in_ok-outcome.outcome c.read.new.buffer _ _ _ _ _ _ _ _ _ _ _
       (ap g.S.Spool.holdings c.write_all.ensures.spool ∙ c.loop-buffer.invariant.led.same)
-      (hears_same _ _ _ _ _ _ _ _ _ _ c.loop-buffer.invariant.heard c.write_all.ensures.node
+      (line_same _ _ _ _ _ _ _ _ _ _ c.loop-buffer.invariant.heard c.write_all.ensures.node
       (ap g.S.Spool.kept c.write_all.ensures.spool) c.write_all.ensures.received)
       c.in_ok-take_outcome.ensures.takes c.in_ok-outcome.ensures.received
       (front_read c.in_ok-outcome.outcome c.read.new.buffer _ _ c.in_ok-outcome.ensures.within (omega (arith, c.in_ok-outcome.ensures.size))))
       refl refl c.note.ensures.received;
+  talks = λ cleared. talks_noted _ _ _ _ _ _ _ _ _ _ _ _ _ _ _
+      (talks_read _ _ _ _ _ _ c.in_ok-outcome.outcome c.read.new.buffer _ _ _ _ _ _ _ _ _ _ _ _ _ _ _ _
+      (ap g.S.Spool.holdings c.write_all.ensures.spool ∙ c.loop-buffer.invariant.led.same)
+      (talks_written _ _ _ _ _ _ _ _ _ _ _ _ _ _ _ _ _ _ _ (c.loop-buffer.invariant.talks cleared) c.write_all.ensures.node
+      (ap g.S.Spool.kept c.write_all.ensures.spool) c.write_all.ensures.received c.write_all.ensures.injector
+      c.in_ok-write_all.ensures.all c.in_ok-write_all.ensures.taken)
+      c.in_ok-take_outcome.ensures.takes c.in_ok-outcome.ensures.received
+      (front_read c.in_ok-outcome.outcome c.read.new.buffer _ _ c.in_ok-outcome.ensures.within (omega (arith, c.in_ok-outcome.ensures.size)))
+      c.in_ok-outcome.ensures.taken)
+      c.note.ensures.received c.note.ensures.taken;
   number = later c.loop-buffer.invariant.number (later (same c.write_all.ensures.node) c.in_ok-take_outcome.ensures.number);
   spends = spends_same _ _ _ _ _ _ c.note.ensures.received
       (spends_more _ _ _ _ _ _ _ _ _ c.in_ok-outcome.outcome c.read.new.buffer
@@ -103,16 +114,42 @@ returns-in_err-take_outcome-clause-led g c =
 pub returns-in_err-write_all-clause-heard : goal.returns-in_err-write_all-clause-heard
 returns-in_err-write_all-clause-heard g c =
     unless_refused _ _
-    (hears_same _ _ _ _ _ _ _ _ _ _ c.loop-buffer.invariant.heard c.write_all.ensures.node
+    (line_same _ _ _ _ _ _ _ _ _ _ c.loop-buffer.invariant.heard c.write_all.ensures.node
     (ap g.S.Spool.kept c.write_all.ensures.spool) c.write_all.ensures.received)
 
 pub returns-then-has_ended-clause-heard : goal.returns-then-has_ended-clause-heard
 returns-then-has_ended-clause-heard g c =
-    hears_same _ _ _ _ _ _ _ _ _ _ c.loop-buffer.invariant.heard c.write_all.ensures.node
+    line_same _ _ _ _ _ _ _ _ _ _ c.loop-buffer.invariant.heard c.write_all.ensures.node
     (ap g.S.Spool.kept c.write_all.ensures.spool) c.write_all.ensures.received
 
 pub returns-in_err-outcome-clause-heard : goal.returns-in_err-outcome-clause-heard
 returns-in_err-outcome-clause-heard g c =
     unless_refused _ _
-    (hears_same _ _ _ _ _ _ _ _ _ _ c.loop-buffer.invariant.heard c.write_all.ensures.node
+    (line_same _ _ _ _ _ _ _ _ _ _ c.loop-buffer.invariant.heard c.write_all.ensures.node
     (ap g.S.Spool.kept c.write_all.ensures.spool) (c.in_err-outcome.ensures.nothing ∙ c.write_all.ensures.received))
+
+pub returns-in_err-write_all-clause-talked : goal.returns-in_err-write_all-clause-talked
+returns-in_err-write_all-clause-talked g c cleared =
+    unless_refused _ _
+    (talks_some _ _ _ _ _ _ _ _ _ _ _ _ _ _ _ _ _ (c.loop-buffer.invariant.talks cleared) c.write_all.ensures.node
+    (ap g.S.Spool.kept c.write_all.ensures.spool) c.write_all.ensures.received c.in_err-write_all.ensures.taken_some)
+
+pub returns-then-has_ended-clause-talked : goal.returns-then-has_ended-clause-talked
+returns-then-has_ended-clause-talked g c cleared =
+    talks_over _ _ _ _ _ _ _ _ _ _ _ _ _ _ _ _ _
+    (talks_written _ _ _ _ _ _ _ _ _ _ _ _ _ _ _ _ _ _ _ (c.loop-buffer.invariant.talks cleared) c.write_all.ensures.node
+    (ap g.S.Spool.kept c.write_all.ensures.spool) c.write_all.ensures.received c.write_all.ensures.injector
+    c.in_ok-write_all.ensures.all c.in_ok-write_all.ensures.taken) refl refl refl refl
+
+pub returns-in_err-outcome-clause-talked : goal.returns-in_err-outcome-clause-talked
+returns-in_err-outcome-clause-talked g c cleared =
+    unless_refused _ _
+    (talks_over _ _ _ _ _ _ _ _ _ _ _ _ _ _ _ _ _
+    (talks_written _ _ _ _ _ _ _ _ _ _ _ _ _ _ _ _ _ _ _ (c.loop-buffer.invariant.talks cleared) c.write_all.ensures.node
+    (ap g.S.Spool.kept c.write_all.ensures.spool) c.write_all.ensures.received c.write_all.ensures.injector
+    c.in_ok-write_all.ensures.all c.in_ok-write_all.ensures.taken) refl refl
+    c.in_err-outcome.ensures.nothing c.read.ensures.taken)
+
+pub returns-clause-talked : goal.returns-clause-talked
+returns-clause-talked g c cleared =
+    talks_over _ _ _ _ _ _ _ _ _ _ _ _ _ _ _ _ _ (c.loop-buffer.invariant.talks cleared) refl refl refl refl
