@@ -9,12 +9,12 @@ ghost use Rattle.uug_conversation.specs.declared.side.Side.{Side};
 ghost use Rattle.uug_ends.specs.Beginnings.{AreSound, EndBeginning, identity_of};
 ghost use Rattle.uug_ends.specs.Gone.{FileWasKept, IsGone};
 ghost use Rattle.uug_ends.specs.LineEvents.{HasListened, IsLedByLine, LineEvent};
-ghost use Rattle.uug_ends.specs.NodeRuns.{BeginsAsEnd, IsLedByEvents};
+ghost use Rattle.uug_ends.specs.NodeRuns.{BeginsAsEnd, HasRun, IsLedByEvents};
 ghost use Rattle.uug_ends.specs.TwoCourses.{EventAt, KeepsPromises, NoneIsFooled};
 ghost use Rattle.uug_ends.specs.TwoNodes.{HaveRun, Stands, holdings_at, kept_at, kept_by_both, lists_of, struck_at};
 ghost use Rattle.uug_link.specs.Entries.{EntryValue};
 ghost use Rattle.uug_session.specs.EndStep.{Emitted};
-ghost use Rattle.uug_session.specs.Engine.{BeginsSession};
+ghost use Rattle.uug_session.specs.Engine.{BeginsSession, with_outbox};
 ghost use Rattle.uug_session.specs.Node.{NodeState};
 ghost use Rattle.uug_session.specs.NodeCalls.{Beside, Make, NodeCall};
 
@@ -46,6 +46,21 @@ pub fn a_node_begins_as_an_end()
     ensures { (side : Side) (b : EndBeginning) (entries : List EntryValue) (n : NodeState)
         → BeginsSession (identity_of side b) b.own b.number b.lists entries n.engine
         → BeginsAsEnd side b n }
+{}
+
+/// Events that lead a node on follow those that led it there, and where just its outbox was cleared there are none. So a node
+/// that began a session, and was led on from there, has run it up to where it is.
+pub fn events_follow_events()
+    ensures later { (h : Holdings) (kept kept_between kept_after : List Kept)
+        (before between after : NodeState) → IsLedByEvents h kept kept_between before between
+        → IsLedByEvents h kept_between kept_after between after
+        → IsLedByEvents h kept kept_after before after }
+    ensures cleared { (h : Holdings) (kept : List Kept) (before after : NodeState)
+        → after.engine ≡ with_outbox after.engine.outbox before.engine
+        → IsLedByEvents h kept kept before after }
+    ensures runs { (side : Side) (b : EndBeginning) (kept : List Kept) (first now : NodeState)
+        → BeginsAsEnd side b first → IsLedByEvents b.holdings b.kept kept first now
+        → HasRun side b kept now }
 {}
 
 /// Two nodes that some events led, each beside its spool, are two ends that are told by these events; so where in some order of
