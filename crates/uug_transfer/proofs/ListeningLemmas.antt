@@ -2,7 +2,6 @@
 use Rattle.std.proofs.Common.{◌≡◌, ℕ, ◌≤◌, List, [], ◌∷◌, ◌++◌, Option, Some, None, Result, Ok, Err, OnErr, drop, length, map, take, refl, sym, ap, subst, ◌∙◌, append-nil, append_assoc, arith}
 use Rattle.std.proofs.Math.Seq.{take-append-le}
 use Rattle.std.proofs.lemmas.List.{map-append, take-append-drop}
-use Rattle.std.specs.Prelude.{⊤}
 use Rattle.uug_conversation.specs.DialogueValue.{dialogue_has_parted}
 use Rattle.uug_conversation.specs.Holdings.{Holdings, Kept}
 use Rattle.uug_ends.proofs.LineEventLemmas.{ListensOn, end_listens, late_listens, listens_at_first, listens_cleared, listens_more, lost_listens, piece_listens}
