@@ -1,4 +1,4 @@
--- How an end comes to a session (this project's profile).
+-- How an end comes to a session, which is called its beginning here (this project's profile).
 use Rattle.std.specs.Prelude.{◌≡◌, ℕ, List, All, Option}
 use Rattle.uug_link.specs.Announced.{Announced}
 use Rattle.uug_link.specs.Terms.{IsWindow}

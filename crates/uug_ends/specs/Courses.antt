@@ -1,5 +1,5 @@
--- What an end has come to by the events that happen to it in a session, told of it alone: nothing is said of the line, or of
--- the other end (this project's profile).
+-- What an end has come to by the events that happen to it in a session, told of it alone (this project's profile). That is its
+-- course here; nothing is said of the line, or of the other end.
 use Rattle.std.specs.Prelude.{ℕ, max, Bool, true, List, [], ◌∷◌, ◌++◌, length}
 use Rattle.uug_packet.specs.Packet.{PacketValue}
 use Rattle.uug_session.specs.EndStep.{EndEffect, EndEvent, EndState, Emitted, Identity, Stage, end_step, linked, message_of, packet_found_whole}

@@ -1,5 +1,5 @@
--- Which events led a node from one state to another: one end of the program as it is told by the events that happened to it
--- (this project's profile).
+-- Which events led a node from one state to another, so that an end of the program is told as a course is (this project's
+-- profile). A run is a session from its beginning on.
 use Rattle.std.specs.Prelude.{◌≡◌, List, [], ◌∷◌}
 use Rattle.uug_session.specs.EndStep.{EndEvent, EndState, Identity, end_step}
 use Rattle.uug_session.specs.Engine.{end_of}
