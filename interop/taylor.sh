@@ -6,7 +6,11 @@
 # PROGRAM is crates/uucpair/out/uucpair where none is named. SIZES has the sizes of the files, and TERMS_LIST the packet
 # sizes and windows, as 64:7, that are tried, and NOISY_LIST those of the sessions through relay.py, which loses, doubles
 # and damages every 50th packet: as the program is, quiet on repeats, where all files have to come, and with --no-quiet,
-# where Taylor may give up. Its last line is the number of sessions in which all went well.
+# where Taylor may give up. A third number, as in 64:7:8192, is the size of the longest file of such a session, beside
+# a few short ones; without it the sizes are those of SIZES. Each session prints a line when it is over, with its seconds.
+# The last line is the number of sessions in which all went well. As it stands this takes up to ten minutes. A uucico that
+# takes a file waits ten seconds where a data packet was lost (docs/INTEROP.md): a MiB in packets of 64 bytes takes a
+# quarter of an hour.
 set -u
 root=$(cd "$(dirname "$0")/.." && pwd)
 . "$root/interop/common.sh"
@@ -16,9 +20,9 @@ chmod 755 "$work"
 started=()
 trap 'kill "${started[@]}" 2>/dev/null; rm -rf "$work"' EXIT
 
-sizes=${SIZES:-0 1 63 64 65 4096 1048576}
+all_sizes=${SIZES:-0 1 63 64 65 4096 1048576}
 # Not 4096:7: uucico stores wrong bytes where more than 16,384 may be on their way to it (docs/INTEROP.md).
-terms=${TERMS_LIST:-64:3 64:7 1024:3 1024:7 2048:7 4096:3}
+terms=${TERMS_LIST-64:3 64:7 1024:3 1024:7 2048:7 4096:3}
 
 as_uucp() {
     runuser -u uucp -- "$@"
@@ -58,6 +62,7 @@ type pipe
 command /usr/bin/socat - UNIX-CONNECT:$work/line
 END
     local size
+    began=$SECONDS
     for size in $sizes; do
         head -c "$size" /dev/urandom >"$work/taylor/pub/t-s$size"
         head -c "$size" /dev/urandom >"$work/taylor/pub/t-r$size"
@@ -89,7 +94,8 @@ judge() {
     grep -q "Call complete" "$work/taylor/log/Log" || { echo "  Taylor's log has no 'Call complete'"; bad=1; }
     [ "$status" = 0 ] || bad=1
     [ ! -s "$work/ours/jobs" ] || bad=1
-    echo "$name: status $status; $(head -1 "$work/out"); $(grep -c "Call complete" "$work/taylor/log/Log") Call complete"
+    echo "$name: status $status; $(head -1 "$work/out"); $(grep -c "Call complete" "$work/taylor/log/Log") Call complete;" \
+        "$((SECONDS - began)) s"
     if [ "$bad" = 1 ]; then
         cat "$work/err"
         tail -n 5 "$work/taylor/log/Log"
@@ -103,7 +109,7 @@ we_call() {
     set_up "$1" "$2"
     rm -f "$work/line"
     (cd / && exec socat "UNIX-LISTEN:$work/line,mode=666" \
-        "EXEC:runuser -u uucp -- /usr/sbin/uucico -I $work/taylor/config") &
+        "EXEC:runuser -u uucp -- /usr/sbin/uucico -I $work/taylor/config" 2>>"$work/socat.err") &
     started+=($!)
     sleep 1
     "$program" call "unix:$work/line" "$work/ours" --me ours --peer taylor --size "$1" --window "$2" >"$work/out" 2>"$work/err"
@@ -156,7 +162,8 @@ judge_noisy() {
     if [ $# = 2 ]; then
         [ "$2" = 0 ] && [ "$pending" = 0 ] && grep -q "Call complete" "$work/taylor/log/Log" || bad=1
     fi
-    echo "$1${3:+, $3}: status $2; $(head -1 "$work/out"); $whole whole, $pending pending; $(cat "$work/relay.out")"
+    echo "$1${3:+, $3}: status $2; $(head -1 "$work/out"); $whole whole, $pending pending; $(cat "$work/relay.out");" \
+        "$((SECONDS - began)) s"
     grep -i "error\|complete\|too many" "$work/taylor/log/Log" | tail -n 2
     [ "$bad" = 1 ] || good=$((good + 1))
 }
@@ -167,7 +174,7 @@ we_call_noisy() {
     set_up "$1" "$2"
     rm -f "$work/line" "$work/far" "$work"/taylor/pub/o-*
     (cd / && exec socat "UNIX-LISTEN:$work/far,mode=666" \
-        "EXEC:runuser -u uucp -- /usr/sbin/uucico -I $work/taylor/config") &
+        "EXEC:runuser -u uucp -- /usr/sbin/uucico -I $work/taylor/config" 2>>"$work/socat.err") &
     started+=($!)
     wait_for "$work/far"
     start_relay "$work/line" "$work/far"
@@ -199,15 +206,19 @@ taylor_calls_noisy() {
 
 good=0
 all=0
+sizes=$all_sizes
 for pair in $terms; do
     we_call "${pair%:*}" "${pair#*:}"
     taylor_calls "${pair%:*}" "${pair#*:}"
     all=$((all + 2))
 done
-for pair in ${NOISY_LIST-64:7 1024:1 1024:3 1024:7}; do
+for entry in ${NOISY_LIST-64:7:8192 1024:1:32768 1024:3:131072 1024:7:131072}; do
+    IFS=: read -r size window longest <<<"$entry"
+    sizes=${longest:+0 1 65 4096 $longest}
+    sizes=${sizes:-$all_sizes}
     for option in "" --no-quiet; do
-        we_call_noisy "${pair%:*}" "${pair#*:}" $option
-        taylor_calls_noisy "${pair%:*}" "${pair#*:}" $option
+        we_call_noisy "$size" "$window" $option
+        taylor_calls_noisy "$size" "$window" $option
         all=$((all + 2))
     done
 done

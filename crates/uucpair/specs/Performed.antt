@@ -1,6 +1,7 @@
 -- What the program does for each task: its answer, what it read, and what it wrote (this project's profile).
 use Rattle.std.specs.Io.KnownBytes.{Keeps}
-use Rattle.std.specs.Prelude.{◌≡◌, ◌≤◌, ◌⊎◌, ℕ, List, Option, Some, None, Result, Err, IfOk, IfErr, OnOk, IfSome, codes, ⊤}
+use Rattle.std.specs.Borrow.{Bor}
+use Rattle.std.specs.Prelude.{◌≡◌, ◌≤◌, ◌⊎◌, ℕ, List, Option, Some, None, Result, Err, IfOk, IfErr, OnOk, IfSome, IsSome, codes, true, ⊤}
 use Rattle.uug_scan.specs.Listing.{ended}
 use Rattle.uug_scan.specs.Scan.{AppendsListing, IsScanFault}
 use Rattle.uug_stream.specs.Streams.{Appends, ReadsAll}
@@ -12,10 +13,18 @@ use Rattle.uug_play.specs.Settled.{AppendsSettled}
 use Rattle.uug_ladder.specs.declared.play.Drawn.{Drawn}
 use Rattle.uug_ladder.specs.Played.{AppendsShown, BeforeWriting, IsDrawingFault, IsTooMuch}
 use Rattle.uug_remark.specs.Remarks.{remark_text, wrong_at}
-use Rattle.uucpair.specs.declared.command_line.Task.{Task}
-use Rattle.uucpair.specs.declared.command_line.Task.TheVariants.{Version, Scan, ScanVerbose, Play, PlayVerbose, PlaySettled, PlayDrawn, Pair, Call}
+use Rattle.clap.specs.Words.{kind_of, takes}
+use Rattle.clap.specs.declared.error.Error.{Error}
+use Rattle.clap.specs.declared.error.kind.ErrorKind.TheVariants.{OutOfMemory}
+use Rattle.uug_sys.specs.declared.failure.SystemFailure.{SystemFailure}
+use Rattle.uug_words.specs.Asked.{Asks}
+use Rattle.uug_words.specs.Tools.{uucpair}
+use Rattle.uug_words.specs.declared.command_line.Task.{Task}
+use Rattle.uug_words.specs.declared.command_line.Task.TheVariants.{Version, Scan, ScanVerbose, Play, PlayVerbose, PlaySettled, PlayDrawn, Pair, Call}
+use Rattle.uucpair.specs.declared.input_task.InputTask.{InputTask}
+use Rattle.uucpair.specs.declared.input_task.InputTask.TheVariants as over
 use Rattle.uucpair.specs.declared.stop.Stop.{Stop}
-use Rattle.uucpair.specs.declared.stop.Stop.TheVariants.{Fault, Remarked, File, InUse, CommandLine}
+use Rattle.uucpair.specs.declared.stop.Stop.TheVariants.{Fault, Remarked, File, InUse, System, CommandLine}
 use Rattle.uucpair.specs.Stop.{EndsSo}
 
 abbrev pub version_line : List ℕ
@@ -64,10 +73,11 @@ pub record Plays (s : Streams) (answer : Result ℕ ToolFault) : Type 0 where
   pub bad : (line : ℕ) → answer ≡ Err (faults.Script line) → IfSome s.to_come (λ script. IsFirstBad script line)
   pub nothing_written : BeforeReport answer (StaysUnwritten s)
 
--- `pair`, `call` and `answer`: nothing was read of the input
-pub record Pairs (s : Streams) (answer : Result ℕ ToolFault) : Type 0 where
+-- `pair`, `call` and `answer`: nothing was read of the input, and of a device fault it is known which call it was
+pub record Pairs (s : Streams) (why : Option SystemFailure) (answer : Result ℕ ToolFault) : Type 0 where
   pub status : IfOk answer (λ status. status ≤ 1)
   pub reads : StaysUnread s
+  pub named : answer ≡ Err faults.Device → IsSome why
 
 -- `scan` of a file, with -v or not, whose bytes no proof knows
 pub record ScansFile (s : Streams) (answer : Result ℕ ToolFault) : Type 0 where
@@ -113,22 +123,50 @@ pub record PlaysFileDrawn (s : Streams) (answer : Result ℕ ToolFault) : Type 0
   pub nothing_written : BeforeWriting answer (StaysUnwritten s)
   pub no_other : IfErr answer IsDrawingFault
 
-abbrev pub Does : Task → Streams → (remark : List ℕ) → Result ℕ ToolFault → Type 0
-Does Version s remark answer = ShowsVersion s answer
-Does (Scan None) s remark answer = Scans s answer
-Does (Scan (Some path)) s remark answer = ScansFile s answer
-Does (ScanVerbose None) s remark answer = ScansVerbose s answer
-Does (ScanVerbose (Some path)) s remark answer = ScansFile s answer
-Does (Play None) s remark answer = Plays s answer
-Does (Play (Some path)) s remark answer = PlaysFile s answer
-Does (PlayVerbose None) s remark answer = PlaysVerbosely s remark answer
-Does (PlayVerbose (Some path)) s remark answer = PlaysFile s answer
-Does (PlaySettled None) s remark answer = PlaysSettled s answer
-Does (PlaySettled (Some path)) s remark answer = PlaysFile s answer
-Does (PlayDrawn how None) s remark answer = PlaysDrawn how s answer
-Does (PlayDrawn how (Some path)) s remark answer = PlaysFileDrawn s answer
-Does (Pair pair) s remark answer = Pairs s answer
-Does (Call call) s remark answer = Pairs s answer
+-- ---- the tasks
+
+-- what is done with an input
+abbrev pub DoesOver : InputTask → Streams → (remark : List ℕ) → Result ℕ ToolFault → Type 0
+DoesOver over.Scan s remark answer = Scans s answer
+DoesOver over.ScanVerbose s remark answer = ScansVerbose s answer
+DoesOver over.Play s remark answer = Plays s answer
+DoesOver over.PlayVerbose s remark answer = PlaysVerbosely s remark answer
+DoesOver over.PlaySettled s remark answer = PlaysSettled s answer
+DoesOver (over.PlayDrawn how) s remark answer = PlaysDrawn how s answer
+
+-- the faults that it may give
+abbrev pub IsFaultOf : InputTask → ToolFault → Type 0
+IsFaultOf over.Scan fault = IsScanFault fault
+IsFaultOf over.ScanVerbose fault = IsScanFault fault
+IsFaultOf over.Play fault = IsPlayFault fault
+IsFaultOf over.PlayVerbose fault = IsPlayFault fault
+IsFaultOf over.PlaySettled fault = IsPlayFault fault
+IsFaultOf (over.PlayDrawn how) fault = IsDrawingFault fault
+
+-- what is done with a file, and s are the streams that the program was given
+abbrev pub DoesOverFile : InputTask → Streams → Result ℕ ToolFault → Type 0
+DoesOverFile over.Scan s answer = ScansFile s answer
+DoesOverFile over.ScanVerbose s answer = ScansFile s answer
+DoesOverFile over.Play s answer = PlaysFile s answer
+DoesOverFile over.PlayVerbose s answer = PlaysFile s answer
+DoesOverFile over.PlaySettled s answer = PlaysFile s answer
+DoesOverFile (over.PlayDrawn how) s answer = PlaysFileDrawn s answer
+
+-- what is done with the file of this name, or with standard input where none is named
+abbrev pub DoesOn : InputTask → (file : Option (Bor (List ℕ))) → Streams → (remark : List ℕ) → Result ℕ ToolFault → Type 0
+DoesOn task None s remark answer = DoesOver task s remark answer
+DoesOn task (Some path) s remark answer = DoesOverFile task s answer
+
+abbrev pub Does : Task → Streams → (remark : List ℕ) → (why : Option SystemFailure) → Result ℕ ToolFault → Type 0
+Does Version s remark why answer = ShowsVersion s answer
+Does (Scan file) s remark why answer = DoesOn over.Scan file s remark answer
+Does (ScanVerbose file) s remark why answer = DoesOn over.ScanVerbose file s remark answer
+Does (Play file) s remark why answer = DoesOn over.Play file s remark answer
+Does (PlayVerbose file) s remark why answer = DoesOn over.PlayVerbose file s remark answer
+Does (PlaySettled file) s remark why answer = DoesOn over.PlaySettled file s remark answer
+Does (PlayDrawn how file) s remark why answer = DoesOn (over.PlayDrawn how) file s remark answer
+Does (Pair pair) s remark why answer = Pairs s why answer
+Does (Call call) s remark why answer = Pairs s why answer
 
 -- ---- the program
 
@@ -137,24 +175,35 @@ abbrev pub IsNoTask : Stop → Type 0
 IsNoTask (CommandLine error) = ⊤
 IsNoTask (Fault fault) = fault ≡ faults.Memory
 IsNoTask (Remarked fault remark) = ⊥
-IsNoTask (File name) = ⊥
+IsNoTask (File name why) = ⊥
 IsNoTask (InUse name) = ⊥
+IsNoTask (System failure) = ⊥
 
--- there was no task, and nothing was read or written
-pub record HasNoTask (s : Streams) (ends : Result ℕ Stop) : Type 0 where
+-- how the program ends where the parser of the words gives this error
+pub record IsRefusal (error : Error) (stop : Stop) : Type 0 where
+  pub no_task : IsNoTask stop
+  pub memory : kind_of error ≡ OutOfMemory → stop ≡ Fault faults.Memory
+
+-- There was no task, and nothing was read or written. That is so of words that a tool takes only where there was no memory for
+-- reading them.
+pub record HasNoTask (words : List (List ℕ)) (s : Streams) (ends : Result ℕ Stop) : Type 0 where
   pub stop : Stop
   pub ends_so : ends ≡ Err stop
   pub no_task : IsNoTask stop
+  pub memory : takes uucpair words ≡ true → stop ≡ Fault faults.Memory
   pub unread : StaysUnread s
   pub unwritten : StaysUnwritten s
 
--- this task was done, or given up
-pub record HasDone (s : Streams) (ends : Result ℕ Stop) : Type 0 where
+-- the task that the words ask for was done, or given up
+pub record HasDone (words : List (List ℕ)) (s : Streams) (ends : Result ℕ Stop) : Type 0 where
   pub task : Task
+  pub asked : Asks words task
   pub answer : Result ℕ ToolFault
   pub remark : List ℕ
-  pub does : Does task s remark answer
-  pub ends_so : EndsSo task answer remark ends
+  pub why : Option SystemFailure
+  pub does : Does task s remark why answer
+  pub ends_so : EndsSo task answer remark why ends
 
-abbrev pub Performs : Streams → Result ℕ Stop → Type 0
-Performs s ends = HasNoTask s ends ⊎ HasDone s ends
+-- of the words the first is the program's name
+abbrev pub Performs : (words : List (List ℕ)) → Streams → Result ℕ Stop → Type 0
+Performs words s ends = HasNoTask words s ends ⊎ HasDone words s ends

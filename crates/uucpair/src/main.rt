@@ -1,12 +1,9 @@
 //! The program `uucpair`: tools for the 'g' packet protocol of UUCP, on standard input and output.
 #![tactic(auto)]
 
-mod command_line;
-mod help;
+mod input_task;
 mod program;
 mod stop;
-mod system_input;
-mod system_output;
 
 use program::Terminals;
 use std::io::IsTerminal;

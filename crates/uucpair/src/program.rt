@@ -1,18 +1,12 @@
 //! What the program does, from its command line to its status.
-ghost use Rattle.std.specs.Prelude.{◌≡◌, IfErr, IfOk, MatchResult, OnOk, string_bytes};
-ghost use Rattle.uug_stream.specs.declared.fault.ToolFault.TheVariants.{Read as read};
-ghost use Rattle.std.specs.Io.KnownBytes.{Keeps};
-ghost use Rattle.uug_ladder.specs.Played.{BeforeWriting, IsDrawingFault};
-ghost use Rattle.uug_play.specs.Played.{BeforeReport, IsPlayFault};
+ghost use Rattle.std.specs.Prelude.{◌≡◌, IfErr, IfOk, IsErrAnd, MatchResult, OnOk, map, string_bytes};
 ghost use Rattle.uug_scan.specs.Scan.{IsScanFault};
 ghost use Rattle.uug_stream.specs.Streams.{Appends};
-ghost use Rattle.uucpair.specs.Performed.{Does, Performs, Scans, ScansVerbose, streams, version_line};
+ghost use Rattle.uucpair.specs.Performed.{Does, DoesOn, DoesOver, IsFaultOf, Performs, Scans, ScansVerbose, streams, version_line};
 ghost use Rattle.uucpair.specs.Stop.{EndsSo, NamesFile, NamesFolder, SaysTooMuch, StopsAs, StopsOnDrawing, StopsOnDrawingFile, StopsOnFile, StopsOnFolders, StopsOnScript, StopsOnScriptFile, status_of_stop};
 
-use crate::command_line::{Task, VERSION, task_of};
+use crate::input_task::InputTask;
 use crate::stop::Stop;
-use crate::system_input::SystemInput;
-use crate::system_output::SystemOutput;
 use std::alloc::Global;
 use std::convert::AsStr;
 use std::fs::File;
@@ -20,12 +14,15 @@ use std::net::Net;
 use std::rt::{Env, Files};
 use std::time::Clock;
 use std::{env, io};
-use uug_ladder::{Drawn, play_ladder};
+use uug_ladder::play_ladder;
 use uug_play::{play_settled, play_stream};
 use uug_remark::play_remarked;
 use uug_scan::{READ_LIMIT, scan_detailed, scan_stream};
 use uug_stream::{Output, ToolFault, write_all};
-use uug_sys::{SystemObserver, call_run, pair_run};
+use uug_sys::{
+    Cause, Resource, SystemFailure, SystemInput, SystemObserver, SystemOutput, call_run, pair_run,
+};
+use uug_words::{Task, VERSION, task_of};
 
 /// What is remarked of a script that is too much for a ladder.
 const TOO_MUCH: &str = "a ladder has at most 1000 events, and a picture 1000000 rungs";
@@ -76,104 +73,69 @@ where
     Ok(0)
 }
 
-/// Opens a file as an input.
-fn open<R: Files>(rt: &R, path: &str) -> Result<SystemInput<R::File>, ToolFault>
-    ensures { IfErr result (λ fault. fault ≡ read) }
-{
+/// Opens a file as an input, or says why that failed.
+fn open<R: Files>(rt: &R, path: &str) -> Result<SystemInput<R::File>, SystemFailure> {
     match File::open(rt, path) {
         Ok(file) => Ok(SystemInput::new(file)),
-        Err(_) => Err(ToolFault::Read),
+        Err(error) => Err(SystemFailure::on(Resource::Input, Cause::of(&error))),
     }
 }
 
-/// Lists a file.
-fn scan_file<R: Files, O: Output>(
+/// Does a task with an input.
+fn do_over<I, O>(
     alloc: Global,
-    rt: &R,
-    path: &str,
-    output: &mut O,
-) -> Result<u8, ToolFault>
-    ensures status { IfOk result (λ status. status ≡ 0) }
-    ensures no_other { IfErr result IsScanFault }
-{
-    let mut file = open(rt, path)?;
-    scan(alloc, &mut file, output)
-}
-
-/// Lists a file in detail.
-fn scan_file_verbose<R: Files, O: Output>(
-    alloc: Global,
-    rt: &R,
-    path: &str,
-    output: &mut O,
-) -> Result<u8, ToolFault>
-    ensures status { IfOk result (λ status. status ≡ 0) }
-    ensures no_other { IfErr result IsScanFault }
-{
-    let mut file = open(rt, path)?;
-    scan_verbose(alloc, &mut file, output)
-}
-
-/// Plays the script in a file.
-fn play_file<R: Files, O: Output>(
-    alloc: Global,
-    rt: &R,
-    path: &str,
-    output: &mut O,
-) -> Result<u8, ToolFault>
-    ensures nothing_written { BeforeReport result
-        (Keeps (O.written output.old) (O.written output.new)) }
-    ensures no_other { IfErr result IsPlayFault }
-{
-    let mut file = open(rt, path)?;
-    play_stream(alloc, &mut file, output)
-}
-
-/// Plays the script in a file, with a remark on its jobs, or where it is bad.
-fn play_file_remarked<R: Files, O: Output>(
-    alloc: Global,
-    rt: &R,
-    path: &str,
+    task: InputTask,
+    input: &mut I,
     output: &mut O,
     remark: &mut String,
 ) -> Result<u8, ToolFault>
-    ensures nothing_written { BeforeReport result
-        (Keeps (O.written output.old) (O.written output.new)) }
-    ensures no_other { IfErr result IsPlayFault }
+where
+    I: uug_stream::Input,
+    O: Output,
+    ensures does { DoesOver task (streams (I.to_come input.old) (I.to_come input.new)
+        (O.written output.old) (O.written output.new)) (string_bytes remark.new) result }
+    ensures no_other { IfErr result (IsFaultOf task) }
 {
-    let mut file = open(rt, path)?;
-    play_remarked(alloc, &mut file, output, remark)
+    match task {
+        InputTask::Scan => scan(alloc, input, output),
+        InputTask::ScanVerbose => scan_verbose(alloc, input, output),
+        InputTask::Play => play_stream(alloc, input, output),
+        InputTask::PlayVerbose => play_remarked(alloc, input, output, remark),
+        InputTask::PlaySettled => play_settled(alloc, input, output),
+        InputTask::PlayDrawn(how) => play_ladder(alloc, input, output, how),
+    }
 }
 
-/// Plays the script in a file, and goes on to what it settles to.
-fn play_file_settled<R: Files, O: Output>(
-    alloc: Global,
+/// Does a task with the file of this name, or with the input where none is named.
+fn do_on<R, I, O>(
     rt: &R,
-    path: &str,
+    task: InputTask,
+    file: Option<&str>,
+    input: &mut I,
     output: &mut O,
+    remark: &mut String,
+    why: &mut Option<SystemFailure>,
 ) -> Result<u8, ToolFault>
-    ensures nothing_written { BeforeReport result
-        (Keeps (O.written output.old) (O.written output.new)) }
-    ensures no_other { IfErr result IsPlayFault }
+where
+    R: Files + AllocGlobal,
+    I: uug_stream::Input,
+    O: Output,
+    ensures { DoesOn task file.entry (streams (I.to_come input.old) (I.to_come input.new)
+        (O.written output.old) (O.written output.new)) (string_bytes remark.new) result }
 {
-    let mut file = open(rt, path)?;
-    play_settled(alloc, &mut file, output)
-}
-
-/// Plays the script in a file, and draws its ladder.
-fn play_file_drawn<R: Files, O: Output>(
-    alloc: Global,
-    rt: &R,
-    path: &str,
-    output: &mut O,
-    how: Drawn,
-) -> Result<u8, ToolFault>
-    ensures nothing_written { BeforeWriting result
-        (Keeps (O.written output.old) (O.written output.new)) }
-    ensures no_other { IfErr result IsDrawingFault }
-{
-    let mut file = open(rt, path)?;
-    play_ladder(alloc, &mut file, output, how)
+    let Some(path) = file else {
+        return do_over(rt.alloc(), task, input, output, remark);
+    };
+    let mut opened = match open(rt, path) {
+        Ok(opened) => opened,
+        Err(failure) => {
+            *why = Some(failure);
+            return Err(ToolFault::Read);
+        }
+    };
+    let answer = do_over(rt.alloc(), task, &mut opened, output, remark);
+    *why = opened.failure();
+    answer
 }
 
 /// That a script is too much for a ladder, where there is memory to say so.
@@ -197,31 +159,36 @@ fn stop_of_drawing(alloc: Global, fault: ToolFault) -> Stop
 }
 
 /// The same of the script in the file of this name.
-fn stop_of_drawing_file(alloc: Global, path: &str, fault: ToolFault) -> Stop
-    ensures { StopsOnDrawingFile path.now fault result }
+fn stop_of_drawing_file(
+    alloc: Global,
+    path: &str,
+    fault: ToolFault,
+    why: Option<SystemFailure>,
+) -> Stop
+    ensures { StopsOnDrawingFile path.now why fault result }
 {
     match fault {
-        ToolFault::Read => names_file(alloc, path),
+        ToolFault::Read => names_file(alloc, path, why),
         fault => stop_of_drawing(alloc, fault),
     }
 }
 
 /// That the file of this name can't be read, where there is memory to say so.
-fn names_file(alloc: Global, path: &str) -> Stop
-    ensures { NamesFile path.now result }
+fn names_file(alloc: Global, path: &str, why: Option<SystemFailure>) -> Stop
+    ensures { NamesFile path.now why result }
 {
     match String::from_str(alloc, path) {
-        Ok(name) => Stop::File(name),
+        Ok(name) => Stop::File(name, why),
         Err(_) => Stop::Fault(ToolFault::Memory),
     }
 }
 
 /// Why a task gives up that read the file of this name: the file is named where it is the cause.
-fn stop_of_file(alloc: Global, path: &str, fault: ToolFault) -> Stop
-    ensures { StopsOnFile path.now fault result }
+fn stop_of_file(alloc: Global, path: &str, fault: ToolFault, why: Option<SystemFailure>) -> Stop
+    ensures { StopsOnFile path.now why fault result }
 {
     match fault {
-        ToolFault::Read => names_file(alloc, path),
+        ToolFault::Read => names_file(alloc, path, why),
         fault => Stop::Fault(fault),
     }
 }
@@ -237,11 +204,17 @@ fn stop_of_script(fault: ToolFault, remark: String) -> Stop
 }
 
 /// The same of the script in the file of this name.
-fn stop_of_script_file(alloc: Global, path: &str, fault: ToolFault, remark: String) -> Stop
-    ensures { StopsOnScriptFile path.now fault (string_bytes remark) result }
+fn stop_of_script_file(
+    alloc: Global,
+    path: &str,
+    fault: ToolFault,
+    remark: String,
+    why: Option<SystemFailure>,
+) -> Stop
+    ensures { StopsOnScriptFile path.now why fault (string_bytes remark) result }
 {
     match fault {
-        ToolFault::Read => names_file(alloc, path),
+        ToolFault::Read => names_file(alloc, path, why),
         fault => stop_of_script(fault, remark),
     }
 }
@@ -257,32 +230,45 @@ fn names_folder(alloc: Global, dir: &str) -> Stop
 }
 
 /// Why a task gave up that works in these folders, of which the second may be the first again: the folder is named where
-/// another run holds it.
-fn stop_of_folders(alloc: Global, first: &str, second: &str, fault: ToolFault) -> Stop
-    ensures { StopsOnFolders first.now second.now fault result }
+/// another run holds it, and the call of the system that failed, where it is known.
+fn stop_of_folders(
+    alloc: Global,
+    first: &str,
+    second: &str,
+    fault: ToolFault,
+    why: Option<SystemFailure>,
+) -> Stop
+    ensures { StopsOnFolders first.now second.now why fault result }
 {
-    match fault {
-        ToolFault::InUse(0) => names_folder(alloc, first),
-        ToolFault::InUse(_) => names_folder(alloc, second),
-        fault => Stop::Fault(fault),
+    match (fault, why) {
+        (ToolFault::InUse(0), _) => names_folder(alloc, first),
+        (ToolFault::InUse(_), _) => names_folder(alloc, second),
+        (ToolFault::Device, Some(failure)) => Stop::System(failure),
+        (fault, _) => Stop::Fault(fault),
     }
 }
 
 /// Why the program ends where a task gave up.
-fn stop_of(alloc: Global, task: Task<'_>, fault: ToolFault, remark: String) -> Stop
-    ensures { StopsAs task.entry fault (string_bytes remark) result }
+fn stop_of(
+    alloc: Global,
+    task: Task<'_>,
+    fault: ToolFault,
+    remark: String,
+    why: Option<SystemFailure>,
+) -> Stop
+    ensures { StopsAs task.entry fault (string_bytes remark) why result }
 {
     match task {
         Task::Scan(Some(path))
         | Task::ScanVerbose(Some(path))
         | Task::Play(Some(path))
-        | Task::PlaySettled(Some(path)) => stop_of_file(alloc, path, fault),
+        | Task::PlaySettled(Some(path)) => stop_of_file(alloc, path, fault, why),
         Task::PlayVerbose(None) => stop_of_script(fault, remark),
         Task::PlayDrawn(_, None) => stop_of_drawing(alloc, fault),
-        Task::PlayDrawn(_, Some(path)) => stop_of_drawing_file(alloc, path, fault),
-        Task::PlayVerbose(Some(path)) => stop_of_script_file(alloc, path, fault, remark),
-        Task::Pair(pair) => stop_of_folders(alloc, pair.dir_a, pair.dir_b, fault),
-        Task::Call(call) => stop_of_folders(alloc, call.dir, call.dir, fault),
+        Task::PlayDrawn(_, Some(path)) => stop_of_drawing_file(alloc, path, fault, why),
+        Task::PlayVerbose(Some(path)) => stop_of_script_file(alloc, path, fault, remark, why),
+        Task::Pair(pair) => stop_of_folders(alloc, pair.dir_a, pair.dir_b, fault, why),
+        Task::Call(call) => stop_of_folders(alloc, call.dir, call.dir, fault, why),
         _ => Stop::Fault(fault),
     }
 }
@@ -293,12 +279,13 @@ fn end_of(
     task: Task<'_>,
     answer: Result<u8, ToolFault>,
     remark: String,
+    why: Option<SystemFailure>,
 ) -> Result<u8, Stop>
-    ensures { EndsSo task.entry answer (string_bytes remark) result }
+    ensures { EndsSo task.entry answer (string_bytes remark) why result }
 {
     match answer {
         Ok(status) => Ok(status),
-        Err(fault) => Err(stop_of(alloc, task, fault, remark)),
+        Err(fault) => Err(stop_of(alloc, task, fault, remark, why)),
     }
 }
 
@@ -310,29 +297,58 @@ fn do_task<R, I, O>(
     input: &mut I,
     output: &mut O,
     remark: &mut String,
+    why: &mut Option<SystemFailure>,
 ) -> Result<u8, ToolFault>
 where
     R: Files<File = File> + Net + AllocGlobal + Eprint + Clock + Clone + Drop,
     I: uug_stream::Input,
     O: Output,
     ensures { Does task.entry (streams (I.to_come input.old) (I.to_come input.new)
-        (O.written output.old) (O.written output.new)) (string_bytes remark.new) result }
+        (O.written output.old) (O.written output.new)) (string_bytes remark.new) why.new result }
 {
     let alloc = rt.alloc();
     match task {
         Task::Version => show_version(alloc, output),
-        Task::Scan(None) => scan(alloc, input, output),
-        Task::Scan(Some(path)) => scan_file(alloc, rt, path, output),
-        Task::ScanVerbose(None) => scan_verbose(alloc, input, output),
-        Task::ScanVerbose(Some(path)) => scan_file_verbose(alloc, rt, path, output),
-        Task::Play(None) => play_stream(alloc, input, output),
-        Task::Play(Some(path)) => play_file(alloc, rt, path, output),
-        Task::PlayVerbose(None) => play_remarked(alloc, input, output, remark),
-        Task::PlayVerbose(Some(path)) => play_file_remarked(alloc, rt, path, output, remark),
-        Task::PlaySettled(None) => play_settled(alloc, input, output),
-        Task::PlaySettled(Some(path)) => play_file_settled(alloc, rt, path, output),
-        Task::PlayDrawn(how, None) => play_ladder(alloc, input, output, how),
-        Task::PlayDrawn(how, Some(path)) => play_file_drawn(alloc, rt, path, output, how),
+        Task::Scan(file) => do_on(rt, InputTask::Scan, file, input, output, remark, why),
+        Task::ScanVerbose(file) => do_on(
+            rt,
+            InputTask::ScanVerbose,
+            file,
+            input,
+            output,
+            remark,
+            why,
+        ),
+        Task::Play(file) => do_on(rt, InputTask::Play, file, input, output, remark, why),
+        Task::PlayVerbose(file) => do_on(
+            rt,
+            InputTask::PlayVerbose,
+            file,
+            input,
+            output,
+            remark,
+            why,
+        ),
+        Task::PlaySettled(file) => do_on(
+            rt,
+            InputTask::PlaySettled,
+            file,
+            input,
+            output,
+            remark,
+            why,
+        ),
+        Task::PlayDrawn(how, file) => {
+            do_on(
+                rt,
+                InputTask::PlayDrawn(how),
+                file,
+                input,
+                output,
+                remark,
+                why,
+            )
+        }
         Task::Pair(pair) => pair_run(
             alloc,
             rt,
@@ -342,10 +358,11 @@ where
             pair.drop_every,
             pair.flip_every,
             output,
+            why,
         ),
         Task::Call(call) => {
             let observer = SystemObserver::new(alloc, rt, &call, terminals.errors)?;
-            call_run(alloc, rt, &call, observer, output)
+            call_run(alloc, rt, &call, observer, output, why)
         }
     }
 }
@@ -387,15 +404,16 @@ where
     S: AsStr,
     I: uug_stream::Input,
     O: Output,
-    ensures { Performs (streams (I.to_come input.old) (I.to_come input.new)
+    ensures { Performs (map S.text words.now) (streams (I.to_come input.old) (I.to_come input.new)
         (O.written output.old) (O.written output.new)) result }
 {
     let task = task_of(rt.alloc(), words)?;
     greet(rt, task, terminals);
     let mut remark = String::new(rt.alloc());
-    let answer = do_task(rt, task, terminals, input, output, &mut remark);
+    let mut why = None;
+    let answer = do_task(rt, task, terminals, input, output, &mut remark, &mut why);
     tell(rt, answer, remark.as_str());
-    end_of(rt.alloc(), task, answer, remark)
+    end_of(rt.alloc(), task, answer, remark, why)
 }
 
 /// Does what the program's own command line asks for, on standard input and output.
@@ -411,7 +429,25 @@ where
         .collect(rt.alloc())?;
     let mut input = SystemInput::new(rt.reader());
     let mut output = SystemOutput::new(io::writer(rt));
-    perform(rt, &words, terminals, &mut input, &mut output)
+    let ended = perform(rt, &words, terminals, &mut input, &mut output);
+    with_reason(ended, input.failure(), output.failure())
+}
+
+/// The same end, with the call of the system that failed on a stream, where it is known.
+fn with_reason(
+    ended: Result<u8, Stop>,
+    input: Option<SystemFailure>,
+    output: Option<SystemFailure>,
+) -> Result<u8, Stop>
+    ensures ok { IfOk ended (λ status. result ≡ Ok status) }
+    ensures status { IfErr ended (λ stop.
+        IsErrAnd result (λ ends. status_of_stop ends ≡ status_of_stop stop)) }
+{
+    match (ended, input, output) {
+        (Err(Stop::Fault(ToolFault::Read)), Some(failure), _)
+        | (Err(Stop::Fault(ToolFault::Write)), _, Some(failure)) => Err(Stop::System(failure)),
+        (ended, _, _) => ended,
+    }
 }
 
 /// Says on standard error why the program ends before its task is done, where that can be said, and gives the

@@ -1,5 +1,5 @@
 ghost use Rattle.std.specs.Prelude.{◌≡◌};
-ghost use Rattle.uucpair.specs.Performed.{IsNoTask};
+ghost use Rattle.uucpair.specs.Performed.{IsRefusal};
 ghost use Rattle.uucpair.specs.Stop.{status_of_stop};
 ghost use Rattle.uucpair.specs.declared.stop.Stop.TheVariants.{Fault as stop_for};
 
@@ -7,6 +7,7 @@ use clap::error::ErrorKind;
 use std::alloc::AllocError;
 use thiserror::Error;
 use uug_stream::ToolFault;
+use uug_sys::SystemFailure;
 
 /// Why the program ends before its task is done. Its text is what the program says on standard error.
 #[derive(Debug, Drop, Error)]
@@ -16,12 +17,15 @@ pub enum Stop {
     /// A fault, and a remark on it.
     #[error("uucpair: {0}\nuucpair: {1}\n")]
     Remarked(ToolFault, String),
-    /// The file of this name can't be opened or read.
+    /// The file of this name can't be opened or read, since this call of the system failed, where it is known.
     #[error("uucpair: device fault\nuucpair: can't read {0}\n")]
-    File(String),
+    File(String, Option<SystemFailure>),
     /// Another run works in the folder of this name.
     #[error("uucpair: device fault\nuucpair: {0} is in use\n")]
     InUse(String),
+    /// This call of the system failed.
+    #[error("uucpair: device fault\n")]
+    System(SystemFailure),
     /// The command line asks for no task: the usage, or the help where it was asked for.
     #[error("{0}")]
     CommandLine(clap::error::Error),
@@ -34,8 +38,9 @@ impl Stop {
     {
         match self {
             Stop::Fault(fault) | Stop::Remarked(fault, _) => fault.status(),
-            Stop::File(_) => ToolFault::Read.status(),
+            Stop::File(_, _) => ToolFault::Read.status(),
             Stop::InUse(_) => ToolFault::InUse(0).status(),
+            Stop::System(_) => ToolFault::Device.status(),
             Stop::CommandLine(_) => ToolFault::Usage.status(),
         }
     }
@@ -56,7 +61,7 @@ impl From<AllocError> for Stop {
 }
 
 impl From<clap::error::Error> for Stop {
-    ghost from_gives = { λ _ stop. IsNoTask stop };
+    ghost from_gives = { IsRefusal };
 
     fn from(error: clap::error::Error) -> Stop {
         match error.kind() {

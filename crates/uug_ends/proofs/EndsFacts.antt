@@ -15,7 +15,7 @@ use Rattle.uug_session.specs.declared.end.End.TheVariants as ends
 use Rattle.uug_session.specs.EndStep.{EndEvent, Emitted, Stage, hailing, ended, packet_found_whole, says_text, sends_packet, text_found, time_ran_out}
 use Rattle.uug_session.specs.Greeting.{greeting_at_first}
 use Rattle.uug_line.specs.LineEndState.{packets_in}
-use Rattle.uug_ends.specs.Beginnings.{EndBeginning, identity_of}
+use Rattle.uug_events.specs.Beginnings.{EndBeginning, identity_of}
 use Rattle.uug_ends.specs.Courses.{EndCourse, course_step, first_course}
 use Rattle.uug_ends.specs.TwoCourses.{EventAt, NoneIsFooled, course_at, events_at}
 use Rattle.uug_ends.proofs.HonestLemmas.{honest, none_fooled}

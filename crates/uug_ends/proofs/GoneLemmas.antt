@@ -19,9 +19,9 @@ use Rattle.uug_session.specs.EndStep.{EndState}
 use Rattle.uug_session.specs.Node.{NodeState, struck_jobs}
 use Rattle.uug_conversation.specs.DialogueState.{DialogueState}
 use Rattle.uug_line.specs.Headline.{since}
-use Rattle.uug_ends.specs.Beginnings.{AreSound, EndBeginning, first_effect, identity_of}
+use Rattle.uug_events.specs.Beginnings.{AreSound, EndBeginning, first_effect, identity_of}
 use Rattle.uug_ends.specs.Gone.{FileWasKept, IsGone, WasKept}
-use Rattle.uug_ends.specs.NodeRuns.{HasRun}
+use Rattle.uug_events.specs.NodeRuns.{HasRun}
 use Rattle.uug_ends.specs.TwoCourses.{EventAt, NoneIsFooled}
 use Rattle.uug_ends.specs.TwoNodes.{HaveRun, holdings_at, kept_at, kept_by_both, lists_of, struck_at}
 use Rattle.uug_ends.proofs.MovedLemmas.{events_move}

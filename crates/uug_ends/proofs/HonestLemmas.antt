@@ -12,7 +12,7 @@ use Rattle.uug_conversation.specs.declared.side.Side.TheVariants.{Caller, Called
 use Rattle.uug_line.specs.LineEndState.{packets_in}
 use Rattle.uug_line.specs.WereSent.{StandAt, WereSent}
 use Rattle.uug_line.proofs.FoundLemmas.{place_is_there}
-use Rattle.uug_ends.specs.Beginnings.{EndBeginning}
+use Rattle.uug_events.specs.Beginnings.{EndBeginning}
 use Rattle.uug_ends.specs.TwoCourses.{EventAt, NoneIsFooled, course_at}
 
 -- ---- the tests

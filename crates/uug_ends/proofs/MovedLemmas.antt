@@ -11,7 +11,7 @@ use Rattle.uug_conversation.specs.Machine as machine
 use Rattle.uug_conversation.specs.Sharing.{OnlyMoves}
 use Rattle.uug_session.proofs.StepKeeps.{hailing_leads, linked_keeps, speaks_so, stage_leads}
 use Rattle.uug_session.specs.EndStep.{EndEffect, EndEvent, EndState, Identity, end_step, is_up, speaks_by}
-use Rattle.uug_ends.specs.NodeRuns.{state_after}
+use Rattle.uug_events.specs.NodeRuns.{state_after}
 
 module _ (h : Holdings) (l : Lists) (id : Identity) where
   abbrev Moved : DialogueState → Type 0

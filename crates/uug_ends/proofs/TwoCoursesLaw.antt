@@ -27,7 +27,7 @@ use Rattle.uug_line.specs.WereSent.{WereSent}
 use Rattle.uug_line.proofs.LinkLemmas.{not_up}
 use Rattle.uug_line.proofs.StoredSince.{front_stays, session_own, since_is, stored_in, struck_in}
 use Rattle.uug_line.proofs.World.Joining.{IsSoundSession}
-use Rattle.uug_ends.specs.Beginnings.{AreSound, EndBeginning, identity_of}
+use Rattle.uug_events.specs.Beginnings.{AreSound, EndBeginning, identity_of}
 use Rattle.uug_ends.specs.Courses.{EndCourse, course_step, course_after, first_course}
 use Rattle.uug_ends.specs.TwoCourses.{EventAt, KeepsPromises, NoneIsFooled, course_at, events_at, if_here}
 use Rattle.uug_ends.proofs.Joins.{Joins, Keeps, StandsAt, moment, turned}

@@ -1,9 +1,7 @@
 -- Two nodes are two ends that are told by the events that led them.
 use Rattle.std.proofs.Common.{◌≡◌, List, [], ◌∷◌, refl, sym, ap, subst, ◌∙◌}
-use Rattle.uug_link.specs.Entries.{EntryValue}
-use Rattle.uug_session.proofs.CallLemmas.{begun_with}
 use Rattle.uug_session.specs.EndStep.{EndEvent, EndState, Identity}
-use Rattle.uug_session.specs.Engine.{BeginsSession, end_of}
+use Rattle.uug_session.specs.Engine.{end_of}
 use Rattle.uug_session.specs.Node.{NodeState}
 use Rattle.uug_conversation.specs.DialogueState.{DialogueState}
 use Rattle.uug_conversation.specs.Holdings.{Holdings, Kept}
@@ -12,21 +10,12 @@ use Rattle.uug_conversation.specs.Sides.{AtBoth, at}
 use Rattle.uug_conversation.specs.Turns.{other}
 use Rattle.uug_conversation.specs.declared.side.Side.{Side}
 use Rattle.uug_line.specs.Headline.{since}
-use Rattle.uug_ends.specs.Beginnings.{AreSound, EndBeginning, first_effect, identity_of}
+use Rattle.uug_events.specs.Beginnings.{AreSound, EndBeginning, first_effect, identity_of}
 use Rattle.uug_ends.specs.Courses.{EndCourse, course_step, course_after, first_course}
-use Rattle.uug_ends.specs.NodeRuns.{BeginsAsEnd, HasRun, state_after}
+use Rattle.uug_events.specs.NodeRuns.{HasRun, state_after}
 use Rattle.uug_ends.specs.TwoCourses.{EventAt, KeepsPromises, NoneIsFooled, course_at, events_at}
 use Rattle.uug_ends.specs.TwoNodes.{HaveRun, Stands, kept_at, struck_at}
 use Rattle.uug_ends.proofs.TwoCoursesLaw.{two_keep}
-
--- ---- a session begins
-
-pub node_begins : (side : Side) (b : EndBeginning) (entries : List EntryValue) (n : NodeState) →
-    BeginsSession (identity_of side b) b.own b.number b.lists entries n.engine → BeginsAsEnd side b n
-node_begins side b entries n begins = record {
-  identity = begins.identity;
-  state = begun_with b.holdings b.kept (identity_of side b) b.own b.number b.lists entries n.engine begins;
-}
 
 -- ---- what a node has come to
 

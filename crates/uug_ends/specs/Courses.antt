@@ -6,7 +6,7 @@ use Rattle.uug_session.specs.EndStep.{EndEffect, EndEvent, EndState, Emitted, Id
 use Rattle.uug_conversation.specs.DialogueState.{DialogueState, end_keeper}
 use Rattle.uug_conversation.specs.Holdings.{Holdings}
 use Rattle.uug_conversation.specs.declared.side.Side.{Side}
-use Rattle.uug_ends.specs.Beginnings.{EndBeginning, first_effect, identity_of}
+use Rattle.uug_events.specs.Beginnings.{EndBeginning, first_effect, identity_of}
 
 pub record EndCourse : Type 0 where
   pub state : EndState DialogueState

@@ -13,7 +13,7 @@ use Rattle.uug_conversation.specs.declared.side.Side.TheVariants.{Caller, Called
 use Rattle.uug_line.specs.Headline.{since}
 use Rattle.uug_line.specs.LineEndState.{messages_sent, packets_in}
 use Rattle.uug_line.specs.WereSent.{WereSent}
-use Rattle.uug_ends.specs.Beginnings.{EndBeginning}
+use Rattle.uug_events.specs.Beginnings.{EndBeginning}
 use Rattle.uug_ends.specs.Courses.{EndCourse, course}
 
 -- an event, and the side of the end to which it happened

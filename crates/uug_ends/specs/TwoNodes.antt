@@ -8,8 +8,8 @@ use Rattle.uug_conversation.specs.Sides.{AtBoth, at, at_each}
 use Rattle.uug_conversation.specs.declared.job.Job.{Job}
 use Rattle.uug_conversation.specs.declared.side.Side.{Side}
 use Rattle.uug_line.specs.Headline.{since}
-use Rattle.uug_ends.specs.Beginnings.{EndBeginning}
-use Rattle.uug_ends.specs.NodeRuns.{HasRun}
+use Rattle.uug_events.specs.Beginnings.{EndBeginning}
+use Rattle.uug_events.specs.NodeRuns.{HasRun}
 use Rattle.uug_ends.specs.TwoCourses.{EventAt, course_at, events_at}
 
 -- Each of the nodes has run to where it is, beside a spool that has then kept this; the order has the events of both.

@@ -31,37 +31,11 @@ use Rattle.uug_line.specs.JournalValue.{JournalValue, log_of}
 use Rattle.uug_line.specs.LineEndState.{LineEndState, after_call, called_with, holding, nothing_done}
 use Rattle.uug_line.specs.LineEndValue.{AreWritten, BeginsAgain, HasBegun, HasRoom, HoldsOn, IsCalled, IsNoted, IsOrdered, LineEndValue, hearer_of, line_end_of, player_of, state_of}
 use Rattle.uug_line.proofs.SpokenLemmas.{Calls, does_so, steps_so}
+use Rattle.uug_events.proofs.HeldLemmas.{held_late, same_bytes}
 use Rattle.uug_session.proofs.CallLemmas.{late_beside, lost_beside, begun_with}
 use Rattle.uug_session.proofs.InRangeLemmas.{end_begins, first_words_can}
 
 -- ---- the bytes held
-
-pub same_bytes : (stage : Stage) (a b : NodeState) → a.texts ≡ b.texts → a.packets ≡ b.packets → bytes_at stage a ≡ bytes_at stage b
-same_bytes (hailing g) a b texts packets = ap (λ (t : TextsHeld). t.bytes) texts
-same_bytes linked a b texts packets = ap (λ (r : Reading). r.bytes) packets
-same_bytes (ended how) a b texts packets = refl
-
-greeting_late : (number : Option ℕ) (in_time : Bool) (id : Identity) (g : Greeting) (s : State) (c : DialogueState) (n : NodeState)
-    → HoldsOn (behind_greeting number id (if in_time
-    then record { says = []; greeted = GoesOn (record { awaited = g.awaited; timeouts = g.timeouts + 1 }); rises = false }
-    else fails [] ends.GaveUp) s c) (hailing g) n
-greeting_late number true id g s c n = refl
-greeting_late number false id g s c n = refl
-
-link_late : (number : Option ℕ) (id : Identity) (parted : Bool) (o : OutcomeValue) (e : Effect) (c : DialogueState) (n : NodeState)
-    → HoldsOn (late_link number id parted o e c) linked n
-link_late number id parted nothing e c n = refl
-link_late number id parted up e c n = refl
-link_late number id parted taken e c n = refl
-link_late number id parted closed e c n = refl
-link_late number id parted gave_up e c n = refl
-link_late number id parted halted e c n = refl
-
-pub held_late : (number : Option ℕ) (k : Keeper DialogueState) (id : Identity) (stage : Stage) (s : State) (c : DialogueState) (n : NodeState)
-    → HoldsOn (stage_step k id stage time_ran_out (record { stage = stage; link = s; keeper = c; number = number })) stage n
-held_late number k id (hailing g) s c n = greeting_late number (nat_lt (g.timeouts + 1) TIMEOUTS_MAX) id g s c n
-held_late number k id linked s c n = link_late number id (k.has_parted c) (step s timed_out).outcome (step s timed_out) c n
-held_late number k id (ended how) s c n = refl
 
 -- ---- a call that uses no bytes
 

@@ -1,2 +1,3 @@
+pub mod FaultLemmas
 pub mod NameLemmas
 pub mod PairLemmas

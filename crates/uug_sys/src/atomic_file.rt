@@ -1,14 +1,16 @@
 //! A file of the system in the place of another, whole or not at all.
 use crate::part_path::PartPath;
 use std::alloc::Allocator;
-use std::fs::{File, OpenFile};
+use std::fs::{File, OpenFile, OpenOptions};
 use std::io::{ErrorKind, Seek, SeekFrom, Write};
 use std::rt::Files;
 use std::{fs, io};
 
 /// Writes a file beside `path`, sees it on the device, and puts it in the place of `path`, which is in the folder `dir`.
 /// Then the folder is seen on the device, too. Where that alone fails the file is in its place. Where `read_len` is given,
-/// what the file at `path` has behind so many bytes stays behind the new ones: it was appended while they were written.
+/// what the file at `path` has behind so many bytes stays behind the new ones: it was appended meanwhile. That is looked
+/// for once more when the file is in its place, and again when the folder is on the device, since who has opened the old
+/// file still writes there.
 pub(crate) fn replace_file<R: Files, A: Allocator>(
     rt: &R,
     part: &mut PartPath<A>,
@@ -18,15 +20,39 @@ pub(crate) fn replace_file<R: Files, A: Allocator>(
     read_len: Option<u64>,
 ) -> io::Result<()> {
     let mut file = part.create(rt)?;
-    let placed = place_file(rt, &mut file, part.as_str(), path, bytes, read_len);
-    if placed.is_err() {
-        let _ = fs::remove_file(rt, part.as_str());
-        return placed;
+    match place_file(rt, &mut file, part.as_str(), path, bytes, read_len) {
+        Ok(Some(old)) => see_folder_between(rt, old, dir, path),
+        Ok(None) => see_folder(rt, dir),
+        Err(error) => {
+            let _ = fs::remove_file(rt, part.as_str());
+            Err(error)
+        }
     }
+}
+
+/// Sees a folder on the device.
+fn see_folder<R: Files>(rt: &R, dir: &str) -> io::Result<()> {
     File::open(rt, dir)?.sync_all()
 }
 
-/// Writes a new file at `part`, and gives it the name `path` once it is on the device.
+/// Sees a folder on the device, and before and after it adds to the file at `path` what was appended late to the old one.
+fn see_folder_between<R: Files>(rt: &R, mut old: R::File, dir: &str, path: &str) -> io::Result<()> {
+    add_late(rt, &mut old, path)?;
+    see_folder(rt, dir)?;
+    add_late(rt, &mut old, path)
+}
+
+/// Adds to the file at `path` what has come to the old one since that was read last.
+fn add_late<R: Files>(rt: &R, old: &mut R::File, path: &str) -> io::Result<()> {
+    let mut file = OpenOptions::new().append(true).open(rt, path)?;
+    if io::copy(old, &mut file)? > 0 {
+        file.sync_all()?;
+    }
+    Ok(())
+}
+
+/// Writes a new file at `part`, and gives it the name `path` once it is on the device. The answer is the file that had
+/// the name before, read to its end, where what was appended to it is to stay.
 fn place_file<R: Files>(
     rt: &R,
     file: &mut R::File,
@@ -34,24 +60,32 @@ fn place_file<R: Files>(
     path: &str,
     bytes: &[u8],
     read_len: Option<u64>,
-) -> io::Result<()> {
+) -> io::Result<Option<R::File>> {
     file.write_all(bytes)?;
+    let old = match read_len {
+        Some(len) => Some(add_appended(rt, file, path, len)?),
+        None => None,
+    };
     file.sync_all()?;
-    if let Some(len) = read_len {
-        if add_appended(rt, file, path, len)? > 0 {
-            file.sync_all()?;
-        }
-    }
-    fs::rename(rt, part, path)
+    fs::rename(rt, part, path)?;
+    Ok(old)
 }
 
-/// Adds what the file at `path` has behind so many bytes. The answer is how many there were.
-fn add_appended<R: Files>(rt: &R, file: &mut R::File, path: &str, len: u64) -> io::Result<u64> {
-    let mut old = match File::open(rt, path) {
-        Ok(old) => old,
-        Err(error) if error.kind() == ErrorKind::NotFound => return Ok(0),
-        Err(error) => return Err(error),
-    };
+/// Adds what the file at `path` has behind so many bytes. The answer is that file.
+fn add_appended<R: Files>(rt: &R, file: &mut R::File, path: &str, len: u64) -> io::Result<R::File> {
+    let mut old = open_or_make(rt, path)?;
     old.seek(SeekFrom::Start(len))?;
-    io::copy(&mut old, file)
+    io::copy(&mut old, file)?;
+    Ok(old)
+}
+
+/// Opens a file. Where there is none an empty one is made, so that nobody else makes one before another takes its place.
+fn open_or_make<R: Files>(rt: &R, path: &str) -> io::Result<R::File> {
+    match File::open(rt, path) {
+        Err(error) if error.kind() == ErrorKind::NotFound => {
+            let _ = File::create_new(rt, path);
+            File::open(rt, path)
+        }
+        opened => opened,
+    }
 }

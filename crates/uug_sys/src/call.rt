@@ -1,21 +1,24 @@
 //! One end over a folder, and the line to the other one.
-ghost use Rattle.std.specs.Prelude.{◌≡◌, ◌≤◌, ℕ, [], Option, IfErr, IfOk, MatchOption};
+ghost use Rattle.std.specs.Prelude.{◌≡◌, ◌≢◌, ◌<◌, ◌≤◌, ◌⊎◌, ◌↔◌, ℕ, [], Option, IfErr, IfOk, IfSome, IsSome, MatchOption};
 ghost use Rattle.uug_link.specs.Announced.{announced};
 ghost use Rattle.uug_session.specs.Engine.{BeginsSession, all_ahead};
 ghost use Rattle.uug_session.specs.Node.{node_of, spool_of};
 ghost use Rattle.uug_session.specs.Sessions.{HoldsNothing};
 ghost use Rattle.uug_stream.specs.Streams.{CountsFault};
-ghost use Rattle.uug_sys.specs.Faults.{IsLockFault, IsCallFault, IsStartFault};
+ghost use Rattle.uug_sys.specs.Faults.{IsCallFault, IsLockFault, IsOpeningFault, IsStartFault};
 ghost use Rattle.uug_transfer.specs.BufferedNodes.{IsCleared, node_in};
 ghost use Rattle.uug_sys.specs.Tasks.{IsSaidBy, IsTask, StandsAt, identity_at};
 
 use crate::device_line::DeviceLine;
 use crate::dir_lock::{DirLock, lock_dir};
+use crate::failure::{Cause, EndDir, EndText, Resource, SystemFailure};
 use crate::opened_jobs::{OpenJobs, open_jobs};
+use crate::run_fault::RunFault;
 use crate::send_folder::{read_send, read_text};
 use crate::sockets::{open_tcp, open_unix};
 use crate::stream_line::StreamLine;
 use crate::system_folder::SystemFolder;
+use crate::system_line::SystemLine;
 use crate::system_text::SystemText;
 use std::alloc::{AllocError, Allocator};
 use std::fs::File;
@@ -67,6 +70,16 @@ pub struct CallTask<'a> {
     pub is_loud: bool,
 }
 
+impl<'a> CallTask<'a> {
+    /// The folder of the end.
+    fn end_dir(&self) -> EndDir<'a> {
+        EndDir {
+            path: self.dir,
+            number: 0,
+        }
+    }
+}
+
 /// The files of an end in a folder of the system.
 type SystemSpool<'a, R, A> = LocalNames<SystemFolder<'a, R, A>, A>;
 
@@ -88,7 +101,8 @@ struct Terms<'a> {
 
 /// What a task says, if its numbers are in their ranges and its names are names.
 fn read_terms<'a>(task: &CallTask<'a>) -> Option<Terms<'a>>
-    ensures { MatchOption result (IsTask task.now → ⊥) (λ terms. IsSaidBy task.now terms) }
+    ensures said { MatchOption result (IsTask task.now → ⊥) (λ terms. IsSaidBy task.now terms) }
+    ensures task { IfSome result (λ _. IsTask task.now) }
 {
     if task.seconds == 0 || task.seconds > SECONDS_MAX {
         return None;
@@ -110,13 +124,15 @@ fn read_terms<'a>(task: &CallTask<'a>) -> Option<Terms<'a>>
 /// Runs one end over its folder and its line, for one session. What stands in a folder is said in `docs/PROTOCOL.md`. The
 /// folder is locked before anything in it is read: `InUse` says that another run holds it. An end that is called lets it go
 /// while it waits, and locks it again when its line is up. The jobs, the number and the files are read then; whether the
-/// jobs and the number can be read is seen before the line opens. The answer is the program's status.
+/// jobs and the number can be read is seen before the line opens. The answer is the program's status, and `why` says which
+/// call of the system failed first, if one did.
 pub fn call_run<A, R, W, O>(
     alloc: A,
     rt: &R,
     task: &CallTask<'_>,
     observer: W,
     output: &mut O,
+    why: &mut Option<SystemFailure>,
 ) -> Result<u8, ToolFault>
 where
     A: Allocator + Copy,
@@ -126,25 +142,46 @@ where
     ensures status { IfOk result (λ status. status ≤ 1) }
     ensures write { result ≡ Err ToolFault.Write
         → CountsFault (O.fault_count output.old) (O.fault_count output.new) }
+    ensures usage { (result ≡ Err ToolFault.Usage) ↔ (IsTask task.now → ⊥) }
     ensures no_other { IfErr result IsCallFault }
+    // A device fault always says which call it was.
+    ensures why { result ≡ Err ToolFault.Device → IsSome why.new }
 {
+    *why = None;
     let Some(terms) = read_terms(task) else {
         return Err(ToolFault::Usage);
     };
-    let lock = lock_dir(alloc, rt, task.dir, 0)?;
-    if let Err(fault) = look(alloc, rt, task) {
-        drop(lock);
-        return Err(fault);
-    }
+    let lock = match lock_and_look(alloc, rt, task) {
+        Ok(lock) => lock,
+        Err(fault) => return Err(fault.tell(why)),
+    };
     match task.side {
         Side::Caller => {
-            let result = talk_at(alloc, rt, task, terms, observer, output);
+            let result = talk_at(alloc, rt, task, terms, observer, output, why);
             drop(lock);
             result
         }
         Side::Called => {
             drop(lock);
-            talk_at(alloc, rt, task, terms, observer, output)
+            talk_at(alloc, rt, task, terms, observer, output, why)
+        }
+    }
+}
+
+/// The lock on the end's folder, where its number and its jobs can be read.
+fn lock_and_look<A: Allocator + Copy, R: Files<File = File> + Alloc + Clone + Drop>(
+    alloc: A,
+    rt: &R,
+    task: &CallTask<'_>,
+) -> Result<DirLock, RunFault>
+    ensures { IfErr result IsOpeningFault }
+{
+    let lock = lock_dir(alloc, rt, task.end_dir())?;
+    match look(alloc, rt, task) {
+        Ok(()) => Ok(lock),
+        Err(fault) => {
+            drop(lock);
+            Err(fault)
         }
     }
 }
@@ -154,11 +191,11 @@ fn look<A: Allocator + Copy, R: Files>(
     alloc: A,
     rt: &R,
     task: &CallTask<'_>,
-) -> Result<(), ToolFault>
+) -> Result<(), RunFault>
     ensures { IfErr result IsStartFault }
 {
-    read_number_at_start(alloc, rt, task.dir, task.is_numbered)?;
-    drop(open_jobs(alloc, rt, task.dir)?);
+    read_number_at_start(alloc, rt, task)?;
+    drop(open_jobs(alloc, rt, task.end_dir())?);
     Ok(())
 }
 
@@ -170,6 +207,7 @@ fn talk_at<A, R, W, O>(
     terms: Terms<'_>,
     observer: W,
     output: &mut O,
+    why: &mut Option<SystemFailure>,
 ) -> Result<u8, ToolFault>
 where
     A: Allocator + Copy,
@@ -180,22 +218,24 @@ where
     ensures write { result ≡ Err ToolFault.Write
         → CountsFault (O.fault_count output.old) (O.fault_count output.new) }
     ensures no_other { IfErr result IsCallFault }
+    ensures no_usage { result ≢ Err ToolFault.Usage }
+    ensures why { result ≡ Err ToolFault.Device → IsSome why.new }
 {
     let place = terms.place;
     match terms.line {
         LineName::Unix(path) => {
             let stream = open_unix(rt, task.side, path, terms.patience);
             let line = stream.map(StreamLine::new);
-            talk_over(alloc, rt, task, place, line, observer, output)
+            talk_over(alloc, rt, task, place, line, observer, output, why)
         }
         LineName::Tcp(host, port) => {
             let stream = open_tcp(rt, task.side, host, port, terms.patience);
             let line = stream.map(StreamLine::new);
-            talk_over(alloc, rt, task, place, line, observer, output)
+            talk_over(alloc, rt, task, place, line, observer, output, why)
         }
         LineName::Device(path) => {
             let line = DeviceLine::open(alloc, rt, path, terms.patience);
-            talk_over(alloc, rt, task, place, line, observer, output)
+            talk_over(alloc, rt, task, place, line, observer, output, why)
         }
     }
 }
@@ -209,30 +249,40 @@ fn talk_over<A, R, L, W, O>(
     line: io::Result<L>,
     observer: W,
     output: &mut O,
+    why: &mut Option<SystemFailure>,
 ) -> Result<u8, ToolFault>
 where
     A: Allocator + Copy,
     R: Files<File = File> + Alloc + Clone + Drop,
-    L: EndLine + Drop,
+    L: SystemLine + Drop,
     W: SessionObserver + Drop,
     O: Output,
+    requires calm { IfOk line (λ line. L.fault_count line ≡ 0) }
     ensures status { IfOk result (λ status. status ≤ 1) }
     ensures write { result ≡ Err ToolFault.Write
         → CountsFault (O.fault_count output.old) (O.fault_count output.new) }
     ensures no_other { IfErr result IsCallFault }
+    ensures no_usage { result ≢ Err ToolFault.Usage }
+    ensures why { result ≡ Err ToolFault.Device → IsSome why.new }
 {
-    let Ok(line) = line else {
-        return Err(ToolFault::Device);
+    let line = match line {
+        Ok(line) => line,
+        Err(error) => {
+            *why = Some(SystemFailure::on(Resource::Line, Cause::of(&error)));
+            return Err(ToolFault::Device);
+        }
     };
     let mut line = LineMonitor::new(line, observer);
-    match lock_again(alloc, rt, task) {
+    let result = match lock_again(alloc, rt, task) {
         Ok(lock) => {
-            let result = talk_locked(alloc, rt, task, place, &mut line, output);
+            let result = talk_locked(alloc, rt, task, place, &mut line, output, why);
             drop(lock);
             result
         }
-        Err(fault) => Err(fault),
-    }
+        Err(fault) => Err(fault.tell(why)),
+    };
+    *why = why.or(line.line().failure());
+    result
 }
 
 /// The lock on the folder of an end that let it go while it waited.
@@ -240,12 +290,12 @@ fn lock_again<A: Allocator + Copy, R: Files<File = File> + Alloc + Clone + Drop>
     alloc: A,
     rt: &R,
     task: &CallTask<'_>,
-) -> Result<Option<DirLock>, ToolFault>
+) -> Result<Option<DirLock>, RunFault>
     ensures { IfErr result IsLockFault }
 {
     match task.side {
         Side::Caller => Ok(None),
-        Side::Called => Ok(Some(lock_dir(alloc, rt, task.dir, 0)?)),
+        Side::Called => Ok(Some(lock_dir(alloc, rt, task.end_dir())?)),
     }
 }
 
@@ -257,61 +307,84 @@ fn talk_locked<A, R, L, O>(
     place: Place,
     line: &mut L,
     output: &mut O,
+    why: &mut Option<SystemFailure>,
 ) -> Result<u8, ToolFault>
 where
     A: Allocator + Copy,
     R: Files + Alloc + Clone + Drop,
     L: EndLine,
     O: Output,
+    requires calm { L.fault_count line.old ≡ 0 }
     ensures status { IfOk result (λ status. status ≤ 1) }
     ensures write { result ≡ Err ToolFault.Write
         → CountsFault (O.fault_count output.old) (O.fault_count output.new) }
     ensures no_other { IfErr result IsCallFault }
+    ensures no_usage { result ≢ Err ToolFault.Usage }
+    // Where the line has not failed it is said which call of the folder's it was.
+    ensures why { result ≡ Err ToolFault.Device
+        → IsSome why.new ⊎ (0 < L.fault_count line.new) }
 {
-    let mut end = read_end(alloc, rt, task, place)?;
+    let mut end = match read_end(alloc, rt, task, place) {
+        Ok(end) => end,
+        Err(fault) => return Err(fault.tell(why)),
+    };
     let result = call_over(alloc, task.side, &mut end, line, BYTES_MAX, output);
+    *why = failure_of(&end);
     drop(end);
     result
+}
+
+/// Which call of the system on the folder of an end failed first: in `got`, else on its jobs or its number.
+fn failure_of<R: Files, A: Allocator + Copy>(end: &SystemEnd<'_, R, A>) -> Option<SystemFailure>
+    ensures jobs { 0 < end.now.jobs.file.faults.count → IsSome result }
+    ensures number { 0 < end.now.number.faults.count → IsSome result }
+{
+    let got = end.buffered.node().spool().files().folder();
+    got.failure()
+        .or(end.jobs.file.failure())
+        .or(end.number.failure())
 }
 
 /// An end over the folder `dir`, as it stands.
 fn read_end<'a, A: Allocator + Copy, R: Files + Alloc + Clone + Drop>(
     alloc: A,
     rt: &'a R,
-    task: &CallTask<'_>,
+    task: &CallTask<'a>,
     mut place: Place,
-) -> Result<SystemEnd<'a, R, A>, ToolFault>
+) -> Result<SystemEnd<'a, R, A>, RunFault>
+    ensures jobs_calm { IfOk result (λ end. end.jobs.file.faults.count ≡ 0) }
+    ensures number_calm { IfOk result (λ end. end.number.faults.count ≡ 0) }
     ensures stands { IfOk result (λ end. (number : Option ℕ) × StandsAt task.now.side
         (record place { number = number }) end.jobs.before.items (node_in end.buffered)) }
     ensures no_other { IfErr result IsStartFault }
 {
-    place.number = read_number_at_start(alloc, rt, task.dir, task.is_numbered)?;
-    let jobs = open_jobs(alloc, rt, task.dir)?;
-    let files = match read_send(alloc, rt, task.dir) {
+    place.number = read_number_at_start(alloc, rt, task)?;
+    let jobs = open_jobs(alloc, rt, task.end_dir())?;
+    let files = match read_send(alloc, rt, task.end_dir()) {
         Ok(files) => files,
         Err(fault) => {
             drop(jobs);
             return Err(fault);
         }
     };
-    match make_end(alloc, rt, task, place, jobs, files) {
-        Ok(end) => Ok(end),
-        Err(_) => Err(ToolFault::Memory),
-    }
+    Ok(make_end(alloc, rt, task, place, jobs, files)?)
 }
 
-/// The number that the end over the folder `dir` keeps.
+/// The number that the end keeps.
 fn read_number_at_start<A: Allocator + Copy, R: Files>(
     alloc: A,
     rt: &R,
-    dir: &str,
-    is_told: bool,
-) -> Result<Option<u32>, ToolFault>
+    task: &CallTask<'_>,
+) -> Result<Option<u32>, RunFault>
     ensures { IfErr result IsStartFault }
 {
-    match read_text(alloc, rt, dir, "number")? {
-        Some(text) => number_at_start(Some(text.as_slice()), is_told),
-        None => number_at_start(None, is_told),
+    let number = match read_text(alloc, rt, task.end_dir(), EndText::Number)? {
+        Some(text) => number_at_start(Some(text.as_slice()), task.is_numbered),
+        None => number_at_start(None, task.is_numbered),
+    };
+    match number {
+        Ok(number) => Ok(number),
+        Err(fault) => Err(RunFault::Tool(fault)),
     }
 }
 
@@ -319,16 +392,18 @@ fn read_number_at_start<A: Allocator + Copy, R: Files>(
 fn make_end<'a, A: Allocator + Copy, R: Files>(
     alloc: A,
     rt: &'a R,
-    task: &CallTask<'_>,
+    task: &CallTask<'a>,
     place: Place,
     jobs: OpenJobs<'a, R, A>,
     files: Vec<Stored<A>, A>,
 ) -> Result<SystemEnd<'a, R, A>, AllocError>
-    ensures { IfOk result (λ end.
+    ensures stands { IfOk result (λ end.
         StandsAt task.now.side place end.jobs.before.items (node_in end.buffered)) }
+    ensures jobs { IfOk result (λ end. end.jobs ≡ jobs.entry.file) }
+    ensures number { IfOk result (λ end. end.number.faults.count ≡ 0) }
 {
     let OpenJobs { file, queue } = jobs;
-    let number = SystemText::new(alloc, rt, task.dir, "number")?;
+    let number = SystemText::new(alloc, rt, task.end_dir(), EndText::Number)?;
     let spool = make_spool(alloc, rt, task, files)?;
     let node = make_node(alloc, task.side, place, queue, spool)?;
     let buffered = BufferedNode::new(alloc, node, FaultInjector::none())?;
@@ -343,13 +418,13 @@ fn make_end<'a, A: Allocator + Copy, R: Files>(
 fn make_spool<'a, A: Allocator + Copy, R: Files>(
     alloc: A,
     rt: &'a R,
-    task: &CallTask<'_>,
+    task: &CallTask<'a>,
     files: Vec<Stored<A>, A>,
 ) -> Result<SystemSpool<'a, R, A>, AllocError>
     ensures lenient { IfOk result (λ spool. spool.lenient ≡ task.now.is_lenient) }
     ensures files { IfOk result (λ spool. spool.files.files ≡ files.items) }
 {
-    let folder = SystemFolder::new(alloc, rt, task.dir)?;
+    let folder = SystemFolder::new(alloc, rt, task.end_dir())?;
     let files = FolderSpool::new(alloc, files, folder);
     let mut spool = LocalNames::new(alloc, files);
     spool.set_lenient(task.is_lenient);

@@ -2,7 +2,10 @@
 ghost use Rattle.std.specs.Prelude.{◌≡◌, ◌<◌, ◌≤◌, length, IfOk, None};
 ghost use Rattle.uug_transfer.specs.ReadOutcomes.{IsWithin};
 
+use crate::failure::{Cause, Resource, SystemFailure};
+use crate::faults::Faults;
 use crate::stream_line::read_some;
+use crate::system_line::SystemLine;
 use mio::unix::SourceFd;
 use mio::{Events, Interest, Poll, Token};
 use std::alloc::Allocator;
@@ -56,7 +59,7 @@ impl<A: Allocator + Copy> Waiting<A> {
 pub struct DeviceLine<A: Allocator> {
     file: File,
     waiting: Waiting<A>,
-    faults: u64,
+    faults: Faults,
 }
 
 impl<A: Allocator + Copy> DeviceLine<A> {
@@ -74,7 +77,7 @@ impl<A: Allocator + Copy> DeviceLine<A> {
         Ok(DeviceLine {
             file,
             waiting,
-            faults: 0,
+            faults: Faults::none(),
         })
     }
 }
@@ -118,33 +121,40 @@ fn read_in_time<A: Allocator + Copy>(
 }
 
 impl<A: Allocator + Copy> EndLine for DeviceLine<A> {
-    ghost fault_count = { λ line. line.faults };
+    ghost fault_count = { λ line. line.faults.count };
 
     ghost received = { λ _. None };
 
     ghost taken = { λ _. None };
 
     fn write(&mut self, piece: &[u8]) -> Result<usize, LineFailed> {
-        match write_in_time(&mut self.file, &mut self.waiting, piece) {
-            Ok(count) if count > 0 => Ok(count),
-            _ => {
-                self.faults = self.faults.saturating_add(1);
-                Err(LineFailed)
-            }
-        }
+        let cause = match write_in_time(&mut self.file, &mut self.waiting, piece) {
+            Ok(0) => Cause::MovedNothing,
+            Ok(count) => return Ok(count),
+            Err(error) => Cause::of(&error),
+        };
+        self.faults.note(SystemFailure::on(Resource::Line, cause));
+        Err(LineFailed)
     }
 
     fn read(&mut self, buffer: &mut [u8]) -> Result<ReadOutcome, LineFailed> {
         match read_in_time(&mut self.file, &mut self.waiting, buffer) {
             Ok(outcome) => Ok(outcome),
-            Err(_) => {
-                self.faults = self.faults.saturating_add(1);
+            Err(error) => {
+                self.faults
+                    .note(SystemFailure::on(Resource::Line, Cause::of(&error)));
                 Err(LineFailed)
             }
         }
     }
 
     fn faults(&self) -> u64 {
-        self.faults
+        self.faults.count()
+    }
+}
+
+impl<A: Allocator + Copy> SystemLine for DeviceLine<A> {
+    fn failure(&self) -> Option<SystemFailure> {
+        self.faults.first()
     }
 }

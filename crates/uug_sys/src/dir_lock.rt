@@ -2,7 +2,9 @@
 ghost use Rattle.std.specs.Prelude.{IfErr};
 ghost use Rattle.uug_sys.specs.Faults.{IsLockFault};
 
+use crate::failure::{EndDir, Resource};
 use crate::part_path::PART_FRONT;
+use crate::run_fault::RunFault;
 use std::alloc::{AllocError, Allocator};
 use std::fs::{File, TryLockError};
 use std::io::ErrorKind;
@@ -16,26 +18,30 @@ pub struct DirLock {
     file: File,
 }
 
-/// Locks the folder `dir`, which is that of this number among the program's arguments, and removes what runs that were
-/// killed left of files that were not whole. Nothing is made in it. A folder that another run holds is `InUse`.
+/// Locks the folder of an end, and removes what runs that were killed left of files that were not whole. Nothing is made in
+/// it. A folder that another run holds is `InUse`.
 pub fn lock_dir<A: Allocator + Copy, R: Files<File = File> + Alloc + Clone + Drop>(
     alloc: A,
     rt: &R,
-    dir: &str,
-    number: usize,
-) -> Result<DirLock, ToolFault>
+    dir: EndDir<'_>,
+) -> Result<DirLock, RunFault>
     ensures no_other { IfErr result IsLockFault }
 {
-    let Ok(file) = open_dir(rt, dir) else {
-        return Err(ToolFault::Device);
+    let file = match open_dir(rt, dir.path) {
+        Ok(file) => file,
+        Err(error) => return Err(RunFault::of(&error, dir, Resource::Dir)),
     };
     let lock = DirLock { file };
     match lock.file.try_lock() {
         Ok(()) => (),
-        Err(TryLockError::WouldBlock) => return Err(ToolFault::InUse(number)),
-        Err(TryLockError::Error(_)) => return Err(ToolFault::Device),
+        Err(TryLockError::WouldBlock) => {
+            return Err(RunFault::Tool(ToolFault::InUse(dir.number)));
+        }
+        Err(TryLockError::Error(error)) => {
+            return Err(RunFault::of(&error, dir, Resource::Dir));
+        }
     }
-    clear_dir(alloc, rt, dir)?;
+    clear_dir(alloc, rt, dir.path)?;
     Ok(lock)
 }
 

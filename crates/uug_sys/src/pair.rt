@@ -1,5 +1,5 @@
 //! Two folders, and the socket between their ends.
-ghost use Rattle.std.specs.Prelude.{◌≡◌, ◌≢◌, ◌≤◌, ◌↔◌, ◌&&◌, false, IfErr, IfOk, None};
+ghost use Rattle.std.specs.Prelude.{◌≡◌, ◌≢◌, ◌≤◌, ◌<◌, ◌↔◌, ◌&&◌, false, IfErr, IfOk, IsSome, None};
 ghost use Rattle.uug_talk.specs.Name.{IsName};
 ghost use Rattle.uug_link.specs.Announced.{announced};
 ghost use Rattle.uug_conversation.specs.Turns.{other};
@@ -7,14 +7,16 @@ ghost use Rattle.uug_session.specs.Node.{node_of, spool_of};
 ghost use Rattle.uug_session.specs.Sessions.{HoldsNothing};
 ghost use Rattle.uug_stream.specs.Streams.{CountsFault};
 ghost use Rattle.uug_transfer.specs.FaultInjection.{is_in_range};
-ghost use Rattle.uug_sys.specs.Faults.{IsReadingFault, IsRunFault};
+ghost use Rattle.uug_sys.specs.Faults.{IsReadingFault, IsRunFault, IsSystemFault};
 ghost use Rattle.uug_sys.specs.Places.{Announces, BeginsInPair, StandsInPair, name_at};
 ghost use Rattle.uug_transfer.specs.BufferedNodes.{node_in};
 ghost use Rattle.uug_transfer.specs.Turns.{HasRoom};
 
 use crate::dir_lock::lock_dir;
+use crate::failure::{Cause, EndDir, Resource, SystemFailure};
 use crate::no_file::NoFile;
 use crate::opened_jobs::{OpenJobs, open_jobs};
+use crate::run_fault::RunFault;
 use crate::send_folder::read_send;
 use crate::system_folder::SystemFolder;
 use crate::system_text::SystemText;
@@ -56,7 +58,8 @@ type SystemEnd<'a, R, A> = TransferEnd<SystemSpool<'a, R, A>, SystemText<'a, R, 
 /// Runs the caller `a` over the folder `dir_a` and the called end `b` over `dir_b`, over a Unix socket that is made at the
 /// path `socket`. Every Nth packet is lost, and every Nth changed, for an N of its own each, if one is given. What stands
 /// in a folder is said in `docs/PROTOCOL.md`. Both folders are locked before anything in them is read: `InUse` says which
-/// of them another run holds. The answer is the program's status.
+/// of them another run holds. The answer is the program's status, and `why` says which call of the system failed first, if
+/// one did.
 pub fn pair_run<A: Allocator + Copy, R: Files<File = File> + Net + Alloc + Clone + Drop, O: Output>(
     alloc: A,
     rt: &R,
@@ -66,6 +69,7 @@ pub fn pair_run<A: Allocator + Copy, R: Files<File = File> + Net + Alloc + Clone
     drop_every: Option<u32>,
     flip_every: Option<u32>,
     output: &mut O,
+    why: &mut Option<SystemFailure>,
 ) -> Result<u8, ToolFault>
     ensures usage { (result ≡ Err ToolFault.Usage) ↔
         ((is_in_range drop_every && is_in_range flip_every) ≡ false) }
@@ -73,18 +77,32 @@ pub fn pair_run<A: Allocator + Copy, R: Files<File = File> + Net + Alloc + Clone
     ensures write { result ≡ Err ToolFault.Write
         → CountsFault (O.fault_count output.old) (O.fault_count output.new) }
     ensures no_other { IfErr result IsRunFault }
+    // A device fault always says which call it was.
+    ensures why { result ≡ Err ToolFault.Device → IsSome why.new }
 {
+    *why = None;
     let Some(injector) = FaultInjector::new(drop_every, flip_every) else {
         return Err(ToolFault::Usage);
     };
-    let lock_a = lock_dir(alloc, rt, dir_a, 0)?;
-    let result = match lock_dir(alloc, rt, dir_b, 1) {
+    let dir_a = EndDir {
+        path: dir_a,
+        number: 0,
+    };
+    let dir_b = EndDir {
+        path: dir_b,
+        number: 1,
+    };
+    let lock_a = match lock_dir(alloc, rt, dir_a) {
+        Ok(lock_a) => lock_a,
+        Err(fault) => return Err(fault.tell(why)),
+    };
+    let result = match lock_dir(alloc, rt, dir_b) {
         Ok(lock_b) => {
-            let result = run_locked(alloc, rt, socket, dir_a, dir_b, injector, output);
+            let result = run_locked(alloc, rt, socket, dir_a, dir_b, injector, output, why);
             drop(lock_b);
             result
         }
-        Err(fault) => Err(fault),
+        Err(fault) => Err(fault.tell(why)),
     };
     drop(lock_a);
     result
@@ -95,19 +113,24 @@ fn run_locked<A: Allocator + Copy, R: Files + Net + Alloc + Clone + Drop, O: Out
     alloc: A,
     rt: &R,
     socket: &str,
-    dir_a: &str,
-    dir_b: &str,
+    dir_a: EndDir<'_>,
+    dir_b: EndDir<'_>,
     injector: FaultInjector,
     output: &mut O,
+    why: &mut Option<SystemFailure>,
 ) -> Result<u8, ToolFault>
     ensures status { IfOk result (λ status. status ≤ 1) }
     ensures write { result ≡ Err ToolFault.Write
         → CountsFault (O.fault_count output.old) (O.fault_count output.new) }
     ensures no_other { IfErr result IsRunFault }
     ensures no_usage { result ≢ Err ToolFault.Usage }
+    ensures why { result ≡ Err ToolFault.Device → IsSome why.new }
 {
-    let (mut caller, mut called) = make_ends(alloc, rt, dir_a, dir_b, injector)?;
-    let result = run_ends(alloc, rt, socket, &mut caller, &mut called, output);
+    let (mut caller, mut called) = match make_ends(alloc, rt, dir_a, dir_b, injector) {
+        Ok(ends) => ends,
+        Err(fault) => return Err(fault.tell(why)),
+    };
+    let result = run_ends(alloc, rt, socket, &mut caller, &mut called, output, why);
     drop(caller);
     drop(called);
     result
@@ -121,25 +144,44 @@ fn run_ends<'a, A: Allocator + Copy, R: Files + Net + Alloc + Clone + Drop, O: O
     caller: &mut SystemEnd<'a, R, A>,
     called: &mut SystemEnd<'a, R, A>,
     output: &mut O,
+    why: &mut Option<SystemFailure>,
 ) -> Result<u8, ToolFault>
+    requires caller_calm { caller.old.jobs.file.faults.count ≡ 0 }
+    requires called_calm { called.old.jobs.file.faults.count ≡ 0 }
     ensures status { IfOk result (λ status. status ≤ 1) }
     ensures write { result ≡ Err ToolFault.Write
         → CountsFault (O.fault_count output.old) (O.fault_count output.new) }
     ensures no_other { IfErr result IsRunFault }
     ensures no_usage { result ≢ Err ToolFault.Usage }
+    ensures why { result ≡ Err ToolFault.Device → IsSome why.new }
 {
-    let mut line = connect(rt, socket)?;
-    pair_over(alloc, caller, called, &mut line, TURNS_MAX, output)
+    let mut line = match connect(rt, socket) {
+        Ok(line) => line,
+        Err(fault) => return Err(fault.tell(why)),
+    };
+    let result = pair_over(alloc, caller, called, &mut line, TURNS_MAX, output);
+    *why = failure_of(caller).or(failure_of(called)).or(line.failure());
+    result
+}
+
+/// Which call of the system on the folder of an end failed first: in `got`, else on its jobs.
+fn failure_of<R: Files, A: Allocator + Copy>(end: &SystemEnd<'_, R, A>) -> Option<SystemFailure>
+    ensures { 0 < end.now.jobs.file.faults.count → IsSome result }
+{
+    let got = end.buffered.node().spool().folder();
+    got.failure().or(end.jobs.file.failure())
 }
 
 /// Both ends over their folders, as these stand.
 fn make_ends<'a, A: Allocator + Copy, R: Files + Alloc + Clone + Drop>(
     alloc: A,
     rt: &'a R,
-    dir_a: &str,
-    dir_b: &str,
+    dir_a: EndDir<'a>,
+    dir_b: EndDir<'a>,
     injector: FaultInjector,
-) -> Result<(SystemEnd<'a, R, A>, SystemEnd<'a, R, A>), ToolFault>
+) -> Result<(SystemEnd<'a, R, A>, SystemEnd<'a, R, A>), RunFault>
+    ensures caller_calm { IfOk result (λ ends. ends.0.jobs.file.faults.count ≡ 0) }
+    ensures called_calm { IfOk result (λ ends. ends.1.jobs.file.faults.count ≡ 0) }
     ensures caller { IfOk result (λ ends.
         StandsInPair Side.Caller ends.0.jobs.before.items (node_in ends.0.buffered)) }
     ensures called { IfOk result (λ ends.
@@ -157,7 +199,7 @@ fn make_ends<'a, A: Allocator + Copy, R: Files + Alloc + Clone + Drop>(
     let (caller, called) = Given::both(jobs, files);
     let Ok(caller) = make_end(alloc, rt, Side::Caller, dir_a, caller, injector) else {
         drop(called);
-        return Err(ToolFault::Memory);
+        return Err(RunFault::Tool(ToolFault::Memory));
     };
     match make_end(
         alloc,
@@ -170,7 +212,7 @@ fn make_ends<'a, A: Allocator + Copy, R: Files + Alloc + Clone + Drop>(
         Ok(called) => Ok((caller, called)),
         Err(_) => {
             drop(caller);
-            Err(ToolFault::Memory)
+            Err(RunFault::Tool(ToolFault::Memory))
         }
     }
 }
@@ -185,9 +227,14 @@ struct Given<'a, R: Files, A: Allocator> {
 impl<'a, R: Files, A: Allocator> Given<'a, R, A> {
     /// What the caller begins with, and the called end.
     fn both(
-        (caller_jobs, called_jobs): (OpenJobs<'a, R, A>, OpenJobs<'a, R, A>),
-        (caller_files, called_files): (Vec<Stored<A>, A>, Vec<Stored<A>, A>),
-    ) -> (Self, Self) {
+        jobs: (OpenJobs<'a, R, A>, OpenJobs<'a, R, A>),
+        files: (Vec<Stored<A>, A>, Vec<Stored<A>, A>),
+    ) -> (Self, Self)
+        ensures caller { result.0.jobs ≡ jobs.entry.0 }
+        ensures called { result.1.jobs ≡ jobs.entry.1 }
+    {
+        let (caller_jobs, called_jobs) = jobs;
+        let (caller_files, called_files) = files;
         let caller = Given {
             jobs: caller_jobs,
             files: caller_files,
@@ -204,10 +251,12 @@ impl<'a, R: Files, A: Allocator> Given<'a, R, A> {
 fn open_both<'a, A: Allocator + Copy, R: Files>(
     alloc: A,
     rt: &'a R,
-    dir_a: &str,
-    dir_b: &str,
-) -> Result<(OpenJobs<'a, R, A>, OpenJobs<'a, R, A>), ToolFault>
-    ensures { IfErr result IsReadingFault }
+    dir_a: EndDir<'a>,
+    dir_b: EndDir<'a>,
+) -> Result<(OpenJobs<'a, R, A>, OpenJobs<'a, R, A>), RunFault>
+    ensures caller_calm { IfOk result (λ both. both.0.file.file.faults.count ≡ 0) }
+    ensures called_calm { IfOk result (λ both. both.1.file.file.faults.count ≡ 0) }
+    ensures no_other { IfErr result IsReadingFault }
 {
     let caller = open_jobs(alloc, rt, dir_a)?;
     match open_jobs(alloc, rt, dir_b) {
@@ -223,9 +272,9 @@ fn open_both<'a, A: Allocator + Copy, R: Files>(
 fn read_sends<A: Allocator + Copy, R: Files + Alloc + Clone + Drop>(
     alloc: A,
     rt: &R,
-    dir_a: &str,
-    dir_b: &str,
-) -> Result<(Vec<Stored<A>, A>, Vec<Stored<A>, A>), ToolFault>
+    dir_a: EndDir<'_>,
+    dir_b: EndDir<'_>,
+) -> Result<(Vec<Stored<A>, A>, Vec<Stored<A>, A>), RunFault>
     ensures { IfErr result IsReadingFault }
 {
     let caller = read_send(alloc, rt, dir_a)?;
@@ -238,17 +287,18 @@ fn read_sends<A: Allocator + Copy, R: Files + Alloc + Clone + Drop>(
     }
 }
 
-/// An end over the folder `dir`, which begins with this.
+/// An end over this folder, which begins with this.
 fn make_end<'a, A: Allocator + Copy, R: Files>(
     alloc: A,
     rt: &'a R,
     side: Side,
-    dir: &str,
+    dir: EndDir<'a>,
     given: Given<'a, R, A>,
     injector: FaultInjector,
 ) -> Result<SystemEnd<'a, R, A>, AllocError>
-    ensures { IfOk result (λ end.
+    ensures stands { IfOk result (λ end.
         StandsInPair side end.jobs.before.items (node_in end.buffered)) }
+    ensures jobs { IfOk result (λ end. end.jobs ≡ given.entry.jobs.file) }
 {
     let Given { jobs, files } = given;
     let OpenJobs { file, queue } = jobs;
@@ -262,11 +312,11 @@ fn make_end<'a, A: Allocator + Copy, R: Files>(
     })
 }
 
-/// The spool over the folder `dir`, with these files to give.
+/// The spool over this folder, with these files to give.
 fn make_spool<'a, A: Allocator + Copy, R: Files>(
     alloc: A,
     rt: &'a R,
-    dir: &str,
+    dir: EndDir<'a>,
     files: Vec<Stored<A>, A>,
 ) -> Result<SystemSpool<'a, R, A>, AllocError> {
     let folder = SystemFolder::new(alloc, rt, dir)?;
@@ -334,21 +384,35 @@ fn name(bytes: &[u8]) -> Name
 
 /// The line over a socket that is made at this path. When both ends have it the path is not needed any more, and is
 /// removed, as it is where they don't get it.
-fn connect<R: Files + Net>(rt: &R, socket: &str) -> Result<WireLine<UnixStream>, ToolFault>
+fn connect<R: Files + Net>(rt: &R, socket: &str) -> Result<WireLine<UnixStream>, RunFault>
     ensures room { IfOk result (λ line. HasRoom (⟦<WireLine<UnixStream> as Line>⟧.unread line)) }
-    ensures no_other { IfErr result IsReadingFault }
+    ensures calm { IfOk result (λ line. line.faults.count ≡ 0) }
+    ensures no_other { IfErr result IsSystemFault }
 {
-    let Ok(listener) = UnixListener::bind(rt, socket) else {
-        return Err(ToolFault::Device);
-    };
+    match join(rt, socket) {
+        Ok(line) => Ok(line),
+        Err(error) => {
+            let cause = Cause::of(&error);
+            Err(RunFault::System(SystemFailure::on(Resource::Line, cause)))
+        }
+    }
+}
+
+/// The same, or the system's error.
+fn join<R: Files + Net>(rt: &R, socket: &str) -> io::Result<WireLine<UnixStream>>
+    ensures room { IfOk result (λ line. HasRoom (⟦<WireLine<UnixStream> as Line>⟧.unread line)) }
+    ensures calm { IfOk result (λ line. line.faults.count ≡ 0) }
+{
+    let listener = UnixListener::bind(rt, socket)?;
     let line = meet(rt, &listener, socket);
     let _ = fs::remove_file(rt, socket);
-    line.map_err(|_| ToolFault::Device)
+    line
 }
 
 /// Both ends of a socket that listens at this path.
 fn meet<R: Net>(rt: &R, listener: &UnixListener, socket: &str) -> io::Result<WireLine<UnixStream>>
-    ensures { IfOk result (λ line. HasRoom (⟦<WireLine<UnixStream> as Line>⟧.unread line)) }
+    ensures room { IfOk result (λ line. HasRoom (⟦<WireLine<UnixStream> as Line>⟧.unread line)) }
+    ensures calm { IfOk result (λ line. line.faults.count ≡ 0) }
 {
     let caller = UnixStream::connect(rt, socket)?;
     let (called, _) = listener.accept()?;

@@ -2,13 +2,14 @@
 ghost use Rattle.std.specs.Prelude.{◌≡◌, ◌+◌, ◌<◌, ◌≤◌, IfOk, IfErr, IfSome, OnOk, length};
 ghost use Rattle.uug_sys.specs.Faults.{IsFolderFault};
 
+use crate::failure::{Cause, EndDir, EndText, Resource};
+use crate::run_fault::RunFault;
 use std::alloc::Allocator;
 use std::fs::{DirEntry, File, ReadDir};
 use std::io::{ErrorKind, Read};
 use std::rt::Files;
 use std::{fs, io};
 use uug_session::Stored;
-use uug_stream::ToolFault;
 use uug_talk::{FILE_MAX, Name};
 
 /// The most files that a folder may have to give.
@@ -19,17 +20,6 @@ pub const GIVEN_MODE: u16 = 0o644;
 
 /// The most bytes of a text in a folder, such as that of its jobs.
 pub const TEXT_MAX: usize = 16_777_216;
-
-/// Memory that was refused is no fault of the system's, which has an error of its own for it.
-fn fault_of(error: io::Error) -> ToolFault
-    ensures { IsFolderFault result }
-{
-    if error.kind() == ErrorKind::OutOfMemory && error.raw_os_error().is_none() {
-        ToolFault::Memory
-    } else {
-        ToolFault::Device
-    }
-}
 
 /// All that comes from a reader, unless it is more than so many bytes.
 fn read_within<A: Allocator, R: Read + Drop>(
@@ -87,60 +77,75 @@ fn add_given<A: Allocator, R: Files>(
     files: &mut Vec<Stored<A>, A>,
     alloc: A,
     rt: &R,
+    dir: EndDir<'_>,
     name: Name,
     path: &str,
-) -> Result<(), ToolFault>
+) -> Result<(), RunFault>
     ensures one { length files.new.items ≤ length files.old.items + 1 }
     ensures no_other { IfErr result IsFolderFault }
 {
-    if let Some(bytes) = read_file(alloc, rt, path, FILE_MAX).map_err(fault_of)? {
-        files.reserve(1)?;
-        files.push_reserved(given(name, bytes));
+    match read_file(alloc, rt, path, FILE_MAX) {
+        Ok(Some(bytes)) => {
+            files.reserve(1)?;
+            files.push_reserved(given(name, bytes));
+        }
+        Ok(None) => (),
+        Err(error) => return Err(RunFault::of(&error, dir, Resource::Given(name))),
     }
     Ok(())
 }
 
-/// The text of the file of this name in the folder `dir`, if there is one.
+/// The text of this file in the folder of an end, if there is one.
 pub fn read_text<A: Allocator + Copy, R: Files>(
     alloc: A,
     rt: &R,
-    dir: &str,
-    name: &str,
-) -> Result<Option<Vec<u8, A>>, ToolFault>
+    dir: EndDir<'_>,
+    which: EndText,
+) -> Result<Option<Vec<u8, A>>, RunFault>
     ensures within { IfOk result (λ found. IfSome found (λ text. length text.items ≤ TEXT_MAX)) }
     ensures no_other { IfErr result IsFolderFault }
 {
-    let path = format!(in alloc; "{dir}/{name}")?;
-    read_text_at(alloc, rt, path.as_str())
+    let front = dir.path;
+    let name = which.name();
+    let path = format!(in alloc; "{front}/{name}")?;
+    read_text_at(alloc, rt, dir, which, path.as_str())
 }
 
-/// The text of the file at a path, if there is one.
+/// The text of this file in the folder of an end, which is at this path, if there is one.
 pub(crate) fn read_text_at<A: Allocator + Copy, R: Files>(
     alloc: A,
     rt: &R,
+    dir: EndDir<'_>,
+    which: EndText,
     path: &str,
-) -> Result<Option<Vec<u8, A>>, ToolFault>
+) -> Result<Option<Vec<u8, A>>, RunFault>
     ensures within { IfOk result (λ found. IfSome found (λ text. length text.items ≤ TEXT_MAX)) }
     ensures no_other { IfErr result IsFolderFault }
 {
-    match fs::metadata(rt, path) {
-        Ok(metadata) if metadata.is_file() => {
-            let text = read_file(alloc, rt, path, TEXT_MAX).map_err(fault_of)?;
-            Ok(Some(text.ok_or(ToolFault::Device)?))
-        }
-        Err(error) if error.kind() == ErrorKind::NotFound => Ok(None),
-        _ => Err(ToolFault::Device),
+    let resource = Resource::Text(which);
+    let metadata = match fs::metadata(rt, path) {
+        Ok(metadata) => metadata,
+        Err(error) if error.kind() == ErrorKind::NotFound => return Ok(None),
+        Err(error) => return Err(RunFault::of(&error, dir, resource)),
+    };
+    if !metadata.is_file() {
+        return Err(RunFault::System(dir.failure(resource, Cause::NotAFile)));
+    }
+    match read_file(alloc, rt, path, TEXT_MAX) {
+        Ok(Some(text)) => Ok(Some(text)),
+        Ok(None) => Err(RunFault::System(dir.failure(resource, Cause::TooMuch))),
+        Err(error) => Err(RunFault::of(&error, dir, resource)),
     }
 }
 
-/// The files in the folder `send` below `dir`. A missing folder is an empty one. What has a name that is no `Name`, or is
+/// The files in the folder `send` below that of an end. A missing folder is an empty one. What has a name that is no `Name`, or is
 /// no regular file, is skipped, and so is a file of more than `FILE_MAX` bytes, which still counts among the
 /// `FILES_MAX`.
 pub fn read_send<A: Allocator + Copy, R: Files + Alloc + Clone + Drop>(
     alloc: A,
     rt: &R,
-    dir: &str,
-) -> Result<Vec<Stored<A>, A>, ToolFault>
+    dir: EndDir<'_>,
+) -> Result<Vec<Stored<A>, A>, RunFault>
     ensures within { IfOk result (λ files. length files.items ≤ FILES_MAX) }
     ensures no_other { IfErr result IsFolderFault }
 {
@@ -149,22 +154,23 @@ pub fn read_send<A: Allocator + Copy, R: Files + Alloc + Clone + Drop>(
     Ok(files)
 }
 
-/// Adds the files in the folder `send` below `dir` to those that are given, of which there are none.
+/// Adds the files in the folder `send` below that of an end to those that are given, of which there are none.
 fn add_sends<A: Allocator + Copy, R: Files + Alloc + Clone + Drop>(
     files: &mut Vec<Stored<A>, A>,
     alloc: A,
     rt: &R,
-    dir: &str,
-) -> Result<(), ToolFault>
+    dir: EndDir<'_>,
+) -> Result<(), RunFault>
     requires { length files.old.items ≡ 0 }
     ensures within { OnOk result (length files.new.items ≤ FILES_MAX) }
     ensures no_other { IfErr result IsFolderFault }
 {
-    let path = format!(in alloc; "{dir}/send")?;
+    let front = dir.path;
+    let path = format!(in alloc; "{front}/send")?;
     match fs::read_dir(rt, path.as_str()) {
-        Ok(entries) => add_entries(files, alloc, rt, entries),
+        Ok(entries) => add_entries(files, alloc, rt, dir, entries),
         Err(error) if error.kind() == ErrorKind::NotFound => Ok(()),
-        Err(error) => Err(fault_of(error)),
+        Err(error) => Err(RunFault::of(&error, dir, Resource::Send)),
     }
 }
 
@@ -173,16 +179,20 @@ fn add_entries<A: Allocator + Copy, R: Files + Alloc + Clone + Drop>(
     files: &mut Vec<Stored<A>, A>,
     alloc: A,
     rt: &R,
+    dir: EndDir<'_>,
     entries: ReadDir<R, R::A>,
-) -> Result<(), ToolFault>
+) -> Result<(), RunFault>
     requires { length files.old.items ≡ 0 }
     ensures within { OnOk result (length files.new.items ≤ FILES_MAX) }
     ensures no_other { IfErr result IsFolderFault }
 {
     let mut count = 0;
     for entry in entries {
-        let entry = entry.map_err(fault_of)?;
-        add_entry(files, alloc, rt, &entry, &mut count)?;
+        let entry = match entry {
+            Ok(entry) => entry,
+            Err(error) => return Err(RunFault::of(&error, dir, Resource::Send)),
+        };
+        add_entry(files, alloc, rt, dir, &entry, &mut count)?;
     }
     Ok(())
 }
@@ -192,9 +202,10 @@ fn add_entry<A: Allocator + Copy, R: Files + Alloc + Clone + Drop>(
     files: &mut Vec<Stored<A>, A>,
     alloc: A,
     rt: &R,
+    dir: EndDir<'_>,
     entry: &DirEntry<R, R::A>,
     count: &mut usize,
-) -> Result<(), ToolFault>
+) -> Result<(), RunFault>
     requires counted { length files.old.items ≤ count.old }
     requires within { count.old ≤ FILES_MAX }
     ensures counted { OnOk result (length files.new.items ≤ count.new) }
@@ -204,12 +215,14 @@ fn add_entry<A: Allocator + Copy, R: Files + Alloc + Clone + Drop>(
     let Ok(name) = Name::new(entry.file_name().as_bytes()) else {
         return Ok(());
     };
-    if !is_file(rt, entry.path().as_str()).map_err(fault_of)? {
-        return Ok(());
+    match is_file(rt, entry.path().as_str()) {
+        Ok(true) => (),
+        Ok(false) => return Ok(()),
+        Err(error) => return Err(RunFault::of(&error, dir, Resource::Given(name))),
     }
     if *count >= FILES_MAX {
-        return Err(ToolFault::Device);
+        return Err(RunFault::System(dir.failure(Resource::Send, Cause::TooMuch)));
     }
     *count += 1;
-    add_given(files, alloc, rt, name, entry.path().as_str())
+    add_given(files, alloc, rt, dir, name, entry.path().as_str())
 }

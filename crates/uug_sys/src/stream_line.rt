@@ -2,6 +2,9 @@
 ghost use Rattle.std.specs.Prelude.{◌≡◌, ◌<◌, ◌≤◌, length, IfOk, None};
 ghost use Rattle.uug_transfer.specs.ReadOutcomes.{IsGiven, IsWithin};
 
+use crate::failure::{Cause, Resource, SystemFailure};
+use crate::faults::Faults;
+use crate::system_line::SystemLine;
 use std::io;
 use std::io::{ErrorKind, Read, Write};
 use uug_transfer::{EndLine, LineFailed, ReadOutcome};
@@ -10,7 +13,7 @@ use uug_transfer::{EndLine, LineFailed, ReadOutcome};
 #[derive(Drop)]
 pub struct StreamLine<T> {
     stream: T,
-    faults: u64,
+    faults: Faults,
 }
 
 impl<T: Read + Write> StreamLine<T> {
@@ -18,39 +21,49 @@ impl<T: Read + Write> StreamLine<T> {
     pub fn new(stream: T) -> Self
         ensures { ⟦<StreamLine<T> as EndLine>⟧.fault_count result ≡ 0 }
     {
-        StreamLine { stream, faults: 0 }
+        StreamLine {
+            stream,
+            faults: Faults::none(),
+        }
     }
 }
 
 impl<T: Read + Write> EndLine for StreamLine<T> {
-    ghost fault_count = { λ line. line.faults };
+    ghost fault_count = { λ line. line.faults.count };
 
     ghost received = { λ _. None };
 
     ghost taken = { λ _. None };
 
     fn write(&mut self, piece: &[u8]) -> Result<usize, LineFailed> {
-        match self.stream.write(piece) {
-            Ok(count) if count > 0 => Ok(count),
-            _ => {
-                self.faults = self.faults.saturating_add(1);
-                Err(LineFailed)
-            }
-        }
+        let cause = match self.stream.write(piece) {
+            Ok(0) => Cause::MovedNothing,
+            Ok(count) => return Ok(count),
+            Err(error) => Cause::of(&error),
+        };
+        self.faults.note(SystemFailure::on(Resource::Line, cause));
+        Err(LineFailed)
     }
 
     fn read(&mut self, buffer: &mut [u8]) -> Result<ReadOutcome, LineFailed> {
         match read_some(&mut self.stream, buffer) {
             Ok(outcome) => Ok(outcome),
-            Err(_) => {
-                self.faults = self.faults.saturating_add(1);
+            Err(error) => {
+                self.faults
+                    .note(SystemFailure::on(Resource::Line, Cause::of(&error)));
                 Err(LineFailed)
             }
         }
     }
 
     fn faults(&self) -> u64 {
-        self.faults
+        self.faults.count()
+    }
+}
+
+impl<T: Read + Write> SystemLine for StreamLine<T> {
+    fn failure(&self) -> Option<SystemFailure> {
+        self.faults.first()
     }
 }
 

@@ -1,7 +1,9 @@
-ghost use Rattle.std.specs.Prelude.{◌≡◌, ◌+◌, ◌≤◌, ◌++◌, length, IfOk, None, string_bytes, string_len, string_capacity};
+ghost use Rattle.std.specs.Prelude.{◌≡◌, ◌+◌, ◌<◌, ◌≤◌, ◌++◌, length, IfOk, IsSome, None, string_bytes, string_len, string_capacity};
 ghost use Rattle.uug_talk.specs.declared.name.TheConstants.{NAME_MAX};
 
 use crate::atomic_file::replace_file;
+use crate::failure::{Cause, EndDir, Resource, SystemFailure};
+use crate::faults::Faults;
 use crate::part_path::PartPath;
 use std::alloc::{AllocError, Allocator};
 use std::rt::Files;
@@ -12,6 +14,8 @@ use uug_talk::{NAME_MAX, Name};
 #[derive(Drop)]
 pub struct SystemFolder<'a, R: Files, A: Allocator> {
     rt: &'a R,
+    /// The folder of the end.
+    end: EndDir<'a>,
     /// Where a file is written before it is whole.
     part: PartPath<A>,
     /// The folder.
@@ -20,50 +24,65 @@ pub struct SystemFolder<'a, R: Files, A: Allocator> {
     front: String<A>,
     /// A file's path, with room for every name.
     path: String<A>,
-    faults: u64,
+    faults: Faults,
     ghost room: { string_len front + NAME_MAX ≤ string_capacity path },
 }
 
 impl<'a, R: Files, A: Allocator + Copy> SystemFolder<'a, R, A> {
-    /// The folder of an end whose own folder is `dir`. All memory for its calls is taken here.
-    pub fn new(alloc: A, rt: &'a R, dir: &str) -> Result<Self, AllocError>
+    /// The folder of an end whose own folder is this. All memory for its calls is taken here.
+    pub fn new(alloc: A, rt: &'a R, end: EndDir<'a>) -> Result<Self, AllocError>
         ensures { IfOk result (λ folder.
             ⟦<SystemFolder<'a, R, A> as Folder>⟧.fault_count folder ≡ 0) }
     {
-        let dir = format!(in alloc; "{dir}/got")?;
+        let own = end.path;
+        let dir = format!(in alloc; "{own}/got")?;
         let front = format!(in alloc; "{dir}/")?;
         let part = PartPath::new(alloc, rt, dir.as_str())?;
         let mut path = String::new(alloc);
         path.reserve(front.len() + NAME_MAX)?;
         Ok(SystemFolder {
             rt,
+            end,
             part,
             dir,
             front,
             path,
-            faults: 0,
+            faults: Faults::none(),
         })
+    }
+}
+
+impl<R: Files, A: Allocator> SystemFolder<'_, R, A> {
+    /// Why a call of the system on it failed first, if one did.
+    pub fn failure(&self) -> Option<SystemFailure>
+        ensures told { 0 < self.now.faults.count → IsSome result }
+    {
+        self.faults.first()
     }
 }
 
 impl<R: Files, A: Allocator> Folder for SystemFolder<'_, R, A> {
     ghost placed = { λ _. None };
 
-    ghost fault_count = { λ folder. folder.faults };
+    ghost fault_count = { λ folder. folder.faults.count };
 
     fn put(&mut self, name: &Name, bytes: &[u8]) -> Result<(), FolderFailed> {
         set_path(&mut self.path, self.front.as_str(), name);
         let dir = self.dir.as_str();
         let path = self.path.as_str();
-        if replace_file(self.rt, &mut self.part, dir, path, bytes, None).is_ok() {
-            return Ok(());
+        match replace_file(self.rt, &mut self.part, dir, path, bytes, None) {
+            Ok(()) => Ok(()),
+            Err(error) => {
+                let resource = Resource::Got(*name);
+                self.faults
+                    .note(self.end.failure(resource, Cause::of(&error)));
+                Err(FolderFailed)
+            }
         }
-        self.faults = self.faults.saturating_add(1);
-        Err(FolderFailed)
     }
 
     fn faults(&self) -> u64 {
-        self.faults
+        self.faults.count()
     }
 }
 

@@ -1,88 +1,119 @@
-ghost use Rattle.std.specs.Prelude.{◌≡◌, IfErr, IfOk, None};
+ghost use Rattle.std.specs.Prelude.{◌≡◌, ◌<◌, IfErr, IfOk, IsSome, None, OnOk};
+ghost use Rattle.uug_sys.specs.Failures.{NotesFault};
 ghost use Rattle.uug_sys.specs.Faults.{IsFolderFault};
 
 use crate::atomic_file::replace_file;
+use crate::failure::{Cause, EndDir, EndText, Resource, SystemFailure};
+use crate::faults::Faults;
 use crate::part_path::PartPath;
+use crate::run_fault::RunFault;
 use crate::send_folder::read_text_at;
 use std::alloc::{AllocError, Allocator};
 use std::rt::Files;
 use uug_folder::{FolderFailed, TextFile};
 use uug_stream::ToolFault;
 
-/// A file in the folder of an end.
+/// A file in the folder of an end, whose text is replaced as a whole.
 #[derive(Drop)]
 pub struct SystemText<'a, R: Files, A: Allocator> {
     rt: &'a R,
+    dir: EndDir<'a>,
+    which: EndText,
     /// Where the text is written before it is whole.
     part: PartPath<A>,
-    /// The folder.
-    dir: String<A>,
     path: String<A>,
     /// How many bytes were read of it last, if it was read.
     read_len: Option<u64>,
-    faults: u64,
+    faults: Faults,
 }
 
 impl<'a, R: Files, A: Allocator + Copy> SystemText<'a, R, A> {
-    /// The file of this name of an end whose folder is `dir`. All memory for its writing is taken here.
-    pub fn new(alloc: A, rt: &'a R, dir: &str, name: &str) -> Result<Self, AllocError>
+    /// This file of an end. All memory for its writing is taken here.
+    pub fn new(alloc: A, rt: &'a R, dir: EndDir<'a>, which: EndText) -> Result<Self, AllocError>
         ensures { IfOk result (λ file. ⟦<SystemText<'a, R, A> as TextFile>⟧.fault_count file ≡ 0) }
     {
+        let front = dir.path;
+        let name = which.name();
         Ok(SystemText {
             rt,
-            part: PartPath::new(alloc, rt, dir)?,
-            dir: String::from_str(alloc, dir)?,
-            path: format!(in alloc; "{dir}/{name}")?,
+            dir,
+            which,
+            part: PartPath::new(alloc, rt, front)?,
+            path: format!(in alloc; "{front}/{name}")?,
             read_len: None,
-            faults: 0,
+            faults: Faults::none(),
         })
+    }
+}
+
+impl<R: Files, A: Allocator> SystemText<'_, R, A> {
+    /// The text that is in the file now, or an empty one where there is no file.
+    pub(crate) fn read_now<B: Allocator + Copy>(&mut self, alloc: B) -> Result<Vec<u8, B>, RunFault>
+        ensures stands { OnOk result (self.new.faults ≡ self.old.faults) }
+        ensures fault { IfErr result (λ fault.
+            NotesFault fault self.old.faults.count self.new.faults.count) }
+        ensures no_other { IfErr result IsFolderFault }
+    {
+        let text = text_or_none(alloc, self.rt, self.dir, self.which, self.path.as_str());
+        match &text {
+            Ok(text) => self.read_len = Some(text.len() as u64),
+            Err(fault) => self.faults.note_fault(*fault),
+        }
+        text
+    }
+
+    /// Why a call of the system on the file failed first, if one did.
+    pub fn failure(&self) -> Option<SystemFailure>
+        ensures told { 0 < self.now.faults.count → IsSome result }
+    {
+        self.faults.first()
     }
 }
 
 impl<R: Files, A: Allocator> TextFile for SystemText<'_, R, A> {
     ghost text = { λ _. None };
 
-    ghost fault_count = { λ file. file.faults };
+    ghost fault_count = { λ file. file.faults.count };
 
     fn read<B: Allocator + Copy>(&mut self, alloc: B) -> Result<Vec<u8, B>, ToolFault> {
-        match text_or_none(alloc, self.rt, self.path.as_str()) {
-            Ok(text) => {
-                self.read_len = Some(text.len() as u64);
-                Ok(text)
-            }
-            Err(ToolFault::Memory) => Err(ToolFault::Memory),
-            Err(_) => {
-                self.faults = self.faults.saturating_add(1);
-                Err(ToolFault::Device)
-            }
+        match self.read_now(alloc) {
+            Ok(text) => Ok(text),
+            Err(RunFault::System(_)) => Err(ToolFault::Device),
+            Err(RunFault::Tool(fault)) => Err(fault),
         }
     }
 
     /// What was appended to the file since it was read stays behind the new text.
     fn replace(&mut self, bytes: &[u8]) -> Result<(), FolderFailed> {
         let path = self.path.as_str();
-        let dir = self.dir.as_str();
-        if replace_file(self.rt, &mut self.part, dir, path, bytes, self.read_len).is_ok() {
-            return Ok(());
+        let dir = self.dir.path;
+        match replace_file(self.rt, &mut self.part, dir, path, bytes, self.read_len) {
+            Ok(()) => Ok(()),
+            Err(error) => {
+                let resource = Resource::Text(self.which);
+                self.faults
+                    .note(self.dir.failure(resource, Cause::of(&error)));
+                Err(FolderFailed)
+            }
         }
-        self.faults = self.faults.saturating_add(1);
-        Err(FolderFailed)
     }
 
     fn faults(&self) -> u64 {
-        self.faults
+        self.faults.count()
     }
 }
 
-/// The text of the file at a path, or an empty one where there is none.
+/// The text of this file in the folder of an end, which is at this path, or an empty one where there is none.
 fn text_or_none<B: Allocator + Copy, R: Files>(
     alloc: B,
     rt: &R,
+    dir: EndDir<'_>,
+    which: EndText,
     path: &str,
-) -> Result<Vec<u8, B>, ToolFault>
+) -> Result<Vec<u8, B>, RunFault>
     ensures { IfErr result IsFolderFault }
 {
-    match read_text_at(alloc, rt, path)? {
+    match read_text_at(alloc, rt, dir, which, path)? {
         Some(text) => Ok(text),
         None => Ok(Vec::new(alloc)),
     }

@@ -1,8 +1,10 @@
 //! A line over two streams, as the two ends of a socket are.
-ghost use Rattle.std.specs.Prelude.{◌≡◌, ℕ, ◌+◌, ◌^◌, ◌<◌, ◌≤◌, length, IfOk, OnErr, OnOk};
+ghost use Rattle.std.specs.Prelude.{◌≡◌, ℕ, ◌+◌, ◌^◌, ◌<◌, ◌≤◌, length, IfOk, IsSome, OnErr, OnOk};
 ghost use Rattle.uug_conversation.specs.Sides.{at};
 ghost use Rattle.uug_session.specs.Engine.{HasFailed};
 
+use crate::failure::{Cause, Resource, SystemFailure};
+use crate::faults::Faults;
 use std::io::{Read, Write};
 use uug_session::Side;
 use uug_transfer::{Line, LineFailed};
@@ -15,7 +17,7 @@ pub struct WireLine<T> {
     called: T,
     to_caller: usize,
     to_called: usize,
-    faults: u64,
+    faults: Faults,
 }
 
 impl<T: Read + Write> WireLine<T> {
@@ -29,8 +31,17 @@ impl<T: Read + Write> WireLine<T> {
             called,
             to_caller: 0,
             to_called: 0,
-            faults: 0,
+            faults: Faults::none(),
         }
+    }
+}
+
+impl<T> WireLine<T> {
+    /// Why a call of the system on it failed first, if one did.
+    pub fn failure(&self) -> Option<SystemFailure>
+        ensures told { 0 < self.now.faults.count → IsSome result }
+    {
+        self.faults.first()
     }
 }
 
@@ -38,7 +49,7 @@ impl<T: Read + Write> Line for WireLine<T> {
     ghost unread = { λ line side.
         at side (record { at_caller = line.to_caller; at_called = line.to_called }) };
 
-    ghost fault_count = { λ line. line.faults };
+    ghost fault_count = { λ line. line.faults.count };
 
     fn write(&mut self, to: Side, piece: &[u8]) -> Result<usize, LineFailed> {
         match to {
@@ -82,7 +93,7 @@ impl<T: Read + Write> Line for WireLine<T> {
     }
 
     fn faults(&self) -> u64 {
-        self.faults
+        self.faults.count()
     }
 }
 
@@ -91,25 +102,25 @@ fn write_some<T: Write>(
     stream: &mut T,
     piece: &[u8],
     unread: &mut usize,
-    faults: &mut u64,
+    faults: &mut Faults,
 ) -> Result<usize, LineFailed>
     requires { unread.old + length piece.now < 2 ^ 64 }
     ensures within { IfOk result (λ n. (0 < n) × (n ≤ length piece.now)) }
     ensures count { IfOk result (λ n. unread.new ≡ unread.old + n) }
-    ensures calm { OnOk result (faults.new ≡ faults.old) }
-    ensures fault { OnErr result (HasFailed u64.MAX faults.old faults.new) }
-    ensures grows { faults.old ≤ faults.new }
+    ensures calm { OnOk result (faults.new.count ≡ faults.old.count) }
+    ensures fault { OnErr result (HasFailed u64.MAX faults.old.count faults.new.count) }
+    ensures grows { faults.old.count ≤ faults.new.count }
 {
-    match stream.write(piece) {
-        Ok(count) if count > 0 => {
+    let cause = match stream.write(piece) {
+        Ok(0) => Cause::MovedNothing,
+        Ok(count) => {
             *unread += count;
-            Ok(count)
+            return Ok(count);
         }
-        _ => {
-            *faults = faults.saturating_add(1);
-            Err(LineFailed)
-        }
-    }
+        Err(error) => Cause::of(&error),
+    };
+    faults.note(SystemFailure::on(Resource::Line, cause));
+    Err(LineFailed)
 }
 
 /// Reads no more than is unread. A stream that gives nothing then has failed.
@@ -117,23 +128,23 @@ fn read_some<T: Read>(
     stream: &mut T,
     buffer: &mut [u8],
     unread: &mut usize,
-    faults: &mut u64,
+    faults: &mut Faults,
 ) -> Result<usize, LineFailed>
     ensures within { IfOk result (λ n. (0 < n) × (n ≤ length buffer.old)) }
     ensures count { IfOk result (λ n. unread.new + n ≡ unread.old) }
-    ensures calm { OnOk result (faults.new ≡ faults.old) }
-    ensures fault { OnErr result (HasFailed u64.MAX faults.old faults.new) }
-    ensures grows { faults.old ≤ faults.new }
+    ensures calm { OnOk result (faults.new.count ≡ faults.old.count) }
+    ensures fault { OnErr result (HasFailed u64.MAX faults.old.count faults.new.count) }
+    ensures grows { faults.old.count ≤ faults.new.count }
 {
     let most = buffer.len().min(*unread);
-    match stream.read(&mut buffer[..most]) {
-        Ok(count) if count > 0 => {
+    let cause = match stream.read(&mut buffer[..most]) {
+        Ok(0) => Cause::MovedNothing,
+        Ok(count) => {
             *unread -= count;
-            Ok(count)
+            return Ok(count);
         }
-        _ => {
-            *faults = faults.saturating_add(1);
-            Err(LineFailed)
-        }
-    }
+        Err(error) => Cause::of(&error),
+    };
+    faults.note(SystemFailure::on(Resource::Line, cause));
+    Err(LineFailed)
 }

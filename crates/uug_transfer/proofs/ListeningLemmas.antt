@@ -4,8 +4,8 @@ use Rattle.std.proofs.Math.Seq.{take-append-le}
 use Rattle.std.proofs.lemmas.List.{map-append, take-append-drop}
 use Rattle.uug_conversation.specs.DialogueValue.{dialogue_has_parted}
 use Rattle.uug_conversation.specs.Holdings.{Holdings, Kept}
-use Rattle.uug_ends.proofs.LineEventLemmas.{ListensOn, end_listens, late_listens, listens_at_first, listens_cleared, listens_more, lost_listens, piece_listens}
-use Rattle.uug_ends.specs.LineEvents.{LineEvent, brings_bytes, brings_nothing, is_at_end, is_left}
+use Rattle.uug_events.proofs.LineEventLemmas.{ListensOn, end_listens, late_listens, listens_at_first, listens_cleared, listens_more, lost_listens, piece_listens}
+use Rattle.uug_events.specs.LineEvents.{LineEvent, brings_bytes, brings_nothing, is_at_end, is_left}
 use Rattle.uug_link.specs.Entries.{EntryValue}
 use Rattle.uug_session.proofs.CallLemmas.{late_beside}
 use Rattle.uug_session.specs.EndStep.{Emitted, time_ran_out}

@@ -3,7 +3,7 @@ use Rattle.std.specs.Prelude.{◌≡◌, List, [], ◌∷◌, ◌++◌, Option, 
 use Rattle.uug_conversation.specs.Holdings.{Holdings, Kept}
 use Rattle.uug_session.specs.EndStep.{Emitted}
 use Rattle.uug_session.specs.Node.{NodeState}
-use Rattle.uug_ends.specs.LineEvents.{HasListened, LineEvent, brings_bytes, brings_nothing, is_at_end, is_left}
+use Rattle.uug_events.specs.LineEvents.{HasListened, LineEvent, brings_bytes, brings_nothing, is_at_end, is_left}
 use Rattle.uug_transfer.specs.Received.{Received, line_end, piece, silence}
 
 -- what reads bring, of what comes at a line: an end that hangs up reads nothing

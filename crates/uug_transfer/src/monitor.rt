@@ -36,6 +36,13 @@ impl<L: EndLine, O: SessionObserver> LineMonitor<L, O> {
     {
         LineMonitor { line, observer }
     }
+
+    /// The line.
+    pub fn line(&self) -> &L
+        ensures { result.now ≡ self.now.line }
+    {
+        &self.line
+    }
 }
 
 impl<L: EndLine, O: SessionObserver> EndLine for LineMonitor<L, O> {

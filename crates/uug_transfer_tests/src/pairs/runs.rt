@@ -5,6 +5,7 @@ use crate::pairs::assertions::{assert_same, assert_same_at, assert_so, assert_so
 use crate::pairs::short_output::ShortOutput;
 use std::alloc::{Allocator, Global};
 use std::fs::File;
+use std::io::ErrorKind;
 use std::net::Net;
 use std::os::unix::fs::symlink;
 use std::os::unix::net::UnixListener;
@@ -14,7 +15,8 @@ use std::{env, fs, io, process};
 use uug_folder::TextFile;
 use uug_refusal::Refusing;
 use uug_stream::ToolFault;
-use uug_sys::{SystemText, lock_dir, pair_run};
+use uug_sys::{Cause, EndDir, EndText, Resource, SystemFailure, SystemText, lock_dir, pair_run};
+use uug_talk::Name;
 
 /// What there is before a run, beside the folder `a/send`. `a` and `b` are the folders of the two ends.
 #[derive(Clone, Copy)]
@@ -44,13 +46,53 @@ impl Given<'_> {
     }
 }
 
-/// What is in the folders before a run, the faults on the line, the answer, what is printed, and the files that there are
-/// then.
+/// Which call of the system failed first: whose, on what, and why.
+#[derive(Clone, Copy)]
+enum Why {
+    Nothing,
+    Line(Cause),
+    Dir(usize, Cause),
+    Jobs(usize, Cause),
+    Send(usize, Cause),
+    /// On the file of this name in `got`.
+    Got(usize, &'static [u8], Cause),
+}
+
+/// That a call on this, of an end of this number, failed so.
+fn why_of(end: usize, resource: Resource, cause: Cause) -> Option<SystemFailure> {
+    Some(SystemFailure {
+        end,
+        resource,
+        cause,
+    })
+}
+
+impl Why {
+    /// Whether this is what was said.
+    fn is(self, said: Option<SystemFailure>) -> bool {
+        let wanted = match self {
+            Why::Nothing => None,
+            Why::Line(cause) => why_of(0, Resource::Line, cause),
+            Why::Dir(end, cause) => why_of(end, Resource::Dir, cause),
+            Why::Jobs(end, cause) => why_of(end, Resource::Text(EndText::Jobs), cause),
+            Why::Send(end, cause) => why_of(end, Resource::Send, cause),
+            Why::Got(end, name, cause) => match Name::new(name) {
+                Ok(name) => why_of(end, Resource::Got(name), cause),
+                Err(_) => return false,
+            },
+        };
+        said == wanted
+    }
+}
+
+/// What is in the folders before a run, the faults on the line, the answer, which call of the system failed, what is
+/// printed, and the files that there are then.
 struct Row<'a> {
     given: &'a [Given<'a>],
     drop_every: Option<u32>,
     flip_every: Option<u32>,
     answer: Result<u8, ToolFault>,
+    why: Why,
     printed: &'a str,
     left: &'a [(&'a str, &'a [u8])],
 }
@@ -65,6 +107,7 @@ const ROWS: &[Row<'static>] = &[
         drop_every: Some(7),
         flip_every: None,
         answer: Ok(0),
+        why: Why::Nothing,
         printed: "caller done pending 0 struck 1 failed 0\n\
             called done pending 0 struck 0 failed 0\n",
         left: &[("b/got/y", b""), ("a/jobs", b""), ("b/jobs", b"")],
@@ -75,6 +118,7 @@ const ROWS: &[Row<'static>] = &[
         drop_every: None,
         flip_every: None,
         answer: Err(ToolFault::Device),
+        why: Why::Line(Cause::Refused(ErrorKind::AddrInUse, Some(98))),
         printed: "",
         left: &[("a/jobs", b"send x y u\n"), ("socket", b"s")],
     },
@@ -84,6 +128,7 @@ const ROWS: &[Row<'static>] = &[
         drop_every: None,
         flip_every: None,
         answer: Ok(1),
+        why: Why::Got(1, b"y", Cause::Refused(ErrorKind::NotFound, Some(2))),
         printed: "caller peerclosed pending 1 struck 0 failed 0\n\
             called spoolfault pending 0 struck 0 failed 0\n",
         left: &[("a/jobs", b"send x y u\n"), ("b/jobs", b"")],
@@ -93,6 +138,7 @@ const ROWS: &[Row<'static>] = &[
         drop_every: None,
         flip_every: None,
         answer: Ok(1),
+        why: Why::Got(1, b"y", Cause::Refused(ErrorKind::NotADirectory, Some(20))),
         printed: "caller peerclosed pending 1 struck 0 failed 0\n\
             called spoolfault pending 0 struck 0 failed 0\n",
         left: &[("a/jobs", b"send x y u\n"), ("b/got", b"g")],
@@ -102,6 +148,7 @@ const ROWS: &[Row<'static>] = &[
         drop_every: None,
         flip_every: None,
         answer: Ok(1),
+        why: Why::Got(1, b"y", Cause::Refused(ErrorKind::IsADirectory, Some(21))),
         printed: "caller peerclosed pending 1 struck 0 failed 0\n\
             called spoolfault pending 0 struck 0 failed 0\n",
         left: &[("a/jobs", b"send x y u\n")],
@@ -112,6 +159,7 @@ const ROWS: &[Row<'static>] = &[
         drop_every: None,
         flip_every: None,
         answer: Err(ToolFault::Device),
+        why: Why::Dir(1, Cause::Refused(ErrorKind::NotFound, Some(2))),
         printed: "",
         left: &[("a/jobs", b"send x y u\n")],
     },
@@ -130,6 +178,7 @@ const ROWS: &[Row<'static>] = &[
         drop_every: None,
         flip_every: None,
         answer: Ok(0),
+        why: Why::Nothing,
         printed: "caller done pending 0 struck 2 failed 0\n\
             called done pending 0 struck 0 failed 0\n",
         left: &[
@@ -149,6 +198,7 @@ const ROWS: &[Row<'static>] = &[
         drop_every: None,
         flip_every: None,
         answer: Ok(0),
+        why: Why::Nothing,
         printed: "caller done pending 0 struck 0 failed 1\n\
             called done pending 0 struck 0 failed 0\n\
             caller failed send x .y u\n",
@@ -164,6 +214,7 @@ const ROWS: &[Row<'static>] = &[
         drop_every: None,
         flip_every: None,
         answer: Ok(0),
+        why: Why::Nothing,
         printed: "caller done pending 0 struck 0 failed 0\n\
             called done pending 0 struck 0 failed 1\n\
             called failed request x ../y u\n",
@@ -179,6 +230,7 @@ const ROWS: &[Row<'static>] = &[
         drop_every: None,
         flip_every: None,
         answer: Err(ToolFault::Jobs(1)),
+        why: Why::Nothing,
         printed: "",
         left: &[("a/jobs", b"send x y\n")],
     },
@@ -193,6 +245,7 @@ const ROWS: &[Row<'static>] = &[
         drop_every: None,
         flip_every: None,
         answer: Err(ToolFault::Jobs(3)),
+        why: Why::Nothing,
         printed: "",
         left: &[("a/jobs", b"send x y u\n")],
     },
@@ -201,6 +254,7 @@ const ROWS: &[Row<'static>] = &[
         drop_every: None,
         flip_every: None,
         answer: Err(ToolFault::Device),
+        why: Why::Send(1, Cause::Refused(ErrorKind::NotADirectory, Some(20))),
         printed: "",
         left: &[("a/jobs", b"send x y u\n")],
     },
@@ -209,6 +263,7 @@ const ROWS: &[Row<'static>] = &[
         drop_every: None,
         flip_every: None,
         answer: Err(ToolFault::Device),
+        why: Why::Jobs(1, Cause::NotAFile),
         printed: "",
         left: &[("a/jobs", b"send x y u\n")],
     },
@@ -223,6 +278,7 @@ const ROWS: &[Row<'static>] = &[
         drop_every: None,
         flip_every: None,
         answer: Err(ToolFault::Device),
+        why: Why::Jobs(1, Cause::TooMuch),
         printed: "",
         left: &[("a/jobs", b"send x y u\n")],
     },
@@ -232,6 +288,7 @@ const ROWS: &[Row<'static>] = &[
         drop_every: Some(1),
         flip_every: Some(2),
         answer: Err(ToolFault::Usage),
+        why: Why::Nothing,
         printed: "",
         left: &[("a/jobs", b"bad\n")],
     },
@@ -240,6 +297,7 @@ const ROWS: &[Row<'static>] = &[
         drop_every: Some(1_000_000),
         flip_every: Some(1_000_001),
         answer: Err(ToolFault::Usage),
+        why: Why::Nothing,
         printed: "",
         left: &[("a/jobs", b"bad\n")],
     },
@@ -263,6 +321,7 @@ const ROWS: &[Row<'static>] = &[
         drop_every: None,
         flip_every: None,
         answer: Ok(0),
+        why: Why::Nothing,
         printed: "caller done pending 0 struck 2 failed 1\n\
             called done pending 0 struck 0 failed 0\n\
             caller failed send zero zero u\n",
@@ -279,6 +338,7 @@ const ROWS: &[Row<'static>] = &[
         drop_every: None,
         flip_every: None,
         answer: Ok(0),
+        why: Why::Nothing,
         printed: "caller done pending 0 struck 0 failed 1\n\
             called done pending 0 struck 0 failed 0\n\
             caller failed send x y u\n",
@@ -295,6 +355,7 @@ const ROWS: &[Row<'static>] = &[
         drop_every: None,
         flip_every: None,
         answer: Ok(0),
+        why: Why::Nothing,
         printed: "caller done pending 0 struck 1 failed 0\n\
             called done pending 0 struck 0 failed 0\n",
         left: &[("b/got/y", b""), ("a/jobs", b"")],
@@ -309,6 +370,7 @@ const ROWS: &[Row<'static>] = &[
         drop_every: None,
         flip_every: None,
         answer: Err(ToolFault::Device),
+        why: Why::Send(0, Cause::TooMuch),
         printed: "",
         left: &[("a/jobs", b"send x y u\n")],
     },
@@ -326,6 +388,7 @@ const ROWS: &[Row<'static>] = &[
         drop_every: Some(7),
         flip_every: Some(11),
         answer: Ok(0),
+        why: Why::Nothing,
         printed: "caller done pending 0 struck 2 failed 0\n\
             called done pending 0 struck 2 failed 0\n",
         left: &[
@@ -455,9 +518,10 @@ fn run_ends<A: Allocator + Copy>(
     paths: &Paths,
     (drop_every, flip_every): Every,
     output: &mut ShortOutput,
+    why: &mut Option<SystemFailure>,
 ) -> Result<u8, ToolFault> {
     let (socket, a, b) = (paths.socket.as_str(), paths.a.as_str(), paths.b.as_str());
-    pair_run(alloc, rt, socket, a, b, drop_every, flip_every, output)
+    pair_run(alloc, rt, socket, a, b, drop_every, flip_every, output, why)
 }
 
 /// Runs two ends over the folders `a` and `b` and the socket `socket` in this folder.
@@ -469,7 +533,7 @@ fn run_within<A: Allocator + Copy>(
     output: &mut ShortOutput,
 ) -> Result<u8, ToolFault> {
     let paths = Paths::within(rt, dir);
-    run_ends(alloc, rt, &paths, every, output)
+    run_ends(alloc, rt, &paths, every, output, &mut None)
 }
 
 /// The file of this name has these bytes.
@@ -501,8 +565,11 @@ impl Row<'_> {
     ) {
         let mut output = ShortOutput::new(0);
         let every = (self.drop_every, self.flip_every);
-        let answer = run_within(rt.alloc(), rt, dir, every, &mut output);
+        let paths = Paths::within(rt, dir);
+        let mut why = None;
+        let answer = run_ends(rt.alloc(), rt, &paths, every, &mut output, &mut why);
         assert_same_at(rt, answer, self.answer, self.printed);
+        assert_so_at(rt, self.why.is(why), self.printed);
         assert_same(rt, output.text(), self.printed.as_bytes());
     }
 
@@ -551,7 +618,7 @@ fn assert_held(
     number: usize,
 ) {
     let path = within(rt, dir, name);
-    let lock = lock_dir(rt.alloc(), rt, path.as_str(), 0).expect(rt, "a lock");
+    let lock = lock_dir(rt.alloc(), rt, first(path.as_str())).expect(rt, "a lock");
     place(rt, dir, PART);
     let mut output = ShortOutput::new(0);
     let answer = run_within(rt.alloc(), rt, dir, (None, None), &mut output);
@@ -561,6 +628,11 @@ fn assert_held(
     assert_file(rt, dir, "a/jobs", b"send x y u\n");
     assert_so(rt, has_file(rt, dir, "b/got/.part.7.0") || number == 1);
     assert_so(rt, !has_socket(rt, dir));
+}
+
+/// The first folder of the program's arguments.
+fn first(path: &str) -> EndDir<'_> {
+    EndDir { path, number: 0 }
 }
 
 /// What a run that was killed left of a file that was not whole.
@@ -609,7 +681,8 @@ fn append_between(
 ) {
     place_all(rt, dir, &[SEND]);
     let folder = within(rt, dir, "a");
-    let mut file = SystemText::new(rt.alloc(), rt, folder.as_str(), "jobs").expect(rt, "memory");
+    let folder = first(folder.as_str());
+    let mut file = SystemText::new(rt.alloc(), rt, folder, EndText::Jobs).expect(rt, "memory");
     let text = file.read(rt.alloc()).expect(rt, "a text");
     assert_so(rt, text.as_slice() == b"send x y u\n".as_slice());
     place(rt, dir, Given::File("a/jobs", b"send x y u\nsend x z u\n"));

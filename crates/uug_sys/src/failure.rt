@@ -1,0 +1,114 @@
+//! Why a call of the system failed.
+ghost use Rattle.std.specs.Prelude.{◌≡◌};
+
+use std::io;
+use std::io::ErrorKind;
+use uug_talk::Name;
+
+/// What a call of the system was made on. The texts, and what is given and got, are below the folder of an end.
+#[derive(Clone, Copy, Debug, PartialEq, Eq)]
+pub enum Resource {
+    /// What is read, and what is written.
+    Input,
+    Output,
+    /// The line of an end, or the socket between two.
+    Line,
+    /// The folder of an end itself.
+    Dir,
+    /// The file of this text.
+    Text(EndText),
+    /// The folder `send`.
+    Send,
+    /// The file of this name in `send`.
+    Given(Name),
+    /// The file of this name in `got`.
+    Got(Name),
+}
+
+/// A file of an end whose text is replaced as a whole.
+#[derive(Clone, Copy, Debug, PartialEq, Eq)]
+pub enum EndText {
+    /// That of its jobs.
+    Jobs,
+    /// That of the number of its conversations.
+    Number,
+}
+
+impl EndText {
+    /// What the file is called, in the folder of the end.
+    pub fn name(self) -> &'static str {
+        match self {
+            EndText::Jobs => "jobs",
+            EndText::Number => "number",
+        }
+    }
+}
+
+/// The folder of an end.
+#[derive(Clone, Copy)]
+pub struct EndDir<'a> {
+    /// Its path.
+    pub path: &'a str,
+    /// Its number among the folders of the program's arguments, counted from 0.
+    pub number: usize,
+}
+
+impl SystemFailure {
+    /// That a call on this failed, which is in no folder.
+    pub fn on(resource: Resource, cause: Cause) -> SystemFailure
+        ensures resource { result.resource ≡ resource }
+        ensures cause { result.cause ≡ cause }
+    {
+        SystemFailure {
+            end: 0,
+            resource,
+            cause,
+        }
+    }
+}
+
+impl EndDir<'_> {
+    /// That a call on this of it failed.
+    pub fn failure(self, resource: Resource, cause: Cause) -> SystemFailure
+        ensures end { result.end ≡ self.entry.number }
+        ensures resource { result.resource ≡ resource }
+        ensures cause { result.cause ≡ cause }
+    {
+        SystemFailure {
+            end: self.number,
+            resource,
+            cause,
+        }
+    }
+}
+
+/// Why it failed.
+#[derive(Clone, Copy, Debug, PartialEq, Eq)]
+pub enum Cause {
+    /// The system refused it with an error of this kind, and of this number where it gave one.
+    Refused(ErrorKind, Option<i32>),
+    /// It moved no byte, though some were to be moved.
+    MovedNothing,
+    /// There is more than the program takes.
+    TooMuch,
+    /// There is something else than a regular file.
+    NotAFile,
+}
+
+impl Cause {
+    /// What an error of the system says.
+    pub fn of(error: &io::Error) -> Cause {
+        Cause::Refused(error.kind(), error.raw_os_error())
+    }
+}
+
+/// A call of the system that failed.
+#[derive(Clone, Copy, Debug, PartialEq, Eq)]
+pub struct SystemFailure {
+    /// Whose call it was: the number of the end's folder among the program's arguments, counted from 0. What is in no folder has 0.
+    pub end: usize,
+    /// What it was made on.
+    pub resource: Resource,
+    /// Why it failed.
+    pub cause: Cause,
+}

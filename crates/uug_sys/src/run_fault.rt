@@ -1,0 +1,57 @@
+//! Why a run over the system gave up.
+ghost use Rattle.std.specs.Prelude.{◌≡◌};
+ghost use Rattle.uug_sys.specs.Failures.{fault_of_run, told_by};
+ghost use Rattle.uug_sys.specs.Faults.{IsFolderFault};
+ghost use Rattle.uug_sys.specs.declared.run_fault.RunFault.TheVariants.{Tool as tool};
+ghost use Rattle.uug_stream.specs.declared.fault.ToolFault.TheVariants.{Memory as memory};
+
+use crate::failure::{Cause, EndDir, Resource, SystemFailure};
+use std::alloc::AllocError;
+use std::io;
+use std::io::ErrorKind;
+use uug_stream::ToolFault;
+
+/// Why a run gave up.
+#[derive(Clone, Copy, Debug)]
+pub enum RunFault {
+    /// A call of the system failed. The program answers `ToolFault::Device`.
+    System(SystemFailure),
+    /// Something else, which is what the program answers.
+    Tool(ToolFault),
+}
+
+impl RunFault {
+    /// Why a run gives up over an error of the system. Memory that was refused is no fault of the system's, which has an
+    /// error of its own for it.
+    pub(crate) fn of(error: &io::Error, dir: EndDir<'_>, resource: Resource) -> RunFault
+        ensures { IsFolderFault result }
+    {
+        if error.kind() == ErrorKind::OutOfMemory && error.raw_os_error().is_none() {
+            RunFault::Tool(ToolFault::Memory)
+        } else {
+            RunFault::System(dir.failure(resource, Cause::of(error)))
+        }
+    }
+
+    /// Says which call of the system failed, if that is why, and gives what the program answers.
+    pub fn tell(self, why: &mut Option<SystemFailure>) -> ToolFault
+        ensures fault { result ≡ fault_of_run self }
+        ensures why { why.new ≡ told_by self why.old }
+    {
+        match self {
+            RunFault::System(failure) => {
+                *why = Some(failure);
+                ToolFault::Device
+            }
+            RunFault::Tool(fault) => fault,
+        }
+    }
+}
+
+impl From<AllocError> for RunFault {
+    ghost from_gives = { λ _ fault. fault ≡ tool memory };
+
+    fn from(_refused: AllocError) -> RunFault {
+        RunFault::Tool(ToolFault::Memory)
+    }
+}

@@ -1,0 +1,100 @@
+-- What some command lines ask for, worked out.
+use Rattle.std.proofs.Common.{◌≡◌, true, false, List, [], ◌∷◌, Option, Some, None, refl, codes}
+use Rattle.std.specs.Option.{option_map, option_map_or}
+use Rattle.clap.specs.Words.{Text, first_of, is_simple, subcommand_of, takes}
+use Rattle.clap.proofs.OnLiterals.{clap_on_literals}
+use Rattle.uug_words.specs.Asked.{Entries, drawn, is_given, manner_in, number_or_zero, text_in}
+use Rattle.uug_words.specs.Tools.{uucpair}
+use Rattle.uug_ladder.specs.declared.play.Drawn.TheVariants.{AsPicture}
+
+-- the parser gives the matches of these tools exactly
+exact : is_simple uucpair ≡ true
+exact = refl
+
+abbrev tool_of : List Text → Option Text
+tool_of words = option_map (λ p. p.0) (subcommand_of uucpair words)
+
+abbrev entries_of : List Text → Entries
+entries_of words = option_map_or (λ p. p.1) (subcommand_of uucpair words) []
+
+-- ---- uucpair scan -v noise
+
+abbrev scan_words : List Text
+scan_words = codes "uucpair" ∷ codes "scan" ∷ codes "-v" ∷ codes "noise" ∷ []
+
+scan_is_named : tool_of scan_words ≡ Some (codes "scan")
+unfolding clap_on_literals
+scan_is_named = refl
+
+scan_is_verbose : is_given (entries_of scan_words) (codes "verbose") ≡ true
+unfolding clap_on_literals
+scan_is_verbose = refl
+
+scan_has_file : first_of (codes "FILE") (entries_of scan_words) ≡ Some (codes "noise")
+unfolding clap_on_literals
+scan_has_file = refl
+
+scan_is_taken : takes uucpair scan_words ≡ true
+unfolding clap_on_literals
+scan_is_taken = refl
+
+-- ---- uucpair play --svg
+
+abbrev play_words : List Text
+play_words = codes "uucpair" ∷ codes "play" ∷ codes "--svg" ∷ []
+
+play_is_drawn : manner_in (entries_of play_words) ≡ drawn AsPicture
+unfolding clap_on_literals
+play_is_drawn = refl
+
+play_has_no_file : first_of (codes "FILE") (entries_of play_words) ≡ None
+unfolding clap_on_literals
+play_has_no_file = refl
+
+-- ---- uucpair answer tcp:h:540 dir --me a --peer=b --window 3 --no-quiet
+
+abbrev answer_words : List Text
+answer_words = codes "uucpair" ∷ codes "answer" ∷ codes "tcp:h:540" ∷ codes "dir" ∷ codes "--me" ∷ codes "a"
+    ∷ codes "--peer=b" ∷ codes "--window" ∷ codes "3" ∷ codes "--no-quiet" ∷ []
+
+answer_is_named : tool_of answer_words ≡ Some (codes "answer")
+unfolding clap_on_literals
+answer_is_named = refl
+
+answer_has_line : text_in (entries_of answer_words) (codes "LINE") ≡ codes "tcp:h:540"
+unfolding clap_on_literals
+answer_has_line = refl
+
+answer_has_folder : text_in (entries_of answer_words) (codes "DIR") ≡ codes "dir"
+unfolding clap_on_literals
+answer_has_folder = refl
+
+answer_has_peer : text_in (entries_of answer_words) (codes "peer") ≡ codes "b"
+unfolding clap_on_literals
+answer_has_peer = refl
+
+answer_has_window : number_or_zero (entries_of answer_words) (codes "window") ≡ 3
+unfolding clap_on_literals
+answer_has_window = refl
+
+answer_has_size : number_or_zero (entries_of answer_words) (codes "size") ≡ 64
+unfolding clap_on_literals
+answer_has_size = refl
+
+answer_is_not_quiet : is_given (entries_of answer_words) (codes "no-quiet") ≡ true
+unfolding clap_on_literals
+answer_is_not_quiet = refl
+
+answer_is_lenient : is_given (entries_of answer_words) (codes "strict") ≡ false
+unfolding clap_on_literals
+answer_is_lenient = refl
+
+answer_is_taken : takes uucpair answer_words ≡ true
+unfolding clap_on_literals
+answer_is_taken = refl
+
+-- ---- uucpair --version
+
+version_is_no_tool : takes uucpair (codes "uucpair" ∷ codes "--version" ∷ []) ≡ false
+unfolding clap_on_literals
+version_is_no_tool = refl

@@ -1,0 +1,3 @@
+pub mod AskedFacts
+pub mod AskedLemmas
+pub mod ToolLemmas

@@ -1,0 +1,11 @@
+use Rattle.std.proofs.lemmas.Result.{IfOk-weaker}
+use Rattle.uug_words.proofs.ToolLemmas.{adds_tool}
+use Rattle.uug_words.proofs.tools.command.Goals as goal
+
+pub returns : goal.returns
+returns c =
+    let scan = adds_tool c.program.ensures c.in_ok-subcommand.ensures c.in_ok-scan_command.ensures in
+    let play = adds_tool scan c.in_ok-subcommand-2.ensures c.in_ok-play_command.ensures in
+    let pair = adds_tool play c.in_ok-subcommand-3.ensures c.in_ok-pair_command.ensures in
+    let call = adds_tool pair c.in_ok-subcommand-4.ensures c.in_ok-end_command.ensures in
+    IfOk-weaker c.subcommand-5.result _ _ (λ made step. adds_tool call step c.in_ok-end_command-2.ensures) c.subcommand-5.ensures

@@ -1,0 +1,11 @@
+use Rattle.std.proofs.lemmas.Result.{IfOk-weaker}
+use Rattle.uug_words.proofs.ToolLemmas.{adds}
+use Rattle.uug_words.proofs.tools.pair_command.Goals as goal
+
+pub returns : goal.returns
+returns c =
+    let socket = adds c.tool.ensures c.in_ok-arg.ensures c.path.ensures in
+    let dir_a = adds socket c.in_ok-arg-2.ensures c.path-2.ensures in
+    let dir_b = adds dir_a c.in_ok-arg-3.ensures c.path-3.ensures in
+    let drop_every = adds dir_b c.in_ok-arg-4.ensures c.every.ensures in
+    IfOk-weaker c.arg-5.result _ _ (λ made step. adds drop_every step c.every-2.ensures) c.arg-5.ensures

@@ -1,0 +1,156 @@
+-- What the words of a command line ask for (this project's profile).
+use Rattle.std.specs.Prelude.{◌≡◌, ◌⊎◌, ◌&&◌, ◌^◌, ℕ, Bool, true, false, not, List, [], Option, Some, None, codes, if◌then◌else◌, length, nat_lt, option_and_then, option_map, unwrap_or}
+use Rattle.std.specs.Borrow.{Bor}
+use Rattle.std.specs.Char.{digit_value}
+use Rattle.std.specs.List.{list_all}
+use Rattle.std.specs.Option.{option_map_or}
+use Rattle.std.specs.Str.{bytes_eq}
+use Rattle.std.specs.Str.Parse.{digits_value, without_leading_plus}
+use Rattle.clap.specs.Words.{Row, Text, first_of, found_of, one_of, rows_of, subcommand_of, takes}
+use Rattle.clap.specs.declared.parser.matches.ArgMatches.{ArgMatches}
+use Rattle.uug_words.specs.Tools.{uucpair}
+use Rattle.uug_conversation.specs.declared.side.Side.{Side}
+use Rattle.uug_conversation.specs.declared.side.Side.TheVariants.{Caller, Called}
+use Rattle.uug_ladder.specs.declared.play.Drawn.{Drawn}
+use Rattle.uug_ladder.specs.declared.play.Drawn.TheVariants.{AsText, AsPicture}
+use Rattle.uug_sys.specs.declared.call.CallTask.{CallTask}
+use Rattle.uug_words.specs.declared.command_line.PairTask.{PairTask}
+use Rattle.uug_words.specs.declared.command_line.Task.{Task}
+use Rattle.uug_words.specs.declared.command_line.Task.TheVariants.{Version, Scan, ScanVerbose, Play, PlayVerbose, PlaySettled, PlayDrawn, Pair, Call}
+
+-- ---- what stands behind the name of a tool: an entry for each argument that has a value
+
+abbrev pub Entries : Type 0
+Entries = List Row
+
+abbrev pub entries_of : ArgMatches → Entries
+entries_of matches = rows_of (found_of matches)
+
+-- the text of an argument, which is empty where it has none
+abbrev pub text_in : Entries → (name : Text) → Text
+text_in entries name = unwrap_or (first_of name entries) []
+
+-- whether an option is given that has no value
+abbrev pub is_given : Entries → (name : Text) → Bool
+is_given entries name = option_map_or (λ text. bytes_eq text (codes "true")) (one_of name entries) false
+
+-- the number that a text writes in decimal digits, where it fits 32 bits
+abbrev pub is_number : (digits : Text) → Bool
+is_number digits = nat_lt 0 (length digits) && (list_all (λ d. nat_lt (digit_value d) 10) digits
+    && nat_lt (digits_value 10 digits) (2 ^ 32))
+
+abbrev pub number_of : Text → Option ℕ
+number_of text = let digits = without_leading_plus text in
+    if is_number digits then Some (digits_value 10 digits) else None
+
+-- the number of an option, where it has one
+abbrev pub number_in : Entries → (name : Text) → Option ℕ
+number_in entries name = option_and_then number_of (one_of name entries)
+
+-- the same, and 0 where it has none: an option with a default always has one
+abbrev pub number_or_zero : Entries → (name : Text) → ℕ
+number_or_zero entries name = unwrap_or (number_in entries name) 0
+
+-- ---- what the tools are asked for
+
+-- how a script is played
+pub data Manner : Type 0 where
+  plainly : Manner
+  verbosely : Manner
+  settled : Manner
+  drawn : Drawn → Manner
+
+-- by which of the options are given, of which the first counts
+abbrev pub manner_by : (verbose settle ladder svg : Bool) → Manner
+manner_by true settle ladder svg = verbosely
+manner_by false true ladder svg = settled
+manner_by false false true svg = drawn AsText
+manner_by false false false true = drawn AsPicture
+manner_by false false false false = plainly
+
+abbrev pub manner_in : Entries → Manner
+manner_in entries = manner_by (is_given entries (codes "verbose")) (is_given entries (codes "settle"))
+    (is_given entries (codes "ladder")) (is_given entries (codes "svg"))
+
+-- the tool that lists packets; `help` is no tool, and its answer is a text, but no clause of the parser says that
+abbrev pub NamesScan : (tool : Text) → Type 0
+NamesScan tool = (tool ≡ codes "scan") ⊎ (tool ≡ codes "help")
+
+abbrev pub IsFileIn : Entries → Option (Bor Text) → Type 0
+IsFileIn entries file = option_map (λ path. path.now) file ≡ first_of (codes "FILE") entries
+
+pub record AsksToScan (tool : Text) (entries : Entries) (is_verbose : Bool) (file : Option (Bor Text)) : Type 0 where
+  pub scans : NamesScan tool
+  pub verbose : is_given entries (codes "verbose") ≡ is_verbose
+  pub path : IsFileIn entries file
+
+pub record AsksToPlay (tool : Text) (entries : Entries) (manner : Manner) (file : Option (Bor Text)) : Type 0 where
+  pub plays : tool ≡ codes "play"
+  pub options : manner_in entries ≡ manner
+  pub path : IsFileIn entries file
+
+-- what two ends are run over
+pub record IsPairIn (entries : Entries) (task : PairTask) : Type 0 where
+  pub socket : task.socket.now ≡ text_in entries (codes "SOCKET")
+  pub dir_a : task.dir_a.now ≡ text_in entries (codes "DIR_A")
+  pub dir_b : task.dir_b.now ≡ text_in entries (codes "DIR_B")
+  pub drop_every : task.drop_every ≡ number_in entries (codes "drop-every")
+  pub flip_every : task.flip_every ≡ number_in entries (codes "flip-every")
+
+abbrev pub tool_at : Side → Text
+tool_at Caller = codes "call"
+tool_at Called = codes "answer"
+
+-- what one end is run over
+pub record IsEndIn (entries : Entries) (task : CallTask) : Type 0 where
+  pub line : task.line.now ≡ text_in entries (codes "LINE")
+  pub dir : task.dir.now ≡ text_in entries (codes "DIR")
+  pub me : task.me.now ≡ text_in entries (codes "me")
+  pub peer : task.peer.now ≡ text_in entries (codes "peer")
+  pub window : task.window ≡ number_or_zero entries (codes "window")
+  pub size : task.size ≡ number_or_zero entries (codes "size")
+  pub seconds : task.seconds ≡ number_or_zero entries (codes "timeout")
+  pub is_quiet : task.is_quiet ≡ not (is_given entries (codes "no-quiet"))
+  pub is_short : task.is_short ≡ not (is_given entries (codes "fill-commands"))
+  pub is_lenient : task.is_lenient ≡ not (is_given entries (codes "strict"))
+  pub is_numbered : task.is_numbered ≡ is_given entries (codes "number")
+  pub is_loud : task.is_loud ≡ is_given entries (codes "verbose")
+
+pub record AsksForPair (tool : Text) (entries : Entries) (task : PairTask) : Type 0 where
+  pub pairs : tool ≡ codes "pair"
+  pub says : IsPairIn entries task
+
+pub record AsksForEnd (tool : Text) (entries : Entries) (task : CallTask) : Type 0 where
+  pub calls : tool ≡ tool_at task.side
+  pub says : IsEndIn entries task
+
+-- ---- the words of a command line
+
+-- a name that a parse gives for a tool
+abbrev pub IsToolName : Text → Type 0
+IsToolName tool = NamesScan tool ⊎ ((tool ≡ codes "play") ⊎ ((tool ≡ codes "pair") ⊎ ((tool ≡ codes "call") ⊎ (tool ≡ codes "answer"))))
+
+-- a tool of this name, with these entries, asks for the task
+abbrev pub AsksIn : (tool : Text) → Entries → Task → Type 0
+AsksIn tool entries Version = ⊥
+AsksIn tool entries (Scan file) = AsksToScan tool entries false file
+AsksIn tool entries (ScanVerbose file) = AsksToScan tool entries true file
+AsksIn tool entries (Play file) = AsksToPlay tool entries plainly file
+AsksIn tool entries (PlayVerbose file) = AsksToPlay tool entries verbosely file
+AsksIn tool entries (PlaySettled file) = AsksToPlay tool entries settled file
+AsksIn tool entries (PlayDrawn how file) = AsksToPlay tool entries (drawn how) file
+AsksIn tool entries (Pair pair) = AsksForPair tool entries pair
+AsksIn tool entries (Call call) = AsksForEnd tool entries call
+
+-- the words, of which the first is the program's name, name this tool, and have these entries behind its name
+pub record AsksByTool (words : List Text) (task : Task) : Type 0 where
+  pub tool : Text
+  pub entries : Entries
+  pub read : subcommand_of uucpair words ≡ Some (tool, entries)
+  pub asks : AsksIn tool entries task
+
+-- The words of a command line, the name of the program first, ask for the task. Of `--version` no more is said than that the
+-- words are none that a tool takes.
+abbrev pub Asks : (words : List Text) → Task → Type 0
+Asks words Version = takes uucpair words ≡ false
+Asks words task = AsksByTool words task

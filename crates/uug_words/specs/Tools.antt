@@ -1,0 +1,107 @@
+-- The tools of the program, and what stands behind the name of each, as a parse of the words reads it (this project's profile).
+use Rattle.std.specs.Prelude.{◌≡◌, true, false, List, [], ◌∷◌, Some, codes, pos}
+use Rattle.clap.specs.Words.{App, Rule, Shape, Text, new_rule, rule_of, shape_of}
+use Rattle.clap.specs.declared.builder.arg.Arg.{Arg}
+use Rattle.clap.specs.declared.builder.command.Command.{Command}
+use Rattle.clap.specs.declared.builder.command.Command.TheViews.{out-Command}
+use Rattle.clap.specs.Simple.{new_shape}
+use Rattle.clap.specs.declared.builder.action.ArgAction.TheVariants.{Set, SetTrue}
+use Rattle.clap.specs.declared.builder.value_parser.ValueParser.TheVariants.{Signed}
+
+-- ---- what a builder makes
+
+-- an argument with this rule, which holds for its own command alone
+pub record IsArg (rule : Rule) (made : Arg) : Type 0 where
+  pub rule_is : rule_of made ≡ rule
+  pub local : made.global ≡ false
+
+-- a command with this tool and no tools below it
+pub record IsTool (tool : Shape) (made : Command) : Type 0 where
+  pub tool_is : shape_of made ≡ tool
+  pub local : (out-Command made).has_globals ≡ false
+
+-- ---- arguments
+
+-- the file that is read, where there is one
+abbrev pub file_rule : Rule
+file_rule = record (new_rule (codes "FILE")) { action = Some Set }
+
+-- an argument that has to be there
+abbrev pub path_rule : Text → Rule
+path_rule name = record (new_rule name) { required = true; action = Some Set }
+
+-- an option that is there or not
+abbrev pub flag_rule : Text → Rule
+flag_rule name = record (new_rule name) { long = Some name; action = Some SetTrue }
+
+-- `--verbose` or `-v` (118)
+abbrev pub verbose_rule : Rule
+verbose_rule = record (flag_rule (codes "verbose")) { short = Some 118 }
+
+-- the same option, which excludes others
+abbrev pub excluding : Rule → Rule
+excluding option = record option { is_free = false }
+
+-- an option with a word
+abbrev pub word_rule : Text → Rule
+word_rule name = record (new_rule name) { long = Some name; value_names = 1; action = Some Set }
+
+-- the same, which has to be there
+abbrev pub name_rule : Text → Rule
+name_rule name = record (word_rule name) { required = true }
+
+-- an option with a number that fits 32 bits
+abbrev pub every_rule : Text → Rule
+every_rule name = record (word_rule name) { parser = Some (Signed (pos 0) (pos 4294967295)) }
+
+-- the same, with the number that it has where it is not given
+abbrev pub number_rule : (name default : Text) → Rule
+number_rule name default = record (every_rule name) { defaults = default ∷ [] }
+
+-- ---- tools
+
+abbrev pub tool : (name : Text) → List Rule → Shape
+tool name arguments = record (new_shape name) { rules = arguments }
+
+abbrev pub scan_tool : Shape
+scan_tool = tool (codes "scan") (file_rule ∷ verbose_rule ∷ [])
+
+abbrev pub play_tool : Shape
+play_tool = tool (codes "play")
+    (file_rule ∷ verbose_rule
+    ∷ excluding (flag_rule (codes "settle"))
+    ∷ excluding (flag_rule (codes "ladder"))
+    ∷ excluding (flag_rule (codes "svg")) ∷ [])
+
+abbrev pub pair_tool : Shape
+pair_tool = tool (codes "pair")
+    (path_rule (codes "SOCKET") ∷ path_rule (codes "DIR_A") ∷ path_rule (codes "DIR_B")
+    ∷ every_rule (codes "drop-every") ∷ every_rule (codes "flip-every") ∷ [])
+
+-- `call` and `answer`
+abbrev pub end_tool : (name : Text) → Shape
+end_tool name = tool name
+    (path_rule (codes "LINE") ∷ path_rule (codes "DIR")
+    ∷ name_rule (codes "me") ∷ name_rule (codes "peer")
+    ∷ number_rule (codes "window") (codes "7")
+    ∷ number_rule (codes "size") (codes "64")
+    ∷ number_rule (codes "timeout") (codes "10")
+    ∷ flag_rule (codes "no-quiet") ∷ flag_rule (codes "fill-commands")
+    ∷ flag_rule (codes "strict") ∷ flag_rule (codes "number")
+    ∷ verbose_rule ∷ [])
+
+abbrev pub tools : List Shape
+tools = scan_tool ∷ play_tool ∷ pair_tool ∷ end_tool (codes "call") ∷ end_tool (codes "answer") ∷ []
+
+-- ---- the program
+
+-- the program itself: one of its tools has to be named
+abbrev pub program : Shape
+program = record (new_shape (codes "uucpair")) { has_version = true; subcommand_required = true }
+
+-- a command without tools below it
+abbrev pub alone : Shape → App
+alone above = record { top = above; subs = [] }
+
+abbrev pub uucpair : App
+uucpair = record { top = record program { is_leaf = false }; subs = tools }

@@ -1,0 +1,181 @@
+//! What the words of a command line ask for.
+ghost use Rattle.std.specs.Prelude.{◌≡◌, IfErr, IfOk, codes, map, true};
+ghost use Rattle.clap.specs.Words.{Text, kind_of, takes};
+ghost use Rattle.clap.specs.declared.error.kind.ErrorKind.TheVariants.{OutOfMemory};
+ghost use Rattle.uug_words.specs.Asked.{Asks, AsksIn, IsEndIn, IsFileIn, IsPairIn, IsToolName, NamesScan, entries_of, is_given, number_in, text_in};
+ghost use Rattle.uug_words.specs.Tools.{uucpair};
+
+use crate::tools::command;
+use clap::error::ErrorKind;
+use clap::{ArgMatches, Error};
+use std::alloc::Global;
+use std::convert::AsStr;
+use uug_conversation::Side;
+use uug_ladder::Drawn;
+use uug_sys::CallTask;
+
+/// What the command line asks for.
+#[derive(Clone, Copy, Debug, PartialEq, Eq)]
+pub enum Task<'a> {
+    /// The name of the program and its version, to standard output.
+    Version,
+    /// The listing of a file, or of standard input, to standard output.
+    Scan(Option<&'a str>),
+    /// The detailed listing of a file, or of standard input, to standard output.
+    ScanVerbose(Option<&'a str>),
+    /// The report of the script in a file, or on standard input, to standard output.
+    Play(Option<&'a str>),
+    /// The same; and it is said why jobs are not done, or where the script is bad, what is wrong.
+    PlayVerbose(Option<&'a str>),
+    /// The report of the script, and what the run settles to or why it doesn't.
+    PlaySettled(Option<&'a str>),
+    /// The report of the script and a picture of its sessions behind it, or the picture alone.
+    PlayDrawn(Drawn, Option<&'a str>),
+    /// Two ends over two folders, and a socket between them.
+    Pair(PairTask<'a>),
+    /// One end over a folder, and the line to the other one.
+    Call(CallTask<'a>),
+}
+
+/// What two ends are run over.
+#[derive(Clone, Copy, Debug, PartialEq, Eq)]
+pub struct PairTask<'a> {
+    /// Where the socket is made.
+    pub socket: &'a str,
+    /// The folder of the caller.
+    pub dir_a: &'a str,
+    /// The folder of the called end.
+    pub dir_b: &'a str,
+    /// The N of which every Nth packet is lost.
+    pub drop_every: Option<u32>,
+    /// The N of which every Nth packet is changed.
+    pub flip_every: Option<u32>,
+}
+
+/// The text of an argument, which is empty where it has none.
+fn text<'a>(matches: &ArgMatches<'a>, name: &str) -> &'a str
+    ensures { result.now ≡ text_in (entries_of matches.now) name.now }
+{
+    matches.get_str(name).unwrap_or("")
+}
+
+/// The file that is read, where one is named.
+fn file<'a>(matches: &ArgMatches<'a>) -> Option<&'a str>
+    ensures { IsFileIn (entries_of matches.now) result }
+{
+    matches.get_str("FILE")
+}
+
+/// Whether an option is given that has no value.
+fn is_given(matches: &ArgMatches<'_>, name: &str) -> bool
+    ensures { result ≡ is_given (entries_of matches.now) name.now }
+{
+    matches.get_one::<bool>(name).unwrap_or(false)
+}
+
+/// The number of an option, where it has one.
+fn number(matches: &ArgMatches<'_>, name: &str) -> Option<u32>
+    ensures { result ≡ number_in (entries_of matches.now) name.now }
+{
+    matches.get_one::<u32>(name)
+}
+
+/// What one end is run over, as the words behind `call` or `answer` say. All of them are required, or have a default.
+fn end_task<'a>(side: Side, matches: &ArgMatches<'a>) -> CallTask<'a>
+    ensures side { result.side ≡ side }
+    ensures says { IsEndIn (entries_of matches.now) result }
+{
+    CallTask {
+        side,
+        line: text(matches, "LINE"),
+        dir: text(matches, "DIR"),
+        me: text(matches, "me"),
+        peer: text(matches, "peer"),
+        window: number(matches, "window").unwrap_or(0),
+        size: number(matches, "size").unwrap_or(0),
+        seconds: number(matches, "timeout").unwrap_or(0),
+        is_quiet: !is_given(matches, "no-quiet"),
+        is_short: !is_given(matches, "fill-commands"),
+        is_lenient: !is_given(matches, "strict"),
+        is_numbered: is_given(matches, "number"),
+        is_loud: is_given(matches, "verbose"),
+    }
+}
+
+/// What two ends are run over, as the words behind `pair` say. The three paths are required, so none is missing.
+fn pair_task<'a>(matches: &ArgMatches<'a>) -> PairTask<'a>
+    ensures { IsPairIn (entries_of matches.now) result }
+{
+    PairTask {
+        socket: text(matches, "SOCKET"),
+        dir_a: text(matches, "DIR_A"),
+        dir_b: text(matches, "DIR_B"),
+        drop_every: number(matches, "drop-every"),
+        flip_every: number(matches, "flip-every"),
+    }
+}
+
+/// What `scan` is asked for.
+fn scan_task<'a>(matches: &ArgMatches<'a>) -> Task<'a>
+    ensures { (tool : Text) → NamesScan tool → AsksIn tool (entries_of matches.now) result }
+{
+    let file = file(matches);
+    if is_given(matches, "verbose") {
+        Task::ScanVerbose(file)
+    } else {
+        Task::Scan(file)
+    }
+}
+
+/// What `play` is asked for: of the options that say how, at most one is given.
+fn play_task<'a>(matches: &ArgMatches<'a>) -> Task<'a>
+    ensures { AsksIn (codes "play") (entries_of matches.now) result }
+{
+    let file = file(matches);
+    if is_given(matches, "verbose") {
+        Task::PlayVerbose(file)
+    } else if is_given(matches, "settle") {
+        Task::PlaySettled(file)
+    } else if is_given(matches, "ladder") {
+        Task::PlayDrawn(Drawn::AsText, file)
+    } else if is_given(matches, "svg") {
+        Task::PlayDrawn(Drawn::AsPicture, file)
+    } else {
+        Task::Play(file)
+    }
+}
+
+/// What the program is asked for where its words name this tool.
+fn task_of_tool<'a>(tool: &str, matches: &ArgMatches<'a>) -> Task<'a>
+    ensures { IsToolName tool.now → AsksIn tool.now (entries_of matches.now) result }
+{
+    match tool {
+        "play" => play_task(matches),
+        "pair" => Task::Pair(pair_task(matches)),
+        "call" => Task::Call(end_task(Side::Caller, matches)),
+        "answer" => Task::Call(end_task(Side::Called, matches)),
+        _ => scan_task(matches),
+    }
+}
+
+/// The task that the words of a command line ask for, the name of the program first. The error's text is the
+/// usage, or the help where it was asked for.
+pub fn task_of<'a, S: AsStr>(alloc: Global, words: &'a [S]) -> Result<Task<'a>, Error>
+    ensures asks { IfOk result (Asks (map S.text words.entry.now)) }
+    ensures refuses { IfErr result (λ error.
+        takes uucpair (map S.text words.entry.now) ≡ true → kind_of error ≡ OutOfMemory) }
+{
+    let matches = match command(alloc)?.try_get_matches_from(words) {
+        Ok(matches) => matches,
+        Err(error) => {
+            return match error.kind() {
+                ErrorKind::DisplayVersion => Ok(Task::Version),
+                _ => Err(error),
+            };
+        }
+    };
+    match matches.subcommand() {
+        Some((tool, matches)) => Ok(task_of_tool(tool, matches)),
+        None => unreachable!(),
+    }
+}

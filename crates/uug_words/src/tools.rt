@@ -1,0 +1,258 @@
+//! The tools of the program and their arguments, as the parser of the words takes them.
+ghost use Rattle.std.specs.Prelude.{◌≡◌, [], IfOk};
+ghost use Rattle.clap.specs.Words.{app_of};
+ghost use Rattle.uug_words.specs.Tools.{IsArg, IsTool, alone, end_tool, every_rule, excluding, file_rule, flag_rule, name_rule, number_rule, pair_tool, path_rule, play_tool, program, scan_tool, tool, uucpair, verbose_rule, word_rule};
+
+use crate::help;
+use clap::{Arg, ArgAction, Command, value_parser};
+use std::alloc::{AllocError, Global};
+
+/// The version of the program, which `--version` prints.
+pub const VERSION: &str = "0.1.0";
+
+/// The window, the packet size and the seconds of an end that is told none.
+const WINDOW: &str = "7";
+
+const SIZE: &str = "64";
+
+const SECONDS: &str = "10";
+
+/// The tools and their arguments.
+pub fn command<'a>(alloc: Global) -> Result<Command<'a>, AllocError>
+    ensures { IfOk result (λ made. app_of made ≡ uucpair) }
+{
+    program(alloc)
+        .subcommand(scan_command(alloc)?)?
+        .subcommand(play_command(alloc)?)?
+        .subcommand(pair_command(alloc)?)?
+        .subcommand(end_command(
+            alloc,
+            "call",
+            "Calls another system over a line, and exchanges files with it",
+        )?)?
+        .subcommand(end_command(
+            alloc,
+            "answer",
+            "Waits for the call of another system over a line, and exchanges files with it",
+        )?)
+}
+
+/// The program without its tools.
+fn program<'a>(alloc: Global) -> Command<'a>
+    ensures { app_of result ≡ alone program }
+{
+    Command::new(alloc, "uucpair")
+        .about("Tools for the 'g' packet protocol of UUCP")
+        .version(VERSION)
+        .subcommand_required(true)
+}
+
+/// A tool without its arguments.
+fn tool<'a>(alloc: Global, name: &'a str, about: &'a str, help: &'a str) -> Command<'a>
+    ensures { IsTool (tool name.entry.now []) result }
+{
+    Command::new(alloc, name).about(about).after_help(help)
+}
+
+/// The tool that lists packets.
+fn scan_command<'a>(alloc: Global) -> Result<Command<'a>, AllocError>
+    ensures { IfOk result (IsTool scan_tool) }
+{
+    tool(
+        alloc,
+        "scan",
+        "Reads bytes and lists the packets in them",
+        help::SCAN,
+    )
+    .arg(file(
+        alloc,
+        "The file of the bytes; without it standard input is read",
+    ))?
+    .arg(verbose(
+        alloc,
+        "Says where each packet stands, and lists texts, noise and what is damaged",
+    ))
+}
+
+/// The tool that plays a script.
+fn play_command<'a>(alloc: Global) -> Result<Command<'a>, AllocError>
+    ensures { IfOk result (IsTool play_tool) }
+{
+    tool(
+        alloc,
+        "play",
+        "Reads a script of two ends and a noisy line, plays it and reports what they did",
+        help::PLAY,
+    )
+    .arg(file(
+        alloc,
+        "The file of the script; without it standard input is read",
+    ))?
+    .arg(verbose(
+        alloc,
+        "Says why jobs are not done, and what is wrong with a bad script",
+    ))?
+    .arg(flag(
+        alloc,
+        "settle",
+        "Goes on to the end on a clean line, where it may, and reports that too",
+    )
+    .conflicts_with("verbose")?)?
+    .arg(picture(
+        alloc,
+        "ladder",
+        "Draws behind the report what each end sent and what came of it",
+    )?)?
+    .arg(picture(
+        alloc,
+        "svg",
+        "Writes that as a picture instead of the report, an SVG file",
+    )?
+    .conflicts_with("ladder")?)
+}
+
+/// An option that asks for a picture.
+fn picture<'a>(alloc: Global, name: &'a str, help: &'a str) -> Result<Arg<'a>, AllocError>
+    ensures { IfOk result (IsArg (excluding (flag_rule name.entry.now))) }
+{
+    flag(alloc, name, help)
+        .conflicts_with("verbose")?
+        .conflicts_with("settle")
+}
+
+/// The tool that moves files.
+fn pair_command<'a>(alloc: Global) -> Result<Command<'a>, AllocError>
+    ensures { IfOk result (IsTool pair_tool) }
+{
+    tool(
+        alloc,
+        "pair",
+        "Moves files between two folders, by two ends over a Unix socket",
+        help::PAIR,
+    )
+    .arg(path(
+        alloc,
+        "SOCKET",
+        "Where the socket is made; nothing may be there",
+    ))?
+    .arg(path(alloc, "DIR_A", "The folder of the caller"))?
+    .arg(path(alloc, "DIR_B", "The folder of the called end"))?
+    .arg(every(alloc, "drop-every", "Loses every Nth packet"))?
+    .arg(every(alloc, "flip-every", "Changes every Nth packet"))
+}
+
+/// The tool that is one end at a line.
+fn end_command<'a>(alloc: Global, name: &'a str, about: &'a str) -> Result<Command<'a>, AllocError>
+    ensures { IfOk result (IsTool (end_tool name.entry.now)) }
+{
+    tool(alloc, name, about, help::END)
+        .arg(path(
+            alloc,
+            "LINE",
+            "unix:PATH, tcp:HOST:PORT, or the path of a terminal device",
+        ))?
+        .arg(path(alloc, "DIR", "The folder of this end"))?
+        .arg(end_name(alloc, "me", "The name of this end"))?
+        .arg(end_name(alloc, "peer", "The name of the other end"))?
+        .arg(number(alloc, "window", "W", help::WINDOW, WINDOW))?
+        .arg(number(alloc, "size", "S", help::SIZE, SIZE))?
+        .arg(number(alloc, "timeout", "SECONDS", help::TIMEOUT, SECONDS))?
+        .arg(flag(
+            alloc,
+            "no-quiet",
+            "Answers each data packet that comes out of order",
+        ))?
+        .arg(flag(
+            alloc,
+            "fill-commands",
+            "Fills up the last packet of each command with zeros",
+        ))?
+        .arg(flag(
+            alloc,
+            "strict",
+            "Ends the session with what it can't read, instead of refusing it",
+        ))?
+        .arg(flag(
+            alloc,
+            "number",
+            "Keeps the number of its conversations in DIR, from 0 on",
+        ))?
+        .arg(verbose(
+            alloc,
+            "Says on standard error how each job goes, and what was lost on the line",
+        ))
+}
+
+/// The file that is read, where there is one.
+fn file<'a>(alloc: Global, help: &'a str) -> Arg<'a>
+    ensures { IsArg file_rule result }
+{
+    Arg::new(alloc, "FILE").action(ArgAction::Set).help(help)
+}
+
+/// An argument that has to be there.
+fn path<'a>(alloc: Global, name: &'a str, help: &'a str) -> Arg<'a>
+    ensures { IsArg (path_rule name.entry.now) result }
+{
+    Arg::new(alloc, name)
+        .required(true)
+        .action(ArgAction::Set)
+        .help(help)
+}
+
+/// An option that is there or not.
+fn flag<'a>(alloc: Global, name: &'a str, help: &'a str) -> Arg<'a>
+    ensures { IsArg (flag_rule name.entry.now) result }
+{
+    Arg::new(alloc, name)
+        .long(name)
+        .action(ArgAction::SetTrue)
+        .help(help)
+}
+
+/// The option that asks to say more.
+fn verbose<'a>(alloc: Global, help: &'a str) -> Arg<'a>
+    ensures { IsArg verbose_rule result }
+{
+    flag(alloc, "verbose", help).short('v')
+}
+
+/// An option with a number.
+fn every<'a>(alloc: Global, name: &'a str, help: &'a str) -> Arg<'a>
+    ensures { IsArg (every_rule name.entry.now) result }
+{
+    named(alloc, name, "N", help).value_parser(value_parser!(u32))
+}
+
+/// An option with a word.
+fn named<'a>(alloc: Global, name: &'a str, value: &'a str, help: &'a str) -> Arg<'a>
+    ensures { IsArg (word_rule name.entry.now) result }
+{
+    Arg::new(alloc, name)
+        .long(name)
+        .value_name(value)
+        .action(ArgAction::Set)
+        .help(help)
+}
+
+/// An option with a name, which has to be there.
+fn end_name<'a>(alloc: Global, id: &'a str, help: &'a str) -> Arg<'a>
+    ensures { IsArg (name_rule id.entry.now) result }
+{
+    named(alloc, id, "NAME", help).required(true)
+}
+
+/// An option with a number, which has this one where it is not given.
+fn number<'a>(
+    alloc: Global,
+    name: &'a str,
+    value: &'a str,
+    help: &'a str,
+    default: &'a str,
+) -> Arg<'a>
+    ensures { IsArg (number_rule name.entry.now default.entry.now) result }
+{
+    named(alloc, name, value, help)
+        .value_parser(value_parser!(u32))
+        .default_value(default)
+}
