@@ -54,7 +54,7 @@ pub struct EndDir<'a> {
 }
 
 impl SystemFailure {
-    /// That a call on this failed, which is in no folder.
+    /// A failure of a call on this, which is in no folder.
     pub fn on(resource: Resource, cause: Cause) -> SystemFailure
         ensures resource { result.resource ≡ resource }
         ensures cause { result.cause ≡ cause }
@@ -68,7 +68,7 @@ impl SystemFailure {
 }
 
 impl EndDir<'_> {
-    /// That a call on this of it failed.
+    /// A failure of a call on this, of this end.
     pub fn failure(self, resource: Resource, cause: Cause) -> SystemFailure
         ensures end { result.end ≡ self.entry.number }
         ensures resource { result.resource ≡ resource }

@@ -15,7 +15,7 @@ pub struct Faults {
 }
 
 impl Faults {
-    /// There were none.
+    /// No faults so far.
     pub fn none() -> Faults
         ensures { result.count ≡ 0 }
     {
@@ -25,7 +25,7 @@ impl Faults {
         }
     }
 
-    /// There was one more.
+    /// Counts one fault more.
     pub fn note(&mut self, failure: SystemFailure)
         ensures counted { HasFailed u64.MAX self.old.count self.new.count }
         ensures grows { self.old.count ≤ self.new.count }
@@ -37,7 +37,7 @@ impl Faults {
         };
     }
 
-    /// There was one more, if a call of the system failed.
+    /// Counts one fault more, if a call of the system failed.
     pub(crate) fn note_fault(&mut self, fault: RunFault)
         ensures { NotesFault fault self.old.count self.new.count }
     {
