@@ -20,7 +20,7 @@ use Rattle.std.specs.Result.{result_ok}
 use Rattle.uug_folder.specs.JobsText.{one_job, job_by, job_of, says_of_words, says_of, with_line, line_added, or_bad, jobs_from, jobs_of, job_words, jobs_text, IsPlainJob}
 
 -- a name's bytes, and those of the words of a job, are no line feeds
-abbrev HasNoFeed : List ℕ → Type 0
+abbrev pub HasNoFeed : List ℕ → Type 0
 HasNoFeed text = All (λ b. is_line_feed b ≡ false) text
 
 no_feed : (b : ℕ) → IsNameByte b → is_line_feed b ≡ false
@@ -126,7 +126,7 @@ room_for_one job jobs h = let t : (length jobs == JOBS_MAX) ≡ false = grind (a
 job_added : (job : Job) → IsPlainJob job → (jobs : List Job) → length jobs < JOBS_MAX → line_added (joined (job_words job)) jobs ≡ Some (jobs ++ job ∷ [])
 job_added job p jobs h = ap (λ o. o >>= (λ says. with_line says jobs)) (says_job job p) ∙ room_for_one job jobs h
 
-first_of_lines : (line rest : List ℕ) → HasNoFeed line → lines (ended line ++ rest) ≡ line ∷ lines rest
+pub first_of_lines : (line rest : List ℕ) → HasNoFeed line → lines (ended line ++ rest) ≡ line ∷ lines rest
 first_of_lines line rest h =
     ap lines (append_assoc line (10 ∷ []) rest) ∙ ap without_empty_last (slice_split_at is_line_feed line 10 rest h refl) ∙ line_in_front line rest
 

@@ -4,4 +4,6 @@ pub mod JobsTextLemmas
 pub mod LocalFacts
 pub mod LocalLemmas
 pub mod NumberTextLemmas
+mod OpenJobsFacts
+pub mod OpenJobsLemmas
 pub mod StandardFacts

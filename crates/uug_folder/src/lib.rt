@@ -5,6 +5,7 @@
 mod faults;
 mod folder;
 mod folder_spool;
+mod job_store;
 mod jobs_file;
 mod jobs_plan;
 mod jobs_text;
@@ -18,7 +19,8 @@ mod text_file;
 
 pub use folder::{Folder, FolderFailed};
 pub use folder_spool::FolderSpool;
-pub use jobs_file::JobsFile;
+pub use job_store::JobStore;
+pub use jobs_file::{JobsFile, settle_text};
 pub use jobs_plan::JobsPlan;
 pub use jobs_text::{JobsFault, read_jobs, write_jobs};
 pub use local_names::LocalNames;

@@ -50,7 +50,7 @@ fn text_with<A: Allocator + Copy>(
 }
 
 /// What is left of a text where these jobs were struck, and those have failed.
-fn text_without<A: Allocator + Copy>(
+pub(crate) fn text_without<A: Allocator + Copy>(
     alloc: A,
     struck: &[Job],
     failed: &[Job],

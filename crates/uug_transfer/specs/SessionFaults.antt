@@ -1,0 +1,41 @@
+-- What is so of a session by what it ended with (this project's profile).
+use Rattle.std.specs.Prelude.{Result, Ok, Err, ⊤}
+use Rattle.uug_transfer.specs.declared.session_fault.SessionFault.{SessionFault}
+use Rattle.uug_transfer.specs.declared.session_fault.SessionFault.TheVariants as faults
+
+-- the fact, unless memory was refused
+abbrev pub UnlessRefused : {T : Type 0} → Result T SessionFault → Type 0 → Type 0
+UnlessRefused (Err faults.Memory) P = ⊤
+UnlessRefused (Err fault) P = P
+UnlessRefused (Ok done) P = P
+
+-- the fact, unless the line has failed
+abbrev pub UnlessLine : {T : Type 0} → Result T SessionFault → Type 0 → Type 0
+UnlessLine (Err faults.Line) P = ⊤
+UnlessLine (Err fault) P = P
+UnlessLine (Ok done) P = P
+
+-- the fact, unless its store of jobs has failed
+abbrev pub UnlessJobs : {T : Type 0} → Result T SessionFault → Type 0 → Type 0
+UnlessJobs (Err faults.Jobs) P = ⊤
+UnlessJobs (Err fault) P = P
+UnlessJobs (Ok done) P = P
+
+-- the fact, unless the file of its number has failed
+abbrev pub UnlessNumber : {T : Type 0} → Result T SessionFault → Type 0 → Type 0
+UnlessNumber (Err faults.Number) P = ⊤
+UnlessNumber (Err fault) P = P
+UnlessNumber (Ok done) P = P
+
+-- the fact, unless what had become of its jobs may not have been put where they stand
+abbrev pub UnlessUnsettled : {T : Type 0} → Result T SessionFault → Type 0 → Type 0
+UnlessUnsettled (Err faults.Jobs) P = ⊤
+UnlessUnsettled (Err faults.Memory) P = ⊤
+UnlessUnsettled (Err fault) P = P
+UnlessUnsettled (Ok done) P = P
+
+-- the fact, where all that had become of the end by then was on its disk
+abbrev pub IfOnDisk : {T : Type 0} → Result T SessionFault → Type 0 → Type 0
+IfOnDisk (Err faults.Line) P = P
+IfOnDisk (Err fault) P = ⊤
+IfOnDisk (Ok done) P = P

@@ -1,0 +1,56 @@
+-- How much of what became of an end is on its disk (this project's profile).
+use Rattle.std.specs.Prelude.{◌≡◌, ℕ, List, ◌++◌, Option, Some, None, drop, length, ⊤}
+use Rattle.uug_conversation.specs.declared.job.Job.{Job}
+use Rattle.uug_conversation.specs.Jobs.{Lists, pending}
+use Rattle.uug_folder.specs.NumberText.{holding_number}
+use Rattle.uug_folder.specs.OpenJobs.{LosesNone, StaysHeld}
+use Rattle.uug_session.specs.Node.{NodeState}
+use Rattle.uug_transfer.specs.Ends.{jobs_of_end}
+use Rattle.uug_transfer.specs.declared.settled.Settled.{Settled}
+
+-- ---- the jobs
+
+-- all jobs that were struck or have failed are taken out
+pub record AreSettled (settled : Settled) (l : Lists) : Type 0 where
+  pub struck : settled.struck ≡ length l.struck
+  pub failed : settled.failed ≡ length l.failed
+
+-- those that are still to be taken out
+abbrev pub unsettled : Settled → Lists → List Job
+unsettled settled l = drop settled.struck l.struck ++ drop settled.failed l.failed
+
+-- where its pending jobs stood in its store, and no others, they do so again
+abbrev pub StaysInStore : (stands stands_after : Option (List Job)) (before after : NodeState) → Type 0
+StaysInStore stands stands_after before after =
+    StaysHeld stands stands_after (pending (jobs_of_end before)) (pending (jobs_of_end after))
+
+-- no pending job is lost from its store
+abbrev pub LosesNoJob : (stands stands_after : Option (List Job)) (before after : NodeState) → Type 0
+LosesNoJob stands stands_after before after =
+    LosesNone stands stands_after (pending (jobs_of_end before)) (pending (jobs_of_end after))
+
+-- ---- the number
+
+-- the number that its file has then: of an end that keeps one
+abbrev pub kept_then : (kept number : Option ℕ) → Option ℕ
+kept_then None number = None
+kept_then (Some kept) None = Some kept
+kept_then (Some kept) (Some number) = Some number
+
+-- the file of an end that kept this number when the session began has the one that it keeps now, where it tells its text; of
+-- an end that kept none it is as it was
+abbrev pub IsNumberNow : (first now : Option ℕ) (text text_after : Option (List ℕ)) → Type 0
+IsNumberNow None now text text_after = text_after ≡ text
+IsNumberNow (Some first) None text text_after = ⊤
+IsNumberNow (Some first) (Some now) text text_after = text_after ≡ holding_number (Some now) text
+
+-- the file is as it was, or has the line of a number as a whole
+pub record IsSomeNumber (text text_after : Option (List ℕ)) : Type 0 where
+  pub number : Option ℕ
+  pub is : text_after ≡ holding_number number text
+
+-- a number was written, or is in the file from before, beside the one that was in it first
+abbrev pub FollowsNumber : (first kept now : Option ℕ) → Type 0
+FollowsNumber None kept now = kept ≡ None
+FollowsNumber (Some first) kept None = ⊤
+FollowsNumber (Some first) kept (Some now) = kept ≡ Some now

@@ -1,0 +1,132 @@
+//! What becomes of an end is put on its disk.
+ghost use Rattle.std.specs.Prelude.{◌≡◌, ◌≢◌, ◌≤◌, ◌⊎◌, length, IfErr, IfOk, OnErr, OnOk};
+ghost use Rattle.uug_session.specs.Engine.{HasFailed};
+ghost use Rattle.uug_folder.specs.NumberText.{HoldsNumber, IsNumberKept, holding_number};
+ghost use Rattle.uug_folder.specs.OpenJobs.{settled_in};
+ghost use Rattle.uug_transfer.specs.SessionFaults.{UnlessJobs, UnlessNumber};
+ghost use Rattle.uug_transfer.specs.Settling.{AreSettled, kept_then, unsettled};
+
+use crate::session_fault::SessionFault;
+use std::alloc::Allocator;
+use uug_folder::{JobStore, TextFile, number_line};
+use uug_session::Queue;
+use uug_stream::ToolFault;
+
+/// How much of what became of an end is on its disk.
+#[derive(Clone, Copy)]
+pub(crate) struct Settled {
+    /// So many of its struck jobs are taken out of their store, the first ones.
+    pub(crate) struck: usize,
+    /// So many of its failed jobs.
+    pub(crate) failed: usize,
+    /// The number that its file has, if it keeps one.
+    pub(crate) number: Option<u32>,
+}
+
+impl Settled {
+    /// Nothing is to be taken out of a store, as the session begins. The number is written, if the end keeps one.
+    pub(crate) fn begin<N: TextFile, A: Allocator>(
+        queue: &Queue<A>,
+        number: Option<u32>,
+        file: &mut N,
+    ) -> Result<Self, SessionFault>
+        ensures jobs { IfOk result (λ settled. AreSettled settled queue.now) }
+        ensures number { IfOk result (λ settled. settled.number ≡ number) }
+        ensures ok { OnOk result (N.text file.new ≡ holding_number number (N.text file.old)) }
+        ensures err { OnErr result (IsNumberKept number (N.text file.old) (N.text file.new)) }
+        ensures calm { OnOk result (N.fault_count file.new ≡ N.fault_count file.old) }
+        ensures fault { OnErr result
+            (HasFailed u64.MAX (N.fault_count file.old) (N.fault_count file.new)) }
+        ensures number_fault { IfErr result (λ fault. fault ≡ SessionFault.Number) }
+    {
+        if let Some(number) = number {
+            write_number(number, file)?;
+        }
+        Ok(Settled {
+            struck: queue.struck().len(),
+            failed: queue.failed().len(),
+            number,
+        })
+    }
+
+    /// Takes the jobs out of their store that were struck or have failed since.
+    pub(crate) fn settle_jobs<J: JobStore, A: Allocator + Copy, B: Allocator>(
+        &mut self,
+        alloc: A,
+        queue: &Queue<B>,
+        jobs: &mut J,
+    ) -> Result<(), SessionFault>
+        requires struck { self.old.struck ≤ length queue.now.struck }
+        requires failed { self.old.failed ≤ length queue.now.failed }
+        ensures ok { OnOk result (J.open_jobs jobs.new
+            ≡ settled_in (unsettled self.old queue.now) (J.open_jobs jobs.old)) }
+        ensures err { OnErr result ((J.open_jobs jobs.new ≡ J.open_jobs jobs.old)
+            ⊎ (J.open_jobs jobs.new
+            ≡ settled_in (unsettled self.old queue.now) (J.open_jobs jobs.old))) }
+        ensures settled { OnOk result (AreSettled self.new queue.now) }
+        ensures number { self.new.number ≡ self.old.number }
+        ensures calm { UnlessJobs result (J.fault_count jobs.new ≡ J.fault_count jobs.old) }
+        ensures fault { result ≡ Err SessionFault.Jobs
+            → HasFailed u64.MAX (J.fault_count jobs.old) (J.fault_count jobs.new) }
+        ensures no_line { result ≢ Err SessionFault.Line }
+        ensures no_number { result ≢ Err SessionFault.Number }
+    {
+        let struck = &queue.struck()[self.struck..];
+        let failed = &queue.failed()[self.failed..];
+        if struck.is_empty() && failed.is_empty() {
+            return Ok(());
+        }
+        match jobs.settle(alloc, struck, failed) {
+            Ok(()) => (),
+            Err(ToolFault::Memory) => return Err(SessionFault::Memory),
+            Err(_) => return Err(SessionFault::Jobs),
+        }
+        self.struck = queue.struck().len();
+        self.failed = queue.failed().len();
+        Ok(())
+    }
+
+    /// Writes the number of an end, if it keeps one and that is another now.
+    pub(crate) fn keep_number<N: TextFile>(
+        &mut self,
+        number: Option<u32>,
+        file: &mut N,
+    ) -> Result<(), SessionFault>
+        requires holds { HoldsNumber self.old.number (N.text file.old) }
+        ensures kept { OnOk result (self.new.number ≡ kept_then self.old.number number) }
+        ensures ok { OnOk result (N.text file.new
+            ≡ holding_number (kept_then self.old.number number) (N.text file.old)) }
+        ensures err { OnErr result (IsNumberKept (kept_then self.old.number number)
+            (N.text file.old) (N.text file.new)) }
+        ensures struck { self.new.struck ≡ self.old.struck }
+        ensures failed { self.new.failed ≡ self.old.failed }
+        ensures calm { OnOk result (N.fault_count file.new ≡ N.fault_count file.old) }
+        ensures fault { OnErr result
+            (HasFailed u64.MAX (N.fault_count file.old) (N.fault_count file.new)) }
+        ensures number_fault { IfErr result (λ fault. fault ≡ SessionFault.Number) }
+    {
+        let (Some(kept), Some(number)) = (self.number, number) else {
+            return Ok(());
+        };
+        if kept != number {
+            write_number(number, file)?;
+            self.number = Some(number);
+        }
+        Ok(())
+    }
+}
+
+/// Writes this number to its file.
+fn write_number<N: TextFile>(number: u32, file: &mut N) -> Result<(), SessionFault>
+    ensures ok { OnOk result (N.text file.new ≡ holding_number (Some number) (N.text file.old)) }
+    ensures err { OnErr result (IsNumberKept (Some number) (N.text file.old) (N.text file.new)) }
+    ensures calm { OnOk result (N.fault_count file.new ≡ N.fault_count file.old) }
+    ensures fault { OnErr result
+        (HasFailed u64.MAX (N.fault_count file.old) (N.fault_count file.new)) }
+    ensures number_fault { IfErr result (λ fault. fault ≡ SessionFault.Number) }
+{
+    match file.replace(&number_line(number)) {
+        Ok(()) => Ok(()),
+        Err(_) => Err(SessionFault::Number),
+    }
+}
