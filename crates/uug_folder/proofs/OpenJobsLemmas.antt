@@ -227,11 +227,11 @@ times_append job (x ∷ xs) ys =
 
 -- from the one state of its lists to the other some jobs were struck, and some have failed, and all others are still pending
 pub record HasGoneOn (before after : Lists) : Type 0 where
-  struck_since : List Job
-  failed_since : List Job
-  struck : after.struck ≡ before.struck ++ struck_since
-  failed : after.failed ≡ before.failed ++ failed_since
-  shares : (job : Job) → times job (pending before) ≡ times job (pending after) + times job (struck_since ++ failed_since)
+  pub struck_since : List Job
+  pub failed_since : List Job
+  pub struck : after.struck ≡ before.struck ++ struck_since
+  pub failed : after.failed ≡ before.failed ++ failed_since
+  pub shares : (job : Job) → times job (pending before) ≡ times job (pending after) + times job (struck_since ++ failed_since)
 
 stands_still : (l : Lists) → HasGoneOn l l
 stands_still l = record {

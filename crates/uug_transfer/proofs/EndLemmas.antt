@@ -1,8 +1,9 @@
 -- What is left of an end when its session is over.
 use Rattle.std.proofs.Common.{◌≡◌, ◌⊎◌, inl, inr, ℕ, ◌≤◌, List, [], Option, Some, None, Result, Ok, Err, refl, sym, ap, subst, ◌∙◌, arith}
 use Rattle.std.proofs.lemmas.List.{append-nil}
-use Rattle.std.specs.Prelude.{IfErr}
+use Rattle.std.specs.Prelude.{IfErr, OnErr, OnOk}
 use Rattle.uug_session.specs.Engine.{HasFailed, faults_max}
+use Rattle.uug_stream.specs.Fault.{StopsWriting}
 use Rattle.uug_stream.specs.Streams.{Appends, AppendsFront}
 use Rattle.uug_stream.specs.declared.fault.ToolFault.{ToolFault}
 use Rattle.uug_stream.specs.declared.fault.ToolFault.TheVariants as faults
@@ -22,6 +23,56 @@ appends_none (Some before) = ap (λ (x : List ℕ). Some x) (sym (append-nil bef
 
 pub front_none : (report : List ℕ) (w : Option (List ℕ)) → AppendsFront report w w
 front_none report w = ([], report, refl, appends_none w)
+
+-- what became of the printing of a report, by what it came to
+pub record Prints {T : Type 0} (r : Result T ToolFault) (report : List ℕ) (w v : Option (List ℕ)) (c d : ℕ) : Type 0 where
+  pub appends : OnOk r (Appends report w v)
+  pub begins : OnErr r (AppendsFront report w v)
+  pub fault : IfErr r (StopsWriting c d)
+
+-- that fault is answered
+printing_failed : (T : Type 0) (fault : ToolFault) (report : List ℕ) (w v : Option (List ℕ)) (c d : ℕ) (F : Type 0)
+    → AppendsFront report w v → StopsWriting c d fault → IsPrinted {T = T} (Err fault) report w v c d F
+printing_failed T faults.Memory report w v c d F h f = h
+printing_failed T faults.Write report w v c d F h f = (h, f)
+printing_failed T faults.Device report w v c d F h f = absurd f
+printing_failed T faults.Read report w v c d F h f = absurd f
+printing_failed T (faults.Script line) report w v c d F h f = absurd f
+printing_failed T (faults.Jobs line) report w v c d F h f = absurd f
+printing_failed T faults.Number report w v c d F h f = absurd f
+printing_failed T (faults.InUse folder) report w v c d F h f = absurd f
+printing_failed T faults.Usage report w v c d F h f = absurd f
+
+pub printing_stopped : (T : Type 0) (fault : ToolFault) (report printed : List ℕ) (w v : Option (List ℕ)) (c d : ℕ) (F : Type 0)
+    → printed ≡ report → AppendsFront printed w v → StopsWriting c d fault → IsPrinted {T = T} (Err fault) report w v c d F
+printing_stopped T fault report printed w v c d F same h f =
+    printing_failed T fault report w v c d F (subst (λ (x : List ℕ). AppendsFront x w v) same h) f
+
+-- a device has failed before
+behind_device : (T U : Type 0) (r : Result U ToolFault) (report : List ℕ) (w v : Option (List ℕ)) (c d : ℕ) (F : Type 0)
+    → Prints r report w v c d → IsPrinted {T = T} (Err (fault_behind_line r)) report w v c d F
+behind_device T U (Ok value) report w v c d F h = inl h.appends
+behind_device T U (Err faults.Memory) report w v c d F h = h.begins
+behind_device T U (Err faults.Write) report w v c d F h = inr (h.begins, inl h.fault)
+behind_device T U (Err faults.Device) report w v c d F h = absurd h.fault
+behind_device T U (Err faults.Read) report w v c d F h = absurd h.fault
+behind_device T U (Err (faults.Script line)) report w v c d F h = absurd h.fault
+behind_device T U (Err (faults.Jobs line)) report w v c d F h = absurd h.fault
+behind_device T U (Err faults.Number) report w v c d F h = absurd h.fault
+behind_device T U (Err (faults.InUse folder)) report w v c d F h = absurd h.fault
+behind_device T U (Err faults.Usage) report w v c d F h = absurd h.fault
+
+pub printed_behind_device : (T U : Type 0) (fault : ToolFault) (r : Result U ToolFault) (report printed : List ℕ) (w v : Option (List ℕ))
+    (c d : ℕ) (F : Type 0) → fault ≡ fault_behind_line r → printed ≡ report → Prints r printed w v c d
+    → IsPrinted {T = T} (Err fault) report w v c d F
+printed_behind_device T U fault r report printed w v c d F e same h =
+    subst (λ (f : ToolFault). IsPrinted {T = T} (Err f) report w v c d F) (sym e)
+    (behind_device T U r report w v c d F (subst (λ (x : List ℕ). Prints r x w v c d) same h))
+
+-- the front of a text is the front of the report that the text is
+pub begins_report : {T : Type 0} (r : Result T ToolFault) (report text bytes : List ℕ) (w v : Option (List ℕ)) → text ≡ report → bytes ≡ text
+    → OnErr r (AppendsFront bytes w v) → OnErr r (AppendsFront report w v)
+begins_report r report text bytes w v is same h = subst (λ (x : List ℕ). OnErr r (AppendsFront x w v)) (same ∙ is) h
 
 pub not_printed : (T : Type 0) (fault : ToolFault) (report : List ℕ) (w : Option (List ℕ)) (a b c : ℕ) (F : Type 0) → IsPlanFault fault a b
     → (HasFailed faults_max a b → F) → IsPrinted {T = T} (Err fault) report w w c c F

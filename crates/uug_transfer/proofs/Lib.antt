@@ -10,3 +10,4 @@ pub mod OutgoingLemmas
 pub mod ReceivedLemmas
 pub mod ReportLemmas
 pub mod RoomLemmas
+pub mod SettlingLemmas

@@ -14,14 +14,15 @@ use Rattle.uug_session.specs.Node.{NodeState, effect_of}
 use Rattle.uug_transfer.specs.BufferedNodes.{IsCleared, SendsOut}
 use Rattle.uug_transfer.specs.Listening.{HearsLine, HearsSaying, all_received, reads_in}
 use Rattle.uug_transfer.specs.Outgoing.{count_behind, count_with, outgoing_from, outgoing_of_entry}
-use Rattle.uug_transfer.specs.ReadOutcomes.{IsWithin, TakesOutcome, UnlessRefused, outcome_bytes}
+use Rattle.uug_transfer.specs.ReadOutcomes.{IsWithin, TakesOutcome, outcome_bytes}
+use Rattle.uug_transfer.specs.SessionFaults.{UnlessRefused}
 use Rattle.uug_transfer.specs.Received.{Received, also_received, line_end, piece, received_of, silence}
 use Rattle.uug_transfer.specs.Writing.{TakesFront, TalksAtLine, also_taken, goes_out}
 use Rattle.uug_transfer.specs.declared.fault_injector.FaultInjector.{FaultInjector}
 use Rattle.uug_transfer.specs.declared.read_outcome.ReadOutcome.{ReadOutcome}
 use Rattle.uug_transfer.specs.declared.read_outcome.ReadOutcome.TheVariants.{Bytes, TimedOut, Eof}
-use Rattle.uug_transfer.specs.declared.turn_fault.TurnFault.{TurnFault}
-use Rattle.uug_transfer.specs.declared.turn_fault.TurnFault.TheVariants as turn
+use Rattle.uug_transfer.specs.declared.session_fault.SessionFault.{SessionFault}
+use Rattle.uug_transfer.specs.declared.session_fault.SessionFault.TheVariants as fault
 
 -- ---- what was received
 
@@ -421,10 +422,12 @@ wrote_some bytes left (Some before) v w wrote some =
 
 -- ---- unless memory was refused
 
-pub heard_then : {T : Type 0} (r : Result T TurnFault) (P Q : Type 0) → UnlessRefused r P → (P → Q) → UnlessRefused r Q
+pub heard_then : {T : Type 0} (r : Result T SessionFault) (P Q : Type 0) → UnlessRefused r P → (P → Q) → UnlessRefused r Q
 heard_then (Ok value) P Q p f = f p
-heard_then (Err turn.Line) P Q p f = f p
-heard_then (Err turn.Memory) P Q p f = tt
+heard_then (Err fault.Line) P Q p f = f p
+heard_then (Err fault.Jobs) P Q p f = f p
+heard_then (Err fault.Number) P Q p f = f p
+heard_then (Err fault.Memory) P Q p f = tt
 
 pub on_err : {T E : Type 0} (r : Result T E) (P : Type 0) → P → OnErr r P
 on_err (Ok value) P p = tt

@@ -8,5 +8,7 @@ pub mod Outgoing
 pub mod ReadBudgets
 pub mod ReadOutcomes
 pub mod Received
+pub mod SessionFaults
+pub mod Settling
 pub mod Turns
 pub mod Writing

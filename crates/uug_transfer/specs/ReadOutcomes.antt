@@ -1,12 +1,10 @@
 -- What a read comes to at the line of one end, and what it does to the end (this project's profile).
 use Rattle.std.specs.Io.KnownBytes.{Consumes, IsAtEnd, Keeps}
-use Rattle.std.specs.Prelude.{◌≡◌, ◌<◌, ◌≤◌, ℕ, List, [], Option, Result, Ok, Err, take, ⊤}
+use Rattle.std.specs.Prelude.{◌≡◌, ◌<◌, ◌≤◌, ℕ, List, [], Option, take, ⊤}
 use Rattle.uug_conversation.specs.Holdings.{Holdings, Kept}
 use Rattle.uug_session.specs.Node.{NodeState}
 use Rattle.uug_transfer.specs.BufferedNodes.{Hears, Waits}
 use Rattle.uug_transfer.specs.declared.fault_injector.FaultInjector.{FaultInjector}
-use Rattle.uug_transfer.specs.declared.turn_fault.TurnFault.{TurnFault}
-use Rattle.uug_transfer.specs.declared.turn_fault.TurnFault.TheVariants as faults
 use Rattle.uug_transfer.specs.declared.read_outcome.ReadOutcome.{ReadOutcome}
 use Rattle.uug_transfer.specs.declared.read_outcome.ReadOutcome.TheVariants.{Bytes, TimedOut, Eof}
 
@@ -37,9 +35,3 @@ TakesOutcome h kept kept_after failure TimedOut buffer injector injector_after b
     Waits injector injector_after bytes bytes_after before after × (kept_after ≡ kept)
 TakesOutcome h kept kept_after failure Eof buffer injector injector_after bytes bytes_after before after =
     (after ≡ before) × (kept_after ≡ kept) × (injector_after ≡ injector) × (bytes_after ≡ bytes)
-
--- the fact, unless memory was refused
-abbrev pub UnlessRefused : {T : Type 0} → Result T TurnFault → Type 0 → Type 0
-UnlessRefused (Ok done) P = P
-UnlessRefused (Err faults.Line) P = P
-UnlessRefused (Err faults.Memory) P = ⊤

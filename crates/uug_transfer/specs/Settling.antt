@@ -2,10 +2,10 @@
 use Rattle.std.specs.Prelude.{◌≡◌, ℕ, List, ◌++◌, Option, Some, None, drop, length, ⊤}
 use Rattle.uug_conversation.specs.declared.job.Job.{Job}
 use Rattle.uug_conversation.specs.Jobs.{Lists, pending}
-use Rattle.uug_folder.specs.NumberText.{holding_number}
+use Rattle.uug_folder.specs.NumberText.{HoldsNumber, holding_number}
 use Rattle.uug_folder.specs.OpenJobs.{LosesNone, StaysHeld}
 use Rattle.uug_session.specs.Node.{NodeState}
-use Rattle.uug_transfer.specs.Ends.{jobs_of_end}
+use Rattle.uug_transfer.specs.Ends.{jobs_of_end, number_of_end}
 use Rattle.uug_transfer.specs.declared.settled.Settled.{Settled}
 
 -- ---- the jobs
@@ -49,8 +49,8 @@ pub record IsSomeNumber (text text_after : Option (List ℕ)) : Type 0 where
   pub number : Option ℕ
   pub is : text_after ≡ holding_number number text
 
--- a number was written, or is in the file from before, beside the one that was in it first
-abbrev pub FollowsNumber : (first kept now : Option ℕ) → Type 0
-FollowsNumber None kept now = kept ≡ None
-FollowsNumber (Some first) kept None = ⊤
-FollowsNumber (Some first) kept (Some now) = kept ≡ Some now
+-- All that became of the end so far is on its disk: its jobs are settled, and its file has the number that it keeps.
+pub record IsOnDisk (settled : Settled) (now : NodeState) (text : Option (List ℕ)) : Type 0 where
+  pub jobs : AreSettled settled (jobs_of_end now)
+  pub number : settled.number ≡ kept_then settled.number (number_of_end now)
+  pub file : HoldsNumber settled.number text

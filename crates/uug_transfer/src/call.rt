@@ -1,35 +1,36 @@
 //! One end at its line, from its first turn to the report.
-ghost use Rattle.std.specs.Prelude.{◌≡◌, ◌≤◌, ◌⊎◌, [], IfErr, IfOk, OnOk};
+ghost use Rattle.std.specs.Prelude.{◌≡◌, ◌≤◌, ◌⊎◌, [], IfErr, IfOk, OnErr, OnOk, string_bytes};
 ghost use Rattle.uug_session.specs.Engine.{HasFailed, IsEnded};
+ghost use Rattle.uug_session.specs.Node.{node_of};
 ghost use Rattle.uug_session.specs.NumberStanding.{KeepsNumber};
-ghost use Rattle.uug_stream.specs.Streams.{CountsFault};
-ghost use Rattle.uug_folder.specs.JobsFile.{IsSettled, settled_by};
-ghost use Rattle.uug_folder.specs.NumberText.{IsNumberKept, holding_number};
-ghost use Rattle.uug_folder.specs.declared.rewrites.Rewrites.TheVariants.{IfAnyIsOver as if_any_is_over};
+ghost use Rattle.uug_stream.specs.Fault.{StopsWriting};
+ghost use Rattle.uug_stream.specs.Streams.{Appends, AppendsFront, CountsFault};
+ghost use Rattle.uug_folder.specs.OpenJobs.{open_in};
 ghost use Rattle.uug_transfer.specs.BufferedNodes.{injector_in, node_in, spool_in, to_write, IsLed, KeepsJobs};
-ghost use Rattle.uug_transfer.specs.EndOver.{HasFault, IsEndFault, IsPrinted, Leaves, UnlessDevice, fault_behind_line, files_of, UnlessMemory};
-ghost use Rattle.uug_transfer.specs.Ends.{jobs_of_end, number_of_end, phase_of_end, report_of, status_of_phase};
+ghost use Rattle.uug_transfer.specs.EndOver.{HasFault, IfWritten, IsEndFault, IsPrinted, fault_behind_line, files_of, UnlessMemory};
+ghost use Rattle.uug_transfer.specs.Ends.{number_of_end, phase_of_end, report_of, status_of_phase};
 ghost use Rattle.uug_transfer.specs.Listening.{HearsLine};
 ghost use Rattle.uug_transfer.specs.Received.{ReadsWithin};
+ghost use Rattle.uug_transfer.specs.Settling.{IsNumberNow, IsSomeNumber, LosesNoJob, StaysInStore};
 ghost use Rattle.uug_transfer.specs.Writing.{TalksAtLine};
 ghost use Rattle.uug_transfer.specs.declared.read_budget.TheConstants.{SILENCES_MAX};
 
-use crate::call_plan::CallPlan;
 use crate::end_line::EndLine;
+use crate::end_report::report;
 use crate::session::run_session;
+use crate::session_fault::SessionFault;
 use crate::transfer_end::TransferEnd;
-use crate::turn_fault::TurnFault;
 use std::alloc::Allocator;
 use uug_folder::TextFile;
-use uug_session::{Phase, Side, Spool};
-use uug_stream::{Output, ToolFault};
+use uug_session::{Node, Phase, Side, Spool};
+use uug_stream::{Output, ToolFault, write_all};
 
-/// An end stays at its line until its session is over, and reads so many bytes at most. Then, if a job was struck or has
-/// failed, the file of jobs is read again, and what is to stay of it is written: the jobs that are pending, and what was
-/// put into it meanwhile. Its number goes to its own file, if it keeps one, and the report to the output, also where the
-/// line has failed. The answer is the program's status: 0 where the session is done, even if the line has failed behind it,
-/// and 1 where it is not. Of several faults the first is answered, and none of them keeps what comes behind it from being
-/// done, except running out of memory before the first write.
+/// An end stays at its line until its session is over, and reads so many bytes at most. What becomes of it is put on its disk
+/// meanwhile: a job that is over is taken out of the file of jobs, and its number goes to its own file, if it keeps one, before
+/// anything that the end says of it is written. When the session is over the report goes to the output, also where the line or a
+/// file has failed. The answer is the program's status: 0 where the session is done, even if the line has failed behind it, and
+/// 1 where it is not. Of several faults the first is answered, and none of them keeps the report from being printed, except
+/// running out of memory.
 pub fn call_over<S, L, J, N, O, A>(
     alloc: A,
     side: Side,
@@ -68,26 +69,25 @@ where
         (node_in end.old.buffered) (node_in end.new.buffered)) }
     ensures over { IsEnded (node_in end.new.buffered).engine.stage }
     ensures within { ReadsWithin most SILENCES_MAX (L.received line.old) (L.received line.new) }
-    // The file of jobs is as before, or has what is to stay of it.
-    ensures jobs { IsSettled if_any_is_over end.old.jobs.before.items
-        (jobs_of_end (node_in end.new.buffered))
-        (J.text end.old.jobs.file) (J.text end.new.jobs.file) }
-    ensures ok { OnOk result (J.text end.new.jobs.file
-        ≡ settled_by if_any_is_over end.old.jobs.before.items
-        (jobs_of_end (node_in end.new.buffered)) (J.text end.old.jobs.file)) }
-    // The file of the number is as before, or has exactly the one that the end keeps then, if it keeps one.
-    ensures number { IsNumberKept (number_of_end (node_in end.new.buffered))
-        (N.text end.old.number) (N.text end.new.number) }
+    // Where its pending jobs, and no others, stood in its file, they do so again: on every way out but for want of memory, or
+    // where the file has failed. No pending job is lost from it, whatever happens.
+    ensures stays { IfWritten result
+        (StaysInStore (open_in (J.text end.old.jobs.file)) (open_in (J.text end.new.jobs.file))
+        (node_in end.old.buffered) (node_in end.new.buffered)) }
+    ensures stays_unless { UnlessMemory result
+        (StaysInStore (open_in (J.text end.old.jobs.file)) (open_in (J.text end.new.jobs.file))
+        (node_in end.old.buffered) (node_in end.new.buffered)
+        ⊎ HasFailed u64.MAX (J.fault_count end.old.jobs.file) (J.fault_count end.new.jobs.file)) }
+    ensures none_lost { LosesNoJob (open_in (J.text end.old.jobs.file))
+        (open_in (J.text end.new.jobs.file))
+        (node_in end.old.buffered) (node_in end.new.buffered) }
+    // The file of the number of an end that keeps one has it.
+    ensures number { IfWritten result (IsNumberNow (number_of_end (node_in end.old.buffered))
+        (number_of_end (node_in end.new.buffered)) (N.text end.old.number) (N.text end.new.number)) }
+    ensures number_whole { IsSomeNumber (N.text end.old.number) (N.text end.new.number) }
     // It has risen once at most since the session began, and not where the call was refused.
     ensures number_stands { UnlessMemory result
         (KeepsNumber (node_in end.old.buffered).engine (node_in end.new.buffered).engine) }
-    ensures number_ok { OnOk result (N.text end.new.number
-        ≡ holding_number (number_of_end (node_in end.new.buffered)) (N.text end.old.number)) }
-    // On every way out both files are written, unless their devices fail, or neither is, for want of memory.
-    ensures files { Leaves result if_any_is_over end.old.jobs.before.items
-        (node_in end.new.buffered)
-        (files_of J.text J.fault_count N.text N.fault_count end.old)
-        (files_of J.text J.fault_count N.text N.fault_count end.new) }
     ensures report { IsPrinted result (report_of side (node_in end.new.buffered))
         (O.written output.old) (O.written output.new)
         (O.fault_count output.old) (O.fault_count output.new)
@@ -97,9 +97,9 @@ where
         status ≡ status_of_phase (phase_of_end (node_in end.new.buffered))) }
     // Where the line has failed and the session is not done, that is answered, whatever fails later but memory.
     ensures line_calm { result ≡ Ok 1 → L.fault_count line.new ≡ L.fault_count line.old }
-    ensures jobs_calm { UnlessDevice result (J.fault_count end.new.jobs.file
+    ensures jobs_calm { IfWritten result (J.fault_count end.new.jobs.file
         ≡ J.fault_count end.old.jobs.file) }
-    ensures number_calm { UnlessDevice result
+    ensures number_calm { IfWritten result
         (N.fault_count end.new.number ≡ N.fault_count end.old.number) }
     ensures device { result ≡ Err ToolFault.Device
         → HasFailed u64.MAX (L.fault_count line.old) (L.fault_count line.new)
@@ -109,77 +109,56 @@ where
         → CountsFault (O.fault_count output.old) (O.fault_count output.new) }
     ensures no_other { IfErr result IsEndFault }
 {
-    match run_session(&mut end.buffered, line, most) {
-        Ok(()) => match leave(alloc, side, end, output) {
+    let session = run_session(
+        alloc,
+        &mut end.buffered,
+        &mut end.jobs,
+        &mut end.number,
+        line,
+        most,
+    );
+    match session {
+        Ok(()) => match print_report(alloc, side, end.buffered.node(), output) {
             Ok(()) => Ok(status(end.buffered.node().phase())),
             Err(fault) => Err(fault),
         },
-        Err(TurnFault::Line) => {
-            let left = leave(alloc, side, end, output);
+        Err(SessionFault::Line) => {
+            let printed = print_report(alloc, side, end.buffered.node(), output);
             if status(end.buffered.node().phase()) > 0 {
-                return Err(fault_behind_line(left));
+                return Err(fault_behind_line(printed));
             }
-            match left {
+            match printed {
                 Ok(()) => Ok(0),
                 Err(fault) => Err(fault),
             }
         }
-        Err(TurnFault::Memory) => Err(ToolFault::Memory),
+        Err(SessionFault::Jobs | SessionFault::Number) => {
+            let printed = print_report(alloc, side, end.buffered.node(), output);
+            Err(fault_behind_line(printed))
+        }
+        Err(SessionFault::Memory) => Err(ToolFault::Memory),
     }
 }
 
-/// What is to stay of the end's jobs is written to their file, if any is over, its number to its own, if it keeps one,
-/// and the report to the output.
-fn leave<S, J, N, O, A>(
+/// Prints how an end stands, and then the jobs that it has given up.
+fn print_report<S: Spool, O: Output, A: Allocator + Copy>(
     alloc: A,
     side: Side,
-    end: &mut TransferEnd<S, J, N, A>,
+    end: &Node<S, A>,
     output: &mut O,
 ) -> Result<(), ToolFault>
-where
-    S: Spool + Drop,
-    J: TextFile,
-    N: TextFile,
-    O: Output,
-    A: Allocator + Copy,
-    ensures buffered { end.new.buffered ≡ end.old.buffered }
-    ensures jobs { IsSettled if_any_is_over end.old.jobs.before.items
-        (jobs_of_end (node_in end.old.buffered))
-        (J.text end.old.jobs.file) (J.text end.new.jobs.file) }
-    ensures ok { OnOk result (J.text end.new.jobs.file
-        ≡ settled_by if_any_is_over end.old.jobs.before.items
-        (jobs_of_end (node_in end.old.buffered)) (J.text end.old.jobs.file)) }
-    ensures number { IsNumberKept (number_of_end (node_in end.old.buffered))
-        (N.text end.old.number) (N.text end.new.number) }
-    ensures number_ok { OnOk result (N.text end.new.number
-        ≡ holding_number (number_of_end (node_in end.old.buffered)) (N.text end.old.number)) }
-    ensures files { Leaves result if_any_is_over end.old.jobs.before.items
-        (node_in end.old.buffered)
-        (files_of J.text J.fault_count N.text N.fault_count end.old)
-        (files_of J.text J.fault_count N.text N.fault_count end.new) }
-    ensures report { IsPrinted result (report_of side (node_in end.old.buffered))
-        (O.written output.old) (O.written output.new)
-        (O.fault_count output.old) (O.fault_count output.new)
-        (HasFault (files_of J.text J.fault_count N.text N.fault_count end.old)
-        (files_of J.text J.fault_count N.text N.fault_count end.new)) }
-    ensures jobs_calm { UnlessDevice result (J.fault_count end.new.jobs.file
-        ≡ J.fault_count end.old.jobs.file) }
-    ensures number_calm { UnlessDevice result
-        (N.fault_count end.new.number ≡ N.fault_count end.old.number) }
-    ensures device { result ≡ Err ToolFault.Device
-        → HasFault (files_of J.text J.fault_count N.text N.fault_count end.old)
-        (files_of J.text J.fault_count N.text N.fault_count end.new) }
-    ensures write { result ≡ Err ToolFault.Write
-        → CountsFault (O.fault_count output.old) (O.fault_count output.new) }
-    ensures no_other { IfErr result IsEndFault }
+    ensures appends { OnOk result (Appends (report_of side (node_of end.now))
+        (O.written output.old) (O.written output.new)) }
+    ensures begins { OnErr result (AppendsFront (report_of side (node_of end.now))
+        (O.written output.old) (O.written output.new)) }
+    ensures fault { IfErr result
+        (StopsWriting (O.fault_count output.old) (O.fault_count output.new)) }
 {
-    match CallPlan::new(alloc, side, end) {
-        Ok(plan) => plan.write(&mut end.jobs.file, &mut end.number, output),
-        Err(fault) => Err(fault),
-    }
+    let report = report(alloc, side, end)?;
+    write_all(output, report.as_bytes())
 }
 
-/// What is answered where the line has failed, and this came of what was left to do: the line's fault, which came before all
+/// What is answered where a device has failed, and this came of what was left to do: the device's fault, which came before all
 /// that the writing meets; but memory is told where it ran out.
 pub(crate) fn fault_behind_line(left: Result<(), ToolFault>) -> ToolFault
     ensures { result ≡ fault_behind_line left }

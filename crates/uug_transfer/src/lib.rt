@@ -4,7 +4,6 @@
 
 mod buffered_node;
 mod call;
-mod call_plan;
 mod end_line;
 mod end_plan;
 mod end_report;
@@ -20,6 +19,8 @@ mod pair_plan;
 mod read_budget;
 mod read_outcome;
 mod session;
+mod session_fault;
+mod settled;
 mod status;
 mod transfer_end;
 mod turn_fault;
@@ -37,6 +38,7 @@ pub use pair::pair_over;
 pub use read_budget::{BYTES_MAX, SILENCES_MAX};
 pub use read_outcome::ReadOutcome;
 pub use session::run_session;
+pub use session_fault::SessionFault;
 pub use status::SessionStatus;
 pub use transfer_end::TransferEnd;
 pub use turn_fault::TurnFault;

@@ -1,12 +1,15 @@
 //! One end stays at its line until its session is over.
-ghost use Rattle.std.specs.Prelude.{◌≡◌, ◌≤◌, [], length, OnErr, OnOk};
+ghost use Rattle.std.specs.Prelude.{◌≡◌, ◌≢◌, ◌≤◌, [], length, OnErr, OnOk};
 ghost use Rattle.uug_session.specs.Engine.{HasFailed, IsEnded};
 ghost use Rattle.uug_session.specs.NumberStanding.{KeepsNumber};
+ghost use Rattle.uug_folder.specs.NumberText.{holding_number};
 ghost use Rattle.uug_transfer.specs.BufferedNodes.{injector_in, node_in, spool_in, to_write, IsLed, KeepsJobs};
+ghost use Rattle.uug_transfer.specs.Ends.{number_of_end};
 ghost use Rattle.uug_transfer.specs.Listening.{HearsLine};
-ghost use Rattle.uug_transfer.specs.ReadOutcomes.{IsWithin, TakesOutcome, UnlessRefused};
+ghost use Rattle.uug_transfer.specs.ReadOutcomes.{IsWithin, TakesOutcome};
 ghost use Rattle.uug_transfer.specs.Received.{ReadsWithin};
-ghost use Rattle.uug_transfer.specs.Turns.{UnlessLineFailed};
+ghost use Rattle.uug_transfer.specs.SessionFaults.{IfOnDisk, UnlessLine, UnlessNumber, UnlessRefused, UnlessUnsettled};
+ghost use Rattle.uug_transfer.specs.Settling.{IsNumberNow, IsOnDisk, IsSomeNumber, LosesNoJob, StaysInStore, kept_then};
 ghost use Rattle.uug_transfer.specs.Writing.{TakesFront, TalksAtLine, also_taken};
 ghost use Rattle.uug_transfer.specs.declared.read_budget.TheConstants.{SILENCES_MAX};
 
@@ -15,19 +18,32 @@ use crate::end_line::EndLine;
 use crate::line::{LineFailed, UNREAD_MAX};
 use crate::read_budget::ReadBudget;
 use crate::read_outcome::ReadOutcome;
-use crate::turn_fault::TurnFault;
+use crate::session_fault::SessionFault;
+use crate::settled::Settled;
 use std::alloc::{AllocError, Allocator};
+use uug_folder::{JobStore, TextFile};
 use uug_session::Spool;
 
 /// Lets an end write and read at its line until its session is over. It writes all that it has to write, and reads once:
 /// bytes come to it, and a silence is a timeout. After the line's end it is hung up, also where the line failed, memory
 /// ran out, so many bytes were read of it, or it was silent for `SILENCES_MAX` reads in a row. The line is told each time
-/// how far the session has come.
-pub fn run_session<S: Spool + Drop, L: EndLine, A: Allocator + Copy>(
+/// how far the session has come. What becomes of the end is on its disk before what it says of that is written: a job that is
+/// over is taken out of `jobs`, and `number` has the number that the end keeps. Where that can't be done the end hangs up, and
+/// nothing more is written.
+pub fn run_session<S, J, N, L, A>(
+    alloc: A,
     buffered: &mut BufferedNode<S, A>,
+    jobs: &mut J,
+    number: &mut N,
     line: &mut L,
     most: u64,
-) -> Result<(), TurnFault>
+) -> Result<(), SessionFault>
+where
+    S: Spool + Drop,
+    J: JobStore,
+    N: TextFile,
+    L: EndLine,
+    A: Allocator + Copy,
     ensures jobs { KeepsJobs (S.kept (spool_in buffered.old)) (S.kept (spool_in buffered.new))
         (node_in buffered.old) (node_in buffered.new) }
     ensures led { IsLed (S.holdings (spool_in buffered.old))
@@ -48,13 +64,30 @@ pub fn run_session<S: Spool + Drop, L: EndLine, A: Allocator + Copy>(
         (injector_in buffered.old) (to_write buffered.old)
         (L.taken line.old) (L.taken line.new)
         (node_in buffered.old) (node_in buffered.new)) }
+    // What is over is taken out of its store, and nothing else; and on no way out is a pending job lost from it.
+    ensures stays { UnlessUnsettled result
+        (StaysInStore (J.open_jobs jobs.old) (J.open_jobs jobs.new)
+        (node_in buffered.old) (node_in buffered.new)) }
+    ensures none_lost { LosesNoJob (J.open_jobs jobs.old) (J.open_jobs jobs.new)
+        (node_in buffered.old) (node_in buffered.new) }
+    ensures number_now { IfOnDisk result (IsNumberNow (number_of_end (node_in buffered.old))
+        (number_of_end (node_in buffered.new)) (N.text number.old) (N.text number.new)) }
+    ensures number_whole { IsSomeNumber (N.text number.old) (N.text number.new) }
+    ensures jobs_calm { UnlessUnsettled result
+        (J.fault_count jobs.new ≡ J.fault_count jobs.old) }
+    ensures number_calm { UnlessRefused result (UnlessNumber result
+        (N.fault_count number.new ≡ N.fault_count number.old)) }
+    ensures jobs_fault { result ≡ Err SessionFault.Jobs
+        → HasFailed u64.MAX (J.fault_count jobs.old) (J.fault_count jobs.new) }
+    ensures number_fault { result ≡ Err SessionFault.Number
+        → HasFailed u64.MAX (N.fault_count number.old) (N.fault_count number.new) }
     ensures within { ReadsWithin most SILENCES_MAX (L.received line.old) (L.received line.new) }
-    ensures calm { UnlessLineFailed result (L.fault_count line.new ≡ L.fault_count line.old) }
-    ensures fault { result ≡ Err TurnFault.Line
+    ensures calm { UnlessLine result (L.fault_count line.new ≡ L.fault_count line.old) }
+    ensures fault { result ≡ Err SessionFault.Line
         → HasFailed u64.MAX (L.fault_count line.old) (L.fault_count line.new) }
     ensures grows { L.fault_count line.old ≤ L.fault_count line.new }
 {
-    let result = take_turns(buffered, line, most);
+    let result = take_turns(alloc, buffered, jobs, number, line, most);
     buffered.hang_up();
     line.note(buffered.status(true));
     result
@@ -62,11 +95,20 @@ pub fn run_session<S: Spool + Drop, L: EndLine, A: Allocator + Copy>(
 
 /// The turns themselves.
 #[tactic(auto, using(crate::proofs::BudgetLemmas::fewer_then))]
-fn take_turns<S: Spool + Drop, L: EndLine, A: Allocator + Copy>(
+fn take_turns<S, J, N, L, A>(
+    alloc: A,
     buffered: &mut BufferedNode<S, A>,
+    jobs: &mut J,
+    number: &mut N,
     line: &mut L,
     most: u64,
-) -> Result<(), TurnFault>
+) -> Result<(), SessionFault>
+where
+    S: Spool + Drop,
+    J: JobStore,
+    N: TextFile,
+    L: EndLine,
+    A: Allocator + Copy,
     ensures jobs { KeepsJobs (S.kept (spool_in buffered.old)) (S.kept (spool_in buffered.new))
         (node_in buffered.old) (node_in buffered.new) }
     ensures led { IsLed (S.holdings (spool_in buffered.old))
@@ -86,33 +128,63 @@ fn take_turns<S: Spool + Drop, L: EndLine, A: Allocator + Copy>(
         (injector_in buffered.old) (to_write buffered.old)
         (L.taken line.old) (L.taken line.new)
         (node_in buffered.old) (node_in buffered.new)) }
+    // What is over is taken out of its store, and nothing else; and on no way out is a pending job lost from it.
+    ensures stays { UnlessUnsettled result
+        (StaysInStore (J.open_jobs jobs.old) (J.open_jobs jobs.new)
+        (node_in buffered.old) (node_in buffered.new)) }
+    ensures none_lost { LosesNoJob (J.open_jobs jobs.old) (J.open_jobs jobs.new)
+        (node_in buffered.old) (node_in buffered.new) }
+    ensures number_now { IfOnDisk result (IsNumberNow (number_of_end (node_in buffered.old))
+        (number_of_end (node_in buffered.new)) (N.text number.old) (N.text number.new)) }
+    ensures number_whole { IsSomeNumber (N.text number.old) (N.text number.new) }
+    ensures jobs_calm { UnlessUnsettled result
+        (J.fault_count jobs.new ≡ J.fault_count jobs.old) }
+    ensures number_calm { UnlessRefused result (UnlessNumber result
+        (N.fault_count number.new ≡ N.fault_count number.old)) }
+    ensures jobs_fault { result ≡ Err SessionFault.Jobs
+        → HasFailed u64.MAX (J.fault_count jobs.old) (J.fault_count jobs.new) }
+    ensures number_fault { result ≡ Err SessionFault.Number
+        → HasFailed u64.MAX (N.fault_count number.old) (N.fault_count number.new) }
     ensures within { ReadsWithin most SILENCES_MAX (L.received line.old) (L.received line.new) }
-    ensures calm { UnlessLineFailed result (L.fault_count line.new ≡ L.fault_count line.old) }
-    ensures fault { result ≡ Err TurnFault.Line
+    ensures calm { UnlessLine result (L.fault_count line.new ≡ L.fault_count line.old) }
+    ensures fault { result ≡ Err SessionFault.Line
         → HasFailed u64.MAX (L.fault_count line.old) (L.fault_count line.new) }
     ensures grows { L.fault_count line.old ≤ L.fault_count line.new }
 {
     let mut buffer = [0; UNREAD_MAX];
     let mut budget = ReadBudget::new(most);
+    let node = buffered.node();
+    let mut settled = Settled::begin(node.queue(), node.number(), number)?;
     while budget.lasts() {
-        write_all(buffered, line)?;
+        write_all(buffered, line, &settled, number)?;
         if buffered.has_ended() {
             return Ok(());
         }
         let room = budget.room(buffer.len());
         let outcome = line.read(&mut buffer[..room])?;
-        take_outcome(buffered, outcome, &buffer)?;
+        take_and_settle(
+            alloc,
+            buffered,
+            jobs,
+            number,
+            &mut settled,
+            outcome,
+            &buffer,
+        )?;
         budget.spend(outcome);
         line.note(buffered.status(false));
     }
     Ok(())
 }
 
-/// Writes all that there is to write.
-fn write_all<S: Spool + Drop, L: EndLine, A: Allocator + Copy>(
+/// Writes all that there is to write: where all that has become of the end is on its disk, and not before.
+fn write_all<S: Spool + Drop, N: TextFile, L: EndLine, A: Allocator + Copy>(
     buffered: &mut BufferedNode<S, A>,
     line: &mut L,
+    _settled: &Settled,
+    _number: &N,
 ) -> Result<(), LineFailed>
+    requires on_disk { IsOnDisk _settled.now (node_in buffered.old) (N.text _number.now) }
     ensures node { node_in buffered.new ≡ node_in buffered.old }
     ensures spool { spool_in buffered.new ≡ spool_in buffered.old }
     ensures injector { injector_in buffered.new ≡ injector_in buffered.old }
@@ -132,6 +204,68 @@ fn write_all<S: Spool + Drop, L: EndLine, A: Allocator + Copy>(
         buffered.written(count);
     }
     Ok(())
+}
+
+/// Tells an end whose session goes on what a read came to, and puts what becomes of it then on its disk: before anything that
+/// it has emitted by that is written to its line. What was struck is put there also where memory ran out.
+fn take_and_settle<S, J, N, A>(
+    alloc: A,
+    buffered: &mut BufferedNode<S, A>,
+    jobs: &mut J,
+    number: &mut N,
+    settled: &mut Settled,
+    outcome: ReadOutcome,
+    buffer: &[u8],
+) -> Result<(), SessionFault>
+where
+    S: Spool + Drop,
+    J: JobStore,
+    N: TextFile,
+    A: Allocator + Copy,
+    requires within { IsWithin (length buffer.now) outcome }
+    requires goes_on { IsEnded (node_in buffered.old).engine.stage → ⊥ }
+    requires on_disk { IsOnDisk settled.old (node_in buffered.old) (N.text number.old) }
+    ensures jobs { KeepsJobs (S.kept (spool_in buffered.old)) (S.kept (spool_in buffered.new))
+        (node_in buffered.old) (node_in buffered.new) }
+    ensures led { IsLed (S.holdings (spool_in buffered.old))
+        (S.holdings (spool_in buffered.new))
+        (S.kept (spool_in buffered.old)) (S.kept (spool_in buffered.new))
+        (node_in buffered.old) (node_in buffered.new) }
+    ensures number { UnlessRefused result
+        (KeepsNumber (node_in buffered.old).engine (node_in buffered.new).engine) }
+    ensures takes { UnlessRefused result
+        (TakesOutcome (S.holdings (spool_in buffered.old)) (S.kept (spool_in buffered.old))
+        (S.kept (spool_in buffered.new))
+        (HasFailed u64.MAX (S.faults (spool_in buffered.old)) (S.faults (spool_in buffered.new)))
+        outcome buffer.now (injector_in buffered.old) (injector_in buffered.new)
+        (to_write buffered.old) (to_write buffered.new)
+        (node_in buffered.old) (node_in buffered.new)) }
+    ensures on_disk { OnOk result
+        (IsOnDisk settled.new (node_in buffered.new) (N.text number.new)) }
+    ensures kept { OnOk result (settled.new.number
+        ≡ kept_then settled.old.number (number_of_end (node_in buffered.new))) }
+    ensures holds { OnOk result (N.text number.new
+        ≡ holding_number settled.new.number (N.text number.old)) }
+    ensures whole { IsSomeNumber (N.text number.old) (N.text number.new) }
+    ensures stays { UnlessUnsettled result
+        (StaysInStore (J.open_jobs jobs.old) (J.open_jobs jobs.new)
+        (node_in buffered.old) (node_in buffered.new)) }
+    ensures none_lost { LosesNoJob (J.open_jobs jobs.old) (J.open_jobs jobs.new)
+        (node_in buffered.old) (node_in buffered.new) }
+    ensures jobs_calm { UnlessUnsettled result
+        (J.fault_count jobs.new ≡ J.fault_count jobs.old) }
+    ensures number_calm { UnlessRefused result (UnlessNumber result
+        (N.fault_count number.new ≡ N.fault_count number.old)) }
+    ensures jobs_fault { result ≡ Err SessionFault.Jobs
+        → HasFailed u64.MAX (J.fault_count jobs.old) (J.fault_count jobs.new) }
+    ensures number_fault { result ≡ Err SessionFault.Number
+        → HasFailed u64.MAX (N.fault_count number.old) (N.fault_count number.new) }
+    ensures no_line { result ≢ Err SessionFault.Line }
+{
+    let taken = take_outcome(buffered, outcome, buffer);
+    let on_disk = settled.put_on_disk(alloc, buffered.node(), jobs, number);
+    taken?;
+    on_disk
 }
 
 /// Tells an end whose session goes on what a read came to.

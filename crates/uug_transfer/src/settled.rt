@@ -3,13 +3,15 @@ ghost use Rattle.std.specs.Prelude.{◌≡◌, ◌≢◌, ◌≤◌, ◌⊎◌, 
 ghost use Rattle.uug_session.specs.Engine.{HasFailed};
 ghost use Rattle.uug_folder.specs.NumberText.{HoldsNumber, IsNumberKept, holding_number};
 ghost use Rattle.uug_folder.specs.OpenJobs.{settled_in};
-ghost use Rattle.uug_transfer.specs.SessionFaults.{UnlessJobs, UnlessNumber};
-ghost use Rattle.uug_transfer.specs.Settling.{AreSettled, kept_then, unsettled};
+ghost use Rattle.uug_session.specs.Node.{node_of};
+ghost use Rattle.uug_transfer.specs.Ends.{jobs_of_end, number_of_end};
+ghost use Rattle.uug_transfer.specs.SessionFaults.{UnlessJobs, UnlessNumber, UnlessUnsettled};
+ghost use Rattle.uug_transfer.specs.Settling.{AreSettled, IsSomeNumber, kept_then, unsettled};
 
 use crate::session_fault::SessionFault;
 use std::alloc::Allocator;
 use uug_folder::{JobStore, TextFile, number_line};
-use uug_session::Queue;
+use uug_session::{Node, Queue, Spool};
 use uug_stream::ToolFault;
 
 /// How much of what became of an end is on its disk.
@@ -49,8 +51,45 @@ impl Settled {
         })
     }
 
+    /// Takes the jobs out of their store that were struck or have failed since, and writes the number of the end, if it keeps
+    /// one and that is another now.
+    pub(crate) fn put_on_disk<S: Spool, J: JobStore, N: TextFile, A: Allocator + Copy>(
+        &mut self,
+        alloc: A,
+        node: &Node<S, A>,
+        jobs: &mut J,
+        number: &mut N,
+    ) -> Result<(), SessionFault>
+        requires struck { self.old.struck ≤ length (jobs_of_end (node_of node.now)).struck }
+        requires failed { self.old.failed ≤ length (jobs_of_end (node_of node.now)).failed }
+        requires holds { HoldsNumber self.old.number (N.text number.old) }
+        ensures ok { UnlessUnsettled result (J.open_jobs jobs.new
+            ≡ settled_in (unsettled self.old (jobs_of_end (node_of node.now)))
+            (J.open_jobs jobs.old)) }
+        ensures either { (J.open_jobs jobs.new ≡ J.open_jobs jobs.old) ⊎ (J.open_jobs jobs.new
+            ≡ settled_in (unsettled self.old (jobs_of_end (node_of node.now)))
+            (J.open_jobs jobs.old)) }
+        ensures settled { OnOk result (AreSettled self.new (jobs_of_end (node_of node.now))) }
+        ensures kept { OnOk result (self.new.number
+            ≡ kept_then self.old.number (number_of_end (node_of node.now))) }
+        ensures file { OnOk result (N.text number.new
+            ≡ holding_number self.new.number (N.text number.old)) }
+        ensures whole { IsSomeNumber (N.text number.old) (N.text number.new) }
+        ensures jobs_calm { UnlessJobs result (J.fault_count jobs.new ≡ J.fault_count jobs.old) }
+        ensures jobs_fault { result ≡ Err SessionFault.Jobs
+            → HasFailed u64.MAX (J.fault_count jobs.old) (J.fault_count jobs.new) }
+        ensures number_calm { UnlessNumber result
+            (N.fault_count number.new ≡ N.fault_count number.old) }
+        ensures number_fault { result ≡ Err SessionFault.Number
+            → HasFailed u64.MAX (N.fault_count number.old) (N.fault_count number.new) }
+        ensures no_line { result ≢ Err SessionFault.Line }
+    {
+        self.settle_jobs(alloc, node.queue(), jobs)?;
+        self.keep_number(node.number(), number)
+    }
+
     /// Takes the jobs out of their store that were struck or have failed since.
-    pub(crate) fn settle_jobs<J: JobStore, A: Allocator + Copy, B: Allocator>(
+    fn settle_jobs<J: JobStore, A: Allocator + Copy, B: Allocator>(
         &mut self,
         alloc: A,
         queue: &Queue<B>,
@@ -71,23 +110,25 @@ impl Settled {
         ensures no_line { result ≢ Err SessionFault.Line }
         ensures no_number { result ≢ Err SessionFault.Number }
     {
-        let struck = &queue.struck()[self.struck..];
-        let failed = &queue.failed()[self.failed..];
-        if struck.is_empty() && failed.is_empty() {
+        let struck_len = queue.struck().len();
+        let failed_len = queue.failed().len();
+        if self.struck == struck_len && self.failed == failed_len {
             return Ok(());
         }
+        let struck = &queue.struck()[self.struck..];
+        let failed = &queue.failed()[self.failed..];
         match jobs.settle(alloc, struck, failed) {
             Ok(()) => (),
             Err(ToolFault::Memory) => return Err(SessionFault::Memory),
             Err(_) => return Err(SessionFault::Jobs),
         }
-        self.struck = queue.struck().len();
-        self.failed = queue.failed().len();
+        self.struck = struck_len;
+        self.failed = failed_len;
         Ok(())
     }
 
     /// Writes the number of an end, if it keeps one and that is another now.
-    pub(crate) fn keep_number<N: TextFile>(
+    fn keep_number<N: TextFile>(
         &mut self,
         number: Option<u32>,
         file: &mut N,

@@ -1,14 +1,18 @@
 use Rattle.std.proofs.Common.{◌≡◌, []}
 use Rattle.uug_session.specs.NumberStanding.{KeepsNumber}
 use Rattle.uug_transfer.specs.BufferedNodes.{injector_in, node_in, spool_in, to_write, IsLed, KeepsJobs}
+use Rattle.uug_folder.specs.NumberText.{holding_number}
+use Rattle.uug_transfer.specs.Ends.{number_of_end}
 use Rattle.uug_transfer.specs.Listening.{HearsLine}
+use Rattle.uug_transfer.specs.Settling.{IsOnDisk, LosesNoJob, StaysInStore}
+use Rattle.uug_transfer.proofs.SettlingLemmas.{FollowsNumber}
 use Rattle.uug_transfer.specs.ReadBudgets.{turns_left}
 use Rattle.uug_transfer.proofs.ListeningLemmas.{TalksOn}
 use Rattle.uug_transfer.proofs.ReceivedLemmas.{SpendsSince}
 use Rattle.uug_transfer.proofs.session.take_turns.Given as goal
 
-abbrev pub invariant-loop-buffer : goal.invariant-loop-buffer
-invariant-loop-buffer g l = record {
+abbrev pub invariant-loop-alloc : goal.invariant-loop-alloc
+invariant-loop-alloc g l = record {
   jobs : KeepsJobs (g.S.Spool.kept (spool_in l.fn.buffered)) (g.S.Spool.kept (spool_in l.buffered)) (node_in l.fn.buffered) (node_in l.buffered);
   led : IsLed (g.S.Spool.holdings (spool_in l.fn.buffered)) (g.S.Spool.holdings (spool_in l.buffered))
       (g.S.Spool.kept (spool_in l.fn.buffered)) (g.S.Spool.kept (spool_in l.buffered)) (node_in l.fn.buffered) (node_in l.buffered);
@@ -20,8 +24,15 @@ invariant-loop-buffer g l = record {
       (g.L.EndLine.taken l.fn.line) (g.L.EndLine.taken l.line) (node_in l.fn.buffered) (node_in l.buffered);
   number : KeepsNumber (node_in l.fn.buffered).engine (node_in l.buffered).engine;
   spends : SpendsSince l.fn.most l.budget.bytes l.budget.silences (g.L.EndLine.received l.fn.line) (g.L.EndLine.received l.line);
+  on_disk : IsOnDisk l.settled (node_in l.buffered) (g.N.TextFile.text l.number);
+  follows : FollowsNumber (number_of_end (node_in l.fn.buffered)) l.settled.number (number_of_end (node_in l.buffered));
+  file : g.N.TextFile.text l.number ≡ holding_number l.settled.number (g.N.TextFile.text l.fn.number);
+  stays : StaysInStore (g.J.JobStore.open_jobs l.fn.jobs) (g.J.JobStore.open_jobs l.jobs) (node_in l.fn.buffered) (node_in l.buffered);
+  none_lost : LosesNoJob (g.J.JobStore.open_jobs l.fn.jobs) (g.J.JobStore.open_jobs l.jobs) (node_in l.fn.buffered) (node_in l.buffered);
+  jobs_calm : g.J.JobStore.fault_count l.jobs ≡ g.J.JobStore.fault_count l.fn.jobs;
+  number_calm : g.N.TextFile.fault_count l.number ≡ g.N.TextFile.fault_count l.fn.number;
   calm : g.L.EndLine.fault_count l.line ≡ g.L.EndLine.fault_count l.fn.line;
 }
 
-abbrev pub decreases-loop-buffer : goal.decreases-loop-buffer
-decreases-loop-buffer g l = turns_left l.budget.bytes l.budget.silences
+abbrev pub decreases-loop-alloc : goal.decreases-loop-alloc
+decreases-loop-alloc g l = turns_left l.budget.bytes l.budget.silences
