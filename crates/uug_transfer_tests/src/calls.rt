@@ -11,13 +11,15 @@ mod scenes;
 mod scripted_line;
 
 use assertions::assert_same;
+use memory_text::MemoryText;
+use numbers::{JOB, jobs_file};
 use scripted_line::ScriptedLine;
 use std::alloc::Global;
 use std::process::Abort;
 use uug_link::Announce;
 use uug_session::{Job, MemorySpool, Node, Phase, Place, Queue};
 use uug_talk::Name;
-use uug_transfer::{BufferedNode, FaultInjector, TurnFault, run_session};
+use uug_transfer::{BufferedNode, FaultInjector, SessionFault, run_session};
 
 type MemoryNode = Node<MemorySpool<Global>, Global>;
 
@@ -109,7 +111,7 @@ fn line(rt: &impl Abort, alloc: Global, number: Option<u32>, manner: Manner) -> 
 /// end.
 #[derive(Clone, Copy, Debug, PartialEq, Eq)]
 struct Left {
-    answer: Result<(), TurnFault>,
+    answer: Result<(), SessionFault>,
     phase: Phase,
     pending: usize,
     struck: usize,
@@ -125,7 +127,10 @@ fn play_at(
     (manner, most): (Manner, u64),
 ) -> Left {
     let mut line = line(rt, alloc, None, manner);
-    let answer = run_session(buffered, &mut line, most);
+    let mut jobs = jobs_file(rt, alloc, MemoryText::new(JOB, false));
+    let mut number = MemoryText::new(b"", false);
+    let answer = run_session(alloc, buffered, &mut jobs, &mut number, &mut line, most);
+    drop(jobs);
     let left = what_is_left(answer, buffered, line.other());
     assert_kept(rt, line.other(), bytes);
     drop(line);
@@ -149,7 +154,7 @@ fn play(rt: &impl Abort, alloc: Global, bytes: &[u8], manner: Manner, most: u64)
 }
 
 fn what_is_left(
-    answer: Result<(), TurnFault>,
+    answer: Result<(), SessionFault>,
     buffered: &MemoryEndAtLine,
     other: &MemoryEndAtLine,
 ) -> Left {

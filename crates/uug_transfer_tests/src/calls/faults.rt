@@ -1,6 +1,6 @@
 //! A call whose line fails at each of its reads and writes in turn: what its files have then, and what is printed.
 
-use super::numbers::{DONE, JOB, KEEPS_7, Left, MemoryEnd, end};
+use super::numbers::{DONE, HUNG_UP, JOB, KEEPS_7, Left, MemoryEnd, end};
 use super::scenes::{AMPLE, NEVER};
 use super::scripted_line::ScriptedLine;
 use super::{Manner, Other, line};
@@ -10,8 +10,6 @@ use std::process::Abort;
 use uug_session::Side;
 use uug_stream::{MemoryOutput, ToolFault};
 use uug_transfer::{EndLine, call_over};
-
-const HUNG_UP: &[u8] = b"caller hungup pending 1 struck 0 failed 0\n";
 
 /// How far a call comes of two ends that keep 7, one stage after the other.
 const STAGES: [Left<'static>; 5] = [

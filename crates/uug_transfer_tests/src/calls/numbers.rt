@@ -33,6 +33,10 @@ const NONE_FAILS: (bool, bool) = (false, false);
 
 pub(super) const DONE: &[u8] = b"caller done pending 0 struck 1 failed 0\n";
 
+pub(super) const HUNG_UP: &[u8] = b"caller hungup pending 1 struck 0 failed 0\n";
+
+const STRUCK: &[u8] = b"caller hungup pending 0 struck 1 failed 0\n";
+
 const REFUSED: &[u8] = b"caller badsequence pending 1 struck 0 failed 0\n";
 
 /// The job of the caller, as its file has it.
@@ -109,7 +113,7 @@ const CALLS: &[Call<'static>] = &[
             other: Some(9),
         },
     ),
-    // a file that can't be written keeps nothing else from being done
+    // a job that can't be taken out of its file: the end hangs up, and the report is printed
     (
         Some(7),
         Some(7),
@@ -119,10 +123,11 @@ const CALLS: &[Call<'static>] = &[
             answer: Err(ToolFault::Device),
             jobs: JOB,
             number: b"8\n",
-            report: DONE,
+            report: STRUCK,
             other: Some(8),
         },
     ),
+    // a number that can't be written: nothing is said
     (
         Some(7),
         Some(9),
@@ -132,7 +137,7 @@ const CALLS: &[Call<'static>] = &[
             answer: Err(ToolFault::Device),
             jobs: JOB,
             number: b"",
-            report: REFUSED,
+            report: HUNG_UP,
             other: Some(9),
         },
     ),
@@ -224,7 +229,11 @@ pub(super) fn end(rt: &impl Abort, alloc: Global, call: &Call<'_>) -> MemoryEnd 
 }
 
 /// The file of jobs of the caller, which had its job when the session began.
-fn jobs_file(rt: &impl Abort, alloc: Global, file: MemoryText) -> JobsFile<MemoryText, Global> {
+pub(super) fn jobs_file(
+    rt: &impl Abort,
+    alloc: Global,
+    file: MemoryText,
+) -> JobsFile<MemoryText, Global> {
     JobsFile {
         file,
         before: JOB.to_vec(alloc).expect(rt, "memory for a job"),

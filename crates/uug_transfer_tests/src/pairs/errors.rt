@@ -4,7 +4,7 @@ use crate::pairs::assertions::assert_same;
 use std::alloc::{AllocError, Global};
 use std::process::Abort;
 use uug_folder::{FolderFailed, JobsFault};
-use uug_transfer::{LineFailed, TurnFault};
+use uug_transfer::{LineFailed, SessionFault, TurnFault};
 
 /// An error of the crate.
 #[derive(Clone, Copy)]
@@ -13,6 +13,7 @@ enum Fault {
     Line(LineFailed),
     Jobs(JobsFault),
     Turn(TurnFault),
+    Session(SessionFault),
 }
 
 const TEXTS: &[(Fault, &str)] = &[
@@ -22,6 +23,10 @@ const TEXTS: &[(Fault, &str)] = &[
     (Fault::Jobs(JobsFault::Memory), "out of memory"),
     (Fault::Turn(TurnFault::Line), "device fault"),
     (Fault::Turn(TurnFault::Memory), "out of memory"),
+    (Fault::Session(SessionFault::Line), "device fault"),
+    (Fault::Session(SessionFault::Jobs), "device fault"),
+    (Fault::Session(SessionFault::Number), "device fault"),
+    (Fault::Session(SessionFault::Memory), "out of memory"),
 ];
 
 fn text_of(alloc: Global, fault: Fault) -> Result<String, AllocError> {
@@ -30,6 +35,7 @@ fn text_of(alloc: Global, fault: Fault) -> Result<String, AllocError> {
         Fault::Line(fault) => fault.to_string(alloc),
         Fault::Jobs(fault) => fault.to_string(alloc),
         Fault::Turn(fault) => fault.to_string(alloc),
+        Fault::Session(fault) => fault.to_string(alloc),
     }
 }
 
