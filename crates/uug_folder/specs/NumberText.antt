@@ -1,6 +1,7 @@
 -- The number of an end's conversations in a file of its folder (this project's profile).
-use Rattle.std.specs.Prelude.{◌≡◌, ◌⊎◌, ℕ, Bool, true, false, List, [], ◌∷◌, Option, Some, None, Result, Ok, Err}
+use Rattle.std.specs.Prelude.{◌≡◌, ◌⊎◌, ◌==◌, ℕ, Bool, true, false, List, [], ◌∷◌, Option, Some, None, Result, Ok, Err}
 use Rattle.std.specs.Fmt.{decimal}
+use Rattle.uug_session.specs.Greeting.{next_number}
 use Rattle.uug_talk.specs.Number.{number_of}
 use Rattle.uug_talk.specs.declared.call.TheConstants.{NUMBER_MAX}
 use Rattle.uug_talk.specs.Lines.{lines, ended}
@@ -47,3 +48,16 @@ HoldsNumber number text = holding_number number text ≡ text
 -- its file is as it was before, or has the line of its number as a whole
 abbrev pub IsNumberKept : (number : Option ℕ) (before after : Option (List ℕ)) → Type 0
 IsNumberKept number before after = (after ≡ before) ⊎ (after ≡ holding_number number before)
+
+-- ---- a caller that is one behind
+
+abbrev pub beside_by : (is_before : Bool) (own said : ℕ) → Option ℕ
+beside_by true own said = Some said
+beside_by false own said = Some own
+
+-- With which number a called end begins a session: its own; but the one before it, where the caller says that. Then it rises to
+-- its own again where the caller is let in.
+abbrev pub number_beside : (own said : Option ℕ) → Option ℕ
+number_beside None said = None
+number_beside (Some own) None = Some own
+number_beside (Some own) (Some said) = beside_by (next_number said == own) own said

@@ -25,7 +25,9 @@ pub use jobs_plan::JobsPlan;
 pub use jobs_text::{JobsFault, read_jobs, write_jobs};
 pub use local_names::LocalNames;
 pub use meanwhile::jobs_after;
-pub use number_text::{NUMBER_LINE_MAX, number_at_start, number_line, read_number_text};
+pub use number_text::{
+    NUMBER_LINE_MAX, number_at_start, number_beside, number_line, read_number_text,
+};
 pub use report::{add_failed, add_state};
 pub use rewrites::Rewrites;
 pub use text_file::TextFile;

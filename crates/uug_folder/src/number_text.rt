@@ -1,6 +1,6 @@
 //! The number of an end's conversations as the text of a file.
 ghost use Rattle.std.specs.Prelude.{◌≡◌, ◌≤◌, MatchOption, Some};
-ghost use Rattle.uug_folder.specs.NumberText.{begins_with, goes_on_with, number_in, number_line};
+ghost use Rattle.uug_folder.specs.NumberText.{begins_with, goes_on_with, number_beside, number_in, number_line};
 
 use arrayvec::ArrayVec;
 use itoa::Buffer;
@@ -55,5 +55,16 @@ pub fn number_at_start(text: Option<&[u8]>, is_told: bool) -> Result<Option<u32>
         },
         None if is_told => Ok(Some(0)),
         None => Ok(None),
+    }
+}
+
+/// The number with which a called end that keeps this one begins a session, where the caller says that one. It is its own; but
+/// where the caller says the one before it, it is that: the caller has not read then that its last call was let in.
+pub fn number_beside(own: Option<u32>, said: Option<u32>) -> Option<u32>
+    ensures { result ≡ number_beside own said }
+{
+    match (own, said) {
+        (Some(own), Some(said)) if said.wrapping_add(1) == own => Some(said),
+        _ => own,
     }
 }

@@ -96,6 +96,7 @@ where
     ensures status { IfOk result (λ status.
         status ≡ status_of_phase (phase_of_end (node_in end.new.buffered))) }
     // Where the line has failed and the session is not done, that is answered, whatever fails later but memory.
+    ensures line_grows { L.fault_count line.old ≤ L.fault_count line.new }
     ensures line_calm { result ≡ Ok 1 → L.fault_count line.new ≡ L.fault_count line.old }
     ensures jobs_calm { IfWritten result (J.fault_count end.new.jobs.file
         ≡ J.fault_count end.old.jobs.file) }

@@ -1,0 +1,159 @@
+//! A line at which the first words of both ends have gone before the session of its end begins.
+ghost use Rattle.std.specs.Prelude.{◌≡◌, ◌<◌, ◌≤◌, length, IfOk, None};
+
+use crate::end_line::EndLine;
+use crate::line::LineFailed;
+use crate::read_outcome::ReadOutcome;
+use crate::status::SessionStatus;
+use std::alloc::{AllocError, Allocator};
+use uug_talk::{Hail, caller_number};
+
+/// The most reads that wait for the first text.
+const READS_MAX: u32 = 1024;
+
+/// For so many silences in a row the first text is waited for.
+const SILENCES_MAX: u32 = 3;
+
+/// A line of an end, at which the first words may have gone: what the end has said already is taken as written when it says it
+/// again, and what was heard is read again. Behind that it is the line as it is. It does not tell what it brings and takes.
+#[derive(Drop)]
+pub struct GreetedLine<L, A: Allocator> {
+    line: L,
+    /// So many bytes were written, and are still to be said again.
+    said: usize,
+    heard: Vec<u8, A>,
+    /// So many of these were read again.
+    read: usize,
+}
+
+impl<L, A: Allocator> GreetedLine<L, A> {
+    /// A line at which nothing has gone yet. It takes no memory.
+    pub fn new(alloc: A, line: L) -> Self
+        ensures { result.line ≡ line }
+    {
+        GreetedLine {
+            line,
+            said: 0,
+            heard: Vec::new(alloc),
+            read: 0,
+        }
+    }
+
+    /// The line.
+    pub fn line(&self) -> &L
+        ensures { result.now ≡ self.now.line }
+    {
+        &self.line
+    }
+}
+
+impl<L: EndLine, A: Allocator> GreetedLine<L, A> {
+    /// Writes the first words of the end, and hears the text that answers them. The answer is the number of a conversation in
+    /// it, if it has one. Whatever the line does, the session begins as if none of this had been.
+    pub fn meet(&mut self, words: &[u8]) -> Result<Option<u32>, AllocError> {
+        self.say(words);
+        let mut hail = Hail::new();
+        self.hear(&mut hail)?;
+        if hail.is_whole() {
+            Ok(caller_number(hail.text()))
+        } else {
+            Ok(None)
+        }
+    }
+
+    /// Writes these words, as far as the line takes them.
+    fn say(&mut self, words: &[u8]) {
+        let mut rest = words;
+        for _ in 0..words.len() {
+            if rest.is_empty() {
+                return;
+            }
+            let Ok(count) = self.line.write(rest) else {
+                return;
+            };
+            rest = &rest[count..];
+            self.said = self.said.saturating_add(count);
+        }
+    }
+
+    /// Reads until a text is whole, or nothing more comes.
+    fn hear(&mut self, hail: &mut Hail) -> Result<(), AllocError> {
+        let mut silences = 0;
+        for _ in 0..READS_MAX {
+            if hail.is_whole() || silences >= SILENCES_MAX {
+                return Ok(());
+            }
+            match self.hear_more(hail)? {
+                Some(true) => silences = 0,
+                Some(false) => silences += 1,
+                None => return Ok(()),
+            }
+        }
+        Ok(())
+    }
+
+    /// Reads once: whether bytes came, or nothing if no more will.
+    fn hear_more(&mut self, hail: &mut Hail) -> Result<Option<bool>, AllocError> {
+        let mut buffer = [0; 256];
+        match self.line.read(&mut buffer) {
+            Ok(ReadOutcome::Bytes(count)) => {
+                let piece = &buffer[..count];
+                self.heard.extend_from_slice(piece)?;
+                match hail.push(piece) {
+                    Ok(_) => Ok(Some(true)),
+                    Err(_) => Ok(None),
+                }
+            }
+            Ok(ReadOutcome::TimedOut) => Ok(Some(false)),
+            Ok(ReadOutcome::Eof) | Err(_) => Ok(None),
+        }
+    }
+}
+
+impl<L: EndLine, A: Allocator> EndLine for GreetedLine<L, A> {
+    ghost fault_count = { λ greeted. L.fault_count greeted.line };
+
+    ghost received = { λ _. None };
+
+    ghost taken = { λ _. None };
+
+    fn write(&mut self, piece: &[u8]) -> Result<usize, LineFailed> {
+        if self.said > 0 {
+            let count = self.said.min(piece.len());
+            self.said -= count;
+            return Ok(count);
+        }
+        self.line.write(piece)
+    }
+
+    fn read(&mut self, buffer: &mut [u8]) -> Result<ReadOutcome, LineFailed> {
+        if self.read < self.heard.len() {
+            let count = copy_front(&self.heard[self.read..], buffer);
+            self.read += count;
+            return Ok(ReadOutcome::Bytes(count));
+        }
+        self.line.read(buffer)
+    }
+
+    fn note(&mut self, status: SessionStatus) {
+        self.line.note(status);
+    }
+
+    fn faults(&self) -> u64 {
+        self.line.faults()
+    }
+}
+
+/// Copies the first of these bytes to the front of the buffer, as many as there is room for, and says how many.
+fn copy_front(bytes: &[u8], buffer: &mut [u8]) -> usize
+    requires some { 0 < length bytes.now }
+    requires room { 0 < length buffer.old }
+    ensures some { 0 < result }
+    ensures within { result ≤ length buffer.old }
+    ensures front { result ≤ length bytes.now }
+    ensures size { length buffer.new ≡ length buffer.old }
+{
+    let count = bytes.len().min(buffer.len());
+    buffer[..count].copy_from_slice(&bytes[..count]);
+    count
+}
