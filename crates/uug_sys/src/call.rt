@@ -1,5 +1,6 @@
 //! One end over a folder, and the line to the other one.
-ghost use Rattle.std.specs.Prelude.{◌≡◌, ◌≢◌, ◌<◌, ◌≤◌, ◌⊎◌, ◌↔◌, ℕ, [], Option, IfErr, IfOk, IfSome, IsSome, MatchOption};
+ghost use Rattle.std.specs.Prelude.{◌≡◌, ◌≢◌, ◌<◌, ◌≤◌, ◌⊎◌, ◌↔◌, [], None, Ok, IfErr, IfOk, IfSome, IsSome, MatchOption, MatchResult};
+ghost use Rattle.uug_folder.specs.NumberText.{begins_with, number_in};
 ghost use Rattle.uug_link.specs.Announced.{announced};
 ghost use Rattle.uug_session.specs.Engine.{BeginsSession, all_ahead};
 ghost use Rattle.uug_session.specs.Node.{node_of, spool_of};
@@ -19,6 +20,7 @@ use crate::sockets::{open_tcp, open_unix};
 use crate::stream_line::StreamLine;
 use crate::system_folder::SystemFolder;
 use crate::system_line::SystemLine;
+use crate::system_number::SystemNumber;
 use crate::system_text::SystemText;
 use std::alloc::{AllocError, Allocator};
 use std::fs::File;
@@ -26,14 +28,14 @@ use std::io;
 use std::net::Net;
 use std::rt::Files;
 use std::time::Duration;
-use uug_folder::{FolderSpool, LocalNames, number_at_start};
+use uug_folder::{FolderSpool, LocalNames, number_at_start, number_beside, read_number_text};
 use uug_link::Announce;
-use uug_session::{Node, Place, Queue, Side, Spool, Stored};
+use uug_session::{MemorySpool, Node, Place, Queue, Side, Spool, Stored};
 use uug_stream::{Output, ToolFault};
 use uug_talk::Name;
 use uug_transfer::{
-    BYTES_MAX, BufferedNode, EndLine, FaultInjector, LineMonitor, LineName, SessionObserver,
-    TransferEnd, call_over, read_line_name,
+    BYTES_MAX, BufferedNode, EndLine, FaultInjector, GreetedLine, LineMonitor, LineName,
+    SessionObserver, TransferEnd, call_over, read_line_name,
 };
 
 /// The most seconds that a line waits.
@@ -87,7 +89,7 @@ type SystemSpool<'a, R, A> = LocalNames<SystemFolder<'a, R, A>, A>;
 type SystemEnd<'a, R, A> = TransferEnd<
     SystemSpool<'a, R, A>,
     SystemText<'a, R, A>,
-    SystemText<'a, R, A>,
+    SystemNumber<'a, R, A>,
     A,
 >;
 
@@ -194,7 +196,7 @@ fn look<A: Allocator + Copy, R: Files>(
 ) -> Result<(), RunFault>
     ensures { IfErr result IsStartFault }
 {
-    read_number_at_start(alloc, rt, task)?;
+    read_numbers(alloc, rt, task)?;
     drop(open_jobs(alloc, rt, task.end_dir())?);
     Ok(())
 }
@@ -257,7 +259,6 @@ where
     L: SystemLine + Drop,
     W: SessionObserver + Drop,
     O: Output,
-    requires calm { IfOk line (λ line. L.fault_count line ≡ 0) }
     ensures status { IfOk result (λ status. status ≤ 1) }
     ensures write { result ≡ Err ToolFault.Write
         → CountsFault (O.fault_count output.old) (O.fault_count output.new) }
@@ -272,7 +273,7 @@ where
             return Err(ToolFault::Device);
         }
     };
-    let mut line = LineMonitor::new(line, observer);
+    let mut line = GreetedLine::new(alloc, LineMonitor::new(line, observer));
     let result = match lock_again(alloc, rt, task) {
         Ok(lock) => {
             let result = talk_locked(alloc, rt, task, place, &mut line, output, why);
@@ -281,7 +282,7 @@ where
         }
         Err(fault) => Err(fault.tell(why)),
     };
-    *why = why.or(line.line().failure());
+    *why = why.or(line.line().line().failure());
     result
 }
 
@@ -300,12 +301,12 @@ fn lock_again<A: Allocator + Copy, R: Files<File = File> + Alloc + Clone + Drop>
 }
 
 /// The end is made over its folder as it stands now, and talks over its line.
-fn talk_locked<A, R, L, O>(
+fn talk_locked<'a, A, R, L, O>(
     alloc: A,
-    rt: &R,
-    task: &CallTask<'_>,
+    rt: &'a R,
+    task: &CallTask<'a>,
     place: Place,
-    line: &mut L,
+    line: &mut GreetedLine<L, A>,
     output: &mut O,
     why: &mut Option<SystemFailure>,
 ) -> Result<u8, ToolFault>
@@ -314,7 +315,6 @@ where
     R: Files + Alloc + Clone + Drop,
     L: EndLine,
     O: Output,
-    requires calm { L.fault_count line.old ≡ 0 }
     ensures status { IfOk result (λ status. status ≤ 1) }
     ensures write { result ≡ Err ToolFault.Write
         → CountsFault (O.fault_count output.old) (O.fault_count output.new) }
@@ -322,9 +322,13 @@ where
     ensures no_usage { result ≢ Err ToolFault.Usage }
     // Where the line has not failed it is said which call of the folder's it was.
     ensures why { result ≡ Err ToolFault.Device
-        → IsSome why.new ⊎ (0 < L.fault_count line.new) }
+        → IsSome why.new ⊎ (0 < L.fault_count line.new.line) }
 {
-    let mut end = match read_end(alloc, rt, task, place) {
+    let numbers = match meet(alloc, rt, task, &place, line) {
+        Ok(numbers) => numbers,
+        Err(fault) => return Err(fault.tell(why)),
+    };
+    let mut end = match read_end(alloc, rt, task, place, numbers) {
         Ok(end) => end,
         Err(fault) => return Err(fault.tell(why)),
     };
@@ -337,7 +341,7 @@ where
 /// Which call of the system on the folder of an end failed first: in `got`, else on its jobs or its number.
 fn failure_of<R: Files, A: Allocator + Copy>(end: &SystemEnd<'_, R, A>) -> Option<SystemFailure>
     ensures jobs { 0 < end.now.jobs.file.faults.count → IsSome result }
-    ensures number { 0 < end.now.number.faults.count → IsSome result }
+    ensures number { 0 < end.now.number.file.faults.count → IsSome result }
 {
     let got = end.buffered.node().spool().files().folder();
     got.failure()
@@ -351,14 +355,15 @@ fn read_end<'a, A: Allocator + Copy, R: Files + Alloc + Clone + Drop>(
     rt: &'a R,
     task: &CallTask<'a>,
     mut place: Place,
+    numbers: Numbers,
 ) -> Result<SystemEnd<'a, R, A>, RunFault>
     ensures jobs_calm { IfOk result (λ end. end.jobs.file.faults.count ≡ 0) }
-    ensures number_calm { IfOk result (λ end. end.number.faults.count ≡ 0) }
-    ensures stands { IfOk result (λ end. (number : Option ℕ) × StandsAt task.now.side
-        (record place { number = number }) end.jobs.before.items (node_in end.buffered)) }
+    ensures number_calm { IfOk result (λ end. end.number.file.faults.count ≡ 0) }
+    ensures stands { IfOk result (λ end. StandsAt task.now.side
+        (record place { number = numbers.begins }) end.jobs.before.items (node_in end.buffered)) }
     ensures no_other { IfErr result IsStartFault }
 {
-    place.number = read_number_at_start(alloc, rt, task)?;
+    place.number = numbers.begins;
     let jobs = open_jobs(alloc, rt, task.end_dir())?;
     let files = match read_send(alloc, rt, task.end_dir()) {
         Ok(files) => files,
@@ -367,25 +372,89 @@ fn read_end<'a, A: Allocator + Copy, R: Files + Alloc + Clone + Drop>(
             return Err(fault);
         }
     };
-    Ok(make_end(alloc, rt, task, place, jobs, files)?)
+    Ok(make_end(alloc, rt, task, place, numbers.held, jobs, files)?)
 }
 
-/// The number that the end keeps.
-fn read_number_at_start<A: Allocator + Copy, R: Files>(
+/// The numbers of an end's conversations as its session begins.
+#[derive(Clone, Copy)]
+struct Numbers {
+    /// The one with which it begins, if it keeps one.
+    begins: Option<u32>,
+    /// The one that its file has, if there is a file.
+    held: Option<u32>,
+}
+
+/// The number that the end keeps, and that its file has.
+fn read_numbers<A: Allocator + Copy, R: Files>(
     alloc: A,
     rt: &R,
     task: &CallTask<'_>,
-) -> Result<Option<u32>, RunFault>
+) -> Result<Numbers, RunFault>
     ensures { IfErr result IsStartFault }
 {
-    let number = match read_text(alloc, rt, task.end_dir(), EndText::Number)? {
-        Some(text) => number_at_start(Some(text.as_slice()), task.is_numbered),
-        None => number_at_start(None, task.is_numbered),
+    let Some(text) = read_text(alloc, rt, task.end_dir(), EndText::Number)? else {
+        return numbers_of(None, task.is_numbered);
     };
-    match number {
-        Ok(number) => Ok(number),
+    numbers_of(Some(text.as_slice()), task.is_numbered)
+}
+
+/// The number that an end keeps whose file has this text, if there is a file, and the one that the file has.
+fn numbers_of(text: Option<&[u8]>, is_told: bool) -> Result<Numbers, RunFault>
+    ensures numbers { MatchResult result
+        (λ numbers. MatchOption text.entry
+        ((numbers.held ≡ None) × (begins_with is_told ≡ Ok numbers.begins))
+        (λ text. (numbers.held ≡ number_in text.now) × (numbers.begins ≡ numbers.held)))
+        (λ fault. fault ≡ RunFault.Tool ToolFault.Number) }
+{
+    let held = match text {
+        Some(text) => read_number_text(text),
+        None => None,
+    };
+    match number_at_start(text, is_told) {
+        Ok(begins) => Ok(Numbers { begins, held }),
         Err(fault) => Err(RunFault::Tool(fault)),
     }
+}
+
+/// The numbers with which the end begins. A called end that keeps one says its first words before, and hears its caller: where
+/// that is one behind, it begins with the caller's.
+fn meet<A: Allocator + Copy, R: Files, L: EndLine>(
+    alloc: A,
+    rt: &R,
+    task: &CallTask<'_>,
+    place: &Place,
+    line: &mut GreetedLine<L, A>,
+) -> Result<Numbers, RunFault>
+    ensures { IfErr result IsStartFault }
+{
+    let numbers = read_numbers(alloc, rt, task)?;
+    if task.side == Side::Caller || numbers.begins.is_none() {
+        return Ok(numbers);
+    }
+    let said = meet_caller(alloc, place, line)?;
+    Ok(Numbers {
+        begins: number_beside(numbers.begins, said),
+        held: numbers.held,
+    })
+}
+
+/// Lets a called end say its first words, and hear its caller's number.
+fn meet_caller<A: Allocator + Copy, L: EndLine>(
+    alloc: A,
+    place: &Place,
+    line: &mut GreetedLine<L, A>,
+) -> Result<Option<u32>, AllocError> {
+    let node = make_node(
+        alloc,
+        Side::Called,
+        *place,
+        Queue::new(alloc),
+        MemorySpool::new(alloc),
+    )?;
+    let buffered = BufferedNode::new(alloc, node, FaultInjector::none())?;
+    let said = line.meet(buffered.outgoing());
+    drop(buffered);
+    said
 }
 
 /// An end over the folder of the task, with these jobs and these files to give.
@@ -394,13 +463,14 @@ fn make_end<'a, A: Allocator + Copy, R: Files>(
     rt: &'a R,
     task: &CallTask<'a>,
     place: Place,
+    held: Option<u32>,
     jobs: OpenJobs<'a, R, A>,
     files: Vec<Stored<A>, A>,
 ) -> Result<SystemEnd<'a, R, A>, AllocError>
     ensures stands { IfOk result (λ end.
         StandsAt task.now.side place end.jobs.before.items (node_in end.buffered)) }
     ensures jobs { IfOk result (λ end. end.jobs ≡ jobs.entry.file) }
-    ensures number { IfOk result (λ end. end.number.faults.count ≡ 0) }
+    ensures number { IfOk result (λ end. end.number.file.faults.count ≡ 0) }
 {
     let OpenJobs { file, queue } = jobs;
     let number = SystemText::new(alloc, rt, task.end_dir(), EndText::Number)?;
@@ -410,7 +480,7 @@ fn make_end<'a, A: Allocator + Copy, R: Files>(
     Ok(TransferEnd {
         buffered,
         jobs: file,
-        number,
+        number: SystemNumber::new(number, held),
     })
 }
 

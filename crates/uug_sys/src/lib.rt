@@ -20,6 +20,7 @@ mod stream_line;
 mod system_folder;
 mod system_input;
 mod system_line;
+mod system_number;
 mod system_observer;
 mod system_output;
 mod system_text;
