@@ -5,30 +5,26 @@ use Rattle.uug_stream.specs.declared.fault.ToolFault.{ToolFault}
 use Rattle.uug_stream.specs.declared.fault.ToolFault.TheVariants as faults
 use Rattle.uug_folder.specs.TextFiles.{holding}
 use Rattle.uug_folder.specs.declared.jobs_plan.JobsPlan.{JobsPlan}
-use Rattle.uug_folder.specs.declared.jobs_plan.JobsPlan.TheVariants.{Write, Keep, Failed}
+use Rattle.uug_folder.specs.declared.jobs_plan.JobsPlan.TheVariants.{Write, Failed}
 
 -- what the file has, where it tells its text, when all goes as planned
 abbrev pub carried : {A : Type 0} → JobsPlan A → Option (List ℕ) → Option (List ℕ)
 carried (Write text) before = holding text.items before
-carried Keep before = before
 carried Failed before = before
 
 -- the text could be read
 abbrev pub IsFeasible : {A : Type 0} → JobsPlan A → Type 0
 IsFeasible (Write text) = ⊤
-IsFeasible Keep = ⊤
 IsFeasible Failed = ⊥
 
 -- the plan leads to this text, or the file's device has failed
 abbrev pub IsPlanned : {A : Type 0} → JobsPlan A → (goal text : Option (List ℕ)) → (count count_after : ℕ) → Type 0
 IsPlanned (Write written) goal text count count_after = (holding written.items text ≡ goal) × (count_after ≡ count)
-IsPlanned Keep goal text count count_after = (text ≡ goal) × (count_after ≡ count)
 IsPlanned Failed goal text count count_after = HasFailed faults_max count count_after
 
 -- the file has what is planned, where it tells its text
 abbrev pub HoldsPlanned : {A : Type 0} → JobsPlan A → (text : Option (List ℕ)) → Type 0
 HoldsPlanned (Write written) text = holding written.items text ≡ text
-HoldsPlanned Keep text = ⊤
 HoldsPlanned Failed text = ⊥
 
 -- it is as it was, or as planned
@@ -38,7 +34,6 @@ IsCarried plan before after = (after ≡ before) ⊎ (after ≡ carried plan bef
 -- the text could not be read, or the file's device has failed now
 abbrev pub HasFailedIn : {A : Type 0} → JobsPlan A → (count count_after : ℕ) → Type 0
 HasFailedIn (Write text) count count_after = HasFailed faults_max count count_after
-HasFailedIn Keep count count_after = HasFailed faults_max count count_after
 HasFailedIn Failed count count_after = ⊤
 
 -- the plan was carried out, or the file's device has failed
@@ -49,5 +44,4 @@ IsCarriedOut plan before after count count_after =
 -- the first fault is the device's, if its text could not be read
 abbrev pub fault_without_memory : {A : Type 0} → JobsPlan A → ToolFault
 fault_without_memory (Write text) = faults.Memory
-fault_without_memory Keep = faults.Memory
 fault_without_memory Failed = faults.Device

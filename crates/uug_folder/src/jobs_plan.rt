@@ -1,13 +1,12 @@
 //! What is to become of a file of jobs once its text was read again.
 ghost use Rattle.std.specs.Prelude.{◌≡◌, ◌≤◌, IfErr, IfOk, OnErr, OnOk};
 ghost use Rattle.uug_folder.specs.TextFiles.{holding, IsReadFault};
-ghost use Rattle.uug_folder.specs.JobsFile.{settled, settled_by};
+ghost use Rattle.uug_folder.specs.JobsFile.{settled};
 ghost use Rattle.uug_folder.specs.JobsPlan.{HasFailedIn, HoldsPlanned, IsCarried, IsFeasible, IsPlanned, carried, fault_without_memory};
 
 use crate::folder::FolderFailed;
 use crate::jobs_file::JobsFile;
 use crate::meanwhile::jobs_after;
-use crate::rewrites::Rewrites;
 use crate::text_file::TextFile;
 use std::alloc::{AllocError, Allocator};
 use uug_session::Queue;
@@ -18,38 +17,13 @@ use uug_stream::ToolFault;
 pub enum JobsPlan<A: Allocator> {
     /// This text is written.
     Write(Vec<u8, A>),
-    /// It stays as it is.
-    Keep,
     /// It stays as it is, since its text could not be read.
     Failed,
 }
 
 impl<A: Allocator + Copy> JobsPlan<A> {
-    /// Reads the text of a file again, if it is to be written, and plans what is to stay of it when these jobs are pending,
-    /// done and given up.
+    /// Reads the text of a file again, and plans what is to stay of it when these jobs are pending, done and given up.
     pub fn new<J: TextFile, B: Allocator, C: Allocator>(
-        alloc: A,
-        rewrites: Rewrites,
-        jobs: &mut JobsFile<J, B>,
-        queue: &Queue<C>,
-    ) -> Result<Self, AllocError>
-        ensures before { jobs.new.before ≡ jobs.old.before }
-        ensures text { J.text jobs.new.file ≡ J.text jobs.old.file }
-        ensures ok { IfOk result (λ plan. IsPlanned plan
-            (settled_by rewrites jobs.old.before.items queue.now (J.text jobs.old.file))
-            (J.text jobs.old.file) (J.fault_count jobs.old.file) (J.fault_count jobs.new.file)) }
-        ensures err { OnErr result (J.fault_count jobs.new.file ≡ J.fault_count jobs.old.file) }
-    {
-        match rewrites {
-            Rewrites::IfAnyIsOver if queue.struck().is_empty() && queue.failed().is_empty() => {
-                Ok(JobsPlan::Keep)
-            }
-            _ => JobsPlan::rewritten(alloc, jobs, queue),
-        }
-    }
-
-    /// The plan of a file that is written.
-    fn rewritten<J: TextFile, B: Allocator, C: Allocator>(
         alloc: A,
         jobs: &mut JobsFile<J, B>,
         queue: &Queue<C>,
@@ -83,7 +57,6 @@ impl<A: Allocator> JobsPlan<A> {
     {
         match self {
             JobsPlan::Write(text) => file.replace(text.as_slice()),
-            JobsPlan::Keep => Ok(()),
             JobsPlan::Failed => Err(FolderFailed),
         }
     }

@@ -14,7 +14,6 @@ mod local_names;
 mod meanwhile;
 mod number_text;
 mod report;
-mod rewrites;
 mod text_file;
 
 pub use folder::{Folder, FolderFailed};
@@ -29,5 +28,4 @@ pub use number_text::{
     NUMBER_LINE_MAX, number_at_start, number_beside, number_line, read_number_text,
 };
 pub use report::{add_failed, add_state};
-pub use rewrites::Rewrites;
 pub use text_file::TextFile;

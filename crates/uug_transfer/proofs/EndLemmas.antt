@@ -11,7 +11,7 @@ use Rattle.uug_folder.specs.JobsPlan.{IsCarriedOut, IsPlanned}
 use Rattle.uug_folder.specs.NumberText.{holding_number}
 use Rattle.uug_folder.specs.TextFiles.{holding}
 use Rattle.uug_folder.specs.declared.jobs_plan.JobsPlan.{JobsPlan}
-use Rattle.uug_folder.specs.declared.jobs_plan.JobsPlan.TheVariants.{Write, Keep, Failed}
+use Rattle.uug_folder.specs.declared.jobs_plan.JobsPlan.TheVariants.{Write, Failed}
 use Rattle.uug_session.specs.Node.{NodeState}
 use Rattle.uug_transfer.specs.EndOver.{FilesState, IsEndFault, IsPlanFault, IsPlanFaultOfBoth, IsPrinted, LeaveBoth, LeavesBehind, fault_behind_line}
 
@@ -74,18 +74,6 @@ pub begins_report : {T : Type 0} (r : Result T ToolFault) (report text bytes : L
     → OnErr r (AppendsFront bytes w v) → OnErr r (AppendsFront report w v)
 begins_report r report text bytes w v is same h = subst (λ (x : List ℕ). OnErr r (AppendsFront x w v)) (same ∙ is) h
 
-pub not_printed : (T : Type 0) (fault : ToolFault) (report : List ℕ) (w : Option (List ℕ)) (a b c : ℕ) (F : Type 0) → IsPlanFault fault a b
-    → (HasFailed faults_max a b → F) → IsPrinted {T = T} (Err fault) report w w c c F
-not_printed T faults.Memory report w a b c F h f = front_none report w
-not_printed T faults.Device report w a b c F h f = inr (front_none report w, inr (f h))
-not_printed T faults.Read report w a b c F h f = absurd h
-not_printed T faults.Write report w a b c F h f = absurd h
-not_printed T (faults.Script line) report w a b c F h f = absurd h
-not_printed T (faults.Jobs line) report w a b c F h f = absurd h
-not_printed T faults.Number report w a b c F h f = absurd h
-not_printed T (faults.InUse folder) report w a b c F h f = absurd h
-not_printed T faults.Usage report w a b c F h f = absurd h
-
 pub not_printed_of_both : (T : Type 0) (fault : ToolFault) (report : List ℕ) (w : Option (List ℕ)) (a b d e c : ℕ) (F : Type 0)
     → IsPlanFaultOfBoth fault a b d e → (HasFailed faults_max a b ⊎ HasFailed faults_max d e → F)
     → IsPrinted {T = T} (Err fault) report w w c c F
@@ -110,9 +98,6 @@ pub planned_then : {A : Type 0} (plan : JobsPlan A) (goal text between after : O
 planned_then (Write written) goal text between after a b c same planned (inl done) h =
     inl (done.0 ∙ ap (λ (x : Option (List ℕ)). holding written.items x) same ∙ planned.0)
 planned_then (Write written) goal text between after a b c same planned (inr failed) h =
-    inr (subst (λ (n : ℕ). HasFailed faults_max n c) planned.1 failed)
-planned_then Keep goal text between after a b c same planned (inl done) h = inl (done.0 ∙ same ∙ planned.0)
-planned_then Keep goal text between after a b c same planned (inr failed) h =
     inr (subst (λ (n : ℕ). HasFailed faults_max n c) planned.1 failed)
 planned_then Failed goal text between after a b c same planned done h = inr (failed_later a b c planned h)
 

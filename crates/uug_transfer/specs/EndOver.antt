@@ -5,12 +5,10 @@ use Rattle.uug_session.specs.Node.{NodeState}
 use Rattle.uug_stream.specs.Streams.{Appends, AppendsFront, CountsFault}
 use Rattle.uug_stream.specs.declared.fault.ToolFault.{ToolFault}
 use Rattle.uug_stream.specs.declared.fault.ToolFault.TheVariants as faults
-use Rattle.uug_folder.specs.JobsFile.{settled_by}
-use Rattle.uug_folder.specs.declared.rewrites.Rewrites.{Rewrites}
-use Rattle.uug_folder.specs.declared.rewrites.Rewrites.TheVariants.{Always}
+use Rattle.uug_folder.specs.JobsFile.{settled}
 use Rattle.uug_folder.specs.JobsPlan.{fault_without_memory}
 use Rattle.uug_folder.specs.declared.jobs_plan.JobsPlan.{JobsPlan}
-use Rattle.uug_folder.specs.declared.jobs_plan.JobsPlan.TheVariants.{Write, Keep, Failed}
+use Rattle.uug_folder.specs.declared.jobs_plan.JobsPlan.TheVariants.{Write, Failed}
 use Rattle.uug_folder.specs.NumberText.{holding_number}
 use Rattle.uug_transfer.specs.Ends.{jobs_of_end, number_of_end}
 use Rattle.uug_transfer.specs.declared.transfer_end.TransferEnd.{TransferEnd}
@@ -39,8 +37,8 @@ abbrev pub IsWritten : (goal : Option (List ℕ)) → (before after : FileState)
 IsWritten goal before after = (after.text ≡ goal) ⊎ HasFailed faults_max before.faults after.faults
 
 -- what is to stay of the jobs is written, and the number, if one is kept; each of them unless its device has failed
-pub record AreWritten (rewrites : Rewrites) (read : List ℕ) (end : NodeState) (before after : FilesState) : Type 0 where
-  pub jobs : IsWritten (settled_by rewrites read (jobs_of_end end) before.jobs.text) before.jobs after.jobs
+pub record AreWritten (read : List ℕ) (end : NodeState) (before after : FilesState) : Type 0 where
+  pub jobs : IsWritten (settled read (jobs_of_end end) before.jobs.text) before.jobs after.jobs
   pub number : IsWritten (holding_number (number_of_end end) before.number.text) before.number after.number
 
 -- nothing was written
@@ -74,17 +72,12 @@ LeavesBehind (Err faults.Device) fault untouched left = (fault × untouched) ⊎
 LeavesBehind (Err other) fault untouched left = left
 LeavesBehind (Ok value) fault untouched left = left
 
--- of one end
-abbrev pub Leaves : {T : Type 0} → Result T ToolFault → Rewrites → (read : List ℕ) → NodeState → (before after : FilesState) → Type 0
-Leaves result rewrites read end before after =
-    LeavesBehind result (HasFault before after) (AreUntouched before after) (AreWritten rewrites read end before after)
-
--- of two ends, whose files of jobs are always written again
+-- of two ends
 abbrev pub LeaveBoth : {T : Type 0} → Result T ToolFault → (caller_read called_read : List ℕ) (caller called : NodeState)
     (caller_before caller_after called_before called_after : FilesState) → Type 0
 LeaveBoth result caller_read called_read caller called a b c d =
     LeavesBehind result (HasFault a b ⊎ HasFault c d) (AreUntouched a b × AreUntouched c d)
-    (AreWritten Always caller_read caller a b × AreWritten Always called_read called c d)
+    (AreWritten caller_read caller a b × AreWritten called_read called c d)
 
 -- before anything was written: memory ran out, or the device of a file has failed as its text was read
 abbrev pub IsPlanFault : ToolFault → (count count_after : ℕ) → Type 0
@@ -102,7 +95,6 @@ IsPlanFaultOfBoth _ a b c d = ⊥
 abbrev pub first_fault : {A B : Type 0} → JobsPlan A → JobsPlan B → ToolFault
 first_fault Failed other = faults.Device
 first_fault (Write text) other = fault_without_memory other
-first_fault Keep other = fault_without_memory other
 
 -- what is answered where the line has failed before this: that, but for want of memory
 abbrev pub fault_behind_line : {T : Type 0} → Result T ToolFault → ToolFault

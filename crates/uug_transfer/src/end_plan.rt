@@ -1,7 +1,7 @@
 //! What is to be written of an end when its session is over.
 ghost use Rattle.std.specs.Prelude.{◌≡◌, ◌≤◌, ◌⊎◌, IfOk, OnErr, OnOk};
 ghost use Rattle.uug_session.specs.Engine.{HasFailed};
-ghost use Rattle.uug_folder.specs.JobsFile.{settled_by};
+ghost use Rattle.uug_folder.specs.JobsFile.{settled};
 ghost use Rattle.uug_folder.specs.JobsPlan.{HasFailedIn, HoldsPlanned, IsCarried, IsCarriedOut, IsFeasible, IsPlanned, carried, fault_without_memory};
 ghost use Rattle.uug_folder.specs.NumberText.{HoldsNumber, IsNumberKept, holding_number};
 ghost use Rattle.uug_transfer.specs.BufferedNodes.{node_in};
@@ -9,7 +9,7 @@ ghost use Rattle.uug_transfer.specs.Ends.{jobs_of_end, number_of_end};
 
 use crate::transfer_end::TransferEnd;
 use std::alloc::{AllocError, Allocator};
-use uug_folder::{FolderFailed, JobsPlan, Rewrites, TextFile, number_line};
+use uug_folder::{FolderFailed, JobsPlan, TextFile, number_line};
 use uug_session::Spool;
 use uug_stream::ToolFault;
 
@@ -24,7 +24,6 @@ impl<A: Allocator + Copy> EndPlan<A> {
     /// Reads the file of jobs again, if it is to be written, and plans what is to be written of this end.
     pub(crate) fn new<S: Spool + Drop, J: TextFile, N: TextFile>(
         alloc: A,
-        rewrites: Rewrites,
         end: &mut TransferEnd<S, J, N, A>,
     ) -> Result<Self, AllocError>
         ensures buffered { end.new.buffered ≡ end.old.buffered }
@@ -32,7 +31,7 @@ impl<A: Allocator + Copy> EndPlan<A> {
         ensures number_stays { end.new.number ≡ end.old.number }
         ensures text { J.text end.new.jobs.file ≡ J.text end.old.jobs.file }
         ensures jobs { IfOk result (λ plan. IsPlanned plan.jobs
-            (settled_by rewrites end.old.jobs.before.items (jobs_of_end (node_in end.old.buffered))
+            (settled end.old.jobs.before.items (jobs_of_end (node_in end.old.buffered))
             (J.text end.old.jobs.file)) (J.text end.old.jobs.file)
             (J.fault_count end.old.jobs.file) (J.fault_count end.new.jobs.file)) }
         ensures number { IfOk result (λ plan.
@@ -40,7 +39,7 @@ impl<A: Allocator + Copy> EndPlan<A> {
         ensures err { OnErr result
             (J.fault_count end.new.jobs.file ≡ J.fault_count end.old.jobs.file) }
     {
-        let jobs = JobsPlan::new(alloc, rewrites, &mut end.jobs, end.buffered.node().queue())?;
+        let jobs = JobsPlan::new(alloc, &mut end.jobs, end.buffered.node().queue())?;
         Ok(EndPlan {
             jobs,
             number: end.buffered.node().number(),

@@ -2,8 +2,7 @@
 ghost use Rattle.std.specs.Prelude.{◌≡◌, ◌≤◌, ◌⊎◌, IfErr, IfOk, OnOk};
 ghost use Rattle.uug_session.specs.Engine.{HasFailed, IsEnded};
 ghost use Rattle.uug_stream.specs.Streams.{CountsFault};
-ghost use Rattle.uug_folder.specs.JobsFile.{IsSettled, settled_by};
-ghost use Rattle.uug_folder.specs.declared.rewrites.Rewrites.TheVariants.{Always as always};
+ghost use Rattle.uug_folder.specs.JobsFile.{IsSettled, settled};
 ghost use Rattle.uug_transfer.specs.BufferedNodes.{node_in, spool_in, IsLed, KeepsJobs};
 ghost use Rattle.uug_transfer.specs.EndOver.{HasFault, IfWritten, IsEndFault, IsPrinted, LeaveBoth, UnlessDevice, files_of};
 ghost use Rattle.uug_transfer.specs.Ends.{jobs_of_end, phase_of_end, report_of_both, status_of_phases};
@@ -58,17 +57,17 @@ where
     ensures caller_over { IsEnded (node_in caller.new.buffered).engine.stage }
     ensures called_over { IsEnded (node_in called.new.buffered).engine.stage }
     // A file of jobs is as before, or has what is to stay of it.
-    ensures caller_jobs { IsSettled always caller.old.jobs.before.items
+    ensures caller_jobs { IsSettled caller.old.jobs.before.items
         (jobs_of_end (node_in caller.new.buffered))
         (J.text caller.old.jobs.file) (J.text caller.new.jobs.file) }
-    ensures called_jobs { IsSettled always called.old.jobs.before.items
+    ensures called_jobs { IsSettled called.old.jobs.before.items
         (jobs_of_end (node_in called.new.buffered))
         (J.text called.old.jobs.file) (J.text called.new.jobs.file) }
     ensures caller_ok { OnOk result (J.text caller.new.jobs.file
-        ≡ settled_by always caller.old.jobs.before.items
+        ≡ settled caller.old.jobs.before.items
         (jobs_of_end (node_in caller.new.buffered)) (J.text caller.old.jobs.file)) }
     ensures called_ok { OnOk result (J.text called.new.jobs.file
-        ≡ settled_by always called.old.jobs.before.items
+        ≡ settled called.old.jobs.before.items
         (jobs_of_end (node_in called.new.buffered)) (J.text called.old.jobs.file)) }
     // On every way out all files are written, unless their devices fail, or none is, for want of memory.
     ensures files { LeaveBoth result caller.old.jobs.before.items called.old.jobs.before.items
@@ -137,17 +136,17 @@ where
     ensures caller { caller.new.buffered ≡ caller.old.buffered }
     ensures called { called.new.buffered ≡ called.old.buffered }
     // A file of jobs is as before, or has what is to stay of it.
-    ensures caller_jobs { IsSettled always caller.old.jobs.before.items
+    ensures caller_jobs { IsSettled caller.old.jobs.before.items
         (jobs_of_end (node_in caller.old.buffered))
         (J.text caller.old.jobs.file) (J.text caller.new.jobs.file) }
-    ensures called_jobs { IsSettled always called.old.jobs.before.items
+    ensures called_jobs { IsSettled called.old.jobs.before.items
         (jobs_of_end (node_in called.old.buffered))
         (J.text called.old.jobs.file) (J.text called.new.jobs.file) }
     ensures caller_ok { OnOk result (J.text caller.new.jobs.file
-        ≡ settled_by always caller.old.jobs.before.items
+        ≡ settled caller.old.jobs.before.items
         (jobs_of_end (node_in caller.old.buffered)) (J.text caller.old.jobs.file)) }
     ensures called_ok { OnOk result (J.text called.new.jobs.file
-        ≡ settled_by always called.old.jobs.before.items
+        ≡ settled called.old.jobs.before.items
         (jobs_of_end (node_in called.old.buffered)) (J.text called.old.jobs.file)) }
     // On every way out all files are written, unless their devices fail, or none is, for want of memory.
     ensures files { LeaveBoth result caller.old.jobs.before.items called.old.jobs.before.items

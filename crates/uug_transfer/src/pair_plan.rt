@@ -3,10 +3,9 @@ ghost use Rattle.std.specs.Prelude.{◌≡◌, ◌≤◌, ◌⊎◌, IfErr, IfOk
 ghost use Rattle.uug_session.specs.Engine.{HasFailed};
 ghost use Rattle.uug_stream.specs.Fault.{StopsWriting};
 ghost use Rattle.uug_stream.specs.Streams.{Appends, AppendsFront, CountsFault};
-ghost use Rattle.uug_folder.specs.JobsFile.{settled_by};
+ghost use Rattle.uug_folder.specs.JobsFile.{settled};
 ghost use Rattle.uug_folder.specs.JobsPlan.{HasFailedIn, HoldsPlanned, IsCarried, IsCarriedOut, IsFeasible, IsPlanned, carried};
 ghost use Rattle.uug_folder.specs.NumberText.{holding_number};
-ghost use Rattle.uug_folder.specs.declared.rewrites.Rewrites.TheVariants.{Always as always};
 ghost use Rattle.uug_transfer.specs.BufferedNodes.{node_in};
 ghost use Rattle.uug_transfer.specs.EndOver.{IsEndFault, IsPlanFaultOfBoth, IsPrinted, UnlessDevice, first_fault};
 ghost use Rattle.uug_transfer.specs.Ends.{jobs_of_end, number_of_end, report_of_both};
@@ -15,7 +14,7 @@ use crate::end_plan::EndPlan;
 use crate::end_report::report_of_both;
 use crate::transfer_end::TransferEnd;
 use std::alloc::Allocator;
-use uug_folder::{FolderFailed, Rewrites, TextFile};
+use uug_folder::{FolderFailed, TextFile};
 use uug_session::Spool;
 use uug_stream::{Output, ToolFault, write_all};
 
@@ -38,7 +37,7 @@ impl<A: Allocator + Copy> PairPlan<A> {
         ensures caller_number { caller.new.number ≡ caller.old.number }
         ensures caller_text { J.text caller.new.jobs.file ≡ J.text caller.old.jobs.file }
         ensures caller { IfOk result (λ plan. IsPlanned plan.caller.jobs
-            (settled_by always caller.old.jobs.before.items (jobs_of_end (node_in caller.old.buffered))
+            (settled caller.old.jobs.before.items (jobs_of_end (node_in caller.old.buffered))
             (J.text caller.old.jobs.file)) (J.text caller.old.jobs.file)
             (J.fault_count caller.old.jobs.file) (J.fault_count caller.new.jobs.file)) }
         ensures caller_keeps { IfOk result (λ plan.
@@ -47,7 +46,7 @@ impl<A: Allocator + Copy> PairPlan<A> {
         ensures called_number { called.new.number ≡ called.old.number }
         ensures called_text { J.text called.new.jobs.file ≡ J.text called.old.jobs.file }
         ensures called { IfOk result (λ plan. IsPlanned plan.called.jobs
-            (settled_by always called.old.jobs.before.items (jobs_of_end (node_in called.old.buffered))
+            (settled called.old.jobs.before.items (jobs_of_end (node_in called.old.buffered))
             (J.text called.old.jobs.file)) (J.text called.old.jobs.file)
             (J.fault_count called.old.jobs.file) (J.fault_count called.new.jobs.file)) }
         ensures called_keeps { IfOk result (λ plan.
@@ -58,8 +57,8 @@ impl<A: Allocator + Copy> PairPlan<A> {
             (J.fault_count caller.old.jobs.file) (J.fault_count caller.new.jobs.file)
             (J.fault_count called.old.jobs.file) (J.fault_count called.new.jobs.file)) }
     {
-        let caller_plan = EndPlan::new(alloc, Rewrites::Always, caller)?;
-        let Ok(called_plan) = EndPlan::new(alloc, Rewrites::Always, called) else {
+        let caller_plan = EndPlan::new(alloc, caller)?;
+        let Ok(called_plan) = EndPlan::new(alloc, called) else {
             return Err(caller_plan.fault_without_memory());
         };
         let Ok(report) = report_of_both(alloc, caller.buffered.node(), called.buffered.node())
