@@ -4,4 +4,5 @@ pub mod JobsTextLemmas
 pub mod LocalFacts
 pub mod LocalLemmas
 pub mod NumberTextLemmas
+pub mod QueueingLemmas
 pub mod StandardFacts

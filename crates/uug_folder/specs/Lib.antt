@@ -9,4 +9,5 @@ pub mod JobsText
 pub mod LocalFiles
 pub mod LocalNames
 pub mod NumberText
+pub mod Queueing
 pub mod TextFiles

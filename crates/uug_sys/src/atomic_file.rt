@@ -31,7 +31,7 @@ pub(crate) fn replace_file<R: Files, A: Allocator>(
 }
 
 /// Sees a folder on the device.
-fn see_folder<R: Files>(rt: &R, dir: &str) -> io::Result<()> {
+pub(crate) fn see_folder<R: Files>(rt: &R, dir: &str) -> io::Result<()> {
     File::open(rt, dir)?.sync_all()
 }
 
