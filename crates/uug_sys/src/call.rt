@@ -311,7 +311,7 @@ fn talk_locked<A, R, L, O>(
 ) -> Result<u8, ToolFault>
 where
     A: Allocator + Copy,
-    R: Files + Alloc + Clone + Drop,
+    R: Files<File = File> + Alloc + Clone + Drop,
     L: EndLine,
     O: Output,
     requires calm { L.fault_count line.old ≡ 0 }
