@@ -16,11 +16,12 @@ use Rattle.uug_remark.specs.Remarks.{remark_text, wrong_at}
 use Rattle.clap.specs.Words.{kind_of, takes}
 use Rattle.clap.specs.declared.error.Error.{Error}
 use Rattle.clap.specs.declared.error.kind.ErrorKind.TheVariants.{OutOfMemory}
+use Rattle.uug_sys.specs.Faults.{IsQueueFault}
 use Rattle.uug_sys.specs.declared.failure.SystemFailure.{SystemFailure}
 use Rattle.uug_words.specs.Asked.{Asks}
 use Rattle.uug_words.specs.Tools.{uucpair}
 use Rattle.uug_words.specs.declared.command_line.Task.{Task}
-use Rattle.uug_words.specs.declared.command_line.Task.TheVariants.{Version, Scan, ScanVerbose, Play, PlayVerbose, PlaySettled, PlayDrawn, Pair, Call}
+use Rattle.uug_words.specs.declared.command_line.Task.TheVariants.{Version, Scan, ScanVerbose, Play, PlayVerbose, PlaySettled, PlayDrawn, Pair, Call, Queue}
 use Rattle.uucpair.specs.declared.input_task.InputTask.{InputTask}
 use Rattle.uucpair.specs.declared.input_task.InputTask.TheVariants as over
 use Rattle.uucpair.specs.declared.stop.Stop.{Stop}
@@ -78,6 +79,13 @@ pub record Pairs (s : Streams) (why : Option SystemFailure) (answer : Result ℕ
   pub status : IfOk answer (λ status. status ≤ 1)
   pub reads : StaysUnread s
   pub named : answer ≡ Err faults.Device → IsSome why
+
+-- `queue`: the same
+pub record Queues (s : Streams) (why : Option SystemFailure) (answer : Result ℕ ToolFault) : Type 0 where
+  pub status : IfOk answer (λ status. status ≡ 0)
+  pub reads : StaysUnread s
+  pub named : answer ≡ Err faults.Device → IsSome why
+  pub no_other : IfErr answer IsQueueFault
 
 -- `scan` of a file, with -v or not, whose bytes no proof knows
 pub record ScansFile (s : Streams) (answer : Result ℕ ToolFault) : Type 0 where
@@ -167,6 +175,7 @@ Does (PlaySettled file) s remark why answer = DoesOn over.PlaySettled file s rem
 Does (PlayDrawn how file) s remark why answer = DoesOn (over.PlayDrawn how) file s remark answer
 Does (Pair pair) s remark why answer = Pairs s why answer
 Does (Call call) s remark why answer = Pairs s why answer
+Does (Queue queue) s remark why answer = Queues s why answer
 
 -- ---- the program
 

@@ -3,9 +3,10 @@ use Rattle.std.specs.Prelude.{◌≡◌, ◌==◌, ℕ, List, codes, if◌then�
 use Rattle.uug_stream.specs.Fault.{status_of}
 use Rattle.uug_stream.specs.declared.fault.ToolFault.{ToolFault}
 use Rattle.uug_stream.specs.declared.fault.ToolFault.TheVariants.{Device, InUse, Memory, Read, Script, Usage}
+use Rattle.uug_sys.specs.Queued.{word_or_empty}
 use Rattle.uug_sys.specs.declared.failure.SystemFailure.{SystemFailure}
 use Rattle.uug_words.specs.declared.command_line.Task.{Task}
-use Rattle.uug_words.specs.declared.command_line.Task.TheVariants.{Scan, ScanVerbose, Play, PlayVerbose, PlaySettled, PlayDrawn, Pair, Call}
+use Rattle.uug_words.specs.declared.command_line.Task.TheVariants.{Scan, ScanVerbose, Play, PlayVerbose, PlaySettled, PlayDrawn, Pair, Call, Queue}
 use Rattle.uucpair.specs.declared.stop.Stop.{Stop}
 use Rattle.uucpair.specs.declared.stop.Stop.TheVariants.{Fault, Remarked, File, System, CommandLine}
 use Rattle.uucpair.specs.declared.stop.Stop.TheVariants as stops
@@ -89,6 +90,14 @@ StopsOnFolders first second why (InUse folder) stop = NamesFolder (if folder == 
 StopsOnFolders first second (Some failure) Device stop = stop ≡ System failure
 StopsOnFolders first second why fault stop = stop ≡ Fault fault
 
+-- Of what was to be queued the file is named that can't be copied, and it is said what is wrong with the order. The call of the
+-- system is named that failed, where it is known.
+abbrev pub StopsOnQueue : (file : List ℕ) → (why : Option SystemFailure) → ToolFault → (remark : List ℕ) → Stop → Type 0
+StopsOnQueue file why Read remark stop = NamesFile file why stop
+StopsOnQueue file why Usage remark stop = HasRemark Usage remark stop
+StopsOnQueue file (Some failure) Device remark stop = stop ≡ System failure
+StopsOnQueue file why fault remark stop = stop ≡ Fault fault
+
 abbrev pub StopsAs : Task → ToolFault → (remark : List ℕ) → (why : Option SystemFailure) → Stop → Type 0
 StopsAs (Scan (Some path)) fault remark why stop = StopsOnFile path.now why fault stop
 StopsAs (ScanVerbose (Some path)) fault remark why stop = StopsOnFile path.now why fault stop
@@ -100,6 +109,7 @@ StopsAs (PlayDrawn how None) fault remark why stop = StopsOnDrawing fault stop
 StopsAs (PlayDrawn how (Some path)) fault remark why stop = StopsOnDrawingFile path.now why fault stop
 StopsAs (Pair pair) fault remark why stop = StopsOnFolders pair.dir_a.now pair.dir_b.now why fault stop
 StopsAs (Call call) fault remark why stop = StopsOnFolders call.dir.now call.dir.now why fault stop
+StopsAs (Queue queue) fault remark why stop = StopsOnQueue (word_or_empty queue.file) why fault remark stop
 StopsAs task fault remark why stop = stop ≡ Fault fault
 
 -- how the program ends after a task that answered this, with this remark, where this call of the system failed

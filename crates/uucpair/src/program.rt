@@ -2,8 +2,9 @@
 ghost use Rattle.std.specs.Prelude.{◌≡◌, IfErr, IfOk, IsErrAnd, MatchResult, OnOk, map, string_bytes};
 ghost use Rattle.uug_scan.specs.Scan.{IsScanFault};
 ghost use Rattle.uug_stream.specs.Streams.{Appends};
+ghost use Rattle.uug_sys.specs.Queued.{word_or_empty};
 ghost use Rattle.uucpair.specs.Performed.{Does, DoesOn, DoesOver, IsFaultOf, Performs, Scans, ScansVerbose, streams, version_line};
-ghost use Rattle.uucpair.specs.Stop.{EndsSo, NamesFile, NamesFolder, SaysTooMuch, StopsAs, StopsOnDrawing, StopsOnDrawingFile, StopsOnFile, StopsOnFolders, StopsOnScript, StopsOnScriptFile, status_of_stop};
+ghost use Rattle.uucpair.specs.Stop.{EndsSo, NamesFile, NamesFolder, SaysTooMuch, StopsAs, StopsOnDrawing, StopsOnDrawingFile, StopsOnFile, StopsOnFolders, StopsOnQueue, StopsOnScript, StopsOnScriptFile, status_of_stop};
 
 use crate::input_task::InputTask;
 use crate::stop::Stop;
@@ -21,6 +22,7 @@ use uug_scan::{READ_LIMIT, scan_detailed, scan_stream};
 use uug_stream::{Output, ToolFault, write_all};
 use uug_sys::{
     Cause, Resource, SystemFailure, SystemInput, SystemObserver, SystemOutput, call_run, pair_run,
+    queue_run,
 };
 use uug_words::{Task, VERSION, task_of};
 
@@ -248,6 +250,25 @@ fn stop_of_folders(
     }
 }
 
+/// Why nothing was queued or listed: the file that can't be copied is named, what is wrong with the order is said, and the
+/// call of the system that failed, where it is known.
+fn stop_of_queue(
+    alloc: Global,
+    file: Option<&str>,
+    fault: ToolFault,
+    remark: String,
+    why: Option<SystemFailure>,
+) -> Stop
+    ensures { StopsOnQueue (word_or_empty file.entry) why fault (string_bytes remark) result }
+{
+    match (fault, why) {
+        (ToolFault::Read, _) => names_file(alloc, file.unwrap_or(""), why),
+        (ToolFault::Usage, _) => Stop::Remarked(fault, remark),
+        (ToolFault::Device, Some(failure)) => Stop::System(failure),
+        (fault, _) => Stop::Fault(fault),
+    }
+}
+
 /// Why the program ends where a task gave up.
 fn stop_of(
     alloc: Global,
@@ -269,6 +290,7 @@ fn stop_of(
         Task::PlayVerbose(Some(path)) => stop_of_script_file(alloc, path, fault, remark, why),
         Task::Pair(pair) => stop_of_folders(alloc, pair.dir_a, pair.dir_b, fault, why),
         Task::Call(call) => stop_of_folders(alloc, call.dir, call.dir, fault, why),
+        Task::Queue(queue) => stop_of_queue(alloc, queue.file, fault, remark, why),
         _ => Stop::Fault(fault),
     }
 }
@@ -300,7 +322,7 @@ fn do_task<R, I, O>(
     why: &mut Option<SystemFailure>,
 ) -> Result<u8, ToolFault>
 where
-    R: Files<File = File> + Net + AllocGlobal + Eprint + Clock + Clone + Drop,
+    R: Files<File = File> + Net + Env + AllocGlobal + Eprint + Clock + Clone + Drop,
     I: uug_stream::Input,
     O: Output,
     ensures { Does task.entry (streams (I.to_come input.old) (I.to_come input.new)
@@ -364,6 +386,7 @@ where
             let observer = SystemObserver::new(alloc, rt, &call, terminals.errors)?;
             call_run(alloc, rt, &call, observer, output, why)
         }
+        Task::Queue(queue) => queue_run(alloc, rt, &queue, output, remark, why),
     }
 }
 
@@ -400,7 +423,7 @@ pub fn perform<R, S, I, O>(
     output: &mut O,
 ) -> Result<u8, Stop>
 where
-    R: Files<File = File> + Net + Eprint + Clock + AllocGlobal + Clone + Drop,
+    R: Files<File = File> + Net + Env + Eprint + Clock + AllocGlobal + Clone + Drop,
     S: AsStr,
     I: uug_stream::Input,
     O: Output,

@@ -6,4 +6,5 @@ pub mod LocalLemmas
 pub mod NumberTextLemmas
 mod OpenJobsFacts
 pub mod OpenJobsLemmas
+pub mod QueueingLemmas
 pub mod StandardFacts

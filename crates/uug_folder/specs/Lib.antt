@@ -10,4 +10,5 @@ pub mod LocalFiles
 pub mod LocalNames
 pub mod NumberText
 pub mod OpenJobs
+pub mod Queueing
 pub mod TextFiles

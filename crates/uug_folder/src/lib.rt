@@ -13,6 +13,7 @@ pub mod laws;
 mod local_names;
 mod meanwhile;
 mod number_text;
+mod queued;
 mod report;
 mod text_file;
 
@@ -26,6 +27,10 @@ pub use local_names::LocalNames;
 pub use meanwhile::jobs_after;
 pub use number_text::{
     NUMBER_LINE_MAX, number_at_start, number_beside, number_line, read_number_text,
+};
+pub use queued::{
+    OrderFault, appended_job, default_user, is_among, is_given_by, nth_name, ordered_job,
+    queued_line, with_source,
 };
 pub use report::{add_failed, add_state};
 pub use text_file::TextFile;

@@ -138,7 +138,7 @@ fn place_of(jobs: &[Job], job: &Job) -> Option<usize>
 }
 
 /// Whether two jobs have the same words.
-fn is_job(job: &Job, other: &Job) -> bool
+pub(crate) fn is_job(job: &Job, other: &Job) -> bool
     ensures { result ≡ is_job job.now other.now }
 {
     match (job, other) {

@@ -54,3 +54,19 @@ IsRunFault _ = ⊥
 abbrev pub IsCallFault : ToolFault → Type 0
 IsCallFault faults.Number = ⊤
 IsCallFault fault = IsRunFault fault
+
+-- queueing: bad usage, a bad line of jobs, a file that can't be read, devices and memory
+abbrev pub IsQueueFault : ToolFault → Type 0
+IsQueueFault faults.Usage = ⊤
+IsQueueFault (faults.Jobs line) = ⊤
+IsQueueFault faults.Read = ⊤
+IsQueueFault faults.Write = ⊤
+IsQueueFault faults.Memory = ⊤
+IsQueueFault faults.Device = ⊤
+IsQueueFault _ = ⊥
+
+-- reading the file that is copied
+abbrev pub IsCopyFault : ToolFault → Type 0
+IsCopyFault faults.Read = ⊤
+IsCopyFault faults.Memory = ⊤
+IsCopyFault _ = ⊥

@@ -7,22 +7,39 @@ use std::rt::Files;
 use std::{fs, io};
 
 /// Writes a file beside `path`, sees it on the device, and puts it in the place of `path`, which is in the folder `dir`.
-/// Then the folder is seen on the device, too. Where that alone fails the file is in its place. Where `read_len` is given,
-/// what the file at `path` has behind so many bytes stays behind the new ones: it was appended meanwhile. That is looked
-/// for once more when the file is in its place, and again when the folder is on the device, since who has opened the old
-/// file still writes there.
+/// Then the folder is seen on the device, too. Where that alone fails the file is in its place.
 pub(crate) fn replace_file<R: Files, A: Allocator>(
     rt: &R,
     part: &mut PartPath<A>,
     dir: &str,
     path: &str,
     bytes: &[u8],
-    read_len: Option<u64>,
 ) -> io::Result<()> {
     let mut file = part.create(rt)?;
-    match place_file(rt, &mut file, part.as_str(), path, bytes, read_len) {
-        Ok(Some(old)) => see_folder_between(rt, old, dir, path),
-        Ok(None) => see_folder(rt, dir),
+    match place_file(rt, &mut file, part.as_str(), path, bytes) {
+        Ok(()) => see_folder(rt, dir),
+        Err(error) => {
+            let _ = fs::remove_file(rt, part.as_str());
+            Err(error)
+        }
+    }
+}
+
+/// The same, where others append to the file at `path`: what it has behind `read_len` bytes stays behind the new ones. It is
+/// locked meanwhile, so who holds its lock appends to a file that stays in its place. For what is appended without the lock
+/// it is looked once more when the new file is in its place, and again when the folder is on the device, since who has
+/// opened the old file still writes there.
+pub(crate) fn replace_appended<R: Files<File = File>, A: Allocator>(
+    rt: &R,
+    part: &mut PartPath<A>,
+    dir: &str,
+    path: &str,
+    bytes: &[u8],
+    read_len: u64,
+) -> io::Result<()> {
+    let mut file = part.create(rt)?;
+    match place_appended(rt, &mut file, part.as_str(), path, bytes, read_len) {
+        Ok(old) => see_folder_between(rt, old, dir, path),
         Err(error) => {
             let _ = fs::remove_file(rt, part.as_str());
             Err(error)
@@ -31,7 +48,7 @@ pub(crate) fn replace_file<R: Files, A: Allocator>(
 }
 
 /// Sees a folder on the device.
-fn see_folder<R: Files>(rt: &R, dir: &str) -> io::Result<()> {
+pub(crate) fn see_folder<R: Files>(rt: &R, dir: &str) -> io::Result<()> {
     File::open(rt, dir)?.sync_all()
 }
 
@@ -51,31 +68,35 @@ fn add_late<R: Files>(rt: &R, old: &mut R::File, path: &str) -> io::Result<()> {
     Ok(())
 }
 
-/// Writes a new file at `part`, and gives it the name `path` once it is on the device. The answer is the file that had
-/// the name before, read to its end, where what was appended to it is to stay.
+/// Writes a new file at `part`, and gives it the name `path` once it is on the device.
 fn place_file<R: Files>(
     rt: &R,
     file: &mut R::File,
     part: &str,
     path: &str,
     bytes: &[u8],
-    read_len: Option<u64>,
-) -> io::Result<Option<R::File>> {
+) -> io::Result<()> {
     file.write_all(bytes)?;
-    let old = match read_len {
-        Some(len) => Some(add_appended(rt, file, path, len)?),
-        None => None,
-    };
     file.sync_all()?;
-    fs::rename(rt, part, path)?;
-    Ok(old)
+    fs::rename(rt, part, path)
 }
 
-/// Adds what the file at `path` has behind so many bytes. The answer is that file.
-fn add_appended<R: Files>(rt: &R, file: &mut R::File, path: &str, len: u64) -> io::Result<R::File> {
+/// The same with what the file at `path` has behind so many bytes. The answer is that file, locked and read to its end.
+fn place_appended<R: Files<File = File>>(
+    rt: &R,
+    file: &mut File,
+    part: &str,
+    path: &str,
+    bytes: &[u8],
+    len: u64,
+) -> io::Result<File> {
     let mut old = open_or_make(rt, path)?;
+    old.lock()?;
     old.seek(SeekFrom::Start(len))?;
+    file.write_all(bytes)?;
     io::copy(&mut old, file)?;
+    file.sync_all()?;
+    fs::rename(rt, part, path)?;
     Ok(old)
 }
 

@@ -312,7 +312,7 @@ fn talk_locked<'a, A, R, L, O>(
 ) -> Result<u8, ToolFault>
 where
     A: Allocator + Copy,
-    R: Files + Alloc + Clone + Drop,
+    R: Files<File = File> + Alloc + Clone + Drop,
     L: EndLine,
     O: Output,
     ensures status { IfOk result (λ status. status ≤ 1) }

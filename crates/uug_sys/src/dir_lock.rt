@@ -1,6 +1,6 @@
 //! The folder of an end for one run alone.
 ghost use Rattle.std.specs.Prelude.{IfErr};
-ghost use Rattle.uug_sys.specs.Faults.{IsLockFault};
+ghost use Rattle.uug_sys.specs.Faults.{IsFolderFault, IsLockFault};
 
 use crate::failure::{EndDir, Resource};
 use crate::part_path::PART_FRONT;
@@ -43,6 +43,16 @@ pub fn lock_dir<A: Allocator + Copy, R: Files<File = File> + Alloc + Clone + Dro
     }
     clear_dir(alloc, rt, dir.path)?;
     Ok(lock)
+}
+
+/// Sees that there is a folder of an end.
+pub(crate) fn see_dir<R: Files>(rt: &R, dir: EndDir<'_>) -> Result<(), RunFault>
+    ensures no_other { IfErr result IsFolderFault }
+{
+    match open_dir(rt, dir.path) {
+        Ok(_) => Ok(()),
+        Err(error) => Err(RunFault::of(&error, dir, Resource::Dir)),
+    }
 }
 
 /// Opens a folder. A pipe, which would wait for a writer, is not opened.

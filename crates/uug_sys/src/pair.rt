@@ -109,7 +109,7 @@ pub fn pair_run<A: Allocator + Copy, R: Files<File = File> + Net + Alloc + Clone
 }
 
 /// Runs both ends over their folders, which are locked.
-fn run_locked<A: Allocator + Copy, R: Files + Net + Alloc + Clone + Drop, O: Output>(
+fn run_locked<A: Allocator + Copy, R: Files<File = File> + Net + Alloc + Clone + Drop, O: Output>(
     alloc: A,
     rt: &R,
     socket: &str,
@@ -137,7 +137,7 @@ fn run_locked<A: Allocator + Copy, R: Files + Net + Alloc + Clone + Drop, O: Out
 }
 
 /// Joins both ends by a socket, and runs them.
-fn run_ends<'a, A: Allocator + Copy, R: Files + Net + Alloc + Clone + Drop, O: Output>(
+fn run_ends<'a, A: Allocator + Copy, R: Files<File = File> + Net + Alloc + Clone + Drop, O: Output>(
     alloc: A,
     rt: &R,
     socket: &str,

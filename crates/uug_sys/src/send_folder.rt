@@ -3,6 +3,7 @@ ghost use Rattle.std.specs.Prelude.{◌≡◌, ◌+◌, ◌<◌, ◌≤◌, IfOk
 ghost use Rattle.uug_sys.specs.Faults.{IsFolderFault};
 
 use crate::failure::{Cause, EndDir, EndText, Resource};
+use crate::part_path::PART_FRONT;
 use crate::run_fault::RunFault;
 use std::alloc::Allocator;
 use std::fs::{DirEntry, File, ReadDir};
@@ -52,7 +53,7 @@ fn is_file<R: Files>(rt: &R, path: &str) -> io::Result<bool> {
 }
 
 /// The bytes of the regular file at a path, unless they are more than so many.
-fn read_file<A: Allocator, R: Files>(
+pub(crate) fn read_file<A: Allocator, R: Files>(
     alloc: A,
     rt: &R,
     path: &str,
@@ -212,17 +213,74 @@ fn add_entry<A: Allocator + Copy, R: Files + Alloc + Clone + Drop>(
     ensures within { OnOk result (count.new ≤ FILES_MAX) }
     ensures no_other { IfErr result IsFolderFault }
 {
-    let Ok(name) = Name::new(entry.file_name().as_bytes()) else {
-        return Ok(());
+    let name = match given_name(rt, dir, entry) {
+        Ok(Some(name)) => name,
+        Ok(None) => return Ok(()),
+        Err(fault) => return Err(fault),
     };
-    match is_file(rt, entry.path().as_str()) {
-        Ok(true) => (),
-        Ok(false) => return Ok(()),
-        Err(error) => return Err(RunFault::of(&error, dir, Resource::Given(name))),
-    }
     if *count >= FILES_MAX {
         return Err(RunFault::System(dir.failure(Resource::Send, Cause::TooMuch)));
     }
     *count += 1;
     add_given(files, alloc, rt, dir, name, entry.path().as_str())
+}
+
+/// The name of an entry's file, if it has one that may be given. One that is not whole yet may not.
+fn given_name<R: Files + Alloc + Clone + Drop>(
+    rt: &R,
+    dir: EndDir<'_>,
+    entry: &DirEntry<R, R::A>,
+) -> Result<Option<Name>, RunFault>
+    ensures { IfErr result IsFolderFault }
+{
+    if entry.file_name().starts_with(PART_FRONT) {
+        return Ok(None);
+    }
+    let Ok(name) = Name::new(entry.file_name().as_bytes()) else {
+        return Ok(None);
+    };
+    match is_file(rt, entry.path().as_str()) {
+        Ok(true) => Ok(Some(name)),
+        Ok(false) => Ok(None),
+        Err(error) => Err(RunFault::of(&error, dir, Resource::Given(name))),
+    }
+}
+
+/// How many files the folder `send`, at this path, has that may be given.
+pub(crate) fn count_send<R: Files + Alloc + Clone + Drop>(
+    rt: &R,
+    dir: EndDir<'_>,
+    send: &str,
+) -> Result<usize, RunFault>
+    ensures { IfErr result IsFolderFault }
+{
+    let entries = match fs::read_dir(rt, send) {
+        Ok(entries) => entries,
+        Err(error) => return Err(RunFault::of(&error, dir, Resource::Send)),
+    };
+    let mut count: usize = 0;
+    for entry in entries {
+        let entry = match entry {
+            Ok(entry) => entry,
+            Err(error) => return Err(RunFault::of(&error, dir, Resource::Send)),
+        };
+        if has_given_name(rt, dir, &entry)? {
+            count = count.saturating_add(1);
+        }
+    }
+    Ok(count)
+}
+
+/// Whether the file of an entry may be given.
+fn has_given_name<R: Files + Alloc + Clone + Drop>(
+    rt: &R,
+    dir: EndDir<'_>,
+    entry: &DirEntry<R, R::A>,
+) -> Result<bool, RunFault>
+    ensures { IfErr result IsFolderFault }
+{
+    match given_name(rt, dir, entry) {
+        Ok(name) => Ok(name.is_some()),
+        Err(fault) => Err(fault),
+    }
 }

@@ -70,7 +70,7 @@ impl<R: Files, A: Allocator> Folder for SystemFolder<'_, R, A> {
         set_path(&mut self.path, self.front.as_str(), name);
         let dir = self.dir.as_str();
         let path = self.path.as_str();
-        match replace_file(self.rt, &mut self.part, dir, path, bytes, None) {
+        match replace_file(self.rt, &mut self.part, dir, path, bytes) {
             Ok(()) => Ok(()),
             Err(error) => {
                 let resource = Resource::Got(*name);

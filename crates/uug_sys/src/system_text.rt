@@ -2,13 +2,14 @@ ghost use Rattle.std.specs.Prelude.{◌≡◌, ◌<◌, IfErr, IfOk, IsSome, Non
 ghost use Rattle.uug_sys.specs.Failures.{NotesFault};
 ghost use Rattle.uug_sys.specs.Faults.{IsFolderFault};
 
-use crate::atomic_file::replace_file;
+use crate::atomic_file::{replace_appended, replace_file};
 use crate::failure::{Cause, EndDir, EndText, Resource, SystemFailure};
 use crate::faults::Faults;
 use crate::part_path::PartPath;
 use crate::run_fault::RunFault;
 use crate::send_folder::read_text_at;
 use std::alloc::{AllocError, Allocator};
+use std::fs::File;
 use std::rt::Files;
 use uug_folder::{FolderFailed, TextFile};
 use uug_stream::ToolFault;
@@ -30,7 +31,7 @@ pub struct SystemText<'a, R: Files, A: Allocator> {
 impl<'a, R: Files, A: Allocator + Copy> SystemText<'a, R, A> {
     /// This file of an end. All memory for its writing is taken here.
     pub fn new(alloc: A, rt: &'a R, dir: EndDir<'a>, which: EndText) -> Result<Self, AllocError>
-        ensures { IfOk result (λ file. ⟦<SystemText<'a, R, A> as TextFile>⟧.fault_count file ≡ 0) }
+        ensures { IfOk result (λ file. file.faults.count ≡ 0) }
     {
         let front = dir.path;
         let name = which.name();
@@ -70,7 +71,7 @@ impl<R: Files, A: Allocator> SystemText<'_, R, A> {
     }
 }
 
-impl<R: Files, A: Allocator> TextFile for SystemText<'_, R, A> {
+impl<R: Files<File = File>, A: Allocator> TextFile for SystemText<'_, R, A> {
     ghost text = { λ _. None };
 
     ghost fault_count = { λ file. file.faults.count };
@@ -87,7 +88,11 @@ impl<R: Files, A: Allocator> TextFile for SystemText<'_, R, A> {
     fn replace(&mut self, bytes: &[u8]) -> Result<(), FolderFailed> {
         let path = self.path.as_str();
         let dir = self.dir.path;
-        match replace_file(self.rt, &mut self.part, dir, path, bytes, self.read_len) {
+        let replaced = match self.read_len {
+            Some(len) => replace_appended(self.rt, &mut self.part, dir, path, bytes, len),
+            None => replace_file(self.rt, &mut self.part, dir, path, bytes),
+        };
+        match replaced {
             Ok(()) => Ok(()),
             Err(error) => {
                 let resource = Resource::Text(self.which);

@@ -93,6 +93,35 @@ answer_is_taken : takes uucpair answer_words ≡ true
 unfolding clap_on_literals
 answer_is_taken = refl
 
+-- ---- uucpair queue dir send /tmp/x --user me
+
+abbrev queue_words : List Text
+queue_words = codes "uucpair" ∷ codes "queue" ∷ codes "dir" ∷ codes "send" ∷ codes "/tmp/x" ∷ codes "--user" ∷ codes "me" ∷ []
+
+queue_is_named : tool_of queue_words ≡ Some (codes "queue")
+unfolding clap_on_literals
+queue_is_named = refl
+
+queue_has_order : first_of (codes "ORDER") (entries_of queue_words) ≡ Some (codes "send")
+unfolding clap_on_literals
+queue_has_order = refl
+
+queue_has_file : first_of (codes "FILE") (entries_of queue_words) ≡ Some (codes "/tmp/x")
+unfolding clap_on_literals
+queue_has_file = refl
+
+queue_has_no_target : first_of (codes "TARGET") (entries_of queue_words) ≡ None
+unfolding clap_on_literals
+queue_has_no_target = refl
+
+queue_has_user : first_of (codes "user") (entries_of queue_words) ≡ Some (codes "me")
+unfolding clap_on_literals
+queue_has_user = refl
+
+queue_is_taken : takes uucpair queue_words ≡ true
+unfolding clap_on_literals
+queue_is_taken = refl
+
 -- ---- uucpair --version
 
 version_is_no_tool : takes uucpair (codes "uucpair" ∷ codes "--version" ∷ []) ≡ false

@@ -14,9 +14,10 @@ use Rattle.uug_conversation.specs.declared.side.Side.TheVariants.{Caller, Called
 use Rattle.uug_ladder.specs.declared.play.Drawn.{Drawn}
 use Rattle.uug_ladder.specs.declared.play.Drawn.TheVariants.{AsText, AsPicture}
 use Rattle.uug_sys.specs.declared.call.CallTask.{CallTask}
+use Rattle.uug_sys.specs.declared.queue.QueueTask.{QueueTask}
 use Rattle.uug_words.specs.declared.command_line.PairTask.{PairTask}
 use Rattle.uug_words.specs.declared.command_line.Task.{Task}
-use Rattle.uug_words.specs.declared.command_line.Task.TheVariants.{Version, Scan, ScanVerbose, Play, PlayVerbose, PlaySettled, PlayDrawn, Pair, Call}
+use Rattle.uug_words.specs.declared.command_line.Task.TheVariants.{Version, Scan, ScanVerbose, Play, PlayVerbose, PlaySettled, PlayDrawn, Pair, Call, Queue}
 
 -- ---- what stands behind the name of a tool: an entry for each argument that has a value
 
@@ -76,8 +77,12 @@ manner_in entries = manner_by (is_given entries (codes "verbose")) (is_given ent
 abbrev pub NamesScan : (tool : Text) → Type 0
 NamesScan tool = (tool ≡ codes "scan") ⊎ (tool ≡ codes "help")
 
+-- a word is the value of an argument, where it has one
+abbrev pub IsWordIn : Entries → (name : Text) → Option (Bor Text) → Type 0
+IsWordIn entries name word = option_map (λ text. text.now) word ≡ first_of name entries
+
 abbrev pub IsFileIn : Entries → Option (Bor Text) → Type 0
-IsFileIn entries file = option_map (λ path. path.now) file ≡ first_of (codes "FILE") entries
+IsFileIn entries file = IsWordIn entries (codes "FILE") file
 
 pub record AsksToScan (tool : Text) (entries : Entries) (is_verbose : Bool) (file : Option (Bor Text)) : Type 0 where
   pub scans : NamesScan tool
@@ -124,11 +129,23 @@ pub record AsksForEnd (tool : Text) (entries : Entries) (task : CallTask) : Type
   pub calls : tool ≡ tool_at task.side
   pub says : IsEndIn entries task
 
+-- what is queued
+pub record IsQueueIn (entries : Entries) (task : QueueTask) : Type 0 where
+  pub dir : task.dir.now ≡ text_in entries (codes "DIR")
+  pub order : IsWordIn entries (codes "ORDER") task.order
+  pub file : IsWordIn entries (codes "FILE") task.file
+  pub target : IsWordIn entries (codes "TARGET") task.target
+  pub user : IsWordIn entries (codes "user") task.user
+
+pub record AsksToQueue (tool : Text) (entries : Entries) (task : QueueTask) : Type 0 where
+  pub queues : tool ≡ codes "queue"
+  pub says : IsQueueIn entries task
+
 -- ---- the words of a command line
 
 -- a name that a parse gives for a tool
 abbrev pub IsToolName : Text → Type 0
-IsToolName tool = NamesScan tool ⊎ ((tool ≡ codes "play") ⊎ ((tool ≡ codes "pair") ⊎ ((tool ≡ codes "call") ⊎ (tool ≡ codes "answer"))))
+IsToolName tool = NamesScan tool ⊎ ((tool ≡ codes "play") ⊎ ((tool ≡ codes "pair") ⊎ ((tool ≡ codes "call") ⊎ ((tool ≡ codes "answer") ⊎ (tool ≡ codes "queue")))))
 
 -- a tool of this name, with these entries, asks for the task
 abbrev pub AsksIn : (tool : Text) → Entries → Task → Type 0
@@ -141,6 +158,7 @@ AsksIn tool entries (PlaySettled file) = AsksToPlay tool entries settled file
 AsksIn tool entries (PlayDrawn how file) = AsksToPlay tool entries (drawn how) file
 AsksIn tool entries (Pair pair) = AsksForPair tool entries pair
 AsksIn tool entries (Call call) = AsksForEnd tool entries call
+AsksIn tool entries (Queue queue) = AsksToQueue tool entries queue
 
 -- the words, of which the first is the program's name, name this tool, and have these entries behind its name
 pub record AsksByTool (words : List Text) (task : Task) : Type 0 where

@@ -22,9 +22,13 @@ pub record IsTool (tool : Shape) (made : Command) : Type 0 where
 
 -- ---- arguments
 
+-- an argument that may be left out
+abbrev pub optional_rule : Text → Rule
+optional_rule name = record (new_rule name) { action = Some Set }
+
 -- the file that is read, where there is one
 abbrev pub file_rule : Rule
-file_rule = record (new_rule (codes "FILE")) { action = Some Set }
+file_rule = optional_rule (codes "FILE")
 
 -- an argument that has to be there
 abbrev pub path_rule : Text → Rule
@@ -90,8 +94,13 @@ end_tool name = tool name
     ∷ flag_rule (codes "strict") ∷ flag_rule (codes "number")
     ∷ verbose_rule ∷ [])
 
+abbrev pub queue_tool : Shape
+queue_tool = tool (codes "queue")
+    (path_rule (codes "DIR") ∷ optional_rule (codes "ORDER") ∷ optional_rule (codes "FILE") ∷ optional_rule (codes "TARGET")
+    ∷ word_rule (codes "user") ∷ [])
+
 abbrev pub tools : List Shape
-tools = scan_tool ∷ play_tool ∷ pair_tool ∷ end_tool (codes "call") ∷ end_tool (codes "answer") ∷ []
+tools = scan_tool ∷ play_tool ∷ pair_tool ∷ end_tool (codes "call") ∷ end_tool (codes "answer") ∷ queue_tool ∷ []
 
 -- ---- the program
 

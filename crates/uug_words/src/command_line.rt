@@ -2,7 +2,7 @@
 ghost use Rattle.std.specs.Prelude.{◌≡◌, IfErr, IfOk, codes, map, true};
 ghost use Rattle.clap.specs.Words.{Text, kind_of, takes};
 ghost use Rattle.clap.specs.declared.error.kind.ErrorKind.TheVariants.{OutOfMemory};
-ghost use Rattle.uug_words.specs.Asked.{Asks, AsksIn, IsEndIn, IsFileIn, IsPairIn, IsToolName, NamesScan, entries_of, is_given, number_in, text_in};
+ghost use Rattle.uug_words.specs.Asked.{Asks, AsksIn, IsEndIn, IsFileIn, IsPairIn, IsQueueIn, IsToolName, IsWordIn, NamesScan, entries_of, is_given, number_in, text_in};
 ghost use Rattle.uug_words.specs.Tools.{uucpair};
 
 use crate::tools::command;
@@ -12,7 +12,7 @@ use std::alloc::Global;
 use std::convert::AsStr;
 use uug_conversation::Side;
 use uug_ladder::Drawn;
-use uug_sys::CallTask;
+use uug_sys::{CallTask, QueueTask};
 
 /// What the command line asks for.
 #[derive(Clone, Copy, Debug, PartialEq, Eq)]
@@ -35,6 +35,8 @@ pub enum Task<'a> {
     Pair(PairTask<'a>),
     /// One end over a folder, and the line to the other one.
     Call(CallTask<'a>),
+    /// A job is queued, or those that wait are listed.
+    Queue(QueueTask<'a>),
 }
 
 /// What two ends are run over.
@@ -63,7 +65,14 @@ fn text<'a>(matches: &ArgMatches<'a>, name: &str) -> &'a str
 fn file<'a>(matches: &ArgMatches<'a>) -> Option<&'a str>
     ensures { IsFileIn (entries_of matches.now) result }
 {
-    matches.get_str("FILE")
+    word(matches, "FILE")
+}
+
+/// The word of an argument, where it has one.
+fn word<'a>(matches: &ArgMatches<'a>, name: &str) -> Option<&'a str>
+    ensures { IsWordIn (entries_of matches.now) name.now result }
+{
+    matches.get_str(name)
 }
 
 /// Whether an option is given that has no value.
@@ -115,6 +124,19 @@ fn pair_task<'a>(matches: &ArgMatches<'a>) -> PairTask<'a>
     }
 }
 
+/// What is queued, as the words behind `queue` say.
+fn queue_task<'a>(matches: &ArgMatches<'a>) -> QueueTask<'a>
+    ensures { IsQueueIn (entries_of matches.now) result }
+{
+    QueueTask {
+        dir: text(matches, "DIR"),
+        order: word(matches, "ORDER"),
+        file: file(matches),
+        target: word(matches, "TARGET"),
+        user: word(matches, "user"),
+    }
+}
+
 /// What `scan` is asked for.
 fn scan_task<'a>(matches: &ArgMatches<'a>) -> Task<'a>
     ensures { (tool : Text) → NamesScan tool → AsksIn tool (entries_of matches.now) result }
@@ -154,6 +176,7 @@ fn task_of_tool<'a>(tool: &str, matches: &ArgMatches<'a>) -> Task<'a>
         "pair" => Task::Pair(pair_task(matches)),
         "call" => Task::Call(end_task(Side::Caller, matches)),
         "answer" => Task::Call(end_task(Side::Called, matches)),
+        "queue" => Task::Queue(queue_task(matches)),
         _ => scan_task(matches),
     }
 }

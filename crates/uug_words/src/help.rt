@@ -124,6 +124,20 @@ prints
   caller done pending 0 struck 1 failed 0
 and b/got/y is the file.";
 
+pub const QUEUE: &str = "send copies FILE into DIR/send, under its own name or one with a number, and appends a job
+for the copy to DIR/jobs. request appends a job that asks the other end for FILE. So
+nobody has to edit jobs, and it may be done while a session runs. A line says which job
+was queued. Without an order the jobs that wait are listed, a line each.
+
+Status: 0 done, 2 bad usage or bad jobs, 3 a device fault, 4 out of memory
+
+Example:
+  mkdir -p a/send && echo hello > x && uucpair queue a send x y --user me
+prints
+  queued send x y me";
+
+pub const USER: &str = "Who queues it; without it USER, LOGNAME or uucp";
+
 pub const WINDOW: &str = "The window that the other end is to use, 1 to 7";
 
 pub const SIZE: &str = "The packet size that the other end is to use, 32 to 4096";

@@ -1,7 +1,7 @@
 //! The tools of the program and their arguments, as the parser of the words takes them.
 ghost use Rattle.std.specs.Prelude.{◌≡◌, [], IfOk};
 ghost use Rattle.clap.specs.Words.{app_of};
-ghost use Rattle.uug_words.specs.Tools.{IsArg, IsTool, alone, end_tool, every_rule, excluding, file_rule, flag_rule, name_rule, number_rule, pair_tool, path_rule, play_tool, program, scan_tool, tool, uucpair, verbose_rule, word_rule};
+ghost use Rattle.uug_words.specs.Tools.{IsArg, IsTool, alone, end_tool, every_rule, excluding, file_rule, flag_rule, name_rule, number_rule, optional_rule, pair_tool, path_rule, play_tool, program, queue_tool, scan_tool, tool, uucpair, verbose_rule, word_rule};
 
 use crate::help;
 use clap::{Arg, ArgAction, Command, value_parser};
@@ -34,7 +34,8 @@ pub fn command<'a>(alloc: Global) -> Result<Command<'a>, AllocError>
             alloc,
             "answer",
             "Waits for the call of another system over a line, and exchanges files with it",
-        )?)
+        )?)?
+        .subcommand(queue_command(alloc)?)
 }
 
 /// The program without its tools.
@@ -183,11 +184,47 @@ fn end_command<'a>(alloc: Global, name: &'a str, about: &'a str) -> Result<Comma
         ))
 }
 
+/// The tool that queues jobs.
+fn queue_command<'a>(alloc: Global) -> Result<Command<'a>, AllocError>
+    ensures { IfOk result (IsTool queue_tool) }
+{
+    tool(
+        alloc,
+        "queue",
+        "Queues a job in the folder of an end, or lists those that wait",
+        help::QUEUE,
+    )
+    .arg(path(alloc, "DIR", "The folder of the end"))?
+    .arg(optional(
+        alloc,
+        "ORDER",
+        "send or request; without it the jobs that wait are listed",
+    ))?
+    .arg(optional(
+        alloc,
+        "FILE",
+        "The path of the file that is sent, or the name of the one that is asked for",
+    ))?
+    .arg(optional(
+        alloc,
+        "TARGET",
+        "The name that it gets where it comes; without it its own name",
+    ))?
+    .arg(named(alloc, "user", "USER", help::USER))
+}
+
 /// The file that is read, where there is one.
 fn file<'a>(alloc: Global, help: &'a str) -> Arg<'a>
     ensures { IsArg file_rule result }
 {
-    Arg::new(alloc, "FILE").action(ArgAction::Set).help(help)
+    optional(alloc, "FILE", help)
+}
+
+/// An argument that may be left out.
+fn optional<'a>(alloc: Global, name: &'a str, help: &'a str) -> Arg<'a>
+    ensures { IsArg (optional_rule name.entry.now) result }
+{
+    Arg::new(alloc, name).action(ArgAction::Set).help(help)
 }
 
 /// An argument that has to be there.

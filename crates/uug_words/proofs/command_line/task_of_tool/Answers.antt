@@ -7,5 +7,6 @@ returns-in_default c named = elim named [
   | inr (inl play) ↦ absurd (c.in_default.not-play play)
   | inr (inr (inl pair)) ↦ absurd (c.in_default.not-pair pair)
   | inr (inr (inr (inl call))) ↦ absurd (c.in_default.not-call call)
-  | inr (inr (inr (inr answer))) ↦ absurd (c.in_default.not-answer answer)
+  | inr (inr (inr (inr (inl answer)))) ↦ absurd (c.in_default.not-answer answer)
+  | inr (inr (inr (inr (inr queue)))) ↦ absurd (c.in_default.not-queue queue)
 ]

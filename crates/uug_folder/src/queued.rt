@@ -1,0 +1,259 @@
+//! What a person queues: the job of an order, the name of a copy in `send`, and what is appended to the text of the jobs.
+ghost use Rattle.std.specs.Prelude.{◌≡◌, IfOk, None, Some, string_bytes};
+ghost use Rattle.uug_folder.specs.Queueing.{appended, base_name, gives, is_among, is_given_by, is_whole, last_part, name_in, nth_name, ordered, queued_line, requests_with, sends_with, shown_text, target_with, user_by, user_with, visible, with_source};
+
+use crate::jobs_text::add_job_line;
+use crate::meanwhile::is_job;
+use std::alloc::{AllocError, Allocator};
+use thiserror::Error;
+use uug_session::Job;
+use uug_talk::Name;
+
+/// Why an order says no job.
+#[derive(Clone, Copy, Debug, PartialEq, Eq, Error)]
+pub enum OrderFault {
+    /// What is to be done is neither `send` nor `request`.
+    #[error("what is queued is send or request")]
+    Word,
+    /// The file has no name that it could be queued under.
+    #[error("the file has no name of 1 to 200 printing characters without a space or a dot in front")]
+    File,
+    /// The target is no name, or none is given and the file has none.
+    #[error("the target is no name of 1 to 200 printing characters without a space")]
+    Target,
+    /// The user is no name.
+    #[error("the user is no name of 1 to 200 printing characters without a space")]
+    User,
+}
+
+/// What stands behind the last slash of a path.
+fn last_part(path: &[u8]) -> &[u8]
+    ensures { result.now ≡ last_part path.now }
+{
+    let mut rest = path;
+    while rest.contains(&b'/') {
+        rest = &rest[1..];
+    }
+    rest
+}
+
+/// The name, where it has no dot in front: a file with one is hidden, and not given.
+fn visible(name: Name) -> Option<Name>
+    ensures { result ≡ visible (Some name) }
+{
+    if name.as_bytes().starts_with(b".") {
+        return None;
+    }
+    Some(name)
+}
+
+/// The name of a file at a path, if it has one that may be given.
+fn base_name(path: &[u8]) -> Option<Name>
+    ensures { result ≡ base_name path.now }
+{
+    visible(Name::new(last_part(path)).ok()?)
+}
+
+/// The target of an order for the file at this path: the one that is given, else the name of the file.
+fn target_of(target: Option<&[u8]>, path: &[u8]) -> Option<Name>
+    ensures { result ≡ target_with (shown_text target.entry) path.now }
+{
+    match target {
+        Some(target) => Name::new(target).ok(),
+        None => base_name(path),
+    }
+}
+
+/// The user of an order: the one that is given, else this one.
+fn user_of(user: Option<&[u8]>, default: Name) -> Option<Name>
+    ensures { result ≡ user_with (shown_text user.entry) default }
+{
+    match user {
+        Some(user) => Name::new(user).ok(),
+        None => Some(default),
+    }
+}
+
+/// The job that is ordered by this word. The source of one that sends is the name of the file at this path, under which it
+/// is not in `send` yet. Where none is given the target is the name of the file, and the user is the default one.
+pub fn ordered_job(
+    word: &[u8],
+    path: &[u8],
+    target: Option<&[u8]>,
+    user: Option<&[u8]>,
+    default: Name,
+) -> Result<Job, OrderFault>
+    ensures { result ≡ ordered word.now path.now
+        (target_with (shown_text target.entry) path.now) (user_with (shown_text user.entry) default) }
+{
+    let target = target_of(target, path);
+    let user = user_of(user, default);
+    if word == b"send".as_slice() {
+        send_job(base_name(path), target, user)
+    } else if word == b"request".as_slice() {
+        request_job(Name::new(path).ok(), target, user)
+    } else {
+        Err(OrderFault::Word)
+    }
+}
+
+/// The job that sends a file, by what is known of its words.
+fn send_job(
+    source: Option<Name>,
+    target: Option<Name>,
+    user: Option<Name>,
+) -> Result<Job, OrderFault>
+    ensures { result ≡ sends_with source target user }
+{
+    let Some(source) = source else {
+        return Err(OrderFault::File);
+    };
+    let Some(target) = target else {
+        return Err(OrderFault::Target);
+    };
+    let Some(user) = user else {
+        return Err(OrderFault::User);
+    };
+    Ok(Job::Send {
+        source,
+        target,
+        user,
+        temp: None,
+    })
+}
+
+/// The job that asks for a file, by what is known of its words.
+fn request_job(
+    source: Option<Name>,
+    target: Option<Name>,
+    user: Option<Name>,
+) -> Result<Job, OrderFault>
+    ensures { result ≡ requests_with source target user }
+{
+    let Some(source) = source else {
+        return Err(OrderFault::File);
+    };
+    let Some(target) = target else {
+        return Err(OrderFault::Target);
+    };
+    let Some(user) = user else {
+        return Err(OrderFault::User);
+    };
+    Ok(Job::Request {
+        source,
+        target,
+        user,
+    })
+}
+
+/// The user of a job where none is given: the first of these texts that is a name, else `uucp`.
+pub fn default_user(user: Option<&[u8]>, login: Option<&[u8]>) -> Name
+    ensures { result ≡ user_by (name_in (shown_text user.entry)) (name_in (shown_text login.entry)) }
+{
+    if let Some(name) = name_of(user) {
+        return name;
+    }
+    if let Some(name) = name_of(login) {
+        return name;
+    }
+    let Ok(name) = Name::new(b"uucp") else {
+        unreachable!();
+    };
+    name
+}
+
+/// The name that a text is, if there is one and it is one.
+fn name_of(text: Option<&[u8]>) -> Option<Name>
+    ensures { result ≡ name_in (shown_text text.entry) }
+{
+    Name::new(text?).ok()
+}
+
+/// The name of a copy in `send`: the name itself, or where others have that already the name, a dot and this number.
+pub fn nth_name<A: Allocator>(alloc: A, base: &Name, n: u32) -> Result<Option<Name>, AllocError>
+    ensures { IfOk result (λ name. name ≡ nth_name base.now n) }
+{
+    if n == 0 {
+        return Ok(Some(*base));
+    }
+    let front = base.as_str();
+    let text = format!(in alloc; "{front}.{n}")?;
+    Ok(Name::new(text.as_bytes()).ok())
+}
+
+/// The job with this source, where it sends a file.
+pub fn with_source(job: &Job, name: Name) -> Job
+    ensures { result ≡ with_source name job.now }
+{
+    match job {
+        Job::Send { target, user, .. } => Job::Send {
+            source: name,
+            target: *target,
+            user: *user,
+            temp: None,
+        },
+        Job::Request { .. } => *job,
+    }
+}
+
+/// Whether a job is one of these.
+pub fn is_among(jobs: &[Job], job: &Job) -> bool
+    ensures { result ≡ is_among job.now jobs.now }
+{
+    for other in jobs {
+        if is_job(other, job) {
+            return true;
+        }
+    }
+    false
+}
+
+/// Whether one of these jobs sends the file of this name.
+pub fn is_given_by(jobs: &[Job], name: &Name) -> bool
+    ensures { result ≡ is_given_by name.now jobs.now }
+{
+    for job in jobs {
+        if gives(job, name) {
+            return true;
+        }
+    }
+    false
+}
+
+/// Whether a job sends the file of this name.
+fn gives(job: &Job, name: &Name) -> bool
+    ensures { result ≡ gives name.now job.now }
+{
+    match job {
+        Job::Send { source, .. } => source.as_bytes() == name.as_bytes(),
+        Job::Request { .. } => false,
+    }
+}
+
+/// Whether a text is empty, or its last line has its line feed.
+fn is_whole(text: &[u8]) -> bool
+    ensures { result ≡ is_whole text.now }
+{
+    text.is_empty() || text.ends_with(b"\n")
+}
+
+/// What is appended to a text of jobs for one more. Where the last line lacks its line feed it gets one.
+pub fn appended_job<A: Allocator>(alloc: A, text: &[u8], job: &Job) -> Result<String<A>, AllocError>
+    ensures { IfOk result (λ added. string_bytes added ≡ appended text.now job.now) }
+{
+    let mut added = String::new(alloc);
+    if !is_whole(text) {
+        added.push_str("\n")?;
+    }
+    add_job_line(&mut added, job)?;
+    Ok(added)
+}
+
+/// The line that says which job was queued.
+pub fn queued_line<A: Allocator>(alloc: A, job: &Job) -> Result<String<A>, AllocError>
+    ensures { IfOk result (λ line. string_bytes line ≡ queued_line job.now) }
+{
+    let mut line = String::from_str(alloc, "queued ")?;
+    add_job_line(&mut line, job)?;
+    Ok(line)
+}

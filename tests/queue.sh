@@ -1,0 +1,199 @@
+#!/usr/bin/env bash
+# Jobs that are queued by `uucpair queue`: each form of it, what it refuses, and 200 jobs from 4 processes at once while
+# sessions of `pair`, `call` and `answer` run over the same folder. Each file must come, whole and once.
+#
+#   tests/queue.sh [PROGRAM]
+#
+# It prints a line for each part, and ends with status 1 where one fails. The folders stay then.
+set -eu
+export LC_ALL=C
+jobs=50
+feeders=4
+root=$(dirname "$(dirname "$(readlink -f "$0")")")
+if [ -n "${1:-}" ]; then
+    program=$(readlink -f "$1")
+else
+    # builds it where that is needed
+    "$root/uucpair" scan </dev/null >/dev/null
+    program=$root/crates/uucpair/out/uucpair
+fi
+work=$(mktemp -d)
+failed=0
+passed=0
+
+# row NAME STATUS PRINTED SAID WORD..: runs `queue` with the words. What it says on standard error ends with SAID.
+row() {
+    local name=$1 status=$2 printed=$3 said=$4 ended=0 text
+    shift 4
+    "$program" queue "$@" >"$work/out" 2>"$work/err" || ended=$?
+    text=$(cat "$work/err")
+    if [ "$ended" -eq "$status" ] && [ "$(cat "$work/out")" = "$printed" ] && [[ $text == *"$said" && (-n $said || -z $text) ]]; then
+        passed=$((passed + 1))
+    else
+        failed=$((failed + 1))
+        echo "$name: status $ended, printed $(cat "$work/out"), said $text" >&2
+    fi
+}
+
+# holds NAME FILE TEXT
+holds() {
+    if [ "$(cat "$2")" = "$3" ]; then
+        passed=$((passed + 1))
+    else
+        failed=$((failed + 1))
+        echo "$1: $2 has $(cat "$2")" >&2
+    fi
+}
+
+forms() {
+    local d=$work/d long i
+    mkdir -p "$d/send" "$work/files"
+    echo one >"$work/files/x"
+    echo two >"$work/x"
+    : >"$work/.hidden"
+    : >"$work/a b"
+    head -c 1048576 /dev/zero >"$work/most"
+    head -c 1048577 /dev/zero >"$work/more"
+    row "nothing waits" 0 "" "" "$d"
+    row "send" 0 "queued send x x me" "" "$d" send "$work/files/x" --user me
+    holds "its copy" "$d/send/x" one
+    row "a name that is taken" 0 "queued send x.1 y me" "" "$d" send "$work/x" y --user me
+    holds "its copy" "$d/send/x.1" two
+    holds "the first copy" "$d/send/x" one
+    row "request" 0 "queued request ~/q q me" "" "$d" request '~/q' --user me
+    row "request with a target" 0 "queued request ~/q r me" "" "$d" request '~/q' r --user me
+    row "the list" 0 $'send x x me\nsend x.1 y me\nrequest ~/q q me\nrequest ~/q r me' "" "$d"
+    holds "jobs" "$d/jobs" $'send x x me\nsend x.1 y me\nrequest ~/q q me\nrequest ~/q r me'
+    USER=u LOGNAME=l row "the user of the system" 0 "queued request q q u" "" "$d" request q
+    USER='a b' LOGNAME=l row "a user that is no name" 0 "queued request q q l" "" "$d" request q
+    (
+        unset USER LOGNAME
+        row "no user" 0 "queued request q q uucp" "" "$d" request q
+        exit "$failed"
+    ) || failed=$((failed + 1))
+    row "the longest file" 0 "queued send most most me" "" "$d" send "$work/most" --user me
+    row "a file that is too long" 3 "" "can't read $work/more" "$d" send "$work/more"
+    row "no file" 3 "" "can't read $work/none" "$d" send "$work/none"
+    row "a folder" 3 "" "can't read $work/files" "$d" send "$work/files"
+    mkfifo "$work/pipe"
+    row "a pipe" 3 "" "can't read $work/pipe" "$d" send "$work/pipe"
+    row "a hidden file" 2 "" "without a space or a dot in front" "$d" send "$work/.hidden"
+    row "a file with a space" 2 "" "without a space or a dot in front" "$d" send "$work/a b"
+    row "no file is named" 2 "" "without a space or a dot in front" "$d" send
+    row "a bad target" 2 "" "without a space" "$d" send "$work/x" 'a b'
+    row "a bad user" 2 "" "without a space" "$d" send "$work/x" --user 'a b'
+    row "another order" 2 "" "what is queued is send or request" "$d" fetch x
+    row "a folder that is not there" 3 "" "device fault" "$work/gone"
+    row "a folder that is not there" 3 "" "device fault" "$work/gone" request q
+    mkdir "$work/bare"
+    row "no send" 3 "" "device fault" "$work/bare" send "$work/x"
+    row "a request needs none" 0 "queued request q q me" "" "$work/bare" request q --user me
+    # A name that a job has whose file is not there is taken too; a line without its line feed gets one.
+    mkdir -p "$work/e/send"
+    printf 'send x y u' >"$work/e/jobs"
+    row "a name that a job has" 0 "queued send x.1 x me" "" "$work/e" send "$work/x" --user me
+    holds "a line feed" "$work/e/jobs" $'send x y u\nsend x.1 x me'
+    printf 'send x y u\nbad\n' >"$work/e/jobs"
+    row "bad jobs" 2 "" "bad jobs at line 2" "$work/e" send "$work/x"
+    row "the list of bad jobs" 2 "" "bad jobs at line 2" "$work/e"
+    holds "bad jobs stay" "$work/e/jobs" $'send x y u\nbad'
+    for ((i = 0; i < 1024; i++)); do echo "request q q u"; done >"$work/e/jobs"
+    row "a job too many" 2 "" "bad jobs at line 1025" "$work/e" send "$work/x"
+    [ "$(ls -A "$work/e/send")" = x.1 ] || {
+        failed=$((failed + 1))
+        echo "a refused job leaves $(ls -A "$work/e/send")" >&2
+    }
+    long=$(head -c 200 /dev/zero | tr '\0' n)
+    : >"$work/$long"
+    row "a long name" 0 "queued send $long $long me" "" "$d" send "$work/$long" --user me
+    row "a long name that is taken" 3 "" "device fault" "$d" send "$work/$long" --user me
+    echo "forms: $passed of $((passed + failed)) rows passed"
+}
+
+# feed DIR NUMBER: one of the processes that queue at once.
+feed() {
+    local i
+    mkdir -p "$work/feed$2"
+    for ((i = 0; i < jobs; i++)); do
+        echo "file $2 $i" >"$work/feed$2/f"
+        "$program" queue "$1" send "$work/feed$2/f" "t$2.$i" --user u >>"$work/queued$2" 2>>"$work/feed.err" ||
+            echo "queue failed with $?" >>"$work/feed.err"
+    done
+}
+
+session_pair() {
+    "$program" pair "$work/line" "$1" "$2" >"$work/run.out" 2>"$work/run.err"
+}
+
+session_call() {
+    local status=0
+    rm -f "$work/line"
+    "$program" answer "unix:$work/line" "$2" --me b --peer a >"$work/answer.out" 2>"$work/answer.err" &
+    wait_for_line
+    "$program" call "unix:$work/line" "$1" --me a --peer b >"$work/run.out" 2>"$work/run.err" || status=$?
+    wait $! || status=$?
+    return "$status"
+}
+
+session_answer() {
+    local status=0
+    rm -f "$work/line"
+    "$program" answer "unix:$work/line" "$1" --me a --peer b >"$work/answer.out" 2>"$work/answer.err" &
+    wait_for_line
+    "$program" call "unix:$work/line" "$2" --me b --peer a >"$work/run.out" 2>"$work/run.err" || status=$?
+    wait $! || status=$?
+    return "$status"
+}
+
+wait_for_line() {
+    local i
+    for ((i = 0; i < 500; i++)); do
+        [ ! -S "$work/line" ] || return 0
+        sleep 0.01
+    done
+    echo "queue.sh: nobody listens; see $work" >&2
+    exit 1
+}
+
+# try KIND: sessions until all is queued and nothing is left. Each job is counted by the report lines of its sessions.
+try() {
+    local a=$work/$1/a b=$work/$1/b feeder=() i n sessions=0 behind=0 missing=0 struck=0 more
+    mkdir -p "$a"/{send,got} "$b"/{send,got}
+    rm -f "$work"/queued* "$work/feed.err"
+    for ((n = 0; n < feeders; n++)); do
+        feed "$a" "$n" &
+        feeder+=($!)
+    done
+    while [ "$behind" -eq 0 ] || { [ -s "$a/jobs" ] && [ "$behind" -lt 20 ]; }; do
+        kill -0 "${feeder[@]}" 2>/dev/null || { wait "${feeder[@]}" || true; behind=$((behind + 1)); }
+        session_"$1" "$a" "$b" || {
+            echo "queue.sh: a session failed; see $work" >&2
+            exit 1
+        }
+        more=$(cat "$work/run.out" "$work/answer.out" 2>/dev/null | sed -n 's/^'"$(side_of "$1")"' done pending .* struck \([0-9]*\) .*/\1/p')
+        struck=$((struck + more))
+        sessions=$((sessions + 1))
+    done
+    for ((n = 0; n < feeders; n++)); do
+        for ((i = 0; i < jobs; i++)); do
+            [ "$(cat "$b/got/t$n.$i" 2>/dev/null)" = "file $n $i" ] || missing=$((missing + 1))
+        done
+    done
+    n=$((feeders * jobs))
+    echo "$1: of $n jobs $missing are lost, $((struck - n + missing)) came twice, in $sessions sessions; left: $(wc -l <"$a/jobs")$(cat "$work/feed.err" 2>/dev/null)"
+    [ "$missing" -eq 0 ] && [ "$struck" -eq "$n" ] && [ ! -s "$work/feed.err" ] || failed=$((failed + 1))
+}
+
+side_of() {
+    if [ "$1" = answer ]; then echo called; else echo caller; fi
+}
+
+forms
+try pair
+try call
+try answer
+[ "$failed" -eq 0 ] || {
+    echo "queue.sh: $failed failed; see $work" >&2
+    exit 1
+}
+rm -rf "$work"
