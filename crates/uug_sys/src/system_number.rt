@@ -3,6 +3,7 @@ ghost use Rattle.std.specs.Prelude.{◌≡◌, ◌<◌, IsSome, None};
 use crate::failure::SystemFailure;
 use crate::system_text::SystemText;
 use std::alloc::Allocator;
+use std::fs::File;
 use std::rt::Files;
 use uug_folder::{FolderFailed, TextFile, read_number_text};
 use uug_stream::ToolFault;
@@ -40,7 +41,7 @@ impl<'a, R: Files, A: Allocator> SystemNumber<'a, R, A> {
     }
 }
 
-impl<R: Files, A: Allocator> TextFile for SystemNumber<'_, R, A> {
+impl<R: Files<File = File>, A: Allocator> TextFile for SystemNumber<'_, R, A> {
     ghost text = { λ _. None };
 
     ghost fault_count = { λ number. number.file.faults.count };
