@@ -8,11 +8,11 @@ use crate::status::SessionStatus;
 use std::alloc::{AllocError, Allocator};
 use uug_talk::{Hail, caller_number};
 
-/// The most reads that wait for the first text.
-const READS_MAX: u32 = 1024;
+/// The most reads that wait for the caller's text.
+const GREETING_READS_MAX: u32 = 1024;
 
-/// For so many silences in a row the first text is waited for.
-const SILENCES_MAX: u32 = 3;
+/// For so many silences in a row the caller's text is waited for.
+const GREETING_SILENCES_MAX: u32 = 3;
 
 /// A line of an end, at which the first words may have gone: what the end has said already is taken as written when it says it
 /// again, and what was heard is read again. Behind that it is the line as it is. It does not tell what it brings and takes.
@@ -79,8 +79,8 @@ impl<L: EndLine, A: Allocator> GreetedLine<L, A> {
     /// Reads until a text is whole, or nothing more comes.
     fn hear(&mut self, hail: &mut Hail) -> Result<(), AllocError> {
         let mut silences = 0;
-        for _ in 0..READS_MAX {
-            if hail.is_whole() || silences >= SILENCES_MAX {
+        for _ in 0..GREETING_READS_MAX {
+            if hail.is_whole() || silences >= GREETING_SILENCES_MAX {
                 return Ok(());
             }
             match self.hear_more(hail)? {
