@@ -177,8 +177,8 @@ session() {
     end_session
 }
 
-# check_jobs END: what is gone from its `jobs` is whole where it belongs. The feeder may append meanwhile: first to `jobs`, and
-# then to what was given, of which only what was there before `jobs` was read has to be in it.
+# check_jobs END: what is gone from its `jobs` is whole where it belongs. A job may be appended meanwhile, first to `jobs` and
+# then to what was given, of which only what stood there before has to be in `jobs` or done.
 check_jobs() {
     local kind source target from
     sort "$work/$1.given" >"$work/before"
