@@ -6,9 +6,11 @@
 #
 #   tests/kill_calls.sh [TRIALS [PROGRAM [SEED]]]
 #
-# SEED (1) decides who is killed and when. With NEAR=1 in the environment each kill waits for the next job that an end says
-# is done, and comes up to 20 ms after it: there lies what is written of a job. RATE has the bytes of a second. A line is
-# printed for each trial, and in the end one for all:
+# SEED (1) decides who is killed and when. In the environment WHEN=anywhere has the moments lie anywhere in six seconds,
+# WHEN=done has each wait for the next job that an end says is done, and come up to 20 ms after it, where that is written,
+# and WHEN=greeting has them in the first 150 ms of a session, where the number is; without WHEN one in two is anywhere, and
+# one in four each of the others. A session that is over before its moment is not counted, and the next one is struck. RATE has
+# the bytes of a second. A line is printed for each trial, and in the end one for all:
 #
 #   kills   moments at which an end was killed, or both
 #   lost    files whose job was gone, after a kill or in the end, and that had not come whole; files in `got` that were not
@@ -125,16 +127,28 @@ await_done() {
     done
 }
 
+# wait_to_strike: until a moment of the kind that is named, or of one of the three.
+wait_to_strike() {
+    local kinds=(anywhere anywhere done greeting) moment
+    local kind=${kinds[RANDOM % 4]}
+    printf -v moment '%d.%03d' $((RANDOM % 6)) $((RANDOM % 1000))
+    case ${WHEN:-$kind} in
+    greeting) printf -v moment '0.%03d' $((RANDOM % 150)) ;;
+    esac
+    pause "$moment"
+    case ${WHEN:-$kind} in
+    done)
+        await_done
+        printf -v moment '0.%03d' $((RANDOM % 20))
+        pause "$moment"
+        ;;
+    esac
+}
+
 # strike: kills an end, or both, at a moment of its own.
 strike() {
-    local who=$((RANDOM % 3)) moment behind
-    printf -v moment '%d.%03d' $((RANDOM % 6)) $((RANDOM % 1000))
-    printf -v behind '0.%03d' $((RANDOM % 20))
-    pause "$moment"
-    if [ -n "${NEAR:-}" ]; then
-        await_done
-        pause "$behind"
-    fi
+    local who=$((RANDOM % 3))
+    wait_to_strike
     [ $who -eq 1 ] || kill -9 "$caller" 2>/dev/null || true
     [ $who -eq 0 ] || kill -9 "$called" 2>/dev/null || true
 }
@@ -157,6 +171,7 @@ end_session() {
 session() {
     local log=$work/log.$sessions
     rm -f "$work"/{near,far}
+    touch "$log".{a,b}{,.out} # an end may be killed before it has opened them
     "$program" answer "unix:$work/far" "$work/b" --me b --peer a --timeout 5 -v "${options[@]}" \
         >"$log.b.out" 2>"$log.b" &
     called=$!
@@ -170,15 +185,12 @@ session() {
         >"$log.a.out" 2>"$log.a" &
     caller=$!
     started+=("$caller")
-    if [ "$kills_left" -gt 0 ]; then
-        kills_left=$((kills_left - 1))
-        strike
-    fi
+    [ "$kills_left" -eq 0 ] || strike
     end_session
 }
 
-# check_jobs END: what is gone from its `jobs` is whole where it belongs. A job may be appended meanwhile, first to `jobs` and
-# then to what was given, of which only what stood there before has to be in `jobs` or done.
+# check_jobs END: what is gone from its `jobs` is whole where it belongs. A job may be appended meanwhile, first to `jobs`
+# and then to what was given, of which only what stood there before has to be in `jobs` or done.
 check_jobs() {
     local kind source target from
     sort "$work/$1.given" >"$work/before"
@@ -265,7 +277,7 @@ try() {
         sessions=$((sessions + 1))
         session
         case $statuses in
-        *137*) kills=$((kills + 1)) ;;
+        *137*) kills=$((kills + 1)) kills_left=$((kills_left - 1)) ;;
         *124*) break ;;
         esac
         check_session
