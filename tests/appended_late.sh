@@ -8,14 +8,8 @@
 # It prints a line for each, and ends with status 1 where the job is lost. It needs strace.
 set -eu
 export LC_ALL=C
-root=$(dirname "$(dirname "$(readlink -f "$0")")")
-if [ -n "${1:-}" ]; then
-    program=$(readlink -f "$1")
-else
-    # builds it where that is needed
-    "$root/uucpair" scan </dev/null >/dev/null
-    program=$root/crates/uucpair/out/uucpair
-fi
+. "$(dirname "$(readlink -f "$0")")/common.sh"
+find_program "${1:-}"
 command -v strace >/dev/null || {
     echo "appended_late.sh: there is no strace" >&2
     exit 1

@@ -7,24 +7,11 @@
 # It prints a line for each of the three, and ends with status 1 where a file is lost. The folders stay then.
 set -eu
 export LC_ALL=C
+. "$(dirname "$(readlink -f "$0")")/common.sh"
 count=20
-root=$(dirname "$(dirname "$(readlink -f "$0")")")
-if [ -n "${1:-}" ]; then
-    program=$(readlink -f "$1")
-else
-    # builds it where that is needed
-    "$root/uucpair" scan </dev/null >/dev/null
-    program=$root/crates/uucpair/out/uucpair
-fi
-work=$(mktemp -d)
+find_program "${1:-}"
+new_work
 lost=0
-# A pipe that stays silent, to wait by.
-mkfifo "$work/never"
-exec {never}<>"$work/never"
-
-pause() {
-    read -rt "$1" -u "$never" || true
-}
 
 # new_folders NAME: sets `a` and `b` to folders of two ends, of which `a` has a long file and its job.
 new_folders() {
@@ -70,13 +57,10 @@ session_pair() {
 }
 
 wait_for_line() {
-    local i
-    for ((i = 0; i < 500; i++)); do
-        [ ! -S "$work/line" ] || return 0
-        pause 0.01
-    done
-    echo "queued_meanwhile.sh: nobody listens; see $work" >&2
-    exit 1
+    wait_for_socket "$work/line" || {
+        echo "queued_meanwhile.sh: nobody listens; see $work" >&2
+        exit 1
+    }
 }
 
 # try KIND: sessions until no more jobs come and none is left, and then what has come of them.

@@ -8,24 +8,11 @@
 # It prints how many rounds were well, and ends with status 1 where one was not. The folders stay then.
 set -eu
 export LC_ALL=C
+. "$(dirname "$(readlink -f "$0")")/common.sh"
 rounds=${1:-12}
 files=8
-root=$(dirname "$(dirname "$(readlink -f "$0")")")
-if [ -n "${2:-}" ]; then
-    program=$(readlink -f "$2")
-else
-    # builds it where that is needed
-    "$root/uucpair" scan </dev/null >/dev/null
-    program=$root/crates/uucpair/out/uucpair
-fi
-work=$(mktemp -d)
-# A pipe that stays silent, to wait by.
-mkfifo "$work/never"
-exec {never}<>"$work/never"
-
-pause() {
-    read -rt "$1" -u "$never" || true
-}
+find_program "${2:-}"
+new_work
 
 # make_folders: `hub`, and two systems that have files for it of the same lengths and other bytes.
 make_folders() {
@@ -53,11 +40,7 @@ answer_at() {
 
 # call_from SYSTEM: calls the hub, as soon as it listens.
 call_from() {
-    local i
-    for ((i = 0; i < 500; i++)); do
-        [ ! -S "$work/$1.line" ] || break
-        pause 0.01
-    done
+    wait_for_socket "$work/$1.line" || true
     "$program" call "unix:$work/$1.line" "$work/$1" --me "$1" --peer hub \
         >"$work/$1.call" 2>"$work/$1.call.err" || true
 }
