@@ -9,8 +9,8 @@
 # SEED (1) decides who is killed and when. In the environment WHEN=anywhere has the moments lie anywhere in six seconds,
 # WHEN=done has each wait for the next job that an end says is done, and come up to 20 ms after it, where that is written,
 # and WHEN=greeting has them in the first 150 ms of a session, where the number is; without WHEN one in two is anywhere, and
-# one in four each of the others. A session that is over before its moment is not counted, and the next one is struck. RATE has
-# the bytes of a second. A line is printed for each trial, and in the end one for all:
+# one in four each of the others. A session that is over before its moment is not counted, and the next one is struck. RATE
+# has the bytes of a second. A line is printed for each trial, and in the end one for all:
 #
 #   kills   moments at which an end was killed, or both
 #   lost    files whose job was gone, after a kill or in the end, and that had not come whole; files in `got` that were not
