@@ -4,5 +4,7 @@ pub mod JobsTextLemmas
 pub mod LocalFacts
 pub mod LocalLemmas
 pub mod NumberTextLemmas
+pub mod QueuedLemmas
+pub mod QueueingFacts
 pub mod QueueingLemmas
 pub mod StandardFacts

@@ -25,7 +25,10 @@ pub use jobs_text::{JobsFault, read_jobs, write_jobs};
 pub use local_names::LocalNames;
 pub use meanwhile::jobs_after;
 pub use number_text::{NUMBER_LINE_MAX, number_at_start, number_line, read_number_text};
-pub use queued::{OrderFault, appended_job, default_user, is_among, is_given_by, nth_name, ordered_job, queued_line, with_source};
+pub use queued::{
+    OrderFault, appended_job, default_user, is_among, is_given_by, nth_name, ordered_job,
+    queued_line, sends_any, with_source,
+};
 pub use report::{add_failed, add_state};
 pub use rewrites::Rewrites;
 pub use text_file::TextFile;
