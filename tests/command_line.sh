@@ -298,6 +298,7 @@ helps "help on play" "play    Reads a script"
 helps "help on pair" "pair    Moves files"
 helps "help on call" "call    Calls another system"
 helps "help on answer" "answer  Waits for the call"
+helps "help on queue" "queue   Queues a job"
 row "help of scan" 2 "Reads bytes" "" scan --help </dev/null
 helps "a line of a listing" "  DATA N ACK N SIZE N VALID N"
 helps "a line of a detailed listing" "  CONTROL BAD checksum"

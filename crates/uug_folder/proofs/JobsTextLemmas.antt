@@ -114,7 +114,7 @@ says_job : (job : Job) → IsPlainJob job → says_of (joined (job_words job)) �
 says_job (Send a b c temp) h = says_send a b c h.0 h.1 h.2 ∙ ap (λ t. Some (one_job (Send a b c t))) (sym h.3)
 says_job (Request a b c) h = says_request a b c h.0 h.1 h.2
 
-no_feed_in_job : (job : Job) → IsPlainJob job → HasNoFeed (joined (job_words job))
+pub no_feed_in_job : (job : Job) → IsPlainJob job → HasNoFeed (joined (job_words job))
 no_feed_in_job (Send a b c temp) h =
     no_feed_in_four (codes "send") a b c (record { first = is_name-send; source = h.0; target = h.1; user = h.2 })
 no_feed_in_job (Request a b c) h =
@@ -123,7 +123,7 @@ no_feed_in_job (Request a b c) h =
 room_for_one : (job : Job) (jobs : List Job) → length jobs < JOBS_MAX → with_line (one_job job) jobs ≡ Some (jobs ++ job ∷ [])
 room_for_one job jobs h = let t : (length jobs == JOBS_MAX) ≡ false = grind (arith, nat_tests, h) in rw t refl
 
-job_added : (job : Job) → IsPlainJob job → (jobs : List Job) → length jobs < JOBS_MAX → line_added (joined (job_words job)) jobs ≡ Some (jobs ++ job ∷ [])
+pub job_added : (job : Job) → IsPlainJob job → (jobs : List Job) → length jobs < JOBS_MAX → line_added (joined (job_words job)) jobs ≡ Some (jobs ++ job ∷ [])
 job_added job p jobs h = ap (λ o. o >>= (λ says. with_line says jobs)) (says_job job p) ∙ room_for_one job jobs h
 
 pub first_of_lines : (line rest : List ℕ) → HasNoFeed line → lines (ended line ++ rest) ≡ line ∷ lines rest

@@ -6,5 +6,7 @@ pub mod LocalLemmas
 pub mod NumberTextLemmas
 mod OpenJobsFacts
 pub mod OpenJobsLemmas
+pub mod QueuedLemmas
+pub mod QueueingFacts
 pub mod QueueingLemmas
 pub mod StandardFacts

@@ -1,5 +1,5 @@
 -- The last part of a path, and what is appended to a text of jobs.
-use Rattle.std.proofs.Common.{◌≡◌, ℕ, true, false, true≢false, List, [], ◌∷◌, drop, refl, sym, ◌∙◌}
+use Rattle.std.proofs.Common.{◌≡◌, ℕ, true, false, List, [], ◌∷◌, drop, refl}
 use Rattle.uug_folder.specs.Queueing.{has_slash, last_part}
 
 -- where a slash stands in a path, its last part stands behind its first byte

@@ -1,10 +1,9 @@
 -- What a person queues: the job of an order, the name of a copy in `send`, and what is appended to the text of the jobs (this
 -- project's profile).
-use Rattle.std.specs.Prelude.{◌==◌, ◌||◌, ℕ, Bool, true, false, List, [], ◌∷◌, ◌++◌, length, codes, nat_eq, Option, Some, None, option_map, unwrap_or, Result, Ok, Err, if◌then◌else◌}
+use Rattle.std.specs.Prelude.{◌==◌, ◌||◌, ℕ, Bool, true, false, List, [], ◌∷◌, ◌++◌, length, codes, nat_eq, Option, Some, None, option_map, Result, Ok, Err, if◌then◌else◌}
 use Rattle.std.specs.Borrow.{Bor}
 use Rattle.std.specs.Fmt.{decimal}
 use Rattle.std.specs.List.{ends_with, list_any, starts_with}
-use Rattle.std.specs.Option.{option_and_then}
 use Rattle.std.specs.Str.{bytes_eq}
 use Rattle.uug_conversation.specs.declared.job.Job.{Job}
 use Rattle.uug_conversation.specs.declared.job.Job.TheVariants.{Send, Request}
@@ -67,6 +66,13 @@ gives name (Request source target user) = false
 
 abbrev pub is_given_by : (name : List ℕ) → List Job → Bool
 is_given_by name jobs = list_any (gives name) jobs
+
+abbrev pub is_send : Job → Bool
+is_send (Send source target user temp) = true
+is_send (Request source target user) = false
+
+abbrev pub sends_any : List Job → Bool
+sends_any jobs = list_any is_send jobs
 
 -- ---- orders
 

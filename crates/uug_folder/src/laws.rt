@@ -1,11 +1,12 @@
 //! Laws of what this crate reads and writes. A call does nothing: its contract is the law.
-ghost use Rattle.std.specs.Prelude.{◌≡◌, ◌≤◌, ◌-◌, ℕ, List, length, All, Ok, Some};
+ghost use Rattle.std.specs.Prelude.{◌≡◌, ◌<◌, ◌≤◌, ◌-◌, ◌++◌, ◌∷◌, [], ℕ, List, length, All, Ok, Some};
 ghost use Rattle.uug_conversation.specs.declared.job.Job.{Job};
 ghost use Rattle.uug_conversation.specs.declared.queue.TheConstants.{JOBS_MAX};
 ghost use Rattle.uug_folder.specs.declared.number_text.TheConstants.{NUMBER_LINE_MAX};
 ghost use Rattle.uug_conversation.specs.Jobs.{Lists, pending};
 ghost use Rattle.uug_folder.specs.JobsText.{IsPlainJob, IsQueueOf, jobs_of, jobs_text};
 ghost use Rattle.uug_folder.specs.OpenJobs.{Holds, jobs_left, open_in, times};
+ghost use Rattle.uug_folder.specs.Queueing.{appended};
 
 /// The limit of the bytes of the line of a number is this one.
 pub fn limits()
@@ -29,4 +30,12 @@ pub fn each_job_is_taken_out_once()
 pub fn the_jobs_that_were_read_stand_there()
     ensures { (text : List ℕ) (queue : Lists) → IsQueueOf text queue
         → Holds (open_in (Some text)) (pending queue) }
+{}
+
+/// With what is appended to a text of jobs for one more it says that one too, behind the others, as long as no more of them
+/// are pending than may be, and the job has names and not the name of a copy.
+pub fn what_is_queued_is_read()
+    ensures { (text : List ℕ) → (jobs : List Job) → (job : Job) → jobs_of text ≡ Ok jobs
+        → length jobs < JOBS_MAX → IsPlainJob job
+        → jobs_of (text ++ appended text job) ≡ Ok (jobs ++ job ∷ []) }
 {}

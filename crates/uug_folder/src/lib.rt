@@ -30,7 +30,7 @@ pub use number_text::{
 };
 pub use queued::{
     OrderFault, appended_job, default_user, is_among, is_given_by, nth_name, ordered_job,
-    queued_line, with_source,
+    queued_line, sends_any, with_source,
 };
 pub use report::{add_failed, add_state};
 pub use text_file::TextFile;

@@ -1,6 +1,6 @@
 //! What a person queues: the job of an order, the name of a copy in `send`, and what is appended to the text of the jobs.
 ghost use Rattle.std.specs.Prelude.{◌≡◌, IfOk, None, Some, string_bytes};
-ghost use Rattle.uug_folder.specs.Queueing.{appended, base_name, gives, is_among, is_given_by, is_whole, last_part, name_in, nth_name, ordered, queued_line, requests_with, sends_with, shown_text, target_with, user_by, user_with, visible, with_source};
+ghost use Rattle.uug_folder.specs.Queueing.{appended, base_name, gives, is_among, is_given_by, is_whole, last_part, name_in, nth_name, ordered, queued_line, requests_with, sends_any, sends_with, shown_text, target_with, user_by, user_with, visible, with_source};
 
 use crate::jobs_text::add_job_line;
 use crate::meanwhile::is_job;
@@ -256,4 +256,16 @@ pub fn queued_line<A: Allocator>(alloc: A, job: &Job) -> Result<String<A>, Alloc
     let mut line = String::from_str(alloc, "queued ")?;
     add_job_line(&mut line, job)?;
     Ok(line)
+}
+
+/// Whether one of these jobs sends a file, so that `send` is needed.
+pub fn sends_any(jobs: &[Job]) -> bool
+    ensures { result ≡ sends_any jobs.now }
+{
+    for job in jobs {
+        if let Job::Send { .. } = job {
+            return true;
+        }
+    }
+    false
 }

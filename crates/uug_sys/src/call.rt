@@ -11,7 +11,7 @@ ghost use Rattle.uug_transfer.specs.BufferedNodes.{IsCleared, node_in};
 ghost use Rattle.uug_sys.specs.Tasks.{IsSaidBy, IsTask, StandsAt, identity_at};
 
 use crate::device_line::DeviceLine;
-use crate::dir_lock::{DirLock, lock_dir};
+use crate::dir_lock::{DirLock, lock_dir, see_folders};
 use crate::failure::{Cause, EndDir, EndText, Resource, SystemFailure};
 use crate::opened_jobs::{OpenJobs, open_jobs};
 use crate::run_fault::RunFault;
@@ -188,7 +188,7 @@ fn lock_and_look<A: Allocator + Copy, R: Files<File = File> + Alloc + Clone + Dr
     }
 }
 
-/// Whether the number and the jobs can be read.
+/// Whether the number and the jobs can be read, and the folders are there that they need.
 fn look<A: Allocator + Copy, R: Files>(
     alloc: A,
     rt: &R,
@@ -197,8 +197,10 @@ fn look<A: Allocator + Copy, R: Files>(
     ensures { IfErr result IsStartFault }
 {
     read_numbers(alloc, rt, task)?;
-    drop(open_jobs(alloc, rt, task.end_dir())?);
-    Ok(())
+    let jobs = open_jobs(alloc, rt, task.end_dir())?;
+    let seen = see_folders(alloc, rt, task.end_dir(), jobs.queue.pending());
+    drop(jobs);
+    seen
 }
 
 /// The end opens its line, and talks over it.

@@ -10,6 +10,8 @@ use std::fs::{File, TryLockError};
 use std::io::ErrorKind;
 use std::rt::Files;
 use std::{fs, io};
+use uug_folder::sends_any;
+use uug_session::Job;
 use uug_stream::ToolFault;
 
 /// The lock on the folder of an end. The system gives it back when this is dropped, and when the process dies.
@@ -52,6 +54,41 @@ pub(crate) fn see_dir<R: Files>(rt: &R, dir: EndDir<'_>) -> Result<(), RunFault>
     match open_dir(rt, dir.path) {
         Ok(_) => Ok(()),
         Err(error) => Err(RunFault::of(&error, dir, Resource::Dir)),
+    }
+}
+
+/// Sees that the folders in that of an end are there which a session with these jobs needs: `got`, and `send` where one of
+/// them sends a file.
+pub fn see_folders<A: Allocator + Copy, R: Files>(
+    alloc: A,
+    rt: &R,
+    dir: EndDir<'_>,
+    jobs: &[Job],
+) -> Result<(), RunFault>
+    ensures no_other { IfErr result IsFolderFault }
+{
+    see_below(alloc, rt, dir, "got", Resource::GotFolder)?;
+    if sends_any(jobs) {
+        see_below(alloc, rt, dir, "send", Resource::Send)?;
+    }
+    Ok(())
+}
+
+/// Sees that the folder of this name is there, in that of an end.
+fn see_below<A: Allocator + Copy, R: Files>(
+    alloc: A,
+    rt: &R,
+    dir: EndDir<'_>,
+    name: &str,
+    resource: Resource,
+) -> Result<(), RunFault>
+    ensures { IfErr result IsFolderFault }
+{
+    let front = dir.path;
+    let path = format!(in alloc; "{front}/{name}")?;
+    match open_dir(rt, path.as_str()) {
+        Ok(_) => Ok(()),
+        Err(error) => Err(RunFault::of(&error, dir, resource)),
     }
 }
 

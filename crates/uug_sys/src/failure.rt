@@ -21,6 +21,8 @@ pub enum Resource {
     Send,
     /// The file of this name in `send`.
     Given(Name),
+    /// The folder `got`.
+    GotFolder,
     /// The file of this name in `got`.
     Got(Name),
 }

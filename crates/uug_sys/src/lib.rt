@@ -32,7 +32,7 @@ mod wire_line;
 
 pub use call::{CallTask, SECONDS_MAX, call_run};
 pub use device_line::DeviceLine;
-pub use dir_lock::{DirLock, lock_dir};
+pub use dir_lock::{DirLock, lock_dir, see_folders};
 pub use failure::{Cause, EndDir, EndText, Resource, SystemFailure};
 pub use faults::Faults;
 pub use no_file::NoFile;

@@ -19,7 +19,7 @@ use uug_stream::ToolFault;
 use uug_talk::{FILE_MAX, Name};
 
 /// So many names are tried for a copy.
-const NAMES_MAX: u32 = 1000;
+pub(crate) const NAMES_MAX: u32 = 1000;
 
 /// The bytes of the file that is to be copied: a regular one, of at most `FILE_MAX` bytes.
 pub(crate) fn read_copied<A: Allocator + Copy, R: Files>(

@@ -19,7 +19,7 @@ use uug_session::{Job, Queue};
 use uug_stream::ToolFault;
 
 /// So often in a row another file may come in the place of `jobs` while a job is appended.
-const TRIES_MAX: u32 = 1000;
+pub(crate) const APPENDS_MAX: u32 = 1000;
 
 /// Appends a job to `jobs` in the folder of an end, and sees it on the device. Who takes the place of `jobs` meanwhile holds
 /// the same lock, as the sessions of this program do; else the new file is looked at, and the job appended again where it is
@@ -35,7 +35,7 @@ pub(crate) fn add_job<A: Allocator + Copy, R: Files<File = File>>(
     let front = dir.path;
     let path = format!(in alloc; "{front}/jobs")?;
     let mut is_appended = false;
-    for _ in 0..TRIES_MAX {
+    for _ in 0..APPENDS_MAX {
         let Some(file) = lock_jobs(rt, dir, path.as_str())? else {
             continue;
         };

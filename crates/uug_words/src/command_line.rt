@@ -128,8 +128,9 @@ fn pair_task<'a>(matches: &ArgMatches<'a>) -> PairTask<'a>
 fn queue_task<'a>(matches: &ArgMatches<'a>) -> QueueTask<'a>
     ensures { IsQueueIn (entries_of matches.now) result }
 {
+    let dir = text(matches, "DIR");
     QueueTask {
-        dir: text(matches, "DIR"),
+        dir,
         order: word(matches, "ORDER"),
         file: file(matches),
         target: word(matches, "TARGET"),

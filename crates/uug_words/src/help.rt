@@ -124,7 +124,8 @@ prints
   caller done pending 0 struck 1 failed 0
 and b/got/y is the file.";
 
-pub const QUEUE: &str = "send copies FILE into DIR/send, under its own name or one with a number, and appends a job
+pub const QUEUE: &str =
+    "send copies FILE into DIR/send, under its own name or one with a number, and appends a job
 for the copy to DIR/jobs. request appends a job that asks the other end for FILE. So
 nobody has to edit jobs, and it may be done while a session runs. A line says which job
 was queued. Without an order the jobs that wait are listed, a line each.
