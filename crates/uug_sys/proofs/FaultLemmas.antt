@@ -1,5 +1,5 @@
 -- A device that had no faults, and has failed since.
-use Rattle.std.proofs.Common.{◌≡◌, ℕ, ◌<◌, ◌≤◌, ◌⊎◌, inl, inr, subst, arith}
+use Rattle.std.proofs.Common.{◌≡◌, ℕ, ◌<◌, ◌≤◌, inl, inr, subst, arith}
 use Rattle.uug_session.specs.Engine.{HasFailed, faults_max}
 
 pub has_faults : (before after : ℕ) → before ≡ 0 → HasFailed faults_max before after → 0 < after

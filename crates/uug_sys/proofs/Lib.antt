@@ -1,3 +1,4 @@
 pub mod FaultLemmas
 pub mod NameLemmas
 pub mod PairLemmas
+pub mod RunLemmas

@@ -1,22 +1,23 @@
 -- What a task of one end says (this project's profile).
-use Rattle.std.specs.Prelude.{◌≡◌, ◌≢◌, ◌<◌, ◌≤◌, ◌*◌, ℕ, List, [], Some, None}
+use Rattle.std.specs.Prelude.{◌≡◌, ◌≢◌, ◌<◌, ◌≤◌, ◌*◌, ℕ, Bool, List, [], Some, None}
 use Rattle.std.specs.Duration.{as_nanos}
-use Rattle.uug_link.specs.Announced.{announced}
-use Rattle.uug_link.specs.Terms.{IsSize, IsWindow}
+use Rattle.uug_link.specs.Announced.{Announced, announced}
+use Rattle.uug_link.specs.Terms.{IsSize, IsWindow, size_of_code}
 use Rattle.uug_talk.specs.Name.{IsName}
+use Rattle.uug_conversation.specs.Holdings.{Holdings, Kept}
 use Rattle.uug_conversation.specs.Jobs.{Lists}
 use Rattle.uug_conversation.specs.declared.side.Side.{Side}
+use Rattle.uug_events.specs.Beginnings.{EndBeginning}
 use Rattle.uug_session.specs.EndStep.{Identity}
 use Rattle.uug_session.specs.Engine.{BeginsSession, all_ahead}
 use Rattle.uug_session.specs.Node.{NodeState}
 use Rattle.uug_session.specs.Sessions.{HoldsNothing}
 use Rattle.uug_session.specs.declared.place.Place.{Place}
-use Rattle.uug_folder.specs.JobsText.{IsQueueOf}
 use Rattle.uug_transfer.specs.BufferedNodes.{IsCleared}
-use Rattle.uug_sys.specs.Places.{Announces}
 use Rattle.uug_transfer.specs.LineNames.{line_of, shown}
 use Rattle.uug_sys.specs.declared.call.CallTask.{CallTask}
 use Rattle.uug_sys.specs.declared.call.Terms.{Terms}
+use Rattle.uug_sys.specs.declared.end_parts.EndParts.{EndParts}
 use Rattle.uug_sys.specs.declared.call.TheConstants.{SECONDS_MAX}
 
 -- a task that may be run: its numbers are in their ranges, its line is one, and its names are names
@@ -27,6 +28,13 @@ pub record IsTask (task : CallTask) : Type 0 where
   pub line : line_of task.line.now ≢ None
   pub me : IsName task.me.now
   pub peer : IsName task.peer.now
+
+-- An end announces this window and packets of so many bytes, and is quiet on repeats or not, with short commands or not.
+pub record Announces (window size : ℕ) (quiet short : Bool) (a : Announced) : Type 0 where
+  pub of_window : a.window ≡ window
+  pub of_size : size_of_code a.size_code ≡ size
+  pub is_quiet : a.quiet ≡ quiet
+  pub is_short : a.short ≡ short
 
 -- The line, the names and what is announced are as the task says, and the line waits for as long. No number is read yet.
 pub record IsSaidBy (task : CallTask) (terms : Terms) : Type 0 where
@@ -42,11 +50,26 @@ pub record IsSaidBy (task : CallTask) (terms : Terms) : Type 0 where
 abbrev pub identity_at : Side → Place → Identity
 identity_at side place = record { side = side; me = place.me; peer = place.peer }
 
--- An end of this side stands at its line, at this place and with the jobs of this text: what it says first is to be written,
--- and nothing else has become of it.
-pub record StandsAt (side : Side) (place : Place) (text : List ℕ) (now : NodeState) : Type 0 where
-  pub jobs : Lists
-  pub read : IsQueueOf text jobs
+-- how an end comes to its session: at this place, with these jobs, all of which are to be offered, and with a spool that gives
+-- and accepts this, and has kept that
+abbrev pub beginning_at : Place → Lists → Holdings → List Kept → EndBeginning
+beginning_at place jobs holdings kept = record {
+  me = place.me;
+  peer = place.peer;
+  own = announced place.announce;
+  holdings = holdings;
+  lists = all_ahead jobs;
+  kept = kept;
+  number = place.number;
+}
+
+-- the same of an end that is made of this
+abbrev pub beginning_of : {S J N A : Type 0} → (holdings : S → Holdings) (kept : S → List Kept) → EndParts S J N A → EndBeginning
+beginning_of holdings kept parts = beginning_at parts.place parts.queue (holdings parts.spool) (kept parts.spool)
+
+-- An end of this side has begun its session, at this place and with these jobs: what it says first is to be written, and
+-- nothing else has become of it.
+pub record HasBegunAt (side : Side) (place : Place) (jobs : Lists) (now : NodeState) : Type 0 where
   pub first : NodeState
   pub begins : BeginsSession (identity_at side place) (announced place.announce) place.number (all_ahead jobs) [] first.engine
   pub held : HoldsNothing first

@@ -1,17 +1,14 @@
 //! One end over a folder, and the line to the other one.
 ghost use Rattle.std.specs.Prelude.{◌≡◌, ◌≢◌, ◌<◌, ◌≤◌, ◌⊎◌, ◌↔◌, [], None, Ok, IfErr, IfOk, IfSome, IsSome, MatchOption, MatchResult};
+ghost use Rattle.uug_folder.specs.JobsText.{IsQueueOf};
 ghost use Rattle.uug_folder.specs.NumberText.{begins_with, number_in};
-ghost use Rattle.uug_link.specs.Announced.{announced};
-ghost use Rattle.uug_session.specs.Engine.{BeginsSession, all_ahead};
-ghost use Rattle.uug_session.specs.Node.{node_of, spool_of};
-ghost use Rattle.uug_session.specs.Sessions.{HoldsNothing};
 ghost use Rattle.uug_stream.specs.Streams.{CountsFault};
 ghost use Rattle.uug_sys.specs.Faults.{IsCallFault, IsLockFault, IsOpeningFault, IsStartFault};
-ghost use Rattle.uug_transfer.specs.BufferedNodes.{IsCleared, node_in};
-ghost use Rattle.uug_sys.specs.Tasks.{IsSaidBy, IsTask, StandsAt, identity_at};
+ghost use Rattle.uug_sys.specs.Tasks.{IsSaidBy, IsTask};
 
 use crate::device_line::DeviceLine;
 use crate::dir_lock::{DirLock, lock_dir, see_folders};
+use crate::end_parts::{EndParts, FinishedEnd, make_node};
 use crate::failure::{Cause, EndDir, EndText, Resource, SystemFailure};
 use crate::opened_jobs::{OpenJobs, open_jobs};
 use crate::run_fault::RunFault;
@@ -30,12 +27,12 @@ use std::rt::Files;
 use std::time::Duration;
 use uug_folder::{FolderSpool, LocalNames, number_at_start, number_beside, read_number_text};
 use uug_link::Announce;
-use uug_session::{MemorySpool, Node, Place, Queue, Side, Spool, Stored};
+use uug_session::{MemorySpool, Place, Queue, Side, Spool, Stored};
 use uug_stream::{Output, ToolFault};
 use uug_talk::Name;
 use uug_transfer::{
-    BYTES_MAX, BufferedNode, EndLine, FaultInjector, GreetedLine, LineMonitor, LineName,
-    SessionObserver, TransferEnd, call_over, read_line_name,
+    BufferedNode, EndLine, FaultInjector, GreetedLine, LineMonitor, LineName, SessionObserver,
+    TransferEnd, read_line_name,
 };
 
 /// The most seconds that a line waits.
@@ -87,6 +84,14 @@ type SystemSpool<'a, R, A> = LocalNames<SystemFolder<'a, R, A>, A>;
 
 /// An end over a folder of the system.
 type SystemEnd<'a, R, A> = TransferEnd<
+    SystemSpool<'a, R, A>,
+    SystemText<'a, R, A>,
+    SystemNumber<'a, R, A>,
+    A,
+>;
+
+/// What such an end is made of.
+type SystemParts<'a, R, A> = EndParts<
     SystemSpool<'a, R, A>,
     SystemText<'a, R, A>,
     SystemNumber<'a, R, A>,
@@ -330,14 +335,18 @@ where
         Ok(numbers) => numbers,
         Err(fault) => return Err(fault.tell(why)),
     };
-    let mut end = match read_end(alloc, rt, task, place, numbers) {
-        Ok(end) => end,
+    let parts = match read_parts(alloc, rt, task, place, numbers) {
+        Ok(parts) => parts,
         Err(fault) => return Err(fault.tell(why)),
     };
-    let result = call_over(alloc, task.side, &mut end, line, BYTES_MAX, output);
+    let finished = match parts.run(alloc, task.side, line, output) {
+        Ok(finished) => finished,
+        Err(AllocError) => return Err(ToolFault::Memory),
+    };
+    let FinishedEnd { end, answer } = finished;
     *why = failure_of(&end);
     drop(end);
-    result
+    answer
 }
 
 /// Which call of the system on the folder of an end failed first: in `got`, else on its jobs or its number.
@@ -351,18 +360,19 @@ fn failure_of<R: Files, A: Allocator + Copy>(end: &SystemEnd<'_, R, A>) -> Optio
         .or(end.number.failure())
 }
 
-/// An end over the folder `dir`, as it stands.
-fn read_end<'a, A: Allocator + Copy, R: Files + Alloc + Clone + Drop>(
+/// What an end over the folder of the task is made of, as that stands.
+fn read_parts<'a, A: Allocator + Copy, R: Files + Alloc + Clone + Drop>(
     alloc: A,
     rt: &'a R,
     task: &CallTask<'a>,
     mut place: Place,
     numbers: Numbers,
-) -> Result<SystemEnd<'a, R, A>, RunFault>
-    ensures jobs_calm { IfOk result (λ end. end.jobs.file.faults.count ≡ 0) }
-    ensures number_calm { IfOk result (λ end. end.number.file.faults.count ≡ 0) }
-    ensures stands { IfOk result (λ end. StandsAt task.now.side
-        (record place { number = numbers.begins }) end.jobs.before.items (node_in end.buffered)) }
+) -> Result<SystemParts<'a, R, A>, RunFault>
+    ensures jobs_calm { IfOk result (λ parts. parts.jobs.file.faults.count ≡ 0) }
+    ensures number_calm { IfOk result (λ parts. parts.number.file.faults.count ≡ 0) }
+    ensures place { IfOk result (λ parts.
+        parts.place ≡ record place { number = numbers.begins }) }
+    ensures jobs { IfOk result (λ parts. IsQueueOf parts.jobs.before.items parts.queue) }
     ensures no_other { IfErr result IsStartFault }
 {
     place.number = numbers.begins;
@@ -374,7 +384,7 @@ fn read_end<'a, A: Allocator + Copy, R: Files + Alloc + Clone + Drop>(
             return Err(fault);
         }
     };
-    Ok(make_end(alloc, rt, task, place, numbers.held, jobs, files)?)
+    Ok(make_parts(alloc, rt, task, place, numbers.held, jobs, files)?)
 }
 
 /// The numbers of an end's conversations as its session begins.
@@ -459,8 +469,8 @@ fn meet_caller<A: Allocator + Copy, L: EndLine>(
     said
 }
 
-/// An end over the folder of the task, with these jobs and these files to give.
-fn make_end<'a, A: Allocator + Copy, R: Files>(
+/// What an end over the folder of the task is made of, with these jobs and these files to give.
+fn make_parts<'a, A: Allocator + Copy, R: Files>(
     alloc: A,
     rt: &'a R,
     task: &CallTask<'a>,
@@ -468,19 +478,21 @@ fn make_end<'a, A: Allocator + Copy, R: Files>(
     held: Option<u32>,
     jobs: OpenJobs<'a, R, A>,
     files: Vec<Stored<A>, A>,
-) -> Result<SystemEnd<'a, R, A>, AllocError>
-    ensures stands { IfOk result (λ end.
-        StandsAt task.now.side place end.jobs.before.items (node_in end.buffered)) }
-    ensures jobs { IfOk result (λ end. end.jobs ≡ jobs.entry.file) }
-    ensures number { IfOk result (λ end. end.number.file.faults.count ≡ 0) }
+) -> Result<SystemParts<'a, R, A>, AllocError>
+    ensures place { IfOk result (λ parts. parts.place ≡ place) }
+    ensures jobs { IfOk result (λ parts. parts.jobs ≡ jobs.entry.file) }
+    ensures queue { IfOk result (λ parts. IsQueueOf parts.jobs.before.items parts.queue) }
+    ensures lenient { IfOk result (λ parts. parts.spool.lenient ≡ task.now.is_lenient) }
+    ensures files { IfOk result (λ parts. parts.spool.files.files ≡ files.items) }
+    ensures number { IfOk result (λ parts. parts.number.file.faults.count ≡ 0) }
 {
     let OpenJobs { file, queue } = jobs;
     let number = SystemText::new(alloc, rt, task.end_dir(), EndText::Number)?;
     let spool = make_spool(alloc, rt, task, files)?;
-    let node = make_node(alloc, task.side, place, queue, spool)?;
-    let buffered = BufferedNode::new(alloc, node, FaultInjector::none())?;
-    Ok(TransferEnd {
-        buffered,
+    Ok(EndParts {
+        place,
+        queue,
+        spool,
         jobs: file,
         number: SystemNumber::new(number, held),
     })
@@ -501,30 +513,4 @@ fn make_spool<'a, A: Allocator + Copy, R: Files>(
     let mut spool = LocalNames::new(alloc, files);
     spool.set_lenient(task.is_lenient);
     Ok(spool)
-}
-
-/// The end itself, with these jobs.
-fn make_node<S: Spool + Drop, A: Allocator + Copy>(
-    alloc: A,
-    side: Side,
-    place: Place,
-    jobs: Queue<A>,
-    spool: S,
-) -> Result<Node<S, A>, AllocError>
-    ensures begins { IfOk result (λ node. BeginsSession (identity_at side place)
-        (announced place.announce) place.number (all_ahead jobs) [] (node_of node).engine) }
-    ensures nothing_held { IfOk result (λ node. HoldsNothing (node_of node)) }
-    ensures spool { IfOk result (λ node. spool_of node ≡ spool) }
-{
-    let made = match side {
-        Side::Caller => Node::caller(alloc, place, jobs, spool),
-        Side::Called => Node::called(alloc, place, jobs, spool),
-    };
-    match made {
-        Ok(node) => Ok(node),
-        Err(refused) => {
-            drop(refused);
-            Err(AllocError)
-        }
-    }
 }

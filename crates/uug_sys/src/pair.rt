@@ -1,18 +1,19 @@
 //! Two folders, and the socket between their ends.
-ghost use Rattle.std.specs.Prelude.{◌≡◌, ◌≢◌, ◌≤◌, ◌<◌, ◌↔◌, ◌&&◌, false, IfErr, IfOk, IsSome, None};
+ghost use Rattle.std.specs.Prelude.{◌≡◌, ◌≢◌, ◌≤◌, ◌<◌, ◌↔◌, ◌&&◌, false, IfErr, IfOk, IsSome};
 ghost use Rattle.uug_talk.specs.Name.{IsName};
-ghost use Rattle.uug_link.specs.Announced.{announced};
-ghost use Rattle.uug_conversation.specs.Turns.{other};
-ghost use Rattle.uug_session.specs.Node.{node_of, spool_of};
-ghost use Rattle.uug_session.specs.Sessions.{HoldsNothing};
+ghost use Rattle.uug_events.specs.Beginnings.{IsSoundBeginning};
+ghost use Rattle.uug_events.specs.NodeRuns.{HasRun};
+ghost use Rattle.uug_folder.specs.JobsText.{IsQueueOf};
 ghost use Rattle.uug_stream.specs.Streams.{CountsFault};
 ghost use Rattle.uug_transfer.specs.FaultInjection.{is_in_range};
 ghost use Rattle.uug_sys.specs.Faults.{IsReadingFault, IsRunFault, IsSystemFault};
-ghost use Rattle.uug_sys.specs.Places.{Announces, BeginsInPair, StandsInPair, name_at};
-ghost use Rattle.uug_transfer.specs.BufferedNodes.{node_in};
+ghost use Rattle.uug_sys.specs.Places.{IsPlaceInPair};
+ghost use Rattle.uug_sys.specs.Tasks.{beginning_of};
+ghost use Rattle.uug_transfer.specs.BufferedNodes.{IsLed, node_in, spool_in};
 ghost use Rattle.uug_transfer.specs.Turns.{HasRoom};
 
 use crate::dir_lock::lock_dir;
+use crate::end_parts::EndParts;
 use crate::failure::{Cause, EndDir, Resource, SystemFailure};
 use crate::no_file::NoFile;
 use crate::opened_jobs::{OpenJobs, open_jobs};
@@ -27,12 +28,13 @@ use std::net::Net;
 use std::os::unix::net::{UnixListener, UnixStream};
 use std::rt::Files;
 use std::{fs, io};
+use uug_events::laws::events_follow_events;
 use uug_folder::FolderSpool;
 use uug_link::Announce;
-use uug_session::{Node, Place, Queue, Side, Spool, Stored};
+use uug_session::{Place, Side, Spool, Stored};
 use uug_stream::{Output, ToolFault};
 use uug_talk::Name;
-use uug_transfer::{BufferedNode, FaultInjector, Line, TransferEnd, pair_over};
+use uug_transfer::{FaultInjector, Line, TransferEnd, pair_over};
 
 /// The most turns that two ends take.
 pub const TURNS_MAX: u32 = 1_000_000;
@@ -54,6 +56,24 @@ type SystemSpool<'a, R, A> = FolderSpool<SystemFolder<'a, R, A>, A>;
 
 /// An end over a folder of the system.
 type SystemEnd<'a, R, A> = TransferEnd<SystemSpool<'a, R, A>, SystemText<'a, R, A>, NoFile, A>;
+
+/// What such an end is made of.
+type SystemParts<'a, R, A> = EndParts<SystemSpool<'a, R, A>, SystemText<'a, R, A>, NoFile, A>;
+
+/// What both ends are made of.
+#[derive(Drop)]
+struct PairParts<'a, R: Files, A: Allocator + Copy> {
+    caller: SystemParts<'a, R, A>,
+    called: SystemParts<'a, R, A>,
+}
+
+/// Both ends when their sessions are over, and what the program answers.
+#[derive(Drop)]
+struct FinishedPair<'a, R: Files, A: Allocator + Copy> {
+    caller: SystemEnd<'a, R, A>,
+    called: SystemEnd<'a, R, A>,
+    answer: Result<u8, ToolFault>,
+}
 
 /// Runs the caller `a` over the folder `dir_a` and the called end `b` over `dir_b`, over a Unix socket that is made at the
 /// path `socket`. Every Nth packet is lost, and every Nth changed, for an N of its own each, if one is given. What stands
@@ -126,14 +146,81 @@ fn run_locked<A: Allocator + Copy, R: Files<File = File> + Net + Alloc + Clone +
     ensures no_usage { result ≢ Err ToolFault.Usage }
     ensures why { result ≡ Err ToolFault.Device → IsSome why.new }
 {
-    let (mut caller, mut called) = match make_ends(alloc, rt, dir_a, dir_b, injector) {
-        Ok(ends) => ends,
+    let parts = match read_both(alloc, rt, dir_a, dir_b) {
+        Ok(parts) => parts,
         Err(fault) => return Err(fault.tell(why)),
     };
-    let result = run_ends(alloc, rt, socket, &mut caller, &mut called, output, why);
+    let Ok(finished) = run_both(alloc, rt, socket, parts, injector, output, why) else {
+        return Err(ToolFault::Memory);
+    };
+    let FinishedPair {
+        caller,
+        called,
+        answer,
+    } = finished;
     drop(caller);
     drop(called);
-    result
+    answer
+}
+
+/// Both ends begin their sessions, and are run. They are handed back as they are then: each has run the session that so began,
+/// up to there.
+fn run_both<'a, A: Allocator + Copy, R: Files<File = File> + Net + Alloc + Clone + Drop, O: Output>(
+    alloc: A,
+    rt: &R,
+    socket: &str,
+    parts: PairParts<'a, R, A>,
+    injector: FaultInjector,
+    output: &mut O,
+    why: &mut Option<SystemFailure>,
+) -> Result<FinishedPair<'a, R, A>, AllocError>
+    requires caller_calm { parts.caller.jobs.file.faults.count ≡ 0 }
+    requires called_calm { parts.called.jobs.file.faults.count ≡ 0 }
+    ensures caller_ran { IfOk result (λ finished. HasRun Side.Caller
+        (beginning_of ⟦<SystemSpool<'a, R, A> as Spool>⟧.holdings
+        ⟦<SystemSpool<'a, R, A> as Spool>⟧.kept parts.entry.caller)
+        (⟦<SystemSpool<'a, R, A> as Spool>⟧.kept (spool_in finished.caller.buffered))
+        (node_in finished.caller.buffered)) }
+    ensures called_ran { IfOk result (λ finished. HasRun Side.Called
+        (beginning_of ⟦<SystemSpool<'a, R, A> as Spool>⟧.holdings
+        ⟦<SystemSpool<'a, R, A> as Spool>⟧.kept parts.entry.called)
+        (⟦<SystemSpool<'a, R, A> as Spool>⟧.kept (spool_in finished.called.buffered))
+        (node_in finished.called.buffered)) }
+    ensures caller_sound { IfOk result (λ _. IsSoundBeginning
+        (beginning_of ⟦<SystemSpool<'a, R, A> as Spool>⟧.holdings
+        ⟦<SystemSpool<'a, R, A> as Spool>⟧.kept parts.entry.caller)) }
+    ensures called_sound { IfOk result (λ _. IsSoundBeginning
+        (beginning_of ⟦<SystemSpool<'a, R, A> as Spool>⟧.holdings
+        ⟦<SystemSpool<'a, R, A> as Spool>⟧.kept parts.entry.called)) }
+    ensures status { IfOk result (λ finished. IfOk finished.answer (λ status. status ≤ 1)) }
+    ensures write { IfOk result (λ finished. finished.answer ≡ Err ToolFault.Write
+        → CountsFault (O.fault_count output.old) (O.fault_count output.new)) }
+    ensures no_other { IfOk result (λ finished. IfErr finished.answer IsRunFault) }
+    ensures no_usage { IfOk result (λ finished. finished.answer ≢ Err ToolFault.Usage) }
+    ensures why { IfOk result (λ finished.
+        finished.answer ≡ Err ToolFault.Device → IsSome why.new) }
+{
+    let PairParts { caller, called } = parts;
+    let mut caller = match caller.begin(alloc, Side::Caller, injector) {
+        Ok(caller) => caller,
+        Err(AllocError) => {
+            drop(called);
+            return Err(AllocError);
+        }
+    };
+    let mut called = match called.begin(alloc, Side::Called, FaultInjector::none()) {
+        Ok(called) => called,
+        Err(AllocError) => {
+            drop(caller);
+            return Err(AllocError);
+        }
+    };
+    let answer = run_ends(alloc, rt, socket, &mut caller, &mut called, output, why);
+    Ok(FinishedPair {
+        caller,
+        called,
+        answer,
+    })
 }
 
 /// Joins both ends by a socket, and runs them.
@@ -148,6 +235,18 @@ fn run_ends<'a, A: Allocator + Copy, R: Files<File = File> + Net + Alloc + Clone
 ) -> Result<u8, ToolFault>
     requires caller_calm { caller.old.jobs.file.faults.count ≡ 0 }
     requires called_calm { called.old.jobs.file.faults.count ≡ 0 }
+    ensures caller_led { IsLed
+        (⟦<SystemSpool<'a, R, A> as Spool>⟧.holdings (spool_in caller.old.buffered))
+        (⟦<SystemSpool<'a, R, A> as Spool>⟧.holdings (spool_in caller.new.buffered))
+        (⟦<SystemSpool<'a, R, A> as Spool>⟧.kept (spool_in caller.old.buffered))
+        (⟦<SystemSpool<'a, R, A> as Spool>⟧.kept (spool_in caller.new.buffered))
+        (node_in caller.old.buffered) (node_in caller.new.buffered) }
+    ensures called_led { IsLed
+        (⟦<SystemSpool<'a, R, A> as Spool>⟧.holdings (spool_in called.old.buffered))
+        (⟦<SystemSpool<'a, R, A> as Spool>⟧.holdings (spool_in called.new.buffered))
+        (⟦<SystemSpool<'a, R, A> as Spool>⟧.kept (spool_in called.old.buffered))
+        (⟦<SystemSpool<'a, R, A> as Spool>⟧.kept (spool_in called.new.buffered))
+        (node_in called.old.buffered) (node_in called.new.buffered) }
     ensures status { IfOk result (λ status. status ≤ 1) }
     ensures write { result ≡ Err ToolFault.Write
         → CountsFault (O.fault_count output.old) (O.fault_count output.new) }
@@ -155,6 +254,7 @@ fn run_ends<'a, A: Allocator + Copy, R: Files<File = File> + Net + Alloc + Clone
     ensures no_usage { result ≢ Err ToolFault.Usage }
     ensures why { result ≡ Err ToolFault.Device → IsSome why.new }
 {
+    events_follow_events();
     let mut line = match connect(rt, socket) {
         Ok(line) => line,
         Err(fault) => return Err(fault.tell(why)),
@@ -172,20 +272,21 @@ fn failure_of<R: Files, A: Allocator + Copy>(end: &SystemEnd<'_, R, A>) -> Optio
     got.failure().or(end.jobs.file.failure())
 }
 
-/// Both ends over their folders, as these stand.
-fn make_ends<'a, A: Allocator + Copy, R: Files + Alloc + Clone + Drop>(
+/// What both ends over their folders are made of, as these stand.
+fn read_both<'a, A: Allocator + Copy, R: Files + Alloc + Clone + Drop>(
     alloc: A,
     rt: &'a R,
     dir_a: EndDir<'a>,
     dir_b: EndDir<'a>,
-    injector: FaultInjector,
-) -> Result<(SystemEnd<'a, R, A>, SystemEnd<'a, R, A>), RunFault>
-    ensures caller_calm { IfOk result (λ ends. ends.0.jobs.file.faults.count ≡ 0) }
-    ensures called_calm { IfOk result (λ ends. ends.1.jobs.file.faults.count ≡ 0) }
-    ensures caller { IfOk result (λ ends.
-        StandsInPair Side.Caller ends.0.jobs.before.items (node_in ends.0.buffered)) }
-    ensures called { IfOk result (λ ends.
-        StandsInPair Side.Called ends.1.jobs.before.items (node_in ends.1.buffered)) }
+) -> Result<PairParts<'a, R, A>, RunFault>
+    ensures caller_calm { IfOk result (λ parts. parts.caller.jobs.file.faults.count ≡ 0) }
+    ensures called_calm { IfOk result (λ parts. parts.called.jobs.file.faults.count ≡ 0) }
+    ensures caller_place { IfOk result (λ parts. IsPlaceInPair Side.Caller parts.caller.place) }
+    ensures called_place { IfOk result (λ parts. IsPlaceInPair Side.Called parts.called.place) }
+    ensures caller_jobs { IfOk result (λ parts.
+        IsQueueOf parts.caller.jobs.before.items parts.caller.queue) }
+    ensures called_jobs { IfOk result (λ parts.
+        IsQueueOf parts.called.jobs.before.items parts.called.queue) }
     ensures no_other { IfErr result IsReadingFault }
 {
     let jobs = open_both(alloc, rt, dir_a, dir_b)?;
@@ -196,54 +297,19 @@ fn make_ends<'a, A: Allocator + Copy, R: Files + Alloc + Clone + Drop>(
             return Err(fault);
         }
     };
-    let (caller, called) = Given::both(jobs, files);
-    let Ok(caller) = make_end(alloc, rt, Side::Caller, dir_a, caller, injector) else {
-        drop(called);
+    let (caller_jobs, called_jobs) = jobs;
+    let (caller_files, called_files) = files;
+    let Ok(caller) = make_parts(alloc, rt, Side::Caller, dir_a, caller_jobs, caller_files) else {
+        drop(called_jobs);
+        drop(called_files);
         return Err(RunFault::Tool(ToolFault::Memory));
     };
-    match make_end(
-        alloc,
-        rt,
-        Side::Called,
-        dir_b,
-        called,
-        FaultInjector::none(),
-    ) {
-        Ok(called) => Ok((caller, called)),
+    match make_parts(alloc, rt, Side::Called, dir_b, called_jobs, called_files) {
+        Ok(called) => Ok(PairParts { caller, called }),
         Err(_) => {
             drop(caller);
             Err(RunFault::Tool(ToolFault::Memory))
         }
-    }
-}
-
-/// What an end begins with: its jobs, and the files that it has to give.
-#[derive(Drop)]
-struct Given<'a, R: Files, A: Allocator> {
-    jobs: OpenJobs<'a, R, A>,
-    files: Vec<Stored<A>, A>,
-}
-
-impl<'a, R: Files, A: Allocator> Given<'a, R, A> {
-    /// What the caller begins with, and the called end.
-    fn both(
-        jobs: (OpenJobs<'a, R, A>, OpenJobs<'a, R, A>),
-        files: (Vec<Stored<A>, A>, Vec<Stored<A>, A>),
-    ) -> (Self, Self)
-        ensures caller { result.0.jobs ≡ jobs.entry.0 }
-        ensures called { result.1.jobs ≡ jobs.entry.1 }
-    {
-        let (caller_jobs, called_jobs) = jobs;
-        let (caller_files, called_files) = files;
-        let caller = Given {
-            jobs: caller_jobs,
-            files: caller_files,
-        };
-        let called = Given {
-            jobs: called_jobs,
-            files: called_files,
-        };
-        (caller, called)
     }
 }
 
@@ -287,26 +353,25 @@ fn read_sends<A: Allocator + Copy, R: Files + Alloc + Clone + Drop>(
     }
 }
 
-/// An end over this folder, which begins with this.
-fn make_end<'a, A: Allocator + Copy, R: Files>(
+/// What an end over this folder is made of, with these jobs and these files to give.
+fn make_parts<'a, A: Allocator + Copy, R: Files>(
     alloc: A,
     rt: &'a R,
     side: Side,
     dir: EndDir<'a>,
-    given: Given<'a, R, A>,
-    injector: FaultInjector,
-) -> Result<SystemEnd<'a, R, A>, AllocError>
-    ensures stands { IfOk result (λ end.
-        StandsInPair side end.jobs.before.items (node_in end.buffered)) }
-    ensures jobs { IfOk result (λ end. end.jobs ≡ given.entry.jobs.file) }
+    jobs: OpenJobs<'a, R, A>,
+    files: Vec<Stored<A>, A>,
+) -> Result<SystemParts<'a, R, A>, AllocError>
+    ensures place { IfOk result (λ parts. IsPlaceInPair side parts.place) }
+    ensures jobs { IfOk result (λ parts. parts.jobs ≡ jobs.entry.file) }
+    ensures queue { IfOk result (λ parts. IsQueueOf parts.jobs.before.items parts.queue) }
 {
-    let Given { jobs, files } = given;
     let OpenJobs { file, queue } = jobs;
     let spool = make_spool(alloc, rt, dir, files)?;
-    let node = make_node(alloc, side, queue, spool)?;
-    let buffered = BufferedNode::new(alloc, node, injector)?;
-    Ok(TransferEnd {
-        buffered,
+    Ok(EndParts {
+        place: place(side),
+        queue,
+        spool,
         jobs: file,
         number: NoFile,
     })
@@ -323,37 +388,9 @@ fn make_spool<'a, A: Allocator + Copy, R: Files>(
     Ok(FolderSpool::new(alloc, files, folder))
 }
 
-/// The caller `a`, or the called end `b`, with these jobs.
-fn make_node<S: Spool + Drop, A: Allocator + Copy>(
-    alloc: A,
-    side: Side,
-    jobs: Queue<A>,
-    spool: S,
-) -> Result<Node<S, A>, AllocError>
-    ensures begins { IfOk result (λ node. BeginsInPair side jobs (node_of node).engine) }
-    ensures nothing_held { IfOk result (λ node. HoldsNothing (node_of node)) }
-    ensures spool { IfOk result (λ node. spool_of node ≡ spool) }
-{
-    let place = place(side);
-    let made = match side {
-        Side::Caller => Node::caller(alloc, place, jobs, spool),
-        Side::Called => Node::called(alloc, place, jobs, spool),
-    };
-    match made {
-        Ok(node) => Ok(node),
-        Err(refused) => {
-            drop(refused);
-            Err(AllocError)
-        }
-    }
-}
-
 /// Where the end on this side stands. It keeps no number of its conversations.
 fn place(side: Side) -> Place
-    ensures me { result.me ≡ name_at side }
-    ensures peer { result.peer ≡ name_at (other side) }
-    ensures announce { Announces WINDOW SIZE false false (announced result.announce) }
-    ensures number { result.number ≡ None }
+    ensures { IsPlaceInPair side result }
 {
     let Ok(announce) = Announce::new(WINDOW, SIZE) else {
         unreachable!();
