@@ -118,7 +118,7 @@ Status: 0 the session is done, 1 it is not, 2 bad usage, bad jobs or a bad numbe
 
 Example:
   mkdir -p b/got && uucpair answer unix:line b --me beta --peer alpha &
-  mkdir -p a/send && echo hello > a/send/x && echo 'send x ~/y me' > a/jobs
+  mkdir -p a/send a/got && echo hello > a/send/x && echo 'send x ~/y me' > a/jobs
   uucpair call unix:line a --me alpha --peer beta
 prints
   caller done pending 0 struck 1 failed 0
