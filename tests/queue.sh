@@ -9,15 +9,9 @@ set -eu
 export LC_ALL=C
 jobs=50
 feeders=4
-root=$(dirname "$(dirname "$(readlink -f "$0")")")
-if [ -n "${1:-}" ]; then
-    program=$(readlink -f "$1")
-else
-    # builds it where that is needed
-    "$root/uucpair" scan </dev/null >/dev/null
-    program=$root/crates/uucpair/out/uucpair
-fi
-work=$(mktemp -d)
+. "$(dirname "$(readlink -f "$0")")/common.sh"
+find_program "${1:-}"
+new_work
 failed=0
 passed=0
 
@@ -125,34 +119,27 @@ session_pair() {
     "$program" pair "$work/line" "$1" "$2" >"$work/run.out" 2>"$work/run.err"
 }
 
-session_call() {
+# meet CALLER CALLED: a session of both, at a line of their own.
+meet() {
     local status=0
     rm -f "$work/line"
     "$program" answer "unix:$work/line" "$2" --me b --peer a >"$work/answer.out" 2>"$work/answer.err" &
-    wait_for_line
+    wait_for_socket "$work/line" || {
+        echo "queue.sh: nobody listens; see $work" >&2
+        exit 1
+    }
     "$program" call "unix:$work/line" "$1" --me a --peer b >"$work/run.out" 2>"$work/run.err" || status=$?
     wait $! || status=$?
     return "$status"
 }
 
-session_answer() {
-    local status=0
-    rm -f "$work/line"
-    "$program" answer "unix:$work/line" "$1" --me a --peer b >"$work/answer.out" 2>"$work/answer.err" &
-    wait_for_line
-    "$program" call "unix:$work/line" "$2" --me b --peer a >"$work/run.out" 2>"$work/run.err" || status=$?
-    wait $! || status=$?
-    return "$status"
+session_call() {
+    meet "$1" "$2"
 }
 
-wait_for_line() {
-    local i
-    for ((i = 0; i < 500; i++)); do
-        [ ! -S "$work/line" ] || return 0
-        sleep 0.01
-    done
-    echo "queue.sh: nobody listens; see $work" >&2
-    exit 1
+# The folder to which jobs are queued is that of the called end.
+session_answer() {
+    meet "$2" "$1"
 }
 
 # try KIND: sessions until all is queued and nothing is left. Each job is counted by the report lines of its sessions.
