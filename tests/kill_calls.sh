@@ -1,7 +1,7 @@
 #!/usr/bin/env bash
 # Kills `call`, `answer` or both with signal 9 at random moments, while they move files over a line of 6,000 bytes in a
 # second: 15 from each folder to the other, some sent and some requested, and 5 more from each, whose jobs are appended to
-# `jobs` meanwhile. Up to six times a trial one is killed; then both are begun anew, until both end with status 0 and no job
+# `jobs` meanwhile, every other one by `uucpair queue`. Up to six times a trial one is killed; then both are begun anew, until both end with status 0 and no job
 # is left, which may take twelve sessions. In every other trial both ends keep a number of their conversations (`--number`).
 #
 #   tests/kill_calls.sh [TRIALS [PROGRAM [SEED]]]
@@ -41,6 +41,12 @@ other() {
     [ "$1" = a ] && echo b || echo a
 }
 
+# give END NAME SIZE: makes a file, and puts it into `send`.
+give() {
+    write_file "$work/$1/files/$2" "$3"
+    cp "$work/$1/files/$2" "$work/$1/send/$2"
+}
+
 # write_file PATH SIZE: each packet of it is another one, and it is that of no other file.
 write_file() {
     seq -f "${1##*/} %g" 1000 | head -c "$2" >"$1"
@@ -59,13 +65,13 @@ new_folders() {
     : >"$work/lost"
     : >"$work/read"
     for end in a b; do
-        mkdir -p "$work/$end"/{send,got}
+        mkdir -p "$work/$end"/{files,send,got}
         : >"$work/stamps.$end"
         : >"$work/$end.given"
     done
     for end in a b; do
         for ((i = 0; i < files; i++)); do
-            write_file "$work/$end/send/$end$i" $((i * 1367 % 3001))
+            give $end $end$i $((i * 1367 % 3001))
             if [ $((i % 3)) -eq 0 ]; then
                 queue "$(other "$end")" "request $end$i $end$i u"
             else
@@ -82,8 +88,14 @@ feed() {
         pause "$seconds"
         end=$([ $((i % 2)) -eq 0 ] && echo a || echo b)
         name=$end$((files + i / 2))
-        write_file "$work/$end/send/$name" $((i * 977 % 3001))
-        queue "$end" "send $name $name u"
+        if [ $((i / 2 % 2)) -eq 0 ]; then
+            give $end "$name" $((i * 977 % 3001))
+            queue "$end" "send $name $name u"
+        else
+            write_file "$work/$end/files/$name" $((i * 977 % 3001))
+            "$program" queue "$work/$end" send "$work/$end/files/$name" --user u >/dev/null
+            echo "send $name $name u" >>"$work/$end.given"
+        fi
         i=$((i + 1))
     done
 }
@@ -200,7 +212,7 @@ check_jobs() {
     while read -r kind source target _; do
         from=$1
         [ "$kind" = send ] || from=$(other "$1")
-        cmp -s "$work/$from/send/$source" "$work/$(other "$from")/got/$target" ||
+        cmp -s "$work/$from/files/$source" "$work/$(other "$from")/got/$target" ||
             echo "$source: $1 has no job to $kind it any more, and it has not come" >>"$work/lost"
     done < <(comm -23 "$work/before" "$work/now")
 }
@@ -211,7 +223,7 @@ check_got() {
     for path in "$work/$1/got"/*; do
         [ -e "$path" ] || continue
         name=${path##*/}
-        cmp -s "$path" "$work/$(other "$1")/send/$name" || echo "$name: it is not whole" >>"$work/lost"
+        cmp -s "$path" "$work/$(other "$1")/files/$name" || echo "$name: it is not whole" >>"$work/lost"
     done
     find "$work/$1/got" -type f ! -name '.*' -printf '%f %i %T@\n' | sort >"$work/now"
     twice=$((twice + $(join "$work/stamps.$1" "$work/now" | awk '$2 != $4 || $3 != $5' | wc -l)))
@@ -258,9 +270,9 @@ check_end() {
     wait "$feeder" || true
     [ $stuck -eq 0 ] || return 0
     for end in a b; do
-        for name in "$work/$end/send"/*; do
+        for name in "$work/$end/files"/*; do
             name=${name##*/}
-            cmp -s "$work/$end/send/$name" "$work/$(other $end)/got/$name" ||
+            cmp -s "$work/$end/files/$name" "$work/$(other $end)/got/$name" ||
                 echo "$name: it has not come in the end" >>"$work/lost"
         done
     done

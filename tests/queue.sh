@@ -93,7 +93,8 @@ forms() {
     holds "bad jobs stay" "$work/e/jobs" $'send x y u\nbad'
     for ((i = 0; i < 1024; i++)); do echo "request q q u"; done >"$work/e/jobs"
     row "a job too many" 2 "" "bad jobs at line 1025" "$work/e" send "$work/x"
-    [ "$(ls -A "$work/e/send")" = x.1 ] || {
+    # The copy before is gone with its job.
+    [ -z "$(ls -A "$work/e/send")" ] || {
         failed=$((failed + 1))
         echo "a refused job leaves $(ls -A "$work/e/send")" >&2
     }

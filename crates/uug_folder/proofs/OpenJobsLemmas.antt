@@ -1,5 +1,5 @@
 -- What is left in a store of jobs where some are over.
-use Rattle.std.proofs.Common.{◌≡◌, ◌==◌, ℕ, suc, ◌+◌, ◌-◌, ◌≤◌, Bool, length, Ok, true, false, List, [], ◌∷◌, ◌++◌, Option, Some, None, All, refl, sym, ap, subst, ◌∙◌, arith, cond, append_assoc, if◌then◌else◌, ◌&&◌}
+use Rattle.std.proofs.Common.{◌≡◌, ◌==◌, ℕ, suc, ◌+◌, ◌-◌, ◌≤◌, ◌⊎◌, inl, inr, Bool, length, Ok, true, false, List, [], ◌∷◌, ◌++◌, Option, Some, None, All, refl, sym, ap, subst, ◌∙◌, arith, cond, append_assoc, if◌then◌else◌, ◌&&◌}
 use Rattle.std.proofs.lemmas.List.{append-nil}
 use Rattle.std.proofs.lemmas.List.Elements.{All-nil, All-cons}
 use Rattle.std.proofs.lemmas.Slice.Eq.{bytes_eq-Decides}
@@ -14,7 +14,8 @@ use Rattle.uug_talk.specs.Chained.{◌>>=◌}
 use Rattle.uug_talk.specs.Lines.{ended, is_line_feed, lines, without_empty_last}
 use Rattle.uug_folder.specs.JobsAfter.{in_front, is_job, line_left, lines_left, without_first, without_said}
 use Rattle.uug_folder.specs.JobsText.{IsQueueOf, LineSays, job_said, jobs_from, jobs_of, no_job, one_job, or_bad, says_of, with_line}
-use Rattle.uug_folder.specs.OpenJobs.{Holds, HoldsAtLeast, job_left, jobs_in, jobs_left, one_more_if, open_in, settled_in, text_left, times, with_said}
+use Rattle.uug_folder.specs.Notices.{TellsSome, also_told}
+use Rattle.uug_folder.specs.OpenJobs.{IsSettledOrNot, IsTextSettledOrNot, Holds, HoldsAtLeast, job_left, jobs_in, jobs_left, one_more_if, open_in, settled_in, text_left, times, with_said}
 use Rattle.uug_folder.specs.TextFiles.{holding}
 use Rattle.uug_folder.proofs.JobsTextLemmas.{HasNoFeed, first_of_lines}
 
@@ -66,6 +67,24 @@ left_is_said over (line ∷ more) h = by_said line more over h.0 (λ left. left_
 pub text_is_settled : (over : List Job) (text : Option (List ℕ)) → open_in (text_left over text) ≡ settled_in over (open_in text)
 text_is_settled over None = refl
 text_is_settled over (Some text) = ap Some (left_is_said over (lines text) (but_the_last (slice_split is_line_feed text) (parts_are_lines text)))
+
+pub is_settled_or_not : (over : List Job) (notice : List ℕ) (text text_after told told_after : Option (List ℕ))
+    → IsTextSettledOrNot over notice text text_after told told_after
+    → IsSettledOrNot over notice (open_in text) (open_in text_after) told told_after
+is_settled_or_not over notice text text_after told told_after (inl h) = inl (ap open_in h.0, h.1)
+is_settled_or_not over notice text text_after told told_after (inr h) = inr (ap open_in h.0 ∙ text_is_settled over text, h.1)
+
+-- ---- what is told of those that have failed
+
+pub nothing_told : (told : Option (List ℕ)) → told ≡ also_told [] told
+nothing_told None = refl
+nothing_told (Some text) = ap Some (sym (append-nil text))
+
+pub tells_none : (more : List ℕ) (told told_after : Option (List ℕ)) → told_after ≡ told → TellsSome more told told_after
+tells_none more told told_after e = record { front = []; rest = more; begins = refl; is = e ∙ nothing_told told }
+
+pub tells_all : (more : List ℕ) (told told_after : Option (List ℕ)) → told_after ≡ also_told more told → TellsSome more told told_after
+tells_all more told told_after e = record { front = more; rest = []; begins = sym (append-nil more); is = e }
 
 -- ---- one jobs text for another
 

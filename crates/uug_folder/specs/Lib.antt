@@ -8,6 +8,7 @@ pub mod JobsPlan
 pub mod JobsText
 pub mod LocalFiles
 pub mod LocalNames
+pub mod Notices
 pub mod NumberText
 pub mod OpenJobs
 pub mod Queueing

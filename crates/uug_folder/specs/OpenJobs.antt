@@ -1,10 +1,11 @@
 -- The jobs that stand in a store of jobs, and what is left of them where some are over (this project's profile). Jobs with the
 -- same words are one to a store, as often as they stand in it.
-use Rattle.std.specs.Prelude.{◌≡◌, ◌≤◌, ℕ, suc, Bool, true, false, List, [], ◌∷◌, Option, Some, None, ⊤}
+use Rattle.std.specs.Prelude.{◌≡◌, ◌≤◌, ◌⊎◌, ℕ, suc, Bool, true, false, List, [], ◌∷◌, Option, Some, None, ⊤}
 use Rattle.uug_conversation.specs.declared.job.Job.{Job}
 use Rattle.uug_talk.specs.Lines.{lines}
 use Rattle.uug_folder.specs.JobsAfter.{is_job, lines_left, without_first}
 use Rattle.uug_folder.specs.JobsText.{job_said, says_of}
+use Rattle.uug_folder.specs.Notices.{TellsSome, also_told}
 
 -- ---- those in a text
 
@@ -43,6 +44,19 @@ jobs_left over (job ∷ more) = job_left (without_first job over) job over (λ l
 abbrev pub settled_in : (over : List Job) → Option (List Job) → Option (List Job)
 settled_in over None = None
 settled_in over (Some jobs) = Some (jobs_left over jobs)
+
+-- a store is as before, but for some of what is told of the jobs that have failed; or these jobs are taken out, and all is told
+abbrev pub IsSettledOrNot : (over : List Job) (notice : List ℕ) → (stands stands_after : Option (List Job))
+    (told told_after : Option (List ℕ)) → Type 0
+IsSettledOrNot over notice stands stands_after told told_after =
+    ((stands_after ≡ stands) × TellsSome notice told told_after)
+    ⊎ ((stands_after ≡ settled_in over stands) × (told_after ≡ also_told notice told))
+
+-- the same of the text that says what stands in it
+abbrev pub IsTextSettledOrNot : (over : List Job) (notice : List ℕ) → (text text_after told told_after : Option (List ℕ)) → Type 0
+IsTextSettledOrNot over notice text text_after told told_after =
+    ((text_after ≡ text) × TellsSome notice told told_after)
+    ⊎ ((text_after ≡ text_left over text) × (told_after ≡ also_told notice told))
 
 -- ---- the jobs of an end
 

@@ -1,15 +1,17 @@
-ghost use Rattle.std.specs.Prelude.{◌≡◌, ◌⊎◌, ◌++◌, IfErr, OnErr, OnOk};
-ghost use Rattle.uug_folder.specs.OpenJobs.{open_in, settled_in, text_left};
+ghost use Rattle.std.specs.Prelude.{◌≡◌, ◌++◌, IfErr, OnErr, OnOk};
+ghost use Rattle.uug_folder.specs.Notices.{TellsSome, also_told};
+ghost use Rattle.uug_folder.specs.OpenJobs.{IsTextSettledOrNot, open_in, text_left};
 ghost use Rattle.uug_folder.specs.TextFiles.{IsReadFault};
 
+use crate::folder::FolderFailed;
 use crate::job_store::JobStore;
+use crate::job_texts::JobTexts;
 use crate::meanwhile::text_without;
-use crate::text_file::TextFile;
 use std::alloc::Allocator;
 use uug_session::Job;
 use uug_stream::ToolFault;
 
-/// The file of an end's jobs, and what it had when its session began.
+/// The files of an end's jobs, and what those that wait were when its session began.
 #[derive(Drop)]
 pub struct JobsFile<J, A: Allocator> {
     pub file: J,
@@ -17,9 +19,11 @@ pub struct JobsFile<J, A: Allocator> {
     pub before: Vec<u8, A>,
 }
 
-#[tactic(auto, using(crate::proofs::OpenJobsLemmas::text_is_settled))]
-impl<J: TextFile, A: Allocator> JobStore for JobsFile<J, A> {
+#[tactic(auto, using(crate::proofs::OpenJobsLemmas::text_is_settled, crate::proofs::OpenJobsLemmas::is_settled_or_not))]
+impl<J: JobTexts, A: Allocator> JobStore for JobsFile<J, A> {
     ghost open_jobs = { λ jobs. open_in (J.text jobs.file) };
+
+    ghost told = { λ jobs. J.told jobs.file };
 
     ghost fault_count = { λ jobs. J.fault_count jobs.file };
 
@@ -28,34 +32,57 @@ impl<J: TextFile, A: Allocator> JobStore for JobsFile<J, A> {
         alloc: B,
         struck: &[Job],
         failed: &[Job],
+        notice: &[u8],
     ) -> Result<(), ToolFault> {
-        settle_text(alloc, &mut self.file, struck, failed)
+        settle_text(alloc, &mut self.file, struck, failed, notice)
     }
 }
 
-/// Takes these jobs out of the text of a file: for each of them the first line that says it, as the text is now. All other
-/// lines stay, in their order. Where none of them is there the file is not touched.
-pub fn settle_text<J: TextFile, B: Allocator + Copy>(
+/// Takes these jobs out of the text of those that wait: for each of them the first line that says it, as the text is now. All
+/// other lines stay, in their order. Where none of them is there the text is not touched. What is told of those that have failed
+/// is told before.
+pub fn settle_text<J: JobTexts, B: Allocator + Copy>(
     alloc: B,
     file: &mut J,
     struck: &[Job],
     failed: &[Job],
+    notice: &[u8],
 ) -> Result<(), ToolFault>
     ensures ok { OnOk result (J.text file.new
         ≡ text_left (struck.now ++ failed.now) (J.text file.old)) }
-    ensures err { OnErr result ((J.text file.new ≡ J.text file.old)
-        ⊎ (J.text file.new ≡ text_left (struck.now ++ failed.now) (J.text file.old))) }
+    ensures told { OnOk result (J.told file.new ≡ also_told notice.now (J.told file.old)) }
+    ensures err { OnErr result (IsTextSettledOrNot (struck.now ++ failed.now) notice.now
+        (J.text file.old) (J.text file.new) (J.told file.old) (J.told file.new)) }
     ensures calm { OnOk result (J.fault_count file.new ≡ J.fault_count file.old) }
     ensures fault { IfErr result (λ fault.
         IsReadFault fault (J.fault_count file.old) (J.fault_count file.new)) }
 {
     let now = file.read(alloc)?;
     let left = text_without(alloc, struck, failed, now.as_slice())?;
+    tell_some(file, notice)?;
     if left.as_slice() == now.as_slice() {
         return Ok(());
     }
     match file.replace(left.as_slice()) {
         Ok(()) => Ok(()),
         Err(_) => Err(ToolFault::Device),
+    }
+}
+
+/// Tells this of the jobs that have failed, if it is anything.
+fn tell_some<J: JobTexts>(file: &mut J, notice: &[u8]) -> Result<(), ToolFault>
+    ensures ok { OnOk result (J.told file.new ≡ also_told notice.now (J.told file.old)) }
+    ensures same { J.text file.new ≡ J.text file.old }
+    ensures err { OnErr result (TellsSome notice.now (J.told file.old) (J.told file.new)) }
+    ensures calm { OnOk result (J.fault_count file.new ≡ J.fault_count file.old) }
+    ensures fault { IfErr result (λ fault.
+        IsReadFault fault (J.fault_count file.old) (J.fault_count file.new)) }
+{
+    if notice.is_empty() {
+        return Ok(());
+    }
+    match file.tell(notice) {
+        Ok(()) => Ok(()),
+        Err(FolderFailed) => Err(ToolFault::Device),
     }
 }

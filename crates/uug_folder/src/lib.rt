@@ -6,12 +6,14 @@ mod faults;
 mod folder;
 mod folder_spool;
 mod job_store;
+mod job_texts;
 mod jobs_file;
 mod jobs_plan;
 mod jobs_text;
 pub mod laws;
 mod local_names;
 mod meanwhile;
+mod notices;
 mod number_text;
 mod queued;
 mod report;
@@ -20,17 +22,19 @@ mod text_file;
 pub use folder::{Folder, FolderFailed};
 pub use folder_spool::FolderSpool;
 pub use job_store::JobStore;
+pub use job_texts::JobTexts;
 pub use jobs_file::{JobsFile, settle_text};
 pub use jobs_plan::JobsPlan;
 pub use jobs_text::{JobsFault, read_jobs, write_jobs};
 pub use local_names::LocalNames;
 pub use meanwhile::jobs_after;
+pub use notices::{WhyFailed, why_failed, write_notices};
 pub use number_text::{
     NUMBER_LINE_MAX, number_at_start, number_beside, number_line, read_number_text,
 };
 pub use queued::{
-    OrderFault, appended_job, default_user, is_among, is_given_by, nth_name, ordered_job,
-    queued_line, sends_any, with_source,
+    OrderFault, appended_job, default_user, is_among, is_given_by, is_given_in, nth_name,
+    ordered_job, queued_line, sends_any, with_source,
 };
 pub use report::{add_failed, add_state};
 pub use text_file::TextFile;

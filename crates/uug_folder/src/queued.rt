@@ -1,13 +1,16 @@
 //! What a person queues: the job of an order, the name of a copy in `send`, and what is appended to the text of the jobs.
-ghost use Rattle.std.specs.Prelude.{◌≡◌, IfOk, None, Some, string_bytes};
+ghost use Rattle.std.specs.Prelude.{◌≡◌, [], IfOk, None, Some, string_bytes};
+ghost use Rattle.uug_folder.specs.JobsText.{job_said, says_of};
+ghost use Rattle.uug_folder.specs.OpenJobs.{jobs_in, with_said};
+ghost use Rattle.uug_talk.specs.Lines.{lines};
 ghost use Rattle.uug_folder.specs.Queueing.{appended, base_name, gives, is_among, is_given_by, is_whole, last_part, name_in, nth_name, ordered, queued_line, requests_with, sends_any, sends_with, shown_text, target_with, user_by, user_with, visible, with_source};
 
-use crate::jobs_text::add_job_line;
+use crate::jobs_text::{add_job_line, job_in};
 use crate::meanwhile::is_job;
 use std::alloc::{AllocError, Allocator};
 use thiserror::Error;
 use uug_session::Job;
-use uug_talk::Name;
+use uug_talk::{Name, split_line};
 
 /// Why an order says no job.
 #[derive(Clone, Copy, Debug, PartialEq, Eq, Error)]
@@ -218,6 +221,30 @@ pub fn is_given_by(jobs: &[Job], name: &Name) -> bool
         }
     }
     false
+}
+
+/// Whether a line of this text says a job that sends the file of this name.
+pub fn is_given_in(text: &[u8], name: &Name) -> bool
+    ensures { result ≡ is_given_by name.now (jobs_in (lines text.now)) }
+{
+    let mut rest = text;
+    while let Some((line, behind)) = split_line(rest) {
+        if says_giving(line, name) {
+            return true;
+        }
+        rest = behind;
+    }
+    false
+}
+
+/// Whether a line says a job that sends the file of this name.
+fn says_giving(line: &[u8], name: &Name) -> bool
+    ensures { result ≡ is_given_by name.now (with_said (job_said (says_of line.now)) []) }
+{
+    match job_in(line) {
+        Some(job) => gives(&job, name),
+        None => false,
+    }
 }
 
 /// Whether a job sends the file of this name.

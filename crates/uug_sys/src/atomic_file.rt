@@ -3,6 +3,7 @@ use crate::part_path::PartPath;
 use std::alloc::Allocator;
 use std::fs::{File, OpenFile, OpenOptions};
 use std::io::{ErrorKind, Seek, SeekFrom, Write};
+use std::os::unix::fs::{MetadataExt, fchown};
 use std::rt::Files;
 use std::{fs, io};
 
@@ -25,8 +26,8 @@ pub(crate) fn replace_file<R: Files, A: Allocator>(
     }
 }
 
-/// The same, where others append to the file at `path`: what it has behind `read_len` bytes stays behind the new ones. It is
-/// locked meanwhile, so who holds its lock appends to a file that stays in its place. For what is appended without the lock
+/// The same, where others append to the file at `path`: what it has behind `read_len` bytes stays behind the new ones. The new
+/// file has its mode and its owner, as far as the system lets it. The old one is locked meanwhile, so who holds its lock appends to a file that stays in its place. For what is appended without the lock
 /// it is looked once more when the new file is in its place, and again when the folder is on the device, since who has
 /// opened the old file still writes there.
 pub(crate) fn replace_appended<R: Files<File = File>, A: Allocator>(
@@ -45,6 +46,49 @@ pub(crate) fn replace_appended<R: Files<File = File>, A: Allocator>(
             Err(error)
         }
     }
+}
+
+/// Appends to the file at `path`, which is in the folder `dir` and is made where it is not there, and sees both on the device.
+/// Where the file can't have all of it, it is as before, if that can be.
+pub(crate) fn append_at<R: Files<File = File>>(
+    rt: &R,
+    dir: &str,
+    path: &str,
+    bytes: &[u8],
+) -> io::Result<()> {
+    let file = OpenOptions::new().append(true).create(true).open(rt, path)?;
+    append_whole(rt, &file, dir, bytes)
+}
+
+/// Appends bytes in one write, and sees them on the device. Where that fails none of them stays.
+pub(crate) fn append_whole<R: Files>(
+    rt: &R,
+    file: &File,
+    dir: &str,
+    bytes: &[u8],
+) -> io::Result<()> {
+    let before = file.metadata()?.len();
+    let appended = append_synced(rt, file, dir, bytes);
+    if appended.is_err() {
+        let _ = file.set_len(before);
+    }
+    appended
+}
+
+/// Appends bytes in one write, which may take only a part of them, and sees them on the device.
+fn append_synced<R: Files>(rt: &R, file: &File, dir: &str, bytes: &[u8]) -> io::Result<()> {
+    let mut end = file;
+    if end.write(bytes)? < bytes.len() {
+        return Err(io::Error::from(ErrorKind::StorageFull));
+    }
+    file.sync_all()?;
+    see_folder(rt, dir)
+}
+
+/// Writes all of this to a file, and sees it on the device.
+pub(crate) fn write_synced<R: Files>(file: &mut R::File, bytes: &[u8]) -> io::Result<()> {
+    file.write_all(bytes)?;
+    file.sync_all()
 }
 
 /// Sees a folder on the device.
@@ -76,8 +120,7 @@ fn place_file<R: Files>(
     path: &str,
     bytes: &[u8],
 ) -> io::Result<()> {
-    file.write_all(bytes)?;
-    file.sync_all()?;
+    write_synced::<R>(file, bytes)?;
     fs::rename(rt, part, path)
 }
 
@@ -95,9 +138,19 @@ fn place_appended<R: Files<File = File>>(
     old.seek(SeekFrom::Start(len))?;
     file.write_all(bytes)?;
     io::copy(&mut old, file)?;
+    give_rights(&old, file);
     file.sync_all()?;
     fs::rename(rt, part, path)?;
     Ok(old)
+}
+
+/// Gives a file the owner and the mode of another, as far as the system lets it.
+fn give_rights(from: &File, file: &File) {
+    let Ok(metadata) = from.metadata() else {
+        return;
+    };
+    let _ = fchown(file, Some(metadata.uid()), Some(metadata.gid()));
+    let _ = file.set_permissions(metadata.permissions());
 }
 
 /// Opens a file. Where there is none an empty one is made, so that nobody else makes one before another takes its place.

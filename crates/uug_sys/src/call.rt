@@ -16,6 +16,7 @@ use crate::send_folder::{read_send, read_text};
 use crate::sockets::{open_tcp, open_unix};
 use crate::stream_line::StreamLine;
 use crate::system_folder::SystemFolder;
+use crate::system_jobs::SystemJobs;
 use crate::system_line::SystemLine;
 use crate::system_number::SystemNumber;
 use crate::system_text::SystemText;
@@ -25,7 +26,9 @@ use std::io;
 use std::net::Net;
 use std::rt::Files;
 use std::time::Duration;
-use uug_folder::{FolderSpool, LocalNames, number_at_start, number_beside, read_number_text};
+use uug_folder::{
+    FolderSpool, JobsFile, LocalNames, number_at_start, number_beside, read_number_text,
+};
 use uug_link::Announce;
 use uug_session::{MemorySpool, Place, Queue, Side, Spool, Stored};
 use uug_stream::{Output, ToolFault};
@@ -85,7 +88,7 @@ type SystemSpool<'a, R, A> = LocalNames<SystemFolder<'a, R, A>, A>;
 /// An end over a folder of the system.
 type SystemEnd<'a, R, A> = TransferEnd<
     SystemSpool<'a, R, A>,
-    SystemText<'a, R, A>,
+    SystemJobs<'a, R, A>,
     SystemNumber<'a, R, A>,
     A,
 >;
@@ -93,7 +96,7 @@ type SystemEnd<'a, R, A> = TransferEnd<
 /// What such an end is made of.
 type SystemParts<'a, R, A> = EndParts<
     SystemSpool<'a, R, A>,
-    SystemText<'a, R, A>,
+    SystemJobs<'a, R, A>,
     SystemNumber<'a, R, A>,
     A,
 >;
@@ -351,7 +354,7 @@ where
 
 /// Which call of the system on the folder of an end failed first: in `got`, else on its jobs or its number.
 fn failure_of<R: Files, A: Allocator + Copy>(end: &SystemEnd<'_, R, A>) -> Option<SystemFailure>
-    ensures jobs { 0 < end.now.jobs.file.faults.count → IsSome result }
+    ensures jobs { 0 < end.now.jobs.file.file.faults.count → IsSome result }
     ensures number { 0 < end.now.number.file.faults.count → IsSome result }
 {
     let got = end.buffered.node().spool().files().folder();
@@ -368,7 +371,7 @@ fn read_parts<'a, A: Allocator + Copy, R: Files + Alloc + Clone + Drop>(
     mut place: Place,
     numbers: Numbers,
 ) -> Result<SystemParts<'a, R, A>, RunFault>
-    ensures jobs_calm { IfOk result (λ parts. parts.jobs.file.faults.count ≡ 0) }
+    ensures jobs_calm { IfOk result (λ parts. parts.jobs.file.file.faults.count ≡ 0) }
     ensures number_calm { IfOk result (λ parts. parts.number.file.faults.count ≡ 0) }
     ensures place { IfOk result (λ parts.
         parts.place ≡ record place { number = numbers.begins }) }
@@ -480,7 +483,7 @@ fn make_parts<'a, A: Allocator + Copy, R: Files>(
     files: Vec<Stored<A>, A>,
 ) -> Result<SystemParts<'a, R, A>, AllocError>
     ensures place { IfOk result (λ parts. parts.place ≡ place) }
-    ensures jobs { IfOk result (λ parts. parts.jobs ≡ jobs.entry.file) }
+    ensures jobs { IfOk result (λ parts. parts.jobs.file.file ≡ jobs.entry.file.file) }
     ensures queue { IfOk result (λ parts. IsQueueOf parts.jobs.before.items parts.queue) }
     ensures lenient { IfOk result (λ parts. parts.spool.lenient ≡ task.now.is_lenient) }
     ensures files { IfOk result (λ parts. parts.spool.files.files ≡ files.items) }
@@ -489,11 +492,15 @@ fn make_parts<'a, A: Allocator + Copy, R: Files>(
     let OpenJobs { file, queue } = jobs;
     let number = SystemText::new(alloc, rt, task.end_dir(), EndText::Number)?;
     let spool = make_spool(alloc, rt, task, files)?;
+    let JobsFile { file, before } = file;
     Ok(EndParts {
         place,
         queue,
         spool,
-        jobs: file,
+        jobs: JobsFile {
+            file: SystemJobs::new(alloc, file)?,
+            before,
+        },
         number: SystemNumber::new(number, held),
     })
 }

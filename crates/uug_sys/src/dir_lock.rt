@@ -93,7 +93,7 @@ fn see_below<A: Allocator + Copy, R: Files>(
 }
 
 /// Opens a folder. A pipe, which would wait for a writer, is not opened.
-fn open_dir<R: Files>(rt: &R, dir: &str) -> io::Result<R::File> {
+pub(crate) fn open_dir<R: Files>(rt: &R, dir: &str) -> io::Result<R::File> {
     if fs::metadata(rt, dir)?.is_dir() {
         File::open(rt, dir)
     } else {

@@ -16,7 +16,7 @@ ghost use Rattle.uug_transfer.specs.EndOver.{IsEndFault};
 
 use std::alloc::{AllocError, Allocator};
 use uug_events::laws::{a_node_begins_as_an_end, events_follow_events};
-use uug_folder::{JobsFile, TextFile};
+use uug_folder::{JobTexts, JobsFile, TextFile};
 use uug_session::{Node, Place, Queue, Side, Spool};
 use uug_stream::{Output, ToolFault};
 use uug_transfer::{BYTES_MAX, BufferedNode, EndLine, FaultInjector, TransferEnd, call_over};
@@ -45,12 +45,7 @@ pub struct FinishedEnd<S: Spool, J, N, A: Allocator> {
     pub answer: Result<u8, ToolFault>,
 }
 
-impl<S: Spool + Drop, J: TextFile + Drop, N: TextFile + Drop, A: Allocator + Copy> EndParts<
-    S,
-    J,
-    N,
-    A,
-> {
+impl<S: Spool + Drop, J: Drop, N: Drop, A: Allocator + Copy> EndParts<S, J, N, A> {
     /// The end on this side, whose session begins. What it says first is to be written.
     pub fn begin(
         self,
@@ -88,7 +83,14 @@ impl<S: Spool + Drop, J: TextFile + Drop, N: TextFile + Drop, A: Allocator + Cop
             number,
         })
     }
+}
 
+impl<S: Spool + Drop, J: JobTexts + Drop, N: TextFile + Drop, A: Allocator + Copy> EndParts<
+    S,
+    J,
+    N,
+    A,
+> {
     /// The end on this side has a session over its line. It is handed back as it is when that is over: it has run the session
     /// that so began, up to there.
     pub fn run<L: EndLine, O: Output>(

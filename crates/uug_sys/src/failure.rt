@@ -27,13 +27,15 @@ pub enum Resource {
     Got(Name),
 }
 
-/// A file of an end whose text is replaced as a whole.
+/// A file of an end with a text of its own.
 #[derive(Clone, Copy, Debug, PartialEq, Eq)]
 pub enum EndText {
     /// That of its jobs.
     Jobs,
     /// That of the number of its conversations.
     Number,
+    /// That of the jobs that it has given up.
+    Failed,
 }
 
 impl EndText {
@@ -42,6 +44,7 @@ impl EndText {
         match self {
             EndText::Jobs => "jobs",
             EndText::Number => "number",
+            EndText::Failed => "failed",
         }
     }
 }

@@ -6,7 +6,7 @@ ghost use Rattle.uug_sys.specs.Queued.{IsListOf, word_in, word_or_empty};
 
 use crate::dir_lock::see_dir;
 use crate::failure::{EndDir, SystemFailure};
-use crate::queued_copy::{place_copy, read_copied};
+use crate::queued_copy::{clear_copies, lock_send, place_copy, read_copied};
 use crate::queued_line::{add_job, jobs_at, jobs_in};
 use crate::run_fault::RunFault;
 use std::alloc::{AllocError, Allocator};
@@ -229,7 +229,7 @@ where
     }
 }
 
-/// Puts a copy of the file of a job into `send`, and appends the job.
+/// Puts a copy of the file of a job into `send`, and appends the job, with no other who queues meanwhile.
 fn queue_copy<A, R>(
     alloc: A,
     rt: &R,
@@ -244,8 +244,29 @@ where
     ensures { IfErr result IsReadingFault }
 {
     see_dir(rt, dir)?;
+    let lock = lock_send(alloc, rt, dir)?;
+    let queued = queue_copy_alone(alloc, rt, dir, job, base, bytes);
+    drop(lock);
+    queued
+}
+
+/// The same, where `send` is locked: copies of jobs that are over are removed before.
+fn queue_copy_alone<A, R>(
+    alloc: A,
+    rt: &R,
+    dir: EndDir<'_>,
+    job: &Job,
+    base: &Name,
+    bytes: &[u8],
+) -> Result<Job, RunFault>
+where
+    A: Allocator + Copy,
+    R: Files<File = File> + Alloc + Clone + Drop,
+    ensures { IfErr result IsReadingFault }
+{
     let text = jobs_at(alloc, rt, dir)?;
     let waiting = jobs_in(alloc, text.as_slice())?;
+    clear_copies(alloc, rt, dir, waiting.pending())?;
     let copy = place_copy(alloc, rt, dir, base, waiting.pending(), bytes)?;
     let placed = with_source(job, copy.name);
     match add_job(alloc, rt, dir, &placed) {

@@ -4,13 +4,13 @@ ghost use Rattle.uug_folder.specs.JobsText.{IsJobsFault, IsQueueOf, jobs_of};
 ghost use Rattle.uug_sys.specs.Failures.{fault_of_run};
 ghost use Rattle.uug_sys.specs.Faults.{IsFolderFault, IsReadingFault};
 
-use crate::atomic_file::see_folder;
+use crate::atomic_file::append_whole;
 use crate::failure::{Cause, EndDir, EndText, Resource};
 use crate::run_fault::RunFault;
 use crate::send_folder::{TEXT_MAX, read_text};
 use std::alloc::{AllocError, Allocator};
 use std::fs::{File, OpenOptions};
-use std::io::{ErrorKind, Write};
+use std::io::ErrorKind;
 use std::os::unix::fs::MetadataExt;
 use std::rt::Files;
 use std::{fs, io};
@@ -155,24 +155,4 @@ fn see_text<A: Allocator + Copy>(
     }
     drop(jobs_in(alloc, whole.as_slice())?);
     Ok(())
-}
-
-/// Appends bytes in one write, and sees them on the device. Where that fails none of them stays.
-fn append_whole<R: Files>(rt: &R, file: &File, dir: &str, bytes: &[u8]) -> io::Result<()> {
-    let before = file.metadata()?.len();
-    let appended = append_synced(rt, file, dir, bytes);
-    if appended.is_err() {
-        let _ = file.set_len(before);
-    }
-    appended
-}
-
-/// Appends bytes in one write, which may take only a part of them, and sees them on the device.
-fn append_synced<R: Files>(rt: &R, file: &File, dir: &str, bytes: &[u8]) -> io::Result<()> {
-    let mut end = file;
-    if end.write(bytes)? < bytes.len() {
-        return Err(io::Error::from(ErrorKind::StorageFull));
-    }
-    file.sync_all()?;
-    see_folder(rt, dir)
 }

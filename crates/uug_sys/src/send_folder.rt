@@ -4,6 +4,7 @@ ghost use Rattle.uug_sys.specs.Faults.{IsFolderFault};
 
 use crate::failure::{Cause, EndDir, EndText, Resource};
 use crate::part_path::PART_FRONT;
+use crate::queued_copy::COPY_FRONT;
 use crate::run_fault::RunFault;
 use std::alloc::Allocator;
 use std::fs::{DirEntry, File, ReadDir};
@@ -225,7 +226,7 @@ fn add_entry<A: Allocator + Copy, R: Files + Alloc + Clone + Drop>(
     add_given(files, alloc, rt, dir, name, entry.path().as_str())
 }
 
-/// The name of an entry's file, if it has one that may be given. One that is not whole yet may not.
+/// The name of an entry's file, if it has one that may be given. One that is not whole yet may not, nor the mark of a copy.
 fn given_name<R: Files + Alloc + Clone + Drop>(
     rt: &R,
     dir: EndDir<'_>,
@@ -233,7 +234,7 @@ fn given_name<R: Files + Alloc + Clone + Drop>(
 ) -> Result<Option<Name>, RunFault>
     ensures { IfErr result IsFolderFault }
 {
-    if entry.file_name().starts_with(PART_FRONT) {
+    if entry.file_name().starts_with(PART_FRONT) || entry.file_name().starts_with(COPY_FRONT) {
         return Ok(None);
     }
     let Ok(name) = Name::new(entry.file_name().as_bytes()) else {

@@ -1,5 +1,6 @@
 -- What becomes of an end, and how its disk follows it.
-use Rattle.std.proofs.Common.{◌≡◌, ◌⊎◌, inl, inr, Bool, ℕ, suc, ◌+◌, ◌≤◌, List, [], ◌∷◌, ◌++◌, Option, Some, None, Result, Ok, Err, drop, length, length-append, refl, sym, ap, subst, ◌∙◌, arith}
+use Rattle.std.proofs.Common.{◌≡◌, ◌⊎◌, inl, inr, Bool, ℕ, suc, ◌+◌, ◌≤◌, List, [], ◌∷◌, ◌++◌, Option, Some, None, Result, Ok, Err, append_assoc, drop, length, length-append, refl, sym, ap, subst, ◌∙◌, arith}
+use Rattle.std.proofs.lemmas.List.{append-nil}
 use Rattle.std.proofs.Math.Seq.{drop-append_seam, drop-length}
 use Rattle.uug_conversation.proofs.MachineMoveLemmas.{after_opening, after_reply, stays, then_moves}
 use Rattle.uug_conversation.specs.DialogueState.{DialogueState, end_keeper, is_empty, opened_with, taking}
@@ -11,9 +12,11 @@ use Rattle.uug_conversation.specs.Sharing.{OnlyMoves}
 use Rattle.uug_conversation.specs.declared.job.Job.{Job}
 use Rattle.uug_conversation.specs.declared.side.Side.{Side}
 use Rattle.uug_events.specs.NodeRuns.{IsLedByEvents, state_after}
-use Rattle.uug_folder.proofs.OpenJobsLemmas.{HasGoneOn, only_moves, settled_holds, settled_least, times_append, unsettled_least}
+use Rattle.uug_folder.proofs.OpenJobsLemmas.{HasGoneOn, nothing_told, only_moves, settled_holds, settled_least, times_append, unsettled_least}
+use Rattle.uug_folder.specs.Notices.{also_told, notice, notices}
 use Rattle.uug_folder.specs.NumberText.{HoldsNumber, IsNumberKept, holding_number}
-use Rattle.uug_folder.specs.OpenJobs.{Holds, HoldsAtLeast, LosesNone, StaysHeld, jobs_left, settled_in, times}
+use Rattle.std.specs.Result.{IsErr, IsErrAnd}
+use Rattle.uug_folder.specs.OpenJobs.{Holds, HoldsAtLeast, IsSettledOrNot, LosesNone, StaysHeld, jobs_left, settled_in, times}
 use Rattle.uug_folder.specs.TextFiles.{holding}
 use Rattle.uug_link.specs.State.{State}
 use Rattle.uug_session.proofs.StepKeeps.{hailing_leads, linked_keeps, speaks_so, stage_leads}
@@ -24,7 +27,7 @@ use Rattle.uug_talk.specs.Chunks.{Measure}
 use Rattle.uug_transfer.specs.BufferedNodes.{IsLed}
 use Rattle.uug_transfer.specs.Ends.{jobs_of_end, number_of_end}
 use Rattle.uug_transfer.specs.SessionFaults.{UnlessUnsettled}
-use Rattle.uug_transfer.specs.Settling.{AreSettled, IsNumberNow, IsOnDisk, IsSomeNumber, LosesNoJob, StaysInStore, kept_then, unsettled}
+use Rattle.uug_transfer.specs.Settling.{AreSettled, IsNumberNow, IsOnDisk, IsSomeNumber, LosesNoJob, StaysInStore, TellsFailed, kept_then, unsettled}
 use Rattle.uug_transfer.specs.declared.session_fault.SessionFault.{SessionFault}
 use Rattle.uug_transfer.specs.declared.session_fault.SessionFault.TheVariants as fault
 use Rattle.uug_transfer.specs.declared.settled.Settled.{Settled}
@@ -134,6 +137,11 @@ pub either_loses_none : (settled : Settled) (before after : NodeState) (stands s
 either_loses_none settled before after stands stands_after is on (inl e) = unsettled_loses_none settled before after stands stands_after is on e
 either_loses_none settled before after stands stands_after is on (inr e) = settled_loses_none settled before after stands stands_after is on e
 
+pub or_not : (over : List Job) (notice : List ℕ) (stands stands_after : Option (List Job)) (told told_after : Option (List ℕ))
+    → IsSettledOrNot over notice stands stands_after told told_after → (stands_after ≡ stands) ⊎ (stands_after ≡ settled_in over stands)
+or_not over notice stands stands_after told told_after (inl h) = inl h.0
+or_not over notice stands stands_after told told_after (inr h) = inr h.0
+
 -- the same, as the code has the end then
 pub either_then : (settled : Settled) (before after node : NodeState) (stands stands_after : Option (List Job)) → node ≡ after
     → AreSettled settled (jobs_of_end before) → HasGoneOn (jobs_of_end before) (jobs_of_end after)
@@ -176,6 +184,12 @@ unless_settled (Err fault.Jobs) P Q p f = tt
 unless_settled (Err fault.Number) P Q p f = f p
 unless_settled (Err fault.Memory) P Q p f = tt
 
+-- a fault that is handed on
+pub settled_handed_on : {T : Type 0} (r : Result T SessionFault) (fault : SessionFault) (P : Type 0)
+    → IsErr r × IsErrAnd r (λ other. other ≡ fault) → UnlessUnsettled {T = T} (Err fault) P → UnlessUnsettled r P
+settled_handed_on (Ok value) fault P h p = absurd (cc h.0)
+settled_handed_on {T = T} (Err other) fault P h p = subst (λ (f : SessionFault). UnlessUnsettled {T = T} (Err f) P) (sym h.1) p
+
 -- ---- from turn to turn
 
 pub stays_then : (x y z : Option (List Job)) (a b c : NodeState) → StaysInStore x y a b → StaysInStore y z b c → StaysInStore x z a c
@@ -195,6 +209,61 @@ loses_same x y a b jobs stands = record {
   holds = λ h. subst (λ o. HoldsAtLeast o (pending (jobs_of_end b))) (sym stands)
       (subst (λ (l : Lists). HoldsAtLeast x (pending l)) (sym jobs) h);
 }
+
+-- ---- what is told of those that have failed
+
+notices_append : (own : Holdings) (first second : List Job) → notices own (first ++ second) ≡ notices own first ++ notices own second
+notices_append own [] second = refl
+notices_append own (job ∷ first) second =
+    ap (λ (more : List ℕ). notice own job ++ more) (notices_append own first second)
+    ∙ sym (append_assoc (notice own job) (notices own first) (notices own second))
+
+told_in_turn : (first second : List ℕ) (told : Option (List ℕ)) → also_told second (also_told first told) ≡ also_told (first ++ second) told
+told_in_turn first second None = refl
+told_in_turn first second (Some text) = ap Some (append_assoc text first second)
+
+-- where none has failed since
+pub none_is_told : (own : Holdings) (failed : ℕ) (jobs : List Job) (told : Option (List ℕ)) → failed ≡ length jobs
+    → told ≡ also_told (notices own (drop failed jobs)) told
+none_is_told own failed jobs told count =
+    nothing_told told
+    ∙ ap (λ (more : List Job). also_told (notices own more) told) (sym (ap (λ n. drop n jobs) count ∙ drop-length jobs))
+
+-- as the code has the end and its spool then
+pub tells_by : (settled : Settled) (before after node : NodeState) (own own_then : Holdings) (told told_after : Option (List ℕ))
+    → node ≡ after → own_then ≡ own → AreSettled settled (jobs_of_end before) → HasGoneOn (jobs_of_end before) (jobs_of_end after)
+    → told_after ≡ also_told (notices own_then (drop settled.failed (jobs_of_end node).failed)) told
+    → TellsFailed own told told_after before after
+tells_by settled before after node own own_then told told_after e same is on h = record {
+  failed_since = on.failed_since;
+  failed = on.failed;
+  is = h
+      ∙ ap (λ (n : NodeState). also_told (notices own_then (drop settled.failed (jobs_of_end n).failed)) told) e
+      ∙ ap (λ (jobs : List Job). also_told (notices own_then jobs) told)
+      (since settled.failed (jobs_of_end before).failed (jobs_of_end after).failed on.failed_since is.failed on.failed)
+      ∙ ap (λ (o : Holdings). also_told (notices o on.failed_since) told) same;
+}
+
+pub tells_then : (own : Holdings) (x y z : Option (List ℕ)) (a b c : NodeState) → TellsFailed own x y a b → TellsFailed own y z b c
+    → TellsFailed own x z a c
+tells_then own x y z a b c first second = record {
+  failed_since = first.failed_since ++ second.failed_since;
+  failed = second.failed ∙ ap (λ (jobs : List Job). jobs ++ second.failed_since) first.failed
+      ∙ append_assoc (jobs_of_end a).failed first.failed_since second.failed_since;
+  is = second.is ∙ ap (also_told (notices own second.failed_since)) first.is
+      ∙ told_in_turn (notices own first.failed_since) (notices own second.failed_since) x
+      ∙ ap (λ more. also_told more x) (sym (notices_append own first.failed_since second.failed_since));
+}
+
+pub tells_same : (own : Holdings) (x y : Option (List ℕ)) (a b : NodeState) → jobs_of_end b ≡ jobs_of_end a → y ≡ x → TellsFailed own x y a b
+tells_same own x y a b jobs told = record {
+  failed_since = [];
+  failed = ap (λ (l : Lists). l.failed) jobs ∙ sym (append-nil (jobs_of_end a).failed);
+  is = told ∙ nothing_told x;
+}
+
+pub tells_of : (own other : Holdings) (x y : Option (List ℕ)) (a b : NodeState) → other ≡ own → TellsFailed own x y a b → TellsFailed other x y a b
+tells_of own other x y a b same is = subst (λ (o : Holdings). TellsFailed o x y a b) (sym same) is
 
 -- ---- the number
 

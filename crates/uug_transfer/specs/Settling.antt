@@ -3,6 +3,8 @@ use Rattle.std.specs.Prelude.{◌≡◌, ℕ, List, ◌++◌, Option, Some, None
 use Rattle.uug_conversation.specs.declared.job.Job.{Job}
 use Rattle.uug_conversation.specs.Jobs.{Lists, pending}
 use Rattle.uug_folder.specs.NumberText.{HoldsNumber, holding_number}
+use Rattle.uug_conversation.specs.Holdings.{Holdings}
+use Rattle.uug_folder.specs.Notices.{also_told, notices}
 use Rattle.uug_folder.specs.OpenJobs.{LosesNone, StaysHeld}
 use Rattle.uug_session.specs.Node.{NodeState}
 use Rattle.uug_transfer.specs.Ends.{jobs_of_end, number_of_end}
@@ -28,6 +30,12 @@ StaysInStore stands stands_after before after =
 abbrev pub LosesNoJob : (stands stands_after : Option (List Job)) (before after : NodeState) → Type 0
 LosesNoJob stands stands_after before after =
     LosesNone stands stands_after (pending (jobs_of_end before)) (pending (jobs_of_end after))
+
+-- of each job that has failed since it is told why, where that is told, and of no other
+pub record TellsFailed (own : Holdings) (told told_after : Option (List ℕ)) (before after : NodeState) : Type 0 where
+  pub failed_since : List Job
+  pub failed : (jobs_of_end after).failed ≡ (jobs_of_end before).failed ++ failed_since
+  pub is : told_after ≡ also_told (notices own failed_since) told
 
 -- ---- the number
 

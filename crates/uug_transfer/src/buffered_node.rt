@@ -163,6 +163,13 @@ impl<S: Spool + Drop, A: Allocator + Copy> BufferedNode<S, A> {
         &self.node
     }
 
+    /// Its files.
+    pub fn spool(&self) -> &S
+        ensures { result.now ≡ spool_in self.now }
+    {
+        self.node.spool()
+    }
+
     /// How far its session has come, and whether it has left its line.
     pub fn status(&self, is_over: bool) -> SessionStatus
         ensures { result ≡ status_of is_over (node_in self.now) }

@@ -11,7 +11,7 @@ ghost use Rattle.uug_transfer.specs.EndOver.{HasFault, IfWritten, IsEndFault, Is
 ghost use Rattle.uug_transfer.specs.Ends.{number_of_end, phase_of_end, report_of, status_of_phase};
 ghost use Rattle.uug_transfer.specs.Listening.{HearsLine};
 ghost use Rattle.uug_transfer.specs.Received.{ReadsWithin};
-ghost use Rattle.uug_transfer.specs.Settling.{IsNumberNow, IsSomeNumber, LosesNoJob, StaysInStore};
+ghost use Rattle.uug_transfer.specs.Settling.{IsNumberNow, IsSomeNumber, LosesNoJob, StaysInStore, TellsFailed};
 ghost use Rattle.uug_transfer.specs.Writing.{TalksAtLine};
 ghost use Rattle.uug_transfer.specs.declared.read_budget.TheConstants.{SILENCES_MAX};
 
@@ -21,12 +21,12 @@ use crate::session::run_session;
 use crate::session_fault::SessionFault;
 use crate::transfer_end::TransferEnd;
 use std::alloc::Allocator;
-use uug_folder::TextFile;
+use uug_folder::{JobTexts, TextFile};
 use uug_session::{Node, Phase, Side, Spool};
 use uug_stream::{Output, ToolFault, write_all};
 
 /// An end stays at its line until its session is over, and reads so many bytes at most. What becomes of it is put on its disk
-/// meanwhile: a job that is over is taken out of the file of jobs, and its number goes to its own file, if it keeps one, before
+/// meanwhile: a job that is over is taken out of the file of jobs, where it has failed it is told why, and its number goes to its own file, if it keeps one, before
 /// anything that the end says of it is written. When the session is over the report goes to the output, also where the line or a
 /// file has failed. The answer is the program's status: 0 where the session is done, even if the line has failed behind it, and
 /// 1 where it is not. Of several faults the first is answered, and none of them keeps the report from being printed, except
@@ -42,7 +42,7 @@ pub fn call_over<S, L, J, N, O, A>(
 where
     S: Spool + Drop,
     L: EndLine,
-    J: TextFile,
+    J: JobTexts,
     N: TextFile,
     O: Output,
     A: Allocator + Copy,
@@ -81,6 +81,10 @@ where
     ensures none_lost { LosesNoJob (open_in (J.text end.old.jobs.file))
         (open_in (J.text end.new.jobs.file))
         (node_in end.old.buffered) (node_in end.new.buffered) }
+    // Of each job that has failed it is told why, beside its line.
+    ensures told { IfWritten result (TellsFailed (S.holdings (spool_in end.old.buffered))
+        (J.told end.old.jobs.file) (J.told end.new.jobs.file)
+        (node_in end.old.buffered) (node_in end.new.buffered)) }
     // The file of the number of an end that keeps one has it.
     ensures number { IfWritten result (IsNumberNow (number_of_end (node_in end.old.buffered))
         (number_of_end (node_in end.new.buffered)) (N.text end.old.number) (N.text end.new.number)) }

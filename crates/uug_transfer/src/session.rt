@@ -9,7 +9,7 @@ ghost use Rattle.uug_transfer.specs.Listening.{HearsLine};
 ghost use Rattle.uug_transfer.specs.ReadOutcomes.{IsWithin, TakesOutcome};
 ghost use Rattle.uug_transfer.specs.Received.{ReadsWithin};
 ghost use Rattle.uug_transfer.specs.SessionFaults.{IfOnDisk, UnlessLine, UnlessNumber, UnlessRefused, UnlessUnsettled};
-ghost use Rattle.uug_transfer.specs.Settling.{IsNumberNow, IsOnDisk, IsSomeNumber, LosesNoJob, StaysInStore, kept_then};
+ghost use Rattle.uug_transfer.specs.Settling.{IsNumberNow, IsOnDisk, IsSomeNumber, LosesNoJob, StaysInStore, TellsFailed, kept_then};
 ghost use Rattle.uug_transfer.specs.Writing.{TakesFront, TalksAtLine, also_taken};
 ghost use Rattle.uug_transfer.specs.declared.read_budget.TheConstants.{SILENCES_MAX};
 
@@ -28,7 +28,7 @@ use uug_session::Spool;
 /// bytes come to it, and a silence is a timeout. After the line's end it is hung up, also where the line failed, memory
 /// ran out, so many bytes were read of it, or it was silent for `SILENCES_MAX` reads in a row. The line is told each time
 /// how far the session has come. What becomes of the end is on its disk before what it says of that is written: a job that is
-/// over is taken out of `jobs`, and `number` has the number that the end keeps. Where that can't be done the end hangs up, and
+/// over is taken out of `jobs`, where it is told of each that has failed, and `number` has the number that the end keeps. Where that can't be done the end hangs up, and
 /// nothing more is written.
 pub fn run_session<S, J, N, L, A>(
     alloc: A,
@@ -64,12 +64,15 @@ where
         (injector_in buffered.old) (to_write buffered.old)
         (L.taken line.old) (L.taken line.new)
         (node_in buffered.old) (node_in buffered.new)) }
-    // What is over is taken out of its store, and nothing else; and on no way out is a pending job lost from it.
+    // What is over is taken out of its store, and nothing else; on no way out is a pending job lost from it; and of each job that
+    // has failed it is told why.
     ensures stays { UnlessUnsettled result
         (StaysInStore (J.open_jobs jobs.old) (J.open_jobs jobs.new)
         (node_in buffered.old) (node_in buffered.new)) }
     ensures none_lost { LosesNoJob (J.open_jobs jobs.old) (J.open_jobs jobs.new)
         (node_in buffered.old) (node_in buffered.new) }
+    ensures told { UnlessUnsettled result (TellsFailed (S.holdings (spool_in buffered.old))
+        (J.told jobs.old) (J.told jobs.new) (node_in buffered.old) (node_in buffered.new)) }
     ensures number_now { IfOnDisk result (IsNumberNow (number_of_end (node_in buffered.old))
         (number_of_end (node_in buffered.new)) (N.text number.old) (N.text number.new)) }
     ensures number_whole { IsSomeNumber (N.text number.old) (N.text number.new) }
@@ -128,12 +131,15 @@ where
         (injector_in buffered.old) (to_write buffered.old)
         (L.taken line.old) (L.taken line.new)
         (node_in buffered.old) (node_in buffered.new)) }
-    // What is over is taken out of its store, and nothing else; and on no way out is a pending job lost from it.
+    // What is over is taken out of its store, and nothing else; on no way out is a pending job lost from it; and of each job that
+    // has failed it is told why.
     ensures stays { UnlessUnsettled result
         (StaysInStore (J.open_jobs jobs.old) (J.open_jobs jobs.new)
         (node_in buffered.old) (node_in buffered.new)) }
     ensures none_lost { LosesNoJob (J.open_jobs jobs.old) (J.open_jobs jobs.new)
         (node_in buffered.old) (node_in buffered.new) }
+    ensures told { UnlessUnsettled result (TellsFailed (S.holdings (spool_in buffered.old))
+        (J.told jobs.old) (J.told jobs.new) (node_in buffered.old) (node_in buffered.new)) }
     ensures number_now { IfOnDisk result (IsNumberNow (number_of_end (node_in buffered.old))
         (number_of_end (node_in buffered.new)) (N.text number.old) (N.text number.new)) }
     ensures number_whole { IsSomeNumber (N.text number.old) (N.text number.new) }
@@ -252,6 +258,8 @@ where
         (node_in buffered.old) (node_in buffered.new)) }
     ensures none_lost { LosesNoJob (J.open_jobs jobs.old) (J.open_jobs jobs.new)
         (node_in buffered.old) (node_in buffered.new) }
+    ensures told { UnlessUnsettled result (TellsFailed (S.holdings (spool_in buffered.old))
+        (J.told jobs.old) (J.told jobs.new) (node_in buffered.old) (node_in buffered.new)) }
     ensures jobs_calm { UnlessUnsettled result
         (J.fault_count jobs.new ≡ J.fault_count jobs.old) }
     ensures number_calm { UnlessRefused result (UnlessNumber result
@@ -263,7 +271,7 @@ where
     ensures no_line { result ≢ Err SessionFault.Line }
 {
     let taken = take_outcome(buffered, outcome, buffer);
-    let on_disk = settled.put_on_disk(alloc, buffered.node(), jobs, number);
+    let on_disk = settled.put_on_disk(alloc, buffered.node(), buffered.spool(), jobs, number);
     taken?;
     on_disk
 }

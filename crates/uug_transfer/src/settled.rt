@@ -1,8 +1,9 @@
 //! What becomes of an end is put on its disk.
-ghost use Rattle.std.specs.Prelude.{◌≡◌, ◌≢◌, ◌≤◌, ◌⊎◌, length, IfErr, IfOk, OnErr, OnOk};
+ghost use Rattle.std.specs.Prelude.{◌≡◌, ◌≢◌, ◌≤◌, drop, length, IfErr, IfOk, OnErr, OnOk};
 ghost use Rattle.uug_session.specs.Engine.{HasFailed};
 ghost use Rattle.uug_folder.specs.NumberText.{HoldsNumber, IsNumberKept, holding_number};
-ghost use Rattle.uug_folder.specs.OpenJobs.{settled_in};
+ghost use Rattle.uug_folder.specs.Notices.{also_told, notices};
+ghost use Rattle.uug_folder.specs.OpenJobs.{IsSettledOrNot, settled_in};
 ghost use Rattle.uug_session.specs.Node.{node_of};
 ghost use Rattle.uug_transfer.specs.Ends.{jobs_of_end, number_of_end};
 ghost use Rattle.uug_transfer.specs.SessionFaults.{UnlessJobs, UnlessNumber, UnlessUnsettled};
@@ -10,7 +11,7 @@ ghost use Rattle.uug_transfer.specs.Settling.{AreSettled, IsSomeNumber, kept_the
 
 use crate::session_fault::SessionFault;
 use std::alloc::Allocator;
-use uug_folder::{JobStore, TextFile, number_line};
+use uug_folder::{JobStore, TextFile, number_line, write_notices};
 use uug_session::{Node, Queue, Spool};
 use uug_stream::ToolFault;
 
@@ -57,6 +58,7 @@ impl Settled {
         &mut self,
         alloc: A,
         node: &Node<S, A>,
+        spool: &S,
         jobs: &mut J,
         number: &mut N,
     ) -> Result<(), SessionFault>
@@ -66,9 +68,14 @@ impl Settled {
         ensures ok { UnlessUnsettled result (J.open_jobs jobs.new
             ≡ settled_in (unsettled self.old (jobs_of_end (node_of node.now)))
             (J.open_jobs jobs.old)) }
-        ensures either { (J.open_jobs jobs.new ≡ J.open_jobs jobs.old) ⊎ (J.open_jobs jobs.new
-            ≡ settled_in (unsettled self.old (jobs_of_end (node_of node.now)))
-            (J.open_jobs jobs.old)) }
+        ensures told { UnlessUnsettled result (J.told jobs.new ≡ also_told
+            (notices (S.holdings spool.now)
+            (drop self.old.failed (jobs_of_end (node_of node.now)).failed))
+            (J.told jobs.old)) }
+        ensures either { IsSettledOrNot (unsettled self.old (jobs_of_end (node_of node.now)))
+            (notices (S.holdings spool.now)
+            (drop self.old.failed (jobs_of_end (node_of node.now)).failed))
+            (J.open_jobs jobs.old) (J.open_jobs jobs.new) (J.told jobs.old) (J.told jobs.new) }
         ensures settled { OnOk result (AreSettled self.new (jobs_of_end (node_of node.now))) }
         ensures kept { OnOk result (self.new.number
             ≡ kept_then self.old.number (number_of_end (node_of node.now))) }
@@ -84,24 +91,28 @@ impl Settled {
             → HasFailed u64.MAX (N.fault_count number.old) (N.fault_count number.new) }
         ensures no_line { result ≢ Err SessionFault.Line }
     {
-        self.settle_jobs(alloc, node.queue(), jobs)?;
+        self.settle_jobs(alloc, node.queue(), spool, jobs)?;
         self.keep_number(node.number(), number)
     }
 
-    /// Takes the jobs out of their store that were struck or have failed since.
-    fn settle_jobs<J: JobStore, A: Allocator + Copy, B: Allocator>(
+    /// Takes the jobs out of their store that were struck or have failed since. Of the latter it is told why.
+    fn settle_jobs<S: Spool, J: JobStore, A: Allocator + Copy, B: Allocator>(
         &mut self,
         alloc: A,
         queue: &Queue<B>,
+        spool: &S,
         jobs: &mut J,
     ) -> Result<(), SessionFault>
         requires struck { self.old.struck ≤ length queue.now.struck }
         requires failed { self.old.failed ≤ length queue.now.failed }
         ensures ok { OnOk result (J.open_jobs jobs.new
             ≡ settled_in (unsettled self.old queue.now) (J.open_jobs jobs.old)) }
-        ensures err { OnErr result ((J.open_jobs jobs.new ≡ J.open_jobs jobs.old)
-            ⊎ (J.open_jobs jobs.new
-            ≡ settled_in (unsettled self.old queue.now) (J.open_jobs jobs.old))) }
+        ensures told { OnOk result (J.told jobs.new
+            ≡ also_told (notices (S.holdings spool.now) (drop self.old.failed queue.now.failed))
+            (J.told jobs.old)) }
+        ensures err { OnErr result (IsSettledOrNot (unsettled self.old queue.now)
+            (notices (S.holdings spool.now) (drop self.old.failed queue.now.failed))
+            (J.open_jobs jobs.old) (J.open_jobs jobs.new) (J.told jobs.old) (J.told jobs.new)) }
         ensures settled { OnOk result (AreSettled self.new queue.now) }
         ensures number { self.new.number ≡ self.old.number }
         ensures calm { UnlessJobs result (J.fault_count jobs.new ≡ J.fault_count jobs.old) }
@@ -117,7 +128,8 @@ impl Settled {
         }
         let struck = &queue.struck()[self.struck..];
         let failed = &queue.failed()[self.failed..];
-        match jobs.settle(alloc, struck, failed) {
+        let notices = write_notices(alloc, spool, failed)?;
+        match jobs.settle(alloc, struck, failed, notices.as_bytes()) {
             Ok(()) => (),
             Err(ToolFault::Memory) => return Err(SessionFault::Memory),
             Err(_) => return Err(SessionFault::Jobs),

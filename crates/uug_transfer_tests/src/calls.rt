@@ -5,14 +5,18 @@
 mod assertions;
 mod faults;
 mod follow;
+mod memory_jobs;
 mod memory_text;
 mod numbers;
 mod scenes;
 mod scripted_line;
+mod stops;
 
 use assertions::assert_same;
+use memory_jobs::MemoryJobs;
 use memory_text::MemoryText;
 use numbers::{JOB, jobs_file};
+use scenes::NEVER;
 use scripted_line::ScriptedLine;
 use std::alloc::Global;
 use std::process::Abort;
@@ -127,7 +131,7 @@ fn play_at(
     (manner, most): (Manner, u64),
 ) -> Left {
     let mut line = line(rt, alloc, None, manner);
-    let mut jobs = jobs_file(rt, alloc, MemoryText::new(JOB, false));
+    let mut jobs = jobs_file(rt, alloc, MemoryJobs::new(JOB, NEVER));
     let mut number = MemoryText::new(b"", false);
     let answer = run_session(alloc, buffered, &mut jobs, &mut number, &mut line, most);
     drop(jobs);

@@ -1,8 +1,9 @@
 //! Ends that keep a number of their conversations. What this catches beyond the clauses: a rule that the definitions state
 //! wrongly, and a call that gives up where it need not.
 
+use super::memory_jobs::MemoryJobs;
 use super::memory_text::MemoryText;
-use super::scenes::{AMPLE, BYTE_BY_BYTE, CLEAN};
+use super::scenes::{AMPLE, BYTE_BY_BYTE, CLEAN, NEVER};
 use super::scripted_line::ScriptedLine;
 use super::{Manner, caller, line};
 use crate::calls::assertions::{assert_same, assert_same_at};
@@ -13,7 +14,7 @@ use uug_session::{MemorySpool, Side};
 use uug_stream::{MemoryOutput, ToolFault};
 use uug_transfer::{TransferEnd, call_over};
 
-pub(super) type MemoryEnd = TransferEnd<MemorySpool<Global>, MemoryText, MemoryText, Global>;
+pub(super) type MemoryEnd = TransferEnd<MemorySpool<Global>, MemoryJobs, MemoryText, Global>;
 
 /// What is left of a call: the answer, what both files and the output have, and the number of the end that was called.
 #[derive(Clone, Copy, Debug, PartialEq, Eq)]
@@ -223,7 +224,11 @@ pub(super) fn end(rt: &impl Abort, alloc: Global, call: &Call<'_>) -> MemoryEnd 
     let (number, _, (jobs_fail, number_fails), now, _) = call;
     TransferEnd {
         buffered: caller(rt, alloc, b"hi", *number),
-        jobs: jobs_file(rt, alloc, MemoryText::new(now, *jobs_fail)),
+        jobs: jobs_file(
+            rt,
+            alloc,
+            MemoryJobs::new(now, if *jobs_fail { 0 } else { NEVER }),
+        ),
         number: MemoryText::new(b"", *number_fails),
     }
 }
@@ -232,8 +237,8 @@ pub(super) fn end(rt: &impl Abort, alloc: Global, call: &Call<'_>) -> MemoryEnd 
 pub(super) fn jobs_file(
     rt: &impl Abort,
     alloc: Global,
-    file: MemoryText,
-) -> JobsFile<MemoryText, Global> {
+    file: MemoryJobs,
+) -> JobsFile<MemoryJobs, Global> {
     JobsFile {
         file,
         before: JOB.to_vec(alloc).expect(rt, "memory for a job"),

@@ -2,8 +2,8 @@ use Rattle.uug_transfer.specs.BufferedNodes.{node_in}
 use Rattle.uug_transfer.specs.Ends.{jobs_of_end}
 use Rattle.uug_conversation.specs.Jobs.{Lists}
 use Rattle.uug_session.specs.Node.{NodeState}
-use Rattle.std.proofs.Common.{ap, length, subst, sym, ◌≤◌}
-use Rattle.uug_transfer.proofs.SettlingLemmas.{either_then, failed_room, led_goes_on, stays_by, struck_room, unless_settled}
+use Rattle.std.proofs.Common.{ap, length, subst, sym, ◌≤◌, ◌∙◌}
+use Rattle.uug_transfer.proofs.SettlingLemmas.{either_then, failed_room, led_goes_on, or_not, stays_by, struck_room, tells_by, unless_settled}
 use Rattle.uug_transfer.proofs.session.take_and_settle.Goals as goal
 
 pub put_on_disk-on_disk-requires-clause-struck : goal.put_on_disk-on_disk-requires-clause-struck
@@ -19,14 +19,21 @@ put_on_disk-on_disk-requires-clause-failed g c =
 pub returns-in_err-taken-clause-none_lost : goal.returns-in_err-taken-clause-none_lost
 returns-in_err-taken-clause-none_lost g c =
     either_then c.args.settled.now (node_in c.args.buffered.now) (node_in c.take_outcome-taken.new.buffered) _ _ _ c.node.ensures c.requires.on_disk.jobs (led_goes_on _ _ _ _ _ c.take_outcome-taken.ensures.led.led)
-    c.put_on_disk-on_disk.ensures.either
+    (or_not _ _ _ _ _ _ c.put_on_disk-on_disk.ensures.either)
 
 pub returns-clause-none_lost : goal.returns-clause-none_lost
 returns-clause-none_lost g c =
     either_then c.args.settled.now (node_in c.args.buffered.now) (node_in c.take_outcome-taken.new.buffered) _ _ _ c.node.ensures c.requires.on_disk.jobs (led_goes_on _ _ _ _ _ c.take_outcome-taken.ensures.led.led)
-    c.put_on_disk-on_disk.ensures.either
+    (or_not _ _ _ _ _ _ c.put_on_disk-on_disk.ensures.either)
 
 pub returns-clause-stays : goal.returns-clause-stays
 returns-clause-stays g c =
     unless_settled c.put_on_disk-on_disk.result _ _ c.put_on_disk-on_disk.ensures.ok
     (λ is. stays_by c.args.settled.now (node_in c.args.buffered.now) (node_in c.take_outcome-taken.new.buffered) _ _ _ c.node.ensures c.requires.on_disk.jobs (led_goes_on _ _ _ _ _ c.take_outcome-taken.ensures.led.led) is)
+
+pub returns-clause-told : goal.returns-clause-told
+returns-clause-told g c =
+    unless_settled c.put_on_disk-on_disk.result _ _ c.put_on_disk-on_disk.ensures.told
+    (λ is. tells_by c.args.settled.now (node_in c.args.buffered.now) (node_in c.take_outcome-taken.new.buffered) _ _ _ _ _ c.node.ensures
+    (ap g.S.Spool.holdings c.spool.ensures ∙ c.take_outcome-taken.ensures.led.same)
+    c.requires.on_disk.jobs (led_goes_on _ _ _ _ _ c.take_outcome-taken.ensures.led.led) is)

@@ -10,7 +10,7 @@ use Rattle.uug_transfer.proofs.KeepingLemmas.{keeps_later, keeps_same}
 use Rattle.uug_transfer.proofs.LedLemmas.{led_kept, led_later, led_same}
 use Rattle.uug_transfer.proofs.ListeningLemmas.{front_read, heard_then, line_at_first, line_read, line_same, talks_at_first, talks_noted, talks_over, talks_read, talks_some, talks_written}
 use Rattle.uug_transfer.proofs.ReceivedLemmas.{room_of, spends_at_start, spends_more, spends_same, within_then}
-use Rattle.uug_transfer.proofs.SettlingLemmas.{file_then, follows_at_first, follows_then, loses_same, loses_then, on_disk_at_first, some_then, stays_same, stays_then}
+use Rattle.uug_transfer.proofs.SettlingLemmas.{file_then, follows_at_first, follows_then, loses_same, loses_then, on_disk_at_first, settled_handed_on, some_then, stays_same, stays_then, tells_of, tells_same, tells_then, unless_settled}
 use Rattle.uug_transfer.proofs.session.take_turns.Goals as goal
 
 pub loop-alloc-init : goal.loop-alloc-init
@@ -32,6 +32,7 @@ loop-alloc-init g c = record {
       ∙ ap (λ k. holding_number k (g.N.TextFile.text c.args.number.now)) (sym c.in_ok-settled.ensures.number);
   stays = stays_same _ _ (node_in c.args.buffered.now) (node_in c.args.buffered.now) refl refl;
   none_lost = loses_same _ _ (node_in c.args.buffered.now) (node_in c.args.buffered.now) refl refl;
+  told = tells_same _ _ _ (node_in c.args.buffered.now) (node_in c.args.buffered.now) refl refl;
   jobs_calm = refl;
   number_calm = c.in_ok-settled.ensures.calm;
   calm = refl;
@@ -85,6 +86,13 @@ loop-alloc-preserved g c = record {
       (loses_then _ _ _ (node_in c.loop-alloc.buffered) (node_in c.write_all.new.buffered) (node_in c.take_and_settle.new.buffered)
       (loses_same _ _ (node_in c.loop-alloc.buffered) (node_in c.write_all.new.buffered) (ap jobs_of_end c.write_all.ensures.node) refl)
       c.take_and_settle.ensures.none_lost);
+  told = tells_then _ _ _ _ (node_in c.args.buffered.now) (node_in c.loop-alloc.buffered) (node_in c.take_and_settle.new.buffered)
+      c.loop-alloc.invariant.told
+      (tells_then _ _ _ _ (node_in c.loop-alloc.buffered) (node_in c.write_all.new.buffered) (node_in c.take_and_settle.new.buffered)
+      (tells_same _ _ _ (node_in c.loop-alloc.buffered) (node_in c.write_all.new.buffered) (ap jobs_of_end c.write_all.ensures.node) refl)
+      (tells_of _ _ _ _ (node_in c.write_all.new.buffered) (node_in c.take_and_settle.new.buffered)
+      (sym (ap g.S.Spool.holdings c.write_all.ensures.spool ∙ c.loop-alloc.invariant.led.same))
+      c.in_ok-take_and_settle.ensures.told));
   jobs_calm = c.in_ok-take_and_settle.ensures.jobs_calm ∙ c.loop-alloc.invariant.jobs_calm;
   number_calm = c.in_ok-take_and_settle.ensures.number_calm ∙ c.loop-alloc.invariant.number_calm;
   calm = c.note.ensures.calm ∙ (c.in_ok-outcome.ensures.calm ∙ (c.in_ok-write_all.ensures.calm ∙ c.loop-alloc.invariant.calm));
@@ -235,3 +243,15 @@ pub returns-in_err-take_and_settle-clause-number_whole : goal.returns-in_err-tak
 returns-in_err-take_and_settle-clause-number_whole g c =
     some_then (g.N.TextFile.text c.args.number.now) (g.N.TextFile.text c.loop-alloc.number) _
     (record { number = c.loop-alloc.settled.number; is = c.loop-alloc.invariant.file }) c.take_and_settle.ensures.whole
+
+pub returns-in_err-take_and_settle-clause-told : goal.returns-in_err-take_and_settle-clause-told
+returns-in_err-take_and_settle-clause-told g c =
+    settled_handed_on c.from_residual-in_err-take_and_settle.result c.in_err-take_and_settle.field-0.0 _
+    c.from_residual-in_err-take_and_settle.ensures
+    (unless_settled {T = Unit {0}} (Err c.in_err-take_and_settle.field-0.0) _ _ c.in_err-take_and_settle.ensures.told
+    (λ told. tells_then _ _ _ _ (node_in c.args.buffered.now) (node_in c.loop-alloc.buffered) (node_in c.take_and_settle.new.buffered)
+    c.loop-alloc.invariant.told
+    (tells_then _ _ _ _ (node_in c.loop-alloc.buffered) (node_in c.write_all.new.buffered) (node_in c.take_and_settle.new.buffered)
+    (tells_same _ _ _ (node_in c.loop-alloc.buffered) (node_in c.write_all.new.buffered) (ap jobs_of_end c.write_all.ensures.node) refl)
+    (tells_of _ _ _ _ (node_in c.write_all.new.buffered) (node_in c.take_and_settle.new.buffered)
+    (sym (ap g.S.Spool.holdings c.write_all.ensures.spool ∙ c.loop-alloc.invariant.led.same)) told))))

@@ -4,7 +4,7 @@ use Rattle.uug_transfer.specs.BufferedNodes.{injector_in, node_in, spool_in, to_
 use Rattle.uug_folder.specs.NumberText.{holding_number}
 use Rattle.uug_transfer.specs.Ends.{number_of_end}
 use Rattle.uug_transfer.specs.Listening.{HearsLine}
-use Rattle.uug_transfer.specs.Settling.{IsOnDisk, LosesNoJob, StaysInStore}
+use Rattle.uug_transfer.specs.Settling.{IsOnDisk, LosesNoJob, StaysInStore, TellsFailed}
 use Rattle.uug_transfer.proofs.SettlingLemmas.{FollowsNumber}
 use Rattle.uug_transfer.specs.ReadBudgets.{turns_left}
 use Rattle.uug_transfer.proofs.ListeningLemmas.{TalksOn}
@@ -29,6 +29,8 @@ invariant-loop-alloc g l = record {
   file : g.N.TextFile.text l.number ≡ holding_number l.settled.number (g.N.TextFile.text l.fn.number);
   stays : StaysInStore (g.J.JobStore.open_jobs l.fn.jobs) (g.J.JobStore.open_jobs l.jobs) (node_in l.fn.buffered) (node_in l.buffered);
   none_lost : LosesNoJob (g.J.JobStore.open_jobs l.fn.jobs) (g.J.JobStore.open_jobs l.jobs) (node_in l.fn.buffered) (node_in l.buffered);
+  told : TellsFailed (g.S.Spool.holdings (spool_in l.fn.buffered)) (g.J.JobStore.told l.fn.jobs) (g.J.JobStore.told l.jobs)
+      (node_in l.fn.buffered) (node_in l.buffered);
   jobs_calm : g.J.JobStore.fault_count l.jobs ≡ g.J.JobStore.fault_count l.fn.jobs;
   number_calm : g.N.TextFile.fault_count l.number ≡ g.N.TextFile.fault_count l.fn.number;
   calm : g.L.EndLine.fault_count l.line ≡ g.L.EndLine.fault_count l.fn.line;

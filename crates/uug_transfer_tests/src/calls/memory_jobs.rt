@@ -1,0 +1,94 @@
+//! The files of an end's jobs, in memory.
+ghost use Rattle.std.specs.Prelude.{None};
+
+use arrayvec::ArrayVec;
+use std::alloc::Allocator;
+use uug_folder::{FolderFailed, JobTexts};
+use uug_stream::ToolFault;
+
+/// The most bytes of a text.
+const TEXT_MAX: usize = 160;
+
+/// Holds the text of the jobs that wait, and what is told of those that have failed. Each call that changes one of them is
+/// counted, and fails from the one of this number on.
+#[derive(Drop)]
+pub(super) struct MemoryJobs {
+    text: ArrayVec<u8, TEXT_MAX>,
+    told: ArrayVec<u8, TEXT_MAX>,
+    fails_at: usize,
+    calls: usize,
+    faults: u64,
+}
+
+impl MemoryJobs {
+    /// Holds this text, as far as there is room. The call of this number fails, counted from 0, and each behind it.
+    pub(super) fn new(text: &[u8], fails_at: usize) -> Self {
+        let mut held = ArrayVec::new();
+        let _ = held.try_extend_from_slice(text);
+        MemoryJobs {
+            text: held,
+            told: ArrayVec::new(),
+            fails_at,
+            calls: 0,
+            faults: 0,
+        }
+    }
+
+    /// From now on no call fails, and none has.
+    pub(super) fn mend(&mut self) {
+        self.fails_at = usize::MAX;
+        self.faults = 0;
+    }
+
+    pub(super) fn text(&self) -> &[u8] {
+        self.text.as_slice()
+    }
+
+    pub(super) fn told(&self) -> &[u8] {
+        self.told.as_slice()
+    }
+
+    pub(super) fn has_failed(&self) -> bool {
+        self.faults > 0
+    }
+
+    /// Counts a call, and says whether it fails.
+    fn fails(&mut self) -> bool {
+        self.calls = self.calls.saturating_add(1);
+        let fails = self.calls > self.fails_at;
+        if fails {
+            self.faults = self.faults.saturating_add(1);
+        }
+        fails
+    }
+}
+
+impl JobTexts for MemoryJobs {
+    ghost text = { λ _. None };
+
+    ghost told = { λ _. None };
+
+    ghost fault_count = { λ jobs. jobs.faults };
+
+    fn read<B: Allocator + Copy>(&mut self, alloc: B) -> Result<Vec<u8, B>, ToolFault> {
+        let text = self.text.as_slice().to_vec(alloc)?;
+        Ok(text)
+    }
+
+    fn replace(&mut self, bytes: &[u8]) -> Result<(), FolderFailed> {
+        if self.fails() {
+            return Err(FolderFailed);
+        }
+        self.text.clear();
+        let _ = self.text.try_extend_from_slice(bytes);
+        Ok(())
+    }
+
+    fn tell(&mut self, bytes: &[u8]) -> Result<(), FolderFailed> {
+        if self.fails() {
+            return Err(FolderFailed);
+        }
+        let _ = self.told.try_extend_from_slice(bytes);
+        Ok(())
+    }
+}

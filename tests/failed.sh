@@ -1,0 +1,166 @@
+#!/usr/bin/env bash
+# Jobs that fail, and what stays of them: `call` and `answer` over a socket, with a job whose file is missing, one that the
+# other end refuses, and one that asks for a file which it has not. Each must stand in `failed`, with why, before it is gone
+# from `jobs`: also where the end is killed as soon as it is gone, where standard output is closed, and where `failed` can't be
+# written, and then the job stays. A line that is taken from `failed` is tried again. And what `jobs` keeps: its mode, and the
+# link that it is; and the copies of `queue`, which go when no job needs them.
+#
+#   tests/failed.sh [PROGRAM]
+#
+# It prints a line for each part, and ends with status 1 where one fails. The folders stay then.
+set -eu
+export LC_ALL=C
+. "$(dirname "$(readlink -f "$0")")/common.sh"
+find_program "${1:-}"
+new_work
+failed=0
+passed=0
+
+holds() {
+    if [ "$2" = "$3" ]; then
+        passed=$((passed + 1))
+    else
+        failed=$((failed + 1))
+        printf '%s: found %q, expected %q\n' "$1" "$2" "$3" >&2
+    fi
+}
+
+new_folders() {
+    rm -rf "$work"/{a,b,line}
+    mkdir -p "$work"/{a,b}/{send,got}
+    echo one >"$work/a/send/x"
+    echo two >"$work/a/send/y"
+}
+
+# talk: one session. The status of the caller is in `ended`; what it prints is in out.
+talk() {
+    "$program" answer "unix:$work/line" "$work/b" --me b --peer a >"$work/answer.out" 2>&1 &
+    local answering=$!
+    wait_for_socket "$work/line"
+    ended=0
+    "$program" call "unix:$work/line" "$work/a" --me a --peer b "$@" >"$work/out" 2>"$work/err" || ended=$?
+    wait "$answering" || true
+}
+
+jobs_text='# mine
+send gone g me
+send x .hidden me
+request none n me
+send y y me'
+told='# no such file to send, or it is too large
+send gone g me
+# refused by the other end
+send x .hidden me
+# not given by the other end, or not to be put in its place here
+request none n me'
+
+tells() {
+    new_folders
+    echo "$jobs_text" >"$work/a/jobs"
+    talk
+    holds "status" "$ended" 0
+    holds "jobs" "$(cat "$work/a/jobs")" "# mine"
+    holds "failed" "$(cat "$work/a/failed")" "$told"
+    holds "the file behind them" "$(cat "$work/b/got/y")" two
+    echo three >"$work/a/send/gone"
+    tail -n +2 "$work/a/failed" | head -n 1 >>"$work/a/jobs"
+    talk
+    holds "a job that is tried again" "$(cat "$work/b/got/g")" three
+    holds "what was told stays" "$(cat "$work/a/failed")" "$told"
+}
+
+# The end is stopped by strace when the new file of jobs is in its place, and by then the word of the job is on the disk.
+is_killed() {
+    command -v strace >/dev/null || return 0
+    new_folders
+    echo "send gone g me" >"$work/a/jobs"
+    "$program" answer "unix:$work/line" "$work/b" --me b --peer a >/dev/null 2>&1 &
+    local answering=$!
+    wait_for_socket "$work/line"
+    strace -f -qq -o /dev/null -e trace=rename,renameat,renameat2 \
+        -e inject=rename,renameat,renameat2:signal=SIGKILL:when=1 \
+        "$program" call "unix:$work/line" "$work/a" --me a --peer b >"$work/out" 2>/dev/null || true
+    wait "$answering" || true
+    holds "killed: failed" "$(cat "$work/a/failed")" $'# no such file to send, or it is too large\nsend gone g me'
+    holds "killed: no report" "$(cat "$work/out")" ""
+}
+
+closed_output() {
+    new_folders
+    echo "send gone g me" >"$work/a/jobs"
+    "$program" answer "unix:$work/line" "$work/b" --me b --peer a >/dev/null 2>&1 &
+    local answering=$! ended=0
+    wait_for_socket "$work/line"
+    "$program" call "unix:$work/line" "$work/a" --me a --peer b >/dev/full 2>/dev/null || ended=$?
+    wait "$answering" || true
+    holds "full output: status" "$ended" 3
+    holds "full output: failed" "$(tail -n 1 "$work/a/failed")" "send gone g me"
+}
+
+# `failed` is a folder, so it can't be appended to.
+can_not_tell() {
+    new_folders
+    mkdir "$work/a/failed"
+    echo "$jobs_text" >"$work/a/jobs"
+    talk
+    holds "no failed: status" "$ended" 3
+    holds "no failed: jobs" "$(cat "$work/a/jobs")" "$jobs_text"
+    rmdir "$work/a/failed"
+    talk
+    holds "no failed, then one: jobs" "$(cat "$work/a/jobs")" "# mine"
+    holds "no failed, then one: failed" "$(cat "$work/a/failed")" "$told"
+}
+
+keeps_jobs() {
+    new_folders
+    mkdir "$work/elsewhere"
+    echo "$jobs_text" >"$work/elsewhere/list"
+    chmod 640 "$work/elsewhere/list"
+    [ "$(id -u)" -ne 0 ] || chown 1:1 "$work/elsewhere/list"
+    ln -s ../elsewhere/list "$work/a/jobs"
+    local owner
+    owner=$(stat -c %u:%g "$work/elsewhere/list")
+    talk
+    holds "the link" "$(readlink "$work/a/jobs")" ../elsewhere/list
+    holds "what it leads to" "$(cat "$work/elsewhere/list")" "# mine"
+    holds "the mode" "$(stat -c %a "$work/elsewhere/list")" 640
+    holds "the owner" "$(stat -c %u:%g "$work/elsewhere/list")" "$owner"
+    holds "nothing beside it" "$(ls -A "$work/elsewhere")" list
+}
+
+clears_copies() {
+    new_folders
+    local i
+    mkdir -p "$work/files"
+    echo mine >"$work/a/send/mine"
+    for ((i = 0; i < 3; i++)); do
+        echo "$i" >"$work/files/f$i"
+        "$program" queue "$work/a" send "$work/files/f$i" --user me >/dev/null
+    done
+    "$program" queue "$work/a" send "$work/files/f0" .no --user me >/dev/null
+    holds "copies" "$(ls -A "$work/a/send" | tr '\n' ' ')" ".copy.f0 .copy.f0.1 .copy.f1 .copy.f2 f0 f0.1 f1 f2 mine x y "
+    talk
+    holds "queued files" "$(cat "$work/b/got"/f?)" $'0\n1\n2'
+    : >"$work/a/send/.part.1.0"
+    "$program" queue "$work/a" send "$work/files/f1" --user me >/dev/null
+    holds "copies that are needed" "$(ls -A "$work/a/send" | tr '\n' ' ')" ".copy.f0.1 .copy.f1 f0.1 f1 mine x y "
+    # somebody has put another file in the place of a copy
+    echo other >"$work/other"
+    mv "$work/other" "$work/a/send/f1"
+    : >"$work/a/jobs"
+    "$program" queue "$work/a" send "$work/files/f2" --user me >/dev/null
+    holds "a file of somebody else" "$(cat "$work/a/send/f1")" other
+    for ((i = 0; i < 300; i++)); do
+        : >"$work/a/jobs"
+        "$program" queue "$work/a" send "$work/files/f2" --user me >/dev/null || break
+    done
+    holds "files one after the other" "$i" 300
+}
+
+for part in tells is_killed closed_output can_not_tell keeps_jobs clears_copies; do
+    before=$failed
+    $part
+    echo "$part: $([ "$failed" -eq "$before" ] && echo well || echo failed)"
+done
+echo "$passed passed, $failed failed"
+[ "$failed" -eq 0 ]
