@@ -114,7 +114,7 @@ fn go_on(rt: &impl Abort, alloc: Global, jobs: &mut MemoryStore, stop: Stop) -> 
     first.failed
 }
 
-fn stop(rt: &impl Abort, alloc: Global, stop: Stop) -> bool {
+fn call_twice(rt: &impl Abort, alloc: Global, stop: Stop) -> bool {
     let mut jobs = JobsFile {
         file: MemoryJobs::new(JOBS, stop.jobs),
         before: Vec::new(alloc),
@@ -128,7 +128,7 @@ fn stop(rt: &impl Abort, alloc: Global, stop: Stop) -> bool {
 fn stop_at_line(rt: &impl Abort, alloc: Global) -> usize {
     for line in 0..1000 {
         let jobs = NEVER;
-        if !stop(rt, alloc, Stop { line, jobs }) {
+        if !call_twice(rt, alloc, Stop { line, jobs }) {
             return line;
         }
     }
@@ -139,7 +139,7 @@ fn stop_at_line(rt: &impl Abort, alloc: Global) -> usize {
 fn stop_at_jobs(rt: &impl Abort, alloc: Global) -> usize {
     for jobs in 0..1000 {
         let line = NEVER;
-        if !stop(rt, alloc, Stop { line, jobs }) {
+        if !call_twice(rt, alloc, Stop { line, jobs }) {
             return jobs;
         }
     }
