@@ -439,11 +439,19 @@ wait "$answerer" || true
 holds "the caller's number after it" "$a/number" "2$line_feed"
 rm "$a/number"
 answer_in_the_background
-row "a call of a stranger who knows the names" 1 "" "caller badsequence pending 0 struck 0 failed 0$line_feed" \
+row "a call of a stranger who knows the names" 1 "uucpair: this end keeps no number$line_feed" "caller badsequence pending 0 struck 0 failed 0$line_feed" \
     call "unix:$socket" "$a" --me a --peer b </dev/null
 wait "$answerer" || true
-holds "what the end says that a stranger called" "$work/answered" "called badsequence pending 0 struck 0 failed 0$line_feed"
+holds "what the end says that a stranger called" "$work/answered" \
+    "called badsequence pending 0 struck 0 failed 0${line_feed}uucpair: the number of this end is 2$line_feed"
 holds "the called end's number after a stranger" "$b/number" "2$line_feed"
+echo 17 >"$a/number"
+answer_in_the_background
+row "a call with another number" 1 "uucpair: the number of this end is 17$line_feed" "caller badsequence pending 0 struck 0 failed 0$line_feed" \
+    call "unix:$socket" "$a" --me a --peer b </dev/null
+wait "$answerer" || true
+holds "what the called end says of both numbers" "$work/answered" \
+    "called badsequence pending 0 struck 0 failed 0${line_feed}uucpair: the number of this end is 2, that of the other end 17$line_feed"
 folders "send x y u"
 printf 'seven\n' >"$a/number"
 row "a call with a bad number file" 2 "uucpair: bad number file$line_feed" "" \

@@ -234,6 +234,7 @@ PROMISES = (
     ("Node::arrive", (), ("made", "made_so_far")),
     ("laws::two_ends_keep_their_promises", (), ()),
     ("laws::the_file_of_a_job_that_is_gone_was_kept", (), ()),
+    ("run_both", ("gone_jobs",), ()),
 )
 
 

@@ -4,6 +4,8 @@ use Rattle.uug_stream.specs.Fault.{status_of}
 use Rattle.uug_stream.specs.declared.fault.ToolFault.{ToolFault}
 use Rattle.uug_stream.specs.declared.fault.ToolFault.TheVariants.{Device, InUse, Memory, Read, Script, Usage}
 use Rattle.uug_sys.specs.Queued.{word_or_empty}
+use Rattle.uug_sys.specs.declared.failure.Cause.{Cause}
+use Rattle.uug_sys.specs.declared.failure.Cause.TheVariants as causes
 use Rattle.uug_sys.specs.declared.failure.SystemFailure.{SystemFailure}
 use Rattle.uug_words.specs.declared.command_line.Task.{Task}
 use Rattle.uug_words.specs.declared.command_line.Task.TheVariants.{Scan, ScanVerbose, Play, PlayVerbose, PlaySettled, PlayDrawn, Pair, Call, Queue}
@@ -74,7 +76,7 @@ abbrev pub StopsOnDrawingFile : (path : List ℕ) → (why : Option SystemFailur
 StopsOnDrawingFile path why Read stop = NamesFile path why stop
 StopsOnDrawingFile path why fault stop = StopsOnDrawing fault stop
 
--- the folder of this name is named, unless there was no memory for that
+-- the folder or the line of this name is named, unless there was no memory for that
 abbrev pub NamesFolder : (dir : List ℕ) → Stop → Type 0
 NamesFolder dir (stops.InUse name) = string_bytes name ≡ dir
 NamesFolder dir (Fault fault) = fault ≡ Memory
@@ -89,6 +91,15 @@ abbrev pub StopsOnFolders : (first second : List ℕ) → (why : Option SystemFa
 StopsOnFolders first second why (InUse folder) stop = NamesFolder (if folder == 0 then first else second) stop
 StopsOnFolders first second (Some failure) Device stop = stop ≡ System failure
 StopsOnFolders first second why fault stop = stop ≡ Fault fault
+
+abbrev pub StopsOnCause : (line : List ℕ) → SystemFailure → Cause → Stop → Type 0
+StopsOnCause line failure causes.InUse stop = NamesFolder line stop
+StopsOnCause line failure cause stop = stop ≡ System failure
+
+-- Of one end the line is named that another run holds, and else the same.
+abbrev pub StopsOnEnd : (line dir : List ℕ) → (why : Option SystemFailure) → ToolFault → Stop → Type 0
+StopsOnEnd line dir (Some failure) Device stop = StopsOnCause line failure failure.cause stop
+StopsOnEnd line dir why fault stop = StopsOnFolders dir dir why fault stop
 
 -- Of what was to be queued the file is named that can't be copied, and it is said what is wrong with the order. The call of the
 -- system is named that failed, where it is known.
@@ -108,7 +119,7 @@ StopsAs (PlayVerbose (Some path)) fault remark why stop = StopsOnScriptFile path
 StopsAs (PlayDrawn how None) fault remark why stop = StopsOnDrawing fault stop
 StopsAs (PlayDrawn how (Some path)) fault remark why stop = StopsOnDrawingFile path.now why fault stop
 StopsAs (Pair pair) fault remark why stop = StopsOnFolders pair.dir_a.now pair.dir_b.now why fault stop
-StopsAs (Call call) fault remark why stop = StopsOnFolders call.dir.now call.dir.now why fault stop
+StopsAs (Call call) fault remark why stop = StopsOnEnd call.line.now call.dir.now why fault stop
 StopsAs (Queue queue) fault remark why stop = StopsOnQueue (word_or_empty queue.file) why fault remark stop
 StopsAs task fault remark why stop = stop ≡ Fault fault
 

@@ -4,7 +4,7 @@ ghost use Rattle.uug_scan.specs.Scan.{IsScanFault};
 ghost use Rattle.uug_stream.specs.Streams.{Appends};
 ghost use Rattle.uug_sys.specs.Queued.{word_or_empty};
 ghost use Rattle.uucpair.specs.Performed.{Does, DoesOn, DoesOver, IsFaultOf, Performs, Scans, ScansVerbose, streams, version_line};
-ghost use Rattle.uucpair.specs.Stop.{EndsSo, NamesFile, NamesFolder, SaysTooMuch, StopsAs, StopsOnDrawing, StopsOnDrawingFile, StopsOnFile, StopsOnFolders, StopsOnQueue, StopsOnScript, StopsOnScriptFile, status_of_stop};
+ghost use Rattle.uucpair.specs.Stop.{EndsSo, NamesFile, NamesFolder, SaysTooMuch, StopsAs, StopsOnDrawing, StopsOnCause, StopsOnDrawingFile, StopsOnEnd, StopsOnFile, StopsOnFolders, StopsOnQueue, StopsOnScript, StopsOnScriptFile, status_of_stop};
 
 use crate::input_task::InputTask;
 use crate::stop::Stop;
@@ -16,13 +16,13 @@ use std::rt::{Env, Files};
 use std::time::Clock;
 use std::{env, io};
 use uug_ladder::play_ladder;
+use uug_pair::pair_run;
 use uug_play::{play_settled, play_stream};
 use uug_remark::play_remarked;
 use uug_scan::{READ_LIMIT, scan_detailed, scan_stream};
 use uug_stream::{Output, ToolFault, write_all};
 use uug_sys::{
-    Cause, Resource, SystemFailure, SystemInput, SystemObserver, SystemOutput, call_run, pair_run,
-    queue_run,
+    Cause, Resource, SystemFailure, SystemInput, SystemObserver, SystemOutput, call_run, queue_run,
 };
 use uug_words::{Task, VERSION, task_of};
 
@@ -221,7 +221,7 @@ fn stop_of_script_file(
     }
 }
 
-/// That another run works in the folder of this name, where there is memory to say so.
+/// That another run holds the folder or the line of this name, where there is memory to say so.
 fn names_folder(alloc: Global, dir: &str) -> Stop
     ensures { NamesFolder dir.now result }
 {
@@ -247,6 +247,32 @@ fn stop_of_folders(
         (ToolFault::InUse(_), _) => names_folder(alloc, second),
         (ToolFault::Device, Some(failure)) => Stop::System(failure),
         (fault, _) => Stop::Fault(fault),
+    }
+}
+
+/// Why the task of one end gave up: the line is named where another run holds it, and so is the folder.
+fn stop_of_end(
+    alloc: Global,
+    line: &str,
+    dir: &str,
+    fault: ToolFault,
+    why: Option<SystemFailure>,
+) -> Stop
+    ensures { StopsOnEnd line.now dir.now why fault result }
+{
+    match (fault, why) {
+        (ToolFault::Device, Some(failure)) => stop_of_cause(alloc, line, failure),
+        (fault, why) => stop_of_folders(alloc, dir, dir, fault, why),
+    }
+}
+
+/// Why one end gave up for which a call of the system failed.
+fn stop_of_cause(alloc: Global, line: &str, failure: SystemFailure) -> Stop
+    ensures { StopsOnCause line.now failure failure.cause result }
+{
+    match failure.cause {
+        Cause::InUse => names_folder(alloc, line),
+        _ => Stop::System(failure),
     }
 }
 
@@ -289,7 +315,7 @@ fn stop_of(
         Task::PlayDrawn(_, Some(path)) => stop_of_drawing_file(alloc, path, fault, why),
         Task::PlayVerbose(Some(path)) => stop_of_script_file(alloc, path, fault, remark, why),
         Task::Pair(pair) => stop_of_folders(alloc, pair.dir_a, pair.dir_b, fault, why),
-        Task::Call(call) => stop_of_folders(alloc, call.dir, call.dir, fault, why),
+        Task::Call(call) => stop_of_end(alloc, call.line, call.dir, fault, why),
         Task::Queue(queue) => stop_of_queue(alloc, queue.file, fault, remark, why),
         _ => Stop::Fault(fault),
     }
@@ -384,7 +410,7 @@ where
         ),
         Task::Call(call) => {
             let observer = SystemObserver::new(alloc, rt, &call, terminals.errors)?;
-            call_run(alloc, rt, &call, observer, output, why)
+            call_run(alloc, rt, &call, observer, output, remark, why)
         }
         Task::Queue(queue) => queue_run(alloc, rt, &queue, output, remark, why),
     }

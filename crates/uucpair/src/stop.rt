@@ -20,7 +20,7 @@ pub enum Stop {
     /// The file of this name can't be opened or read, since this call of the system failed, where it is known.
     #[error("uucpair: device fault\nuucpair: can't read {0}\n")]
     File(String, Option<SystemFailure>),
-    /// Another run works in the folder of this name.
+    /// Another run works in the folder of this name, or holds the line of this name.
     #[error("uucpair: device fault\nuucpair: {0} is in use\n")]
     InUse(String),
     /// This call of the system failed.

@@ -1,5 +1,6 @@
 -- Names whose place in a folder is known, so that a wrong definition does not check.
-use Rattle.std.proofs.Common.{◌≡◌, ℕ, false, List, [], ◌∷◌, codes, Option, Some, None, refl}
+use Rattle.std.proofs.Common.{◌≡◌, ℕ, Bool, true, false, List, [], ◌∷◌, codes, Option, Some, None, refl}
+use Rattle.std.specs.Str.{bytes_eq}
 use Rattle.uug_folder.specs.Folders.{folder_holdings}
 use Rattle.uug_conversation.specs.Holdings.{File, Holdings, kept_file}
 use Rattle.uug_conversation.specs.declared.verdict.Verdict.{Verdict}
@@ -18,7 +19,7 @@ local : AreLocal
 local = record { plain = refl; public = refl; root = refl; tilde = refl; public_alone = refl; root_alone = refl }
 
 abbrev source : List ℕ → Option File
-source name = (local_holdings false (folder_holdings (kept_file (codes "y") 420 (codes "hi") ∷ []))).file name
+source name = (local_holdings false (folder_holdings (λ name. false) (kept_file (codes "y") 420 (codes "hi") ∷ []))).file name
 
 abbrev hi : Option File
 hi = Some (record { mode = 420; bytes = codes "hi" })
@@ -40,12 +41,22 @@ record LeadOut (h : Holdings) : Type 0 where
   public_deep : (local_holdings false h).file (codes "~/a/x") ≡ None
   home : (local_holdings false h).file (codes "~user/x") ≡ None
   twice : (local_holdings false h).file (codes "//x") ≡ None
+  hidden : (local_holdings false h).file (codes ".x") ≡ None
+  public_hidden : (local_holdings false h).file (codes "~/.x") ≡ None
 
 lead_out : (h : Holdings) → LeadOut h
-lead_out h = record { up = refl; deep = refl; public_deep = refl; home = refl; twice = refl }
+lead_out h = record {
+  up = refl;
+  deep = refl;
+  public_deep = refl;
+  home = refl;
+  twice = refl;
+  hidden = refl;
+  public_hidden = refl;
+}
 
 abbrev verdict : List ℕ → Verdict
-verdict name = (local_holdings false (folder_holdings [])).verdict name
+verdict name = (local_holdings false (folder_holdings (λ name. false) [])).verdict name
 
 record AreTaken : Type 0 where
   plain : verdict (codes "y") ≡ Yes
@@ -74,3 +85,18 @@ taken = record {
   hidden = refl;
   nameless = refl;
 }
+
+-- a folder that bars one name
+abbrev immovable : List ℕ → Bool
+immovable name = (local_holdings false (folder_holdings (λ other. bytes_eq other (codes "f")) [])).immovable name
+
+record AreBarred : Type 0 where
+  plain : immovable (codes "f") ≡ true
+  public : immovable (codes "~/f") ≡ true
+  other : immovable (codes "~/g") ≡ false
+  hidden : immovable (codes "~/.g") ≡ true
+  deep : immovable (codes "a/f") ≡ true
+  nameless : immovable (codes "~/") ≡ true
+
+barred : AreBarred
+barred = record { plain = refl; public = refl; other = refl; hidden = refl; deep = refl; nameless = refl }

@@ -22,11 +22,13 @@ as_many names files stand =
     sym (length-map names local_name) ∙ ap length stand ∙ length-map files (λ (file : Kept). Some file.name)
 
 -- what is given and taken stays where the folder's stays
-pub holdings_stay : {F A : Type 0} (files : FolderFiles F A) (names : List (List ℕ)) (lenient : Bool) (now : LocalFiles F A) (h : Holdings)
-    → record { files = files; names = names; lenient = lenient } ≡ now → h ≡ folder_holdings (map kept_of files.files)
-    → local_holdings lenient h ≡ holdings_here now
-holdings_stay files names lenient now h view stay =
-    subst (λ (s : LocalFiles _ _). local_holdings lenient h ≡ holdings_here s) view (ap (λ (l : Holdings). local_holdings lenient l) stay)
+pub holdings_stay : {F A : Type 0} (barred : F → List ℕ → Bool) (files : FolderFiles F A) (names : List (List ℕ)) (lenient : Bool)
+    (now : LocalFiles F A) (h : Holdings)
+    → record { files = files; names = names; lenient = lenient } ≡ now
+    → h ≡ folder_holdings (barred files.folder) (map kept_of files.files)
+    → local_holdings lenient h ≡ holdings_here barred now
+holdings_stay barred files names lenient now h view stay =
+    subst (λ (s : LocalFiles _ _). local_holdings lenient h ≡ holdings_here barred s) view (ap (λ (l : Holdings). local_holdings lenient l) stay)
 
 pub kept_more : {F A : Type 0} (files files_after : FolderFiles F A) (names names_after : List (List ℕ)) (lenient : Bool)
     (now : LocalFiles F A) (name local : List ℕ) (mode : ℕ) (bytes : List ℕ)
@@ -40,11 +42,11 @@ kept_more files files_after names names_after lenient now name local mode bytes 
     (ap (λ (n : List (List ℕ)). renamed n (map kept_of files_after.stored)) named
     ∙ ap (λ (k : List Kept). renamed (names ++ name ∷ []) k) kept ∙ whole)
 
-pub fetched : {F A : Type 0} (files : FolderFiles F A) (names : List (List ℕ)) (lenient : Bool) (now : LocalFiles F A)
-    (shown : Option File) (source : Option (List ℕ)) (local name : List ℕ)
+pub fetched : {F A : Type 0} (barred : F → List ℕ → Bool) (files : FolderFiles F A) (names : List (List ℕ)) (lenient : Bool)
+    (now : LocalFiles F A) (shown : Option File) (source : Option (List ℕ)) (local name : List ℕ)
     → record { files = files; names = names; lenient = lenient } ≡ now
-    → shown ≡ (folder_holdings (map kept_of files.files)).file local → source ≡ Some local → source ≡ local_source name
-    → shown ≡ file_by (folder_holdings (map kept_of now.files.files)) (local_source name)
-fetched files names lenient now shown source local name view is some from =
-    subst (λ (s : LocalFiles _ _). shown ≡ file_by (folder_holdings (map kept_of s.files.files)) (local_source name)) view
-    (is ∙ ap (λ (o : Option (List ℕ)). file_by (folder_holdings (map kept_of files.files)) o) (sym some ∙ from))
+    → shown ≡ (folder_holdings (barred files.folder) (map kept_of files.files)).file local → source ≡ Some local → source ≡ local_source name
+    → shown ≡ file_by (folder_holdings (barred now.files.folder) (map kept_of now.files.files)) (local_source name)
+fetched barred files names lenient now shown source local name view is some from =
+    subst (λ (s : LocalFiles _ _). shown ≡ file_by (folder_holdings (barred s.files.folder) (map kept_of s.files.files)) (local_source name)) view
+    (is ∙ ap (λ (o : Option (List ℕ)). file_by (folder_holdings (barred files.folder) (map kept_of files.files)) o) (sym some ∙ from))

@@ -1,12 +1,12 @@
 -- Under which name a folder keeps a file that a real system names (this project's profile).
 use Rattle.std.specs.Prelude.{◌≡◌, ℕ, Bool, true, List, [], ◌∷◌, drop, codes, nat_eq, Option, Some, None, map, if◌then◌else◌}
-use Rattle.std.specs.List.{list_any, starts_with}
+use Rattle.std.specs.List.{starts_with}
 use Rattle.uug_conversation.specs.Holdings.{File, Holdings, Kept, kept_file}
 use Rattle.uug_conversation.specs.MemoryHoldings.{kept_of}
 use Rattle.uug_conversation.specs.declared.verdict.Verdict.{Verdict}
 use Rattle.uug_conversation.specs.declared.verdict.Verdict.TheVariants.{Never}
 use Rattle.uug_talk.specs.Name.{name_of}
-use Rattle.uug_folder.specs.Folders.{folder_holdings}
+use Rattle.uug_folder.specs.Folders.{folder_holdings, is_hidden}
 use Rattle.uug_folder.specs.LocalFiles.{LocalFiles}
 
 -- The public folder and the root of a real system are the folder here: what stands in front of a name in them is dropped.
@@ -19,10 +19,10 @@ behind_root name =
 abbrev pub local_name : List ℕ → Option (List ℕ)
 local_name name = name_of (behind_root name)
 
--- A name with a slash left in it leads out of the folder.
+-- A name with a slash left in it leads out of the folder, and one with a dot in front is hidden there.
 abbrev pub in_folder : Option (List ℕ) → Option (List ℕ)
 in_folder None = None
-in_folder (Some name) = if list_any (λ b. nat_eq b 47) name then None else Some name
+in_folder (Some name) = if is_hidden name then None else Some name
 
 -- the name in the folder of a file that is asked for
 abbrev pub local_source : List ℕ → Option (List ℕ)
@@ -40,8 +40,8 @@ abbrev pub immovable_by : Holdings → Option (List ℕ) → Bool
 immovable_by h None = true
 immovable_by h (Some name) = h.immovable name
 
--- A file is given and taken as the folder gives and takes its name there; so none whose name there has a slash left, and
--- none is taken that has a dot in front.
+-- A file is given and taken as the folder gives and takes its name there; so none whose name there has a slash left, or a
+-- dot in front.
 abbrev pub local_holdings : (lenient : Bool) → Holdings → Holdings
 local_holdings lenient h = record {
   file = λ name. file_by h (local_source name);
@@ -60,8 +60,9 @@ renamed (name ∷ names) (file ∷ files) = kept_file name file.mode file.bytes 
 abbrev pub StandUnder : (names : List (List ℕ)) → List Kept → Type 0
 StandUnder names files = map local_name names ≡ map (λ (file : Kept). Some file.name) files
 
-abbrev pub holdings_here : {F A : Type 0} → LocalFiles F A → Holdings
-holdings_here s = local_holdings s.lenient (folder_holdings (map kept_of s.files.files))
+-- where the folder bars these names
+abbrev pub holdings_here : {F A : Type 0} → (barred : F → List ℕ → Bool) → LocalFiles F A → Holdings
+holdings_here barred s = local_holdings s.lenient (folder_holdings (barred s.files.folder) (map kept_of s.files.files))
 
 abbrev pub kept_here : {F A : Type 0} → LocalFiles F A → List Kept
 kept_here s = renamed s.names (map kept_of s.files.stored)

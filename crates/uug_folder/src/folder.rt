@@ -1,4 +1,4 @@
-ghost use Rattle.std.specs.Prelude.{◌≡◌, ℕ, ◌≤◌, List, Option, OnOk, OnErr};
+ghost use Rattle.std.specs.Prelude.{◌≡◌, ℕ, Bool, ◌≤◌, List, Option, OnOk, OnErr};
 ghost use Rattle.uug_session.specs.Engine.{HasFailed};
 ghost use Rattle.uug_folder.specs.Folders.{Placed, also_placed, placed_file};
 
@@ -19,6 +19,9 @@ pub trait Folder {
     /// How many faults its device had.
     ghost fault_count: { Self → ℕ };
 
+    /// Whether a name is barred: no file can be put in the folder under it.
+    ghost barred: { Self → List ℕ → Bool };
+
     /// Puts a whole file in the folder under this name, in the place of one that had it, and sees both on the device.
     /// After a fault the name has the old file or this one as a whole, but this one does not count as put.
     fn put(&mut self, name: &Name, bytes: &[u8]) -> Result<(), FolderFailed>
@@ -28,7 +31,12 @@ pub trait Folder {
         ensures err { OnErr result (placed self.new ≡ placed self.old) }
         ensures fault { OnErr result
             (HasFailed u64.MAX (fault_count self.old) (fault_count self.new)) }
-        ensures grows { fault_count self.old ≤ fault_count self.new };
+        ensures grows { fault_count self.old ≤ fault_count self.new }
+        ensures barred { barred self.new ≡ barred self.old };
+
+    /// Whether a name is barred, as far as the folder knows before it is tried.
+    fn is_barred(&self, name: &Name) -> bool
+        ensures { result ≡ barred self.now name.now };
 
     /// How many faults the device had, up to the greatest number that fits.
     fn faults(&self) -> u64

@@ -8,15 +8,17 @@ ghost use Rattle.uug_folder.specs.Folders.{EndsWith, folder_holdings, is_hidden,
 use crate::folder::Folder;
 use std::alloc::{AllocError, Allocator};
 use std::marker::Model;
+use std::snapshot::Snapshot;
 use uug_session::{FileView, KeepFault, Spool, Stored, Verdict};
 use uug_talk::{MODE_MAX, Name};
 
-/// A spool that puts what it keeps in a folder, and remembers it. A clause sees the files that it has to give, those
-/// that it has kept, and the folder.
+/// A spool that puts what it keeps in a folder. A clause sees the files that it has to give, those that it has kept, and
+/// the folder.
 #[derive(Drop)]
 pub struct FolderSpool<F: Folder, A: Allocator> {
     files: Vec<Stored<A>, A>,
-    stored: Vec<Stored<A>, A>,
+    /// What was kept, for clauses alone: the bytes are in the folder, and no longer in memory.
+    stored: Vec<Snapshot<Stored<A>>, A>,
     folder: F,
     alloc: A,
 }
@@ -30,11 +32,12 @@ impl<F: Folder, A: Allocator> Model for FolderSpool<F, A> {
     ghost Value = { FolderFiles F A };
 
     ghost view = { λ s.
-        record { files = s.files.items; stored = s.stored.items; folder = s.folder } };
+        record { files = s.files.items; stored = map (λ f. f.value) s.stored.items; folder = s.folder } };
 
     // What was kept is what was put in the folder.
     ghost invariant = { λ s.
-        EndsWith (F.placed s.folder) (map placed_of (map kept_of s.stored.items)) };
+        EndsWith (F.placed s.folder)
+        (map placed_of (map kept_of (map (λ f. f.value) s.stored.items))) };
 }
 
 impl<F: Folder, A: Allocator + Copy> FolderSpool<F, A> {
@@ -59,16 +62,17 @@ impl<F: Folder, A: Allocator + Copy> FolderSpool<F, A> {
         &self.folder
     }
 
-    /// The files that were kept, in the order in which they were.
-    pub fn stored(&self) -> &[Stored<A>]
-        ensures { result.now ≡ self.now.stored }
+    /// Whether no file of this name can be put in its place.
+    pub fn is_immovable(&self, name: &Name) -> bool
+        ensures { result ≡ (folder_holdings (F.barred self.now.folder)
+            (map kept_of self.now.files)).immovable name.now }
     {
-        self.stored.as_slice()
+        is_hidden(name) || self.folder.is_barred(name)
     }
 }
 
 impl<F: Folder, A: Allocator + Copy> Spool for FolderSpool<F, A> {
-    ghost holdings = { λ s. folder_holdings (map kept_of s.files) };
+    ghost holdings = { λ s. folder_holdings (F.barred s.folder) (map kept_of s.files) };
 
     ghost kept = { λ s. map kept_of s.stored };
 
@@ -87,7 +91,7 @@ impl<F: Folder, A: Allocator + Copy> Spool for FolderSpool<F, A> {
     }
 
     fn keep(&mut self, name: &Name, mode: u16, bytes: &[u8]) -> Result<(), KeepFault> {
-        if is_hidden(name) {
+        if self.is_immovable(name) {
             return Err(KeepFault::Refused);
         }
         put_and_store(
@@ -112,7 +116,7 @@ impl<F: Folder, A: Allocator + Copy> Spool for FolderSpool<F, A> {
 }
 
 /// A name that would be hidden in a folder, or lead out of it.
-fn is_hidden(name: &Name) -> bool
+pub(crate) fn is_hidden(name: &Name) -> bool
     ensures { result ≡ is_hidden name.now }
 {
     let bytes = name.as_bytes();
@@ -128,18 +132,22 @@ fn is_hidden(name: &Name) -> bool
 /// Puts a file in the folder, and adds it to those that were kept.
 fn put_and_store<F: Folder, A: Allocator + Copy>(
     folder: &mut F,
-    stored: &mut Vec<Stored<A>, A>,
+    stored: &mut Vec<Snapshot<Stored<A>>, A>,
     alloc: A,
     name: &Name,
     mode: u16,
     bytes: &[u8],
 ) -> Result<(), KeepFault>
     requires mode { mode ≤ MODE_MAX }
-    requires ends { EndsWith (F.placed folder.old) (map placed_of (map kept_of stored.old.items)) }
-    ensures ends { EndsWith (F.placed folder.new) (map placed_of (map kept_of stored.new.items)) }
-    ensures ok { OnOk result (map kept_of stored.new.items
-        ≡ map kept_of stored.old.items ++ kept_file name.now mode bytes.now ∷ []) }
-    ensures err { OnErr result (map kept_of stored.new.items ≡ map kept_of stored.old.items) }
+    requires ends { EndsWith (F.placed folder.old)
+        (map placed_of (map kept_of (map (λ f. f.value) stored.old.items))) }
+    ensures ends { EndsWith (F.placed folder.new)
+        (map placed_of (map kept_of (map (λ f. f.value) stored.new.items))) }
+    ensures ok { OnOk result (map kept_of (map (λ f. f.value) stored.new.items)
+        ≡ map kept_of (map (λ f. f.value) stored.old.items)
+        ++ kept_file name.now mode bytes.now ∷ []) }
+    ensures err { OnErr result (map kept_of (map (λ f. f.value) stored.new.items)
+        ≡ map kept_of (map (λ f. f.value) stored.old.items)) }
     ensures no_refusal { result ≢ Err KeepFault.Refused }
     ensures stands { result ≢ Err KeepFault.Device
         → F.fault_count folder.new ≡ F.fault_count folder.old }
@@ -147,45 +155,47 @@ fn put_and_store<F: Folder, A: Allocator + Copy>(
         → (F.fault_count folder.old < F.fault_count folder.new)
         ⊎ (F.fault_count folder.old ≡ u64.MAX) }
     ensures count { F.fault_count folder.old ≤ F.fault_count folder.new }
+    ensures barred { F.barred folder.new ≡ F.barred folder.old }
 {
     // All memory is taken before the folder is touched.
-    let Ok(copy) = copy_beside_room(stored, alloc, bytes) else {
+    let Ok(file) = copy_beside_room(stored, alloc, name, mode, bytes) else {
         return Err(KeepFault::Memory);
     };
     if folder.put(name, bytes).is_err() {
         return Err(KeepFault::Device);
     }
-    push_stored(stored, *name, mode, copy);
+    push_stored(stored, &file);
     Ok(())
 }
 
-/// Makes room for one file more, and copies these bytes.
+/// Makes room for one file more, and makes a file of these bytes.
 fn copy_beside_room<A: Allocator + Copy>(
-    stored: &mut Vec<Stored<A>, A>,
+    stored: &mut Vec<Snapshot<Stored<A>>, A>,
     alloc: A,
+    name: &Name,
+    mode: u16,
     bytes: &[u8],
-) -> Result<Vec<u8, A>, AllocError>
+) -> Result<Stored<A>, AllocError>
+    requires { mode ≤ MODE_MAX }
     ensures stored { stored.new.items ≡ stored.old.items }
     ensures room { OnOk result (vec_len stored.new < vec_capacity stored.new) }
-    ensures copy { IfOk result (λ copy. copy.items ≡ bytes.now) }
+    ensures file { IfOk result (λ file. kept_of file ≡ kept_file name.now mode bytes.now) }
 {
     stored.reserve(1)?;
-    bytes.to_vec(alloc)
+    Ok(Stored {
+        name: *name,
+        mode,
+        bytes: bytes.to_vec(alloc)?,
+    })
 }
 
 /// Adds a file to those that were kept, in room that is there.
-fn push_stored<A: Allocator>(
-    stored: &mut Vec<Stored<A>, A>,
-    name: Name,
-    mode: u16,
-    bytes: Vec<u8, A>,
-)
-    requires mode { mode ≤ MODE_MAX }
-    requires room { vec_len stored.old < vec_capacity stored.old }
-    ensures { map kept_of stored.new.items
-        ≡ map kept_of stored.old.items ++ kept_file name mode bytes.items ∷ [] }
+fn push_stored<A: Allocator>(stored: &mut Vec<Snapshot<Stored<A>>, A>, file: &Stored<A>)
+    requires { vec_len stored.old < vec_capacity stored.old }
+    ensures { map kept_of (map (λ f. f.value) stored.new.items)
+        ≡ map kept_of (map (λ f. f.value) stored.old.items) ++ kept_of file.now ∷ [] }
 {
-    stored.push_reserved(Stored { name, mode, bytes });
+    stored.push_reserved(Snapshot::of(file));
 }
 
 fn first_named<'a, A: Allocator>(files: &'a [Stored<A>], name: &Name) -> Option<FileView<'a>>

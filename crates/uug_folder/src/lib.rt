@@ -26,7 +26,7 @@ pub use job_texts::JobTexts;
 pub use jobs_file::{JobsFile, settle_text};
 pub use jobs_plan::JobsPlan;
 pub use jobs_text::{JobsFault, read_jobs, write_jobs};
-pub use local_names::LocalNames;
+pub use local_names::{LocalNames, local_source};
 pub use meanwhile::jobs_after;
 pub use notices::{WhyFailed, why_failed, write_notices};
 pub use number_text::{

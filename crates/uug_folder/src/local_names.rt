@@ -6,14 +6,14 @@ ghost use Rattle.uug_folder.specs.Code.LocalModes.{local_modes};
 ghost use Rattle.uug_folder.specs.LocalNames.{StandUnder, behind_root, holdings_here, in_folder, kept_here, local_name, local_source};
 
 use crate::folder::Folder;
-use crate::folder_spool::FolderSpool;
+use crate::folder_spool::{FolderSpool, is_hidden};
 use std::alloc::Allocator;
 use std::marker::Model;
 use uug_session::{FileView, KeepFault, Spool, Verdict};
 use uug_talk::Name;
 
 /// The spool over a folder, for another end that names files as real systems do: `~/x` and `/x` are `x` in the folder,
-/// and no other path is taken or given. A clause sees the files in the folder, and the names under which those that were kept
+/// and no other path is taken or given, nor a name with a dot in front. A clause sees the files in the folder, and the names under which those that were kept
 /// came.
 #[derive(Drop)]
 pub struct LocalNames<F: Folder, A: Allocator> {
@@ -71,7 +71,7 @@ impl<F: Folder, A: Allocator + Copy> LocalNames<F, A> {
 }
 
 impl<F: Folder, A: Allocator + Copy> Spool for LocalNames<F, A> {
-    ghost holdings = { λ s. holdings_here s };
+    ghost holdings = { λ s. holdings_here F.barred s };
 
     ghost kept = { λ s. kept_here s };
 
@@ -92,7 +92,7 @@ impl<F: Folder, A: Allocator + Copy> Spool for LocalNames<F, A> {
         let Some(local) = local_name(name) else {
             return Err(KeepFault::Refused);
         };
-        if self.files.may_keep(&local) == Verdict::Never {
+        if self.files.is_immovable(&local) {
             return Err(KeepFault::Refused);
         }
         // All memory is taken before the folder is touched.
@@ -112,7 +112,8 @@ impl<F: Folder, A: Allocator + Copy> Spool for LocalNames<F, A> {
         self.files.faults()
     }
 
-    ghost modes = { λ s. local_modes s.lenient (folder_holdings (map kept_of s.files.files))
+    ghost modes = { λ s. local_modes s.lenient
+        (folder_holdings (F.barred s.files.folder) (map kept_of s.files.files))
         (modes_in_range s.files.files) };
 }
 
@@ -123,18 +124,19 @@ fn local_name(name: &Name) -> Option<Name>
     Name::new(behind_root(name.as_bytes())).ok()
 }
 
-/// The name in the folder of a file that a real system asks for, if there is one. None leads out of the folder.
-fn local_source(name: &Name) -> Option<Name>
+/// The name in the folder of a file that a real system asks for, if there is one. None leads out of the folder, and none is
+/// hidden there.
+pub fn local_source(name: &Name) -> Option<Name>
     ensures { result ≡ local_source name.now }
 {
     in_folder(local_name(name)?)
 }
 
-/// The name, where it has no slash in it.
+/// The name, where it has no slash in it, and no dot in front.
 fn in_folder(name: Name) -> Option<Name>
     ensures { result ≡ in_folder (Some name) }
 {
-    if name.as_bytes().contains(&b'/') {
+    if is_hidden(&name) {
         return None;
     }
     Some(name)

@@ -1,4 +1,5 @@
+mod DeviceLockFacts
 pub mod FaultLemmas
+pub mod LockTextLemmas
 pub mod NameLemmas
-pub mod PairLemmas
-pub mod RunLemmas
+mod NumberRemarkFacts

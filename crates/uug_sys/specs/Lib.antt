@@ -1,5 +1,7 @@
+pub mod Barred
+pub mod DeviceLocks
 pub mod Failures
 pub mod Faults
-pub mod Places
+pub mod NumberRemarks
 pub mod Queued
 pub mod Tasks

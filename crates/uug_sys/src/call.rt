@@ -7,12 +7,15 @@ ghost use Rattle.uug_sys.specs.Faults.{IsCallFault, IsLockFault, IsOpeningFault,
 ghost use Rattle.uug_sys.specs.Tasks.{IsSaidBy, IsTask};
 
 use crate::device_line::DeviceLine;
+use crate::device_lock::lock_device;
 use crate::dir_lock::{DirLock, lock_dir, see_folders};
 use crate::end_parts::{EndParts, FinishedEnd, make_node};
 use crate::failure::{Cause, EndDir, EndText, Resource, SystemFailure};
+use crate::given_files::read_given;
+use crate::number_remark::remark_numbers;
 use crate::opened_jobs::{OpenJobs, open_jobs};
 use crate::run_fault::RunFault;
-use crate::send_folder::{read_send, read_text};
+use crate::send_folder::read_text;
 use crate::sockets::{open_tcp, open_unix};
 use crate::stream_line::StreamLine;
 use crate::system_folder::SystemFolder;
@@ -23,6 +26,7 @@ use crate::system_text::SystemText;
 use std::alloc::{AllocError, Allocator};
 use std::fs::File;
 use std::io;
+use std::io::{Read, Write};
 use std::net::Net;
 use std::rt::Files;
 use std::time::Duration;
@@ -70,6 +74,8 @@ pub struct CallTask<'a> {
     pub is_numbered: bool,
     /// Whether it says on standard error how the end stands.
     pub is_loud: bool,
+    /// The folder of the lock files of devices.
+    pub locks: &'a str,
 }
 
 impl<'a> CallTask<'a> {
@@ -109,6 +115,13 @@ struct Terms<'a> {
     patience: Duration,
 }
 
+/// A terminal device, and how long its calls wait.
+#[derive(Clone, Copy)]
+struct Device<'a> {
+    path: &'a str,
+    patience: Duration,
+}
+
 /// What a task says, if its numbers are in their ranges and its names are names.
 fn read_terms<'a>(task: &CallTask<'a>) -> Option<Terms<'a>>
     ensures said { MatchOption result (IsTask task.now → ⊥) (λ terms. IsSaidBy task.now terms) }
@@ -134,21 +147,24 @@ fn read_terms<'a>(task: &CallTask<'a>) -> Option<Terms<'a>>
 /// Runs one end over its folder and its line, for one session. What stands in a folder is said in `docs/PROTOCOL.md`. The
 /// folder is locked before anything in it is read: `InUse` says that another run holds it. An end that is called lets it go
 /// while it waits, and locks it again when its line is up. The jobs, the number and the files are read then; whether the
-/// jobs and the number can be read is seen before the line opens. The answer is the program's status, and `why` says which
-/// call of the system failed first, if one did.
-pub fn call_run<A, R, W, O>(
+/// jobs and the number can be read is seen before the line opens. The answer is the program's status; `remark` says which
+/// numbers of their conversations the ends have where they differ, and `why` which call of the system failed first, if one
+/// did.
+pub fn call_run<A, R, W, O, B>(
     alloc: A,
     rt: &R,
     task: &CallTask<'_>,
     observer: W,
     output: &mut O,
+    remark: &mut String<B>,
     why: &mut Option<SystemFailure>,
 ) -> Result<u8, ToolFault>
 where
     A: Allocator + Copy,
-    R: Files<File = File> + Net + Alloc + Clone + Drop,
+    R: Files<File = File> + Net + Eprint + Alloc + Clone + Drop,
     W: SessionObserver + Drop,
     O: Output,
+    B: Allocator,
     ensures status { IfOk result (λ status. status ≤ 1) }
     ensures write { result ≡ Err ToolFault.Write
         → CountsFault (O.fault_count output.old) (O.fault_count output.new) }
@@ -165,17 +181,14 @@ where
         Ok(lock) => lock,
         Err(fault) => return Err(fault.tell(why)),
     };
-    match task.side {
-        Side::Caller => {
-            let result = talk_at(alloc, rt, task, terms, observer, output, why);
-            drop(lock);
-            result
-        }
+    let held = match task.side {
+        Side::Caller => Some(lock),
         Side::Called => {
             drop(lock);
-            talk_at(alloc, rt, task, terms, observer, output, why)
+            None
         }
-    }
+    };
+    talk_at(alloc, rt, task, terms, held, observer, output, remark, why)
 }
 
 /// The lock on the end's folder, where its number and its jobs can be read.
@@ -183,11 +196,11 @@ fn lock_and_look<A: Allocator + Copy, R: Files<File = File> + Alloc + Clone + Dr
     alloc: A,
     rt: &R,
     task: &CallTask<'_>,
-) -> Result<DirLock, RunFault>
+) -> Result<DirLock<A>, RunFault>
     ensures { IfErr result IsOpeningFault }
 {
     let lock = lock_dir(alloc, rt, task.end_dir())?;
-    match look(alloc, rt, task) {
+    match look(alloc, rt, task, &lock) {
         Ok(()) => Ok(lock),
         Err(fault) => {
             drop(lock);
@@ -201,31 +214,35 @@ fn look<A: Allocator + Copy, R: Files>(
     alloc: A,
     rt: &R,
     task: &CallTask<'_>,
+    lock: &DirLock<A>,
 ) -> Result<(), RunFault>
     ensures { IfErr result IsStartFault }
 {
-    read_numbers(alloc, rt, task)?;
-    let jobs = open_jobs(alloc, rt, task.end_dir())?;
-    let seen = see_folders(alloc, rt, task.end_dir(), jobs.queue.pending());
+    read_numbers(alloc, rt, task, lock)?;
+    let jobs = open_jobs(alloc, rt, lock, task.end_dir())?;
+    let seen = see_folders(alloc, rt, lock.dir(), jobs.queue.pending());
     drop(jobs);
     seen
 }
 
 /// The end opens its line, and talks over it.
-fn talk_at<A, R, W, O>(
+fn talk_at<A, R, W, O, B>(
     alloc: A,
     rt: &R,
     task: &CallTask<'_>,
     terms: Terms<'_>,
+    held: Option<DirLock<A>>,
     observer: W,
     output: &mut O,
+    remark: &mut String<B>,
     why: &mut Option<SystemFailure>,
 ) -> Result<u8, ToolFault>
 where
     A: Allocator + Copy,
-    R: Files<File = File> + Net + Alloc + Clone + Drop,
+    R: Files<File = File> + Net + Eprint + Alloc + Clone + Drop,
     W: SessionObserver + Drop,
     O: Output,
+    B: Allocator,
     ensures status { IfOk result (λ status. status ≤ 1) }
     ensures write { result ≡ Err ToolFault.Write
         → CountsFault (O.fault_count output.old) (O.fault_count output.new) }
@@ -233,42 +250,105 @@ where
     ensures no_usage { result ≢ Err ToolFault.Usage }
     ensures why { result ≡ Err ToolFault.Device → IsSome why.new }
 {
-    let place = terms.place;
-    match terms.line {
+    let Terms {
+        line,
+        place,
+        patience,
+    } = terms;
+    match line {
         LineName::Unix(path) => {
-            let stream = open_unix(rt, task.side, path, terms.patience);
-            let line = stream.map(StreamLine::new);
-            talk_over(alloc, rt, task, place, line, observer, output, why)
+            let line = stream_line(open_unix(rt, task.side, path, patience));
+            talk_over(
+                alloc, rt, task, place, held, line, observer, output, remark, why,
+            )
         }
         LineName::Tcp(host, port) => {
-            let stream = open_tcp(rt, task.side, host, port, terms.patience);
-            let line = stream.map(StreamLine::new);
-            talk_over(alloc, rt, task, place, line, observer, output, why)
+            let line = stream_line(open_tcp(rt, task.side, host, port, patience));
+            talk_over(
+                alloc, rt, task, place, held, line, observer, output, remark, why,
+            )
         }
         LineName::Device(path) => {
-            let line = DeviceLine::open(alloc, rt, path, terms.patience);
-            talk_over(alloc, rt, task, place, line, observer, output, why)
+            let device = Device { path, patience };
+            talk_at_device(
+                alloc, rt, task, place, held, device, observer, output, remark, why,
+            )
         }
     }
 }
 
-/// The end talks over its line, if it has one, with its folder locked.
-fn talk_over<A, R, L, W, O>(
+/// The line over a stream, or why there is none.
+fn stream_line<T: Read + Write>(stream: io::Result<T>) -> Result<StreamLine<T>, Cause> {
+    match stream {
+        Ok(stream) => Ok(StreamLine::new(stream)),
+        Err(error) => Err(Cause::of(&error)),
+    }
+}
+
+/// The end locks its device, opens it, and talks over it. A device that another run holds is not opened. The lock is given
+/// back whatever comes of that.
+fn talk_at_device<A, R, W, O, B>(
     alloc: A,
     rt: &R,
     task: &CallTask<'_>,
     place: Place,
-    line: io::Result<L>,
+    held: Option<DirLock<A>>,
+    device: Device<'_>,
     observer: W,
     output: &mut O,
+    remark: &mut String<B>,
     why: &mut Option<SystemFailure>,
 ) -> Result<u8, ToolFault>
 where
     A: Allocator + Copy,
-    R: Files<File = File> + Alloc + Clone + Drop,
+    R: Files<File = File> + Net + Eprint + Alloc + Clone + Drop,
+    W: SessionObserver + Drop,
+    O: Output,
+    B: Allocator,
+    ensures status { IfOk result (λ status. status ≤ 1) }
+    ensures write { result ≡ Err ToolFault.Write
+        → CountsFault (O.fault_count output.old) (O.fault_count output.new) }
+    ensures no_other { IfErr result IsCallFault }
+    ensures no_usage { result ≢ Err ToolFault.Usage }
+    ensures why { result ≡ Err ToolFault.Device → IsSome why.new }
+{
+    let lock = match lock_device(alloc, rt, task.locks, device.path) {
+        Ok(lock) => lock,
+        Err(fault) => {
+            drop(held);
+            return Err(fault.tell(why));
+        }
+    };
+    let line = DeviceLine::open(alloc, rt, device.path, device.patience);
+    let result = talk_over(
+        alloc, rt, task, place, held, line, observer, output, remark, why,
+    );
+    if let Some(lock) = lock {
+        lock.release(rt);
+    }
+    result
+}
+
+/// The end talks over its line, if it has one, with its folder locked.
+fn talk_over<A, R, L, W, O, B>(
+    alloc: A,
+    rt: &R,
+    task: &CallTask<'_>,
+    place: Place,
+    held: Option<DirLock<A>>,
+    line: Result<L, Cause>,
+    observer: W,
+    output: &mut O,
+    remark: &mut String<B>,
+    why: &mut Option<SystemFailure>,
+) -> Result<u8, ToolFault>
+where
+    A: Allocator + Copy,
+    R: Files<File = File> + Eprint + Alloc + Clone + Drop,
     L: SystemLine + Drop,
     W: SessionObserver + Drop,
     O: Output,
+    B: Allocator,
     ensures status { IfOk result (λ status. status ≤ 1) }
     ensures write { result ≡ Err ToolFault.Write
         → CountsFault (O.fault_count output.old) (O.fault_count output.new) }
@@ -278,15 +358,18 @@ where
 {
     let line = match line {
         Ok(line) => line,
-        Err(error) => {
-            *why = Some(SystemFailure::on(Resource::Line, Cause::of(&error)));
+        Err(cause) => {
+            drop(held);
+            *why = Some(SystemFailure::on(Resource::Line, cause));
             return Err(ToolFault::Device);
         }
     };
     let mut line = GreetedLine::new(alloc, LineMonitor::new(line, observer));
-    let result = match lock_again(alloc, rt, task) {
+    let result = match lock_again(alloc, rt, task, held) {
         Ok(lock) => {
-            let result = talk_locked(alloc, rt, task, place, &mut line, output, why);
+            let result = talk_locked(
+                alloc, rt, task, &lock, place, &mut line, output, remark, why,
+            );
             drop(lock);
             result
         }
@@ -296,35 +379,39 @@ where
     result
 }
 
-/// The lock on the folder of an end that let it go while it waited.
+/// The lock on the folder of an end, also of one that let it go while it waited.
 fn lock_again<A: Allocator + Copy, R: Files<File = File> + Alloc + Clone + Drop>(
     alloc: A,
     rt: &R,
     task: &CallTask<'_>,
-) -> Result<Option<DirLock>, RunFault>
+    held: Option<DirLock<A>>,
+) -> Result<DirLock<A>, RunFault>
     ensures { IfErr result IsLockFault }
 {
-    match task.side {
-        Side::Caller => Ok(None),
-        Side::Called => Ok(Some(lock_dir(alloc, rt, task.end_dir())?)),
+    match held {
+        Some(lock) => Ok(lock),
+        None => lock_dir(alloc, rt, task.end_dir()),
     }
 }
 
 /// The end is made over its folder as it stands now, and talks over its line.
-fn talk_locked<'a, A, R, L, O>(
+fn talk_locked<'a, A, R, L, O, B>(
     alloc: A,
     rt: &'a R,
     task: &CallTask<'a>,
+    lock: &DirLock<A>,
     place: Place,
     line: &mut GreetedLine<L, A>,
     output: &mut O,
+    remark: &mut String<B>,
     why: &mut Option<SystemFailure>,
 ) -> Result<u8, ToolFault>
 where
     A: Allocator + Copy,
-    R: Files<File = File> + Alloc + Clone + Drop,
+    R: Files<File = File> + Eprint + Alloc + Clone + Drop,
     L: EndLine,
     O: Output,
+    B: Allocator,
     ensures status { IfOk result (λ status. status ≤ 1) }
     ensures write { result ≡ Err ToolFault.Write
         → CountsFault (O.fault_count output.old) (O.fault_count output.new) }
@@ -334,11 +421,11 @@ where
     ensures why { result ≡ Err ToolFault.Device
         → IsSome why.new ⊎ (0 < L.fault_count line.new.line) }
 {
-    let numbers = match meet(alloc, rt, task, &place, line) {
+    let numbers = match meet(alloc, rt, task, lock, &place, line) {
         Ok(numbers) => numbers,
         Err(fault) => return Err(fault.tell(why)),
     };
-    let parts = match read_parts(alloc, rt, task, place, numbers) {
+    let parts = match read_parts(alloc, rt, task, lock, place, numbers) {
         Ok(parts) => parts,
         Err(fault) => return Err(fault.tell(why)),
     };
@@ -348,7 +435,10 @@ where
     };
     let FinishedEnd { end, answer } = finished;
     *why = failure_of(&end);
+    let phase = end.buffered.node().phase();
     drop(end);
+    // A remark for which there is no memory is left out.
+    let _ = remark_numbers(alloc, remark, phase, numbers.begins, numbers.heard);
     answer
 }
 
@@ -364,10 +454,11 @@ fn failure_of<R: Files, A: Allocator + Copy>(end: &SystemEnd<'_, R, A>) -> Optio
 }
 
 /// What an end over the folder of the task is made of, as that stands.
-fn read_parts<'a, A: Allocator + Copy, R: Files + Alloc + Clone + Drop>(
+fn read_parts<'a, A: Allocator + Copy, R: Files + Eprint + Alloc + Clone + Drop>(
     alloc: A,
     rt: &'a R,
     task: &CallTask<'a>,
+    lock: &DirLock<A>,
     mut place: Place,
     numbers: Numbers,
 ) -> Result<SystemParts<'a, R, A>, RunFault>
@@ -379,8 +470,8 @@ fn read_parts<'a, A: Allocator + Copy, R: Files + Alloc + Clone + Drop>(
     ensures no_other { IfErr result IsStartFault }
 {
     place.number = numbers.begins;
-    let jobs = open_jobs(alloc, rt, task.end_dir())?;
-    let files = match read_send(alloc, rt, task.end_dir()) {
+    let jobs = open_jobs(alloc, rt, lock, task.end_dir())?;
+    let files = match read_given(alloc, rt, lock, jobs.queue.pending()) {
         Ok(files) => files,
         Err(fault) => {
             drop(jobs);
@@ -397,6 +488,8 @@ struct Numbers {
     begins: Option<u32>,
     /// The one that its file has, if there is a file.
     held: Option<u32>,
+    /// The one that the other end has told already, if it has told one.
+    heard: Option<u32>,
 }
 
 /// The number that the end keeps, and that its file has.
@@ -404,10 +497,11 @@ fn read_numbers<A: Allocator + Copy, R: Files>(
     alloc: A,
     rt: &R,
     task: &CallTask<'_>,
+    lock: &DirLock<A>,
 ) -> Result<Numbers, RunFault>
     ensures { IfErr result IsStartFault }
 {
-    let Some(text) = read_text(alloc, rt, task.end_dir(), EndText::Number)? else {
+    let Some(text) = read_text(alloc, rt, lock.dir(), EndText::Number)? else {
         return numbers_of(None, task.is_numbered);
     };
     numbers_of(Some(text.as_slice()), task.is_numbered)
@@ -426,7 +520,11 @@ fn numbers_of(text: Option<&[u8]>, is_told: bool) -> Result<Numbers, RunFault>
         None => None,
     };
     match number_at_start(text, is_told) {
-        Ok(begins) => Ok(Numbers { begins, held }),
+        Ok(begins) => Ok(Numbers {
+            begins,
+            held,
+            heard: None,
+        }),
         Err(fault) => Err(RunFault::Tool(fault)),
     }
 }
@@ -437,12 +535,13 @@ fn meet<A: Allocator + Copy, R: Files, L: EndLine>(
     alloc: A,
     rt: &R,
     task: &CallTask<'_>,
+    lock: &DirLock<A>,
     place: &Place,
     line: &mut GreetedLine<L, A>,
 ) -> Result<Numbers, RunFault>
     ensures { IfErr result IsStartFault }
 {
-    let numbers = read_numbers(alloc, rt, task)?;
+    let numbers = read_numbers(alloc, rt, task, lock)?;
     if task.side == Side::Caller || numbers.begins.is_none() {
         return Ok(numbers);
     }
@@ -450,6 +549,7 @@ fn meet<A: Allocator + Copy, R: Files, L: EndLine>(
     Ok(Numbers {
         begins: number_beside(numbers.begins, said),
         held: numbers.held,
+        heard: said,
     })
 }
 
@@ -473,7 +573,7 @@ fn meet_caller<A: Allocator + Copy, L: EndLine>(
 }
 
 /// What an end over the folder of the task is made of, with these jobs and these files to give.
-fn make_parts<'a, A: Allocator + Copy, R: Files>(
+fn make_parts<'a, A: Allocator + Copy, R: Files + Alloc + Clone + Drop>(
     alloc: A,
     rt: &'a R,
     task: &CallTask<'a>,
@@ -506,7 +606,7 @@ fn make_parts<'a, A: Allocator + Copy, R: Files>(
 }
 
 /// The spool over the folder of the task, with these files to give.
-fn make_spool<'a, A: Allocator + Copy, R: Files>(
+fn make_spool<'a, A: Allocator + Copy, R: Files + Alloc + Clone + Drop>(
     alloc: A,
     rt: &'a R,
     task: &CallTask<'a>,
@@ -515,7 +615,7 @@ fn make_spool<'a, A: Allocator + Copy, R: Files>(
     ensures lenient { IfOk result (λ spool. spool.lenient ≡ task.now.is_lenient) }
     ensures files { IfOk result (λ spool. spool.files.files ≡ files.items) }
 {
-    let folder = SystemFolder::new(alloc, rt, task.end_dir())?;
+    let folder = SystemFolder::looking(alloc, rt, task.end_dir())?;
     let files = FolderSpool::new(alloc, files, folder);
     let mut spool = LocalNames::new(alloc, files);
     spool.set_lenient(task.is_lenient);

@@ -9,7 +9,7 @@ use crate::system_line::SystemLine;
 use mio::unix::SourceFd;
 use mio::{Events, Interest, Poll, Token};
 use std::alloc::Allocator;
-use std::fs::{File, OpenOptions};
+use std::fs::{File, OpenOptions, TryLockError};
 use std::io;
 use std::io::Write;
 use std::net::Net;
@@ -63,22 +63,38 @@ pub struct DeviceLine<A: Allocator> {
 }
 
 impl<A: Allocator + Copy> DeviceLine<A> {
-    /// Opens the device at this path. Its calls wait for so long.
+    /// Opens the device at this path for this run alone: where another one holds it that is the cause of the failure. Its
+    /// calls wait for so long.
     pub fn open<R: Files<File = File> + Net>(
         alloc: A,
         rt: &R,
         path: &str,
         patience: Duration,
-    ) -> io::Result<Self>
+    ) -> Result<Self, Cause>
         ensures { IfOk result (λ line. ⟦<DeviceLine<A> as EndLine>⟧.fault_count line ≡ 0) }
     {
-        let file = OpenOptions::new().read(true).write(true).open(rt, path)?;
-        let waiting = Waiting::new(alloc, rt, &file, patience)?;
-        Ok(DeviceLine {
-            file,
-            waiting,
-            faults: Faults::none(),
-        })
+        let file = open_alone(rt, path)?;
+        match Waiting::new(alloc, rt, &file, patience) {
+            Ok(waiting) => Ok(DeviceLine {
+                file,
+                waiting,
+                faults: Faults::none(),
+            }),
+            Err(error) => Err(Cause::of(&error)),
+        }
+    }
+}
+
+/// Opens a device and locks it. The system gives the lock back when the device is closed.
+fn open_alone<R: Files<File = File>>(rt: &R, path: &str) -> Result<File, Cause> {
+    let file = match OpenOptions::new().read(true).write(true).open(rt, path) {
+        Ok(file) => file,
+        Err(error) => return Err(Cause::of(&error)),
+    };
+    match file.try_lock() {
+        Ok(()) => Ok(file),
+        Err(TryLockError::WouldBlock) => Err(Cause::InUse),
+        Err(TryLockError::Error(error)) => Err(Cause::of(&error)),
     }
 }
 

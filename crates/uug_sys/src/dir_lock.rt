@@ -1,5 +1,5 @@
 //! The folder of an end for one run alone.
-ghost use Rattle.std.specs.Prelude.{IfErr};
+ghost use Rattle.std.specs.Prelude.{◌≡◌, IfErr, IsOk, OnOk};
 ghost use Rattle.uug_sys.specs.Faults.{IsFolderFault, IsLockFault};
 
 use crate::failure::{EndDir, Resource};
@@ -14,10 +14,25 @@ use uug_folder::sends_any;
 use uug_session::Job;
 use uug_stream::ToolFault;
 
-/// The lock on the folder of an end. The system gives it back when this is dropped, and when the process dies.
+/// The lock on the folder of an end. The system gives it back when this is dropped, and when the process dies. What reads the
+/// jobs, the number or the files of an end asks for it, so that none of them is read before.
 #[derive(Drop)]
-pub struct DirLock {
-    file: File,
+pub struct DirLock<A: Allocator> {
+    _file: File,
+    path: String<A>,
+    number: usize,
+}
+
+impl<A: Allocator> DirLock<A> {
+    /// The folder that is locked.
+    pub fn dir(&self) -> EndDir<'_>
+        ensures { result.number ≡ self.now.number }
+    {
+        EndDir {
+            path: self.path.as_str(),
+            number: self.number,
+        }
+    }
 }
 
 /// Locks the folder of an end, and removes what runs that were killed left of files that were not whole. Nothing is made in
@@ -26,25 +41,33 @@ pub fn lock_dir<A: Allocator + Copy, R: Files<File = File> + Alloc + Clone + Dro
     alloc: A,
     rt: &R,
     dir: EndDir<'_>,
-) -> Result<DirLock, RunFault>
+) -> Result<DirLock<A>, RunFault>
     ensures no_other { IfErr result IsLockFault }
 {
+    let path = String::from_str(alloc, dir.path)?;
     let file = match open_dir(rt, dir.path) {
         Ok(file) => file,
         Err(error) => return Err(RunFault::of(&error, dir, Resource::Dir)),
     };
-    let lock = DirLock { file };
-    match lock.file.try_lock() {
-        Ok(()) => (),
-        Err(TryLockError::WouldBlock) => {
-            return Err(RunFault::Tool(ToolFault::InUse(dir.number)));
-        }
-        Err(TryLockError::Error(error)) => {
-            return Err(RunFault::of(&error, dir, Resource::Dir));
-        }
-    }
+    grant(file.try_lock(), dir)?;
     clear_dir(alloc, rt, dir.path)?;
-    Ok(lock)
+    Ok(DirLock {
+        _file: file,
+        path,
+        number: dir.number,
+    })
+}
+
+/// What a run does that was answered so when it asked for the lock of a folder: it goes on only where it has got it.
+fn grant(answer: Result<(), TryLockError>, dir: EndDir<'_>) -> Result<(), RunFault>
+    ensures granted { OnOk result (IsOk answer) }
+    ensures no_other { IfErr result IsLockFault }
+{
+    match answer {
+        Ok(()) => Ok(()),
+        Err(TryLockError::WouldBlock) => Err(RunFault::Tool(ToolFault::InUse(dir.number))),
+        Err(TryLockError::Error(error)) => Err(RunFault::of(&error, dir, Resource::Dir)),
+    }
 }
 
 /// Sees that there is a folder of an end.
@@ -120,8 +143,9 @@ fn remove_parts<R: Files + Alloc + Clone + Drop>(rt: &R, dir: &str) {
         return;
     };
     for entry in entries {
+        // a name that is no text is nobody's of this program
         let Ok(entry) = entry else {
-            return;
+            continue;
         };
         if entry.file_name().starts_with(PART_FRONT) {
             let _ = fs::remove_file(rt, entry.path().as_str());

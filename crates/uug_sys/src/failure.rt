@@ -98,6 +98,8 @@ pub enum Cause {
     TooMuch,
     /// There is something else than a regular file.
     NotAFile,
+    /// Another run holds it.
+    InUse,
 }
 
 impl Cause {

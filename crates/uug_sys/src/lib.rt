@@ -1,19 +1,23 @@
 //! What the crates of transfers take from the system: folders, files that are replaced whole, locks, sockets and devices,
-//! and two ends or one end over them.
+//! and one end over them.
 #![tactic(auto)]
 
 mod atomic_file;
 mod call;
 mod device_line;
+mod device_lock;
 mod dir_lock;
 mod end_parts;
 mod failure;
 mod faults;
+mod given_files;
 pub mod laws;
+mod lock_text;
 mod no_file;
+mod number_remark;
 mod opened_jobs;
-mod pair;
 mod part_path;
+mod passed_over;
 mod queue;
 mod queued_copy;
 mod queued_line;
@@ -31,6 +35,7 @@ mod system_output;
 mod system_text;
 mod voice;
 mod wire_line;
+mod wire_socket;
 
 pub use call::{CallTask, SECONDS_MAX, call_run};
 pub use device_line::DeviceLine;
@@ -38,9 +43,9 @@ pub use dir_lock::{DirLock, lock_dir, see_folders};
 pub use end_parts::{EndParts, FinishedEnd};
 pub use failure::{Cause, EndDir, EndText, Resource, SystemFailure};
 pub use faults::Faults;
+pub use given_files::read_given;
 pub use no_file::NoFile;
 pub use opened_jobs::{OpenJobs, open_jobs};
-pub use pair::{TURNS_MAX, pair_run};
 pub use queue::{QueueTask, queue_run};
 pub use run_fault::RunFault;
 pub use send_folder::{FILES_MAX, GIVEN_MODE, TEXT_MAX, read_send, read_text};
@@ -53,3 +58,4 @@ pub use system_observer::SystemObserver;
 pub use system_output::SystemOutput;
 pub use system_text::SystemText;
 pub use wire_line::WireLine;
+pub use wire_socket::open_wire;

@@ -4,6 +4,7 @@ ghost use Rattle.uug_folder.specs.JobsText.{IsJobsFault, IsQueueOf, jobs_of};
 ghost use Rattle.uug_sys.specs.Failures.{fault_of_run};
 ghost use Rattle.uug_sys.specs.Faults.{IsReadingFault};
 
+use crate::dir_lock::DirLock;
 use crate::failure::{EndDir, EndText};
 use crate::run_fault::RunFault;
 use crate::system_text::SystemText;
@@ -21,10 +22,11 @@ pub struct OpenJobs<'a, R: Files, A: Allocator> {
     pub ghost read: { IsQueueOf file.before.items queue },
 }
 
-/// Reads the jobs in the folder of an end. A folder without a file of them has none.
+/// Reads the jobs in the folder of an end, with its lock. A folder without a file of them has none.
 pub fn open_jobs<'a, A: Allocator + Copy, R: Files>(
     alloc: A,
     rt: &'a R,
+    _lock: &DirLock<A>,
     dir: EndDir<'a>,
 ) -> Result<OpenJobs<'a, R, A>, RunFault>
     ensures calm { IfOk result (λ opened. opened.file.file.faults.count ≡ 0) }

@@ -70,7 +70,10 @@ impl<A: Allocator> PartPath<A> {
 }
 
 /// The number of this process, where the system tells it as a path.
-fn process_text<A: Allocator + Copy, R: Files>(alloc: A, rt: &R) -> Result<String<A>, AllocError> {
+pub(crate) fn process_text<A: Allocator + Copy, R: Files>(
+    alloc: A,
+    rt: &R,
+) -> Result<String<A>, AllocError> {
     match rt.read_link(alloc, "/proc/self") {
         Ok(process) => Ok(process.into_string()),
         Err(error) if error.kind() == ErrorKind::OutOfMemory => Err(AllocError),

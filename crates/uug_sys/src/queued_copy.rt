@@ -8,7 +8,7 @@ use crate::dir_lock::open_dir;
 use crate::failure::{Cause, EndDir, EndText, Resource, SystemFailure};
 use crate::part_path::{PART_FRONT, PartPath};
 use crate::run_fault::RunFault;
-use crate::send_folder::{FILES_MAX, count_send, read_file, read_text};
+use crate::send_folder::{FILES_MAX, count_send, path_in_send, read_file, read_text};
 use std::alloc::{AllocError, Allocator};
 use std::fs::{DirEntry, File, OpenFile};
 use std::io::ErrorKind;
@@ -181,7 +181,7 @@ fn copied_as<A: Allocator + Copy>(
     let text = name.as_str();
     Ok(Copied {
         name,
-        path: format!(in alloc; "{front}/send/{text}")?,
+        path: path_in_send(alloc, dir, &name)?,
         mark: format!(in alloc; "{front}/send/{COPY_FRONT}{text}")?,
     })
 }

@@ -2,11 +2,12 @@
 ghost use Rattle.std.specs.Prelude.{◌≡◌, ◌+◌, ◌<◌, ◌≤◌, IfOk, IfErr, IfSome, OnOk, length};
 ghost use Rattle.uug_sys.specs.Faults.{IsFolderFault};
 
+use crate::dir_lock::DirLock;
 use crate::failure::{Cause, EndDir, EndText, Resource};
 use crate::part_path::PART_FRONT;
 use crate::queued_copy::COPY_FRONT;
 use crate::run_fault::RunFault;
-use std::alloc::Allocator;
+use std::alloc::{AllocError, Allocator};
 use std::fs::{DirEntry, File, ReadDir};
 use std::io::{ErrorKind, Read};
 use std::rt::Files;
@@ -43,7 +44,7 @@ fn read_within<A: Allocator, R: Read + Drop>(
 
 /// Whether there is a regular file at a path, at the end of links too: a link that leads nowhere has none. So no pipe
 /// is opened, which would wait for a writer.
-fn is_file<R: Files>(rt: &R, path: &str) -> io::Result<bool> {
+pub(crate) fn is_file<R: Files>(rt: &R, path: &str) -> io::Result<bool> {
     match fs::metadata(rt, path) {
         Ok(metadata) => Ok(metadata.is_file()),
         Err(error) => match error.kind() {
@@ -75,7 +76,7 @@ fn given<A: Allocator>(name: Name, bytes: Vec<u8, A>) -> Stored<A> {
 }
 
 /// Adds a file to those that are given, unless it is too large.
-fn add_given<A: Allocator, R: Files>(
+pub(crate) fn add_given<A: Allocator, R: Files>(
     files: &mut Vec<Stored<A>, A>,
     alloc: A,
     rt: &R,
@@ -140,17 +141,18 @@ pub(crate) fn read_text_at<A: Allocator + Copy, R: Files>(
     }
 }
 
-/// The files in the folder `send` below that of an end. A missing folder is an empty one. What has a name that is no `Name`, or is
-/// no regular file, is skipped, and so is a file of more than `FILE_MAX` bytes, which still counts among the
+/// The files in the folder `send` below that of an end of a pair. A missing folder is an empty one. What has a name that is no
+/// `Name`, or is no regular file, is skipped, and so is a file of more than `FILE_MAX` bytes, which still counts among the
 /// `FILES_MAX`.
 pub fn read_send<A: Allocator + Copy, R: Files + Alloc + Clone + Drop>(
     alloc: A,
     rt: &R,
-    dir: EndDir<'_>,
+    lock: &DirLock<A>,
 ) -> Result<Vec<Stored<A>, A>, RunFault>
     ensures within { IfOk result (λ files. length files.items ≤ FILES_MAX) }
     ensures no_other { IfErr result IsFolderFault }
 {
+    let dir = lock.dir();
     let mut files = Vec::new(alloc);
     add_sends(&mut files, alloc, rt, dir)?;
     Ok(files)
@@ -263,6 +265,7 @@ pub(crate) fn count_send<R: Files + Alloc + Clone + Drop>(
     for entry in entries {
         let entry = match entry {
             Ok(entry) => entry,
+            Err(error) if is_no_text(&error) => continue,
             Err(error) => return Err(RunFault::of(&error, dir, Resource::Send)),
         };
         if has_given_name(rt, dir, &entry)? {
@@ -270,6 +273,22 @@ pub(crate) fn count_send<R: Files + Alloc + Clone + Drop>(
         }
     }
     Ok(count)
+}
+
+/// Whether a listing has come to a name that is no text. It goes on behind that.
+pub(crate) fn is_no_text(error: &io::Error) -> bool {
+    error.kind() == ErrorKind::InvalidFilename
+}
+
+/// The path of a file in the folder `send` below that of an end.
+pub(crate) fn path_in_send<A: Allocator + Copy>(
+    alloc: A,
+    dir: EndDir<'_>,
+    name: &Name,
+) -> Result<String<A>, AllocError> {
+    let front = dir.path;
+    let name = name.as_str();
+    format!(in alloc; "{front}/send/{name}")
 }
 
 /// Whether the file of an entry may be given.

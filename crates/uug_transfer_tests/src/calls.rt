@@ -4,6 +4,7 @@
 
 mod assertions;
 mod faults;
+mod folders;
 mod follow;
 mod memory_jobs;
 mod memory_text;
@@ -11,6 +12,8 @@ mod numbers;
 mod scenes;
 mod scripted_line;
 mod stops;
+mod telling;
+mod telling_line;
 
 use assertions::assert_same;
 use memory_jobs::MemoryJobs;

@@ -9,7 +9,7 @@ mod memory_folder;
 mod memory_jobs;
 mod memory_line;
 mod over_memory;
-mod runs;
+pub mod runs;
 mod short_output;
 mod stages;
 mod tasks;

@@ -89,6 +89,10 @@ answer_is_lenient : is_given (entries_of answer_words) (codes "strict") ≡ fals
 unfolding clap_on_literals
 answer_is_lenient = refl
 
+answer_has_locks : text_in (entries_of answer_words) (codes "locks") ≡ codes "/var/lock"
+unfolding clap_on_literals
+answer_has_locks = refl
+
 answer_is_taken : takes uucpair answer_words ≡ true
 unfolding clap_on_literals
 answer_is_taken = refl

@@ -120,6 +120,7 @@ pub record IsEndIn (entries : Entries) (task : CallTask) : Type 0 where
   pub is_lenient : task.is_lenient ≡ not (is_given entries (codes "strict"))
   pub is_numbered : task.is_numbered ≡ is_given entries (codes "number")
   pub is_loud : task.is_loud ≡ is_given entries (codes "verbose")
+  pub locks : task.locks.now ≡ text_in entries (codes "locks")
 
 pub record AsksForPair (tool : Text) (entries : Entries) (task : PairTask) : Type 0 where
   pub pairs : tool ≡ codes "pair"

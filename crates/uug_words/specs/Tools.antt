@@ -50,7 +50,11 @@ excluding option = record option { is_free = false }
 abbrev pub word_rule : Text → Rule
 word_rule name = record (new_rule name) { long = Some name; value_names = 1; action = Some Set }
 
--- the same, which has to be there
+-- the same, with the word that it has where it is not given
+abbrev pub folder_rule : (name default : Text) → Rule
+folder_rule name default = record (word_rule name) { defaults = default ∷ [] }
+
+-- an option with a word, which has to be there
 abbrev pub name_rule : Text → Rule
 name_rule name = record (word_rule name) { required = true }
 
@@ -92,6 +96,7 @@ end_tool name = tool name
     ∷ number_rule (codes "timeout") (codes "10")
     ∷ flag_rule (codes "no-quiet") ∷ flag_rule (codes "fill-commands")
     ∷ flag_rule (codes "strict") ∷ flag_rule (codes "number")
+    ∷ folder_rule (codes "locks") (codes "/var/lock")
     ∷ verbose_rule ∷ [])
 
 abbrev pub queue_tool : Shape

@@ -108,6 +108,7 @@ fn end_task<'a>(side: Side, matches: &ArgMatches<'a>) -> CallTask<'a>
         is_lenient: !is_given(matches, "strict"),
         is_numbered: is_given(matches, "number"),
         is_loud: is_given(matches, "verbose"),
+        locks: text(matches, "locks"),
     }
 }
 

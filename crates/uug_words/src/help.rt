@@ -106,7 +106,8 @@ pub const END: &str = "LINE is
   unix:PATH      a Unix socket: call connects to it, answer makes it, takes one call
                  and removes it
   tcp:HOST:PORT  the same over TCP; tcp:PORT is on this machine
-  PATH           a terminal device, whose speed and raw mode are set before (stty)
+  PATH           a terminal device, whose speed and raw mode are set before (stty); it
+                 is locked, also by the file LCK..NAME that uucico and cu heed
 DIR is a folder as those of pair are: jobs, send and got. A target may also be ~/NAME
 or /NAME, which is NAME in got.
 Where DIR has a file number this end keeps the number of its conversations in it, and
@@ -144,3 +145,5 @@ pub const WINDOW: &str = "The window that the other end is to use, 1 to 7";
 pub const SIZE: &str = "The packet size that the other end is to use, 32 to 4096";
 
 pub const TIMEOUT: &str = "How long the line waits, 1 to 600";
+
+pub const LOCKS: &str = "The folder of the lock files of terminal devices";

@@ -1,7 +1,7 @@
 //! The tools of the program and their arguments, as the parser of the words takes them.
 ghost use Rattle.std.specs.Prelude.{◌≡◌, [], IfOk};
 ghost use Rattle.clap.specs.Words.{app_of};
-ghost use Rattle.uug_words.specs.Tools.{IsArg, IsTool, alone, end_tool, every_rule, excluding, file_rule, flag_rule, name_rule, number_rule, optional_rule, pair_tool, path_rule, play_tool, program, queue_tool, scan_tool, tool, uucpair, verbose_rule, word_rule};
+ghost use Rattle.uug_words.specs.Tools.{IsArg, IsTool, alone, end_tool, every_rule, excluding, file_rule, flag_rule, folder_rule, name_rule, number_rule, optional_rule, pair_tool, path_rule, play_tool, program, queue_tool, scan_tool, tool, uucpair, verbose_rule, word_rule};
 
 use crate::help;
 use clap::{Arg, ArgAction, Command, value_parser};
@@ -16,6 +16,9 @@ const WINDOW: &str = "7";
 const SIZE: &str = "64";
 
 const SECONDS: &str = "10";
+
+/// The folder of the lock files of devices, where none is told: that of Debian's programs.
+const LOCKS: &str = "/var/lock";
 
 /// The tools and their arguments.
 pub fn command<'a>(alloc: Global) -> Result<Command<'a>, AllocError>
@@ -178,6 +181,7 @@ fn end_command<'a>(alloc: Global, name: &'a str, about: &'a str) -> Result<Comma
             "number",
             "Keeps the number of its conversations in DIR, from 0 on",
         ))?
+        .arg(folder(alloc, "locks", help::LOCKS, LOCKS))?
         .arg(verbose(
             alloc,
             "Says on standard error how each job goes, and what was lost on the line",
@@ -270,6 +274,13 @@ fn named<'a>(alloc: Global, name: &'a str, value: &'a str, help: &'a str) -> Arg
         .value_name(value)
         .action(ArgAction::Set)
         .help(help)
+}
+
+/// An option with a folder, which has this one where it is not given.
+fn folder<'a>(alloc: Global, name: &'a str, help: &'a str, default: &'a str) -> Arg<'a>
+    ensures { IsArg (folder_rule name.entry.now default.entry.now) result }
+{
+    named(alloc, name, "FOLDER", help).default_value(default)
 }
 
 /// An option with a name, which has to be there.

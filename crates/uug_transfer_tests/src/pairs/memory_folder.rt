@@ -1,5 +1,5 @@
 //! A folder in memory.
-ghost use Rattle.std.specs.Prelude.{None};
+ghost use Rattle.std.specs.Prelude.{None, false};
 
 use crate::pairs::failing::fails;
 use crate::pairs::tasks::{TASKS, TASKS_LEN};
@@ -49,6 +49,12 @@ impl Folder for MemoryFolder {
 
     fn faults(&self) -> u64 {
         self.faults
+    }
+
+    ghost barred = { λ _ _. false };
+
+    fn is_barred(&self, _name: &Name) -> bool {
+        false
     }
 }
 

@@ -13,14 +13,15 @@ use std::process::Abort;
 use std::rt::{Env, Files};
 use std::{env, fs, io, process};
 use uug_folder::TextFile;
+use uug_pair::pair_run;
 use uug_refusal::Refusing;
 use uug_stream::ToolFault;
-use uug_sys::{Cause, EndDir, EndText, Resource, SystemFailure, SystemText, lock_dir, pair_run};
+use uug_sys::{Cause, EndDir, EndText, Resource, SystemFailure, SystemText, lock_dir};
 use uug_talk::Name;
 
 /// What there is before a run, beside the folder `a/send`. `a` and `b` are the folders of the two ends.
 #[derive(Clone, Copy)]
-enum Given<'a> {
+pub enum Given<'a> {
     /// A folder, and those that it lies in.
     Folder(&'a str),
     File(&'a str, &'a [u8]),
@@ -403,7 +404,7 @@ const ROWS: &[Row<'static>] = &[
 ];
 
 /// The path of this name in a folder.
-fn within(rt: &(impl Abort + AllocGlobal), dir: &str, name: &str) -> String {
+pub fn within(rt: &(impl Abort + AllocGlobal), dir: &str, name: &str) -> String {
     let path = format!(in rt.alloc(); "{dir}/{name}");
     path.expect(rt, "memory for a path")
 }
@@ -471,19 +472,19 @@ fn place(rt: &(impl Files + Net + Abort + AllocGlobal), dir: &str, given: Given<
 }
 
 /// Makes what is given in a new folder.
-fn place_all(rt: &(impl Files + Net + Abort + AllocGlobal), dir: &str, given: &[Given<'_>]) {
+pub fn place_all(rt: &(impl Files + Net + Abort + AllocGlobal), dir: &str, given: &[Given<'_>]) {
     place(rt, dir, Given::Folder("a/send"));
     for one in given {
         place(rt, dir, *one);
     }
 }
 
-fn remove(rt: &(impl Files + Abort + AllocGlobal), dir: &str) {
+pub fn remove(rt: &(impl Files + Abort + AllocGlobal), dir: &str) {
     fs::remove_dir_all(rt, dir).expect(rt, "a folder to remove");
 }
 
 /// The path of a folder of its own for each test, in a process of this number.
-fn folder_path(rt: &(impl Env + Abort + AllocGlobal), id: u32, test: &str) -> String {
+pub fn folder_path(rt: &(impl Env + Abort + AllocGlobal), id: u32, test: &str) -> String {
     let temporary = env::temp_dir(rt).expect(rt, "a folder for temporary files");
     let path = format!(in rt.alloc(); "{}/uug_transfer_{id}_{test}", temporary.as_str());
     path.expect(rt, "memory for a path")
@@ -631,7 +632,7 @@ fn assert_held(
 }
 
 /// The first folder of the program's arguments.
-fn first(path: &str) -> EndDir<'_> {
+pub fn first(path: &str) -> EndDir<'_> {
     EndDir { path, number: 0 }
 }
 

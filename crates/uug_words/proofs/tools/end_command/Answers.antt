@@ -15,4 +15,5 @@ returns c =
     let fill_commands = adds no_quiet c.in_ok-arg-9.ensures c.flag-2.ensures in
     let strict = adds fill_commands c.in_ok-arg-10.ensures c.flag-3.ensures in
     let numbered = adds strict c.in_ok-arg-11.ensures c.flag-4.ensures in
-    IfOk-weaker c.arg-12.result _ _ (λ made step. adds numbered step c.verbose.ensures) c.arg-12.ensures
+    let locks = adds numbered c.in_ok-arg-12.ensures c.folder.ensures in
+    IfOk-weaker c.arg-13.result _ _ (λ made step. adds locks step c.verbose.ensures) c.arg-13.ensures

@@ -15,10 +15,10 @@ returns-clause-ok g c =
 
 pub returns-in_err-keep-clause-holdings : goal.returns-in_err-keep-clause-holdings
 returns-in_err-keep-clause-holdings g c =
-    holdings_stay c.self.inside.files c.self.inside.names.items c.self.inside.lenient c.args.self.now
-    (folder_holdings (map kept_of c.keep.new.self.files)) c.self.view_is c.keep.ensures.holdings
+    holdings_stay g.F.Folder.barred c.self.inside.files c.self.inside.names.items c.self.inside.lenient c.args.self.now
+    (folder_holdings (g.F.Folder.barred c.keep.new.self.folder) (map kept_of c.keep.new.self.files)) c.self.view_is c.keep.ensures.holdings
 
 pub returns-clause-holdings : goal.returns-clause-holdings
 returns-clause-holdings g c =
-    holdings_stay c.self.inside.files c.self.inside.names.items c.self.inside.lenient c.args.self.now
-    (folder_holdings (map kept_of c.keep.new.self.files)) c.self.view_is c.keep.ensures.holdings
+    holdings_stay g.F.Folder.barred c.self.inside.files c.self.inside.names.items c.self.inside.lenient c.args.self.now
+    (folder_holdings (g.F.Folder.barred c.keep.new.self.folder) (map kept_of c.keep.new.self.files)) c.self.view_is c.keep.ensures.holdings

@@ -7,10 +7,7 @@ use Rattle.uug_stream.specs.declared.fault.ToolFault.TheVariants as faults
 use Rattle.uug_session.specs.Phases.{is_done}
 use Rattle.uug_transfer.specs.EndOver.{IsEndFault}
 use Rattle.uug_transfer.specs.Ends.{status_of_phases}
-use Rattle.uug_sys.specs.Failures.{fault_of_run}
-use Rattle.uug_sys.specs.Faults.{IsLockFault, IsReadingFault, IsRunFault}
-use Rattle.uug_sys.specs.declared.run_fault.RunFault.{RunFault}
-use Rattle.uug_sys.specs.declared.run_fault.RunFault.TheVariants.{System, Tool}
+use Rattle.uug_sys.specs.Faults.{IsRunFault}
 
 pub run_fault : (r : Result ℕ ToolFault) → IfErr r IsEndFault → IfErr r IsRunFault
 run_fault (Ok status) h = h
@@ -32,29 +29,3 @@ pub status_within : (r : Result ℕ ToolFault) (caller called : Phase) → IfOk 
     → IfOk r (λ s. s ≤ 1)
 status_within (Ok s) caller called h = subst (λ n. n ≤ 1) (sym h) (at_most_one (is_done caller && is_done called))
 status_within (Err fault) caller called h = h
-
--- ---- a fault that is handed on
-
-pub lock_is_run : (f : RunFault) → IsLockFault f → IsRunFault (fault_of_run f)
-lock_is_run (System failure) h = tt
-lock_is_run (Tool (faults.InUse folder)) h = tt
-lock_is_run (Tool faults.Memory) h = tt
-lock_is_run (Tool faults.Device) h = absurd h
-lock_is_run (Tool (faults.Jobs line)) h = absurd h
-lock_is_run (Tool faults.Usage) h = absurd h
-lock_is_run (Tool faults.Read) h = absurd h
-lock_is_run (Tool faults.Write) h = absurd h
-lock_is_run (Tool (faults.Script line)) h = absurd h
-lock_is_run (Tool faults.Number) h = absurd h
-
-pub reading_is_run : (f : RunFault) → IsReadingFault f → IsRunFault (fault_of_run f)
-reading_is_run (System failure) h = tt
-reading_is_run (Tool (faults.Jobs line)) h = tt
-reading_is_run (Tool faults.Memory) h = tt
-reading_is_run (Tool faults.Device) h = absurd h
-reading_is_run (Tool (faults.InUse folder)) h = absurd h
-reading_is_run (Tool faults.Usage) h = absurd h
-reading_is_run (Tool faults.Read) h = absurd h
-reading_is_run (Tool faults.Write) h = absurd h
-reading_is_run (Tool (faults.Script line)) h = absurd h
-reading_is_run (Tool faults.Number) h = absurd h

@@ -1,5 +1,5 @@
-use Rattle.uug_sys.proofs.PairLemmas.{run_fault, status_within}
-use Rattle.uug_sys.proofs.pair.run_ends.Goals as goal
+use Rattle.uug_pair.proofs.PairLemmas.{run_fault, status_within}
+use Rattle.uug_pair.proofs.pair.run_ends.Goals as goal
 
 pub returns-clause-status : goal.returns-clause-status
 returns-clause-status g c = status_within c.pair_over-result.result _ _ c.pair_over-result.ensures.status

@@ -6,35 +6,28 @@ ghost use Rattle.uug_events.specs.NodeRuns.{HasRun};
 ghost use Rattle.uug_folder.specs.JobsText.{IsQueueOf};
 ghost use Rattle.uug_stream.specs.Streams.{CountsFault};
 ghost use Rattle.uug_transfer.specs.FaultInjection.{is_in_range};
-ghost use Rattle.uug_sys.specs.Faults.{IsReadingFault, IsRunFault, IsSystemFault};
-ghost use Rattle.uug_sys.specs.Places.{IsPlaceInPair};
+ghost use Rattle.uug_sys.specs.Faults.{IsReadingFault, IsRunFault};
+ghost use Rattle.uug_pair.specs.GoneJobs.{GoneJobsWereDone, beginnings_of, kept_by, nodes_of};
+ghost use Rattle.uug_pair.specs.Places.{IsPlaceInPair};
 ghost use Rattle.uug_sys.specs.Tasks.{beginning_of};
 ghost use Rattle.uug_transfer.specs.BufferedNodes.{IsLed, node_in, spool_in};
-ghost use Rattle.uug_transfer.specs.Turns.{HasRoom};
 
-use crate::dir_lock::lock_dir;
-use crate::end_parts::EndParts;
-use crate::failure::{Cause, EndDir, Resource, SystemFailure};
-use crate::no_file::NoFile;
-use crate::opened_jobs::{OpenJobs, open_jobs};
-use crate::run_fault::RunFault;
-use crate::send_folder::read_send;
-use crate::system_folder::SystemFolder;
-use crate::system_text::SystemText;
-use crate::wire_line::WireLine;
 use std::alloc::{AllocError, Allocator};
 use std::fs::File;
 use std::net::Net;
-use std::os::unix::net::{UnixListener, UnixStream};
 use std::rt::Files;
-use std::{fs, io};
+use uug_ends::laws::the_file_of_a_job_that_is_gone_was_kept;
 use uug_events::laws::events_follow_events;
 use uug_folder::FolderSpool;
 use uug_link::Announce;
 use uug_session::{Place, Side, Spool, Stored};
 use uug_stream::{Output, ToolFault};
+use uug_sys::{
+    DirLock, EndDir, EndParts, NoFile, OpenJobs, RunFault, SystemFailure, SystemFolder, SystemText,
+    lock_dir, open_jobs, open_wire, read_send,
+};
 use uug_talk::Name;
-use uug_transfer::{FaultInjector, Line, TransferEnd, pair_over};
+use uug_transfer::{FaultInjector, TransferEnd, pair_over};
 
 /// The most turns that two ends take.
 pub const TURNS_MAX: u32 = 1_000_000;
@@ -60,19 +53,26 @@ type SystemEnd<'a, R, A> = TransferEnd<SystemSpool<'a, R, A>, SystemText<'a, R, 
 /// What such an end is made of.
 type SystemParts<'a, R, A> = EndParts<SystemSpool<'a, R, A>, SystemText<'a, R, A>, NoFile, A>;
 
-/// What both ends are made of.
+/// What both ends are made of. The jobs of each are those of the text that was read of its file.
 #[derive(Drop)]
-struct PairParts<'a, R: Files, A: Allocator + Copy> {
-    caller: SystemParts<'a, R, A>,
-    called: SystemParts<'a, R, A>,
+pub struct PairParts<'a, R: Files, A: Allocator + Copy> {
+    /// The parts of the end that calls.
+    pub caller: SystemParts<'a, R, A>,
+    /// The parts of the end that is called.
+    pub called: SystemParts<'a, R, A>,
+    pub ghost caller_read: { IsQueueOf caller.jobs.before.items caller.queue },
+    pub ghost called_read: { IsQueueOf called.jobs.before.items called.queue },
 }
 
 /// Both ends when their sessions are over, and what the program answers.
 #[derive(Drop)]
-struct FinishedPair<'a, R: Files, A: Allocator + Copy> {
-    caller: SystemEnd<'a, R, A>,
-    called: SystemEnd<'a, R, A>,
-    answer: Result<u8, ToolFault>,
+pub struct FinishedPair<'a, R: Files, A: Allocator + Copy> {
+    /// The end that called, as it is then.
+    pub caller: SystemEnd<'a, R, A>,
+    /// The end that was called.
+    pub called: SystemEnd<'a, R, A>,
+    /// The program's status, or the first fault.
+    pub answer: Result<u8, ToolFault>,
 }
 
 /// Runs the caller `a` over the folder `dir_a` and the called end `b` over `dir_b`, over a Unix socket that is made at the
@@ -118,7 +118,9 @@ pub fn pair_run<A: Allocator + Copy, R: Files<File = File> + Net + Alloc + Clone
     };
     let result = match lock_dir(alloc, rt, dir_b) {
         Ok(lock_b) => {
-            let result = run_locked(alloc, rt, socket, dir_a, dir_b, injector, output, why);
+            let result = run_locked(
+                alloc, rt, socket, &lock_a, &lock_b, dir_a, dir_b, injector, output, why,
+            );
             drop(lock_b);
             result
         }
@@ -133,6 +135,8 @@ fn run_locked<A: Allocator + Copy, R: Files<File = File> + Net + Alloc + Clone +
     alloc: A,
     rt: &R,
     socket: &str,
+    lock_a: &DirLock<A>,
+    lock_b: &DirLock<A>,
     dir_a: EndDir<'_>,
     dir_b: EndDir<'_>,
     injector: FaultInjector,
@@ -146,7 +150,7 @@ fn run_locked<A: Allocator + Copy, R: Files<File = File> + Net + Alloc + Clone +
     ensures no_usage { result ≢ Err ToolFault.Usage }
     ensures why { result ≡ Err ToolFault.Device → IsSome why.new }
 {
-    let parts = match read_both(alloc, rt, dir_a, dir_b) {
+    let parts = match read_both(alloc, rt, lock_a, lock_b, dir_a, dir_b) {
         Ok(parts) => parts,
         Err(fault) => return Err(fault.tell(why)),
     };
@@ -164,8 +168,14 @@ fn run_locked<A: Allocator + Copy, R: Files<File = File> + Net + Alloc + Clone +
 }
 
 /// Both ends begin their sessions, and are run. They are handed back as they are then: each has run the session that so began,
-/// up to there.
-fn run_both<'a, A: Allocator + Copy, R: Files<File = File> + Net + Alloc + Clone + Drop, O: Output>(
+/// up to there. A job that is gone from an end's pending jobs then, and did not fail, has its file, whole, at the end to which
+/// it went, unless a packet that was not sent passed its checksum.
+pub fn run_both<
+    'a,
+    A: Allocator + Copy,
+    R: Files<File = File> + Net + Alloc + Clone + Drop,
+    O: Output,
+>(
     alloc: A,
     rt: &R,
     socket: &str,
@@ -192,6 +202,12 @@ fn run_both<'a, A: Allocator + Copy, R: Files<File = File> + Net + Alloc + Clone
     ensures called_sound { IfOk result (λ _. IsSoundBeginning
         (beginning_of ⟦<SystemSpool<'a, R, A> as Spool>⟧.holdings
         ⟦<SystemSpool<'a, R, A> as Spool>⟧.kept parts.entry.called)) }
+    ensures gone_jobs { IfOk result (λ finished. GoneJobsWereDone
+        (beginnings_of ⟦<SystemSpool<'a, R, A> as Spool>⟧.holdings
+        ⟦<SystemSpool<'a, R, A> as Spool>⟧.kept parts.entry.caller parts.entry.called)
+        (kept_by ⟦<SystemSpool<'a, R, A> as Spool>⟧.kept
+        finished.caller.buffered finished.called.buffered)
+        (nodes_of finished.caller.buffered finished.called.buffered)) }
     ensures status { IfOk result (λ finished. IfOk finished.answer (λ status. status ≤ 1)) }
     ensures write { IfOk result (λ finished. finished.answer ≡ Err ToolFault.Write
         → CountsFault (O.fault_count output.old) (O.fault_count output.new)) }
@@ -200,6 +216,7 @@ fn run_both<'a, A: Allocator + Copy, R: Files<File = File> + Net + Alloc + Clone
     ensures why { IfOk result (λ finished.
         finished.answer ≡ Err ToolFault.Device → IsSome why.new) }
 {
+    the_file_of_a_job_that_is_gone_was_kept();
     let PairParts { caller, called } = parts;
     let mut caller = match caller.begin(alloc, Side::Caller, injector) {
         Ok(caller) => caller,
@@ -255,7 +272,7 @@ fn run_ends<'a, A: Allocator + Copy, R: Files<File = File> + Net + Alloc + Clone
     ensures why { result ≡ Err ToolFault.Device → IsSome why.new }
 {
     events_follow_events();
-    let mut line = match connect(rt, socket) {
+    let mut line = match open_wire(rt, socket) {
         Ok(line) => line,
         Err(fault) => return Err(fault.tell(why)),
     };
@@ -276,6 +293,8 @@ fn failure_of<R: Files, A: Allocator + Copy>(end: &SystemEnd<'_, R, A>) -> Optio
 fn read_both<'a, A: Allocator + Copy, R: Files + Alloc + Clone + Drop>(
     alloc: A,
     rt: &'a R,
+    lock_a: &DirLock<A>,
+    lock_b: &DirLock<A>,
     dir_a: EndDir<'a>,
     dir_b: EndDir<'a>,
 ) -> Result<PairParts<'a, R, A>, RunFault>
@@ -289,8 +308,8 @@ fn read_both<'a, A: Allocator + Copy, R: Files + Alloc + Clone + Drop>(
         IsQueueOf parts.called.jobs.before.items parts.called.queue) }
     ensures no_other { IfErr result IsReadingFault }
 {
-    let jobs = open_both(alloc, rt, dir_a, dir_b)?;
-    let files = match read_sends(alloc, rt, dir_a, dir_b) {
+    let jobs = open_both(alloc, rt, lock_a, lock_b, dir_a, dir_b)?;
+    let files = match read_sends(alloc, rt, lock_a, lock_b) {
         Ok(files) => files,
         Err(fault) => {
             drop(jobs);
@@ -317,6 +336,8 @@ fn read_both<'a, A: Allocator + Copy, R: Files + Alloc + Clone + Drop>(
 fn open_both<'a, A: Allocator + Copy, R: Files>(
     alloc: A,
     rt: &'a R,
+    lock_a: &DirLock<A>,
+    lock_b: &DirLock<A>,
     dir_a: EndDir<'a>,
     dir_b: EndDir<'a>,
 ) -> Result<(OpenJobs<'a, R, A>, OpenJobs<'a, R, A>), RunFault>
@@ -324,8 +345,8 @@ fn open_both<'a, A: Allocator + Copy, R: Files>(
     ensures called_calm { IfOk result (λ both. both.1.file.file.faults.count ≡ 0) }
     ensures no_other { IfErr result IsReadingFault }
 {
-    let caller = open_jobs(alloc, rt, dir_a)?;
-    match open_jobs(alloc, rt, dir_b) {
+    let caller = open_jobs(alloc, rt, lock_a, dir_a)?;
+    match open_jobs(alloc, rt, lock_b, dir_b) {
         Ok(called) => Ok((caller, called)),
         Err(fault) => {
             drop(caller);
@@ -338,13 +359,13 @@ fn open_both<'a, A: Allocator + Copy, R: Files>(
 fn read_sends<A: Allocator + Copy, R: Files + Alloc + Clone + Drop>(
     alloc: A,
     rt: &R,
-    dir_a: EndDir<'_>,
-    dir_b: EndDir<'_>,
+    lock_a: &DirLock<A>,
+    lock_b: &DirLock<A>,
 ) -> Result<(Vec<Stored<A>, A>, Vec<Stored<A>, A>), RunFault>
     ensures { IfErr result IsReadingFault }
 {
-    let caller = read_send(alloc, rt, dir_a)?;
-    match read_send(alloc, rt, dir_b) {
+    let caller = read_send(alloc, rt, lock_a)?;
+    match read_send(alloc, rt, lock_b) {
         Ok(called) => Ok((caller, called)),
         Err(fault) => {
             drop(caller);
@@ -417,41 +438,4 @@ fn name(bytes: &[u8]) -> Name
         unreachable!();
     };
     name
-}
-
-/// The line over a socket that is made at this path. When both ends have it the path is not needed any more, and is
-/// removed, as it is where they don't get it.
-fn connect<R: Files + Net>(rt: &R, socket: &str) -> Result<WireLine<UnixStream>, RunFault>
-    ensures room { IfOk result (λ line. HasRoom (⟦<WireLine<UnixStream> as Line>⟧.unread line)) }
-    ensures calm { IfOk result (λ line. line.faults.count ≡ 0) }
-    ensures no_other { IfErr result IsSystemFault }
-{
-    match join(rt, socket) {
-        Ok(line) => Ok(line),
-        Err(error) => {
-            let cause = Cause::of(&error);
-            Err(RunFault::System(SystemFailure::on(Resource::Line, cause)))
-        }
-    }
-}
-
-/// The same, or the system's error.
-fn join<R: Files + Net>(rt: &R, socket: &str) -> io::Result<WireLine<UnixStream>>
-    ensures room { IfOk result (λ line. HasRoom (⟦<WireLine<UnixStream> as Line>⟧.unread line)) }
-    ensures calm { IfOk result (λ line. line.faults.count ≡ 0) }
-{
-    let listener = UnixListener::bind(rt, socket)?;
-    let line = meet(rt, &listener, socket);
-    let _ = fs::remove_file(rt, socket);
-    line
-}
-
-/// Both ends of a socket that listens at this path.
-fn meet<R: Net>(rt: &R, listener: &UnixListener, socket: &str) -> io::Result<WireLine<UnixStream>>
-    ensures room { IfOk result (λ line. HasRoom (⟦<WireLine<UnixStream> as Line>⟧.unread line)) }
-    ensures calm { IfOk result (λ line. line.faults.count ≡ 0) }
-{
-    let caller = UnixStream::connect(rt, socket)?;
-    let (called, _) = listener.accept()?;
-    Ok(WireLine::new(caller, called))
 }

@@ -6,7 +6,7 @@ use Rattle.uug_conversation.specs.declared.side.Side.{Side}
 use Rattle.uug_conversation.specs.declared.side.Side.TheVariants.{Caller, Called}
 use Rattle.uug_session.specs.declared.place.Place.{Place}
 use Rattle.uug_sys.specs.Tasks.{Announces}
-use Rattle.uug_sys.specs.declared.pair.TheConstants.{SIZE, WINDOW}
+use Rattle.uug_pair.specs.declared.pair.TheConstants.{SIZE, WINDOW}
 
 -- the name of each end of a pair
 abbrev pub name_at : Side → List ℕ

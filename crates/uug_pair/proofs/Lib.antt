@@ -1,0 +1,3 @@
+mod GoneJobsLemmas
+mod PairLemmas
+mod RunLemmas

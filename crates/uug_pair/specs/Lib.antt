@@ -1,0 +1,2 @@
+pub mod GoneJobs
+pub mod Places

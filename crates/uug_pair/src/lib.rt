@@ -1,0 +1,8 @@
+//! Two ends over two folders of the system, and the socket between them: they are run in turn, and a job that is gone then has
+//! its file at the end to which it went.
+#![tactic(auto)]
+
+pub mod laws;
+mod pair;
+
+pub use pair::{FinishedPair, PairParts, TURNS_MAX, pair_run, run_both};

@@ -1,0 +1,24 @@
+-- What is said where two ends keep other numbers of their conversations (this project's profile).
+use Rattle.std.specs.Fmt.{decimal}
+use Rattle.std.specs.Prelude.{ℕ, List, [], ◌++◌, codes, Option, Some, None}
+use Rattle.uug_session.specs.declared.end.End.TheVariants.{BadSequence}
+use Rattle.uug_session.specs.declared.phase.Phase.{Phase}
+use Rattle.uug_session.specs.declared.phase.Phase.TheVariants.{Ended}
+use Rattle.uug_talk.specs.Lines.{ended}
+
+abbrev pub own_words : Option ℕ → List ℕ
+own_words None = codes "this end keeps no number"
+own_words (Some number) = codes "the number of this end is " ++ decimal number
+
+abbrev pub heard_words : Option ℕ → List ℕ
+heard_words None = []
+heard_words (Some number) = codes ", that of the other end " ++ decimal number
+
+-- the number of this end, and that of the other one where it was heard, as a line
+abbrev pub numbers_line : (own heard : Option ℕ) → List ℕ
+numbers_line own heard = codes "uucpair: " ++ (own_words own ++ ended (heard_words heard))
+
+-- that is said where the session has ended so, and nothing else
+abbrev pub numbers_remark : Phase → (own heard : Option ℕ) → List ℕ
+numbers_remark (Ended BadSequence) own heard = numbers_line own heard
+numbers_remark phase own heard = []

@@ -1,0 +1,192 @@
+//! The files that an end gives in a session. A single bad one stops none of the others.
+ghost use Rattle.std.specs.Prelude.{◌≤◌, IfErr, IfOk, OnOk, length};
+ghost use Rattle.uug_sys.specs.Faults.{IsFolderFault};
+ghost use Rattle.uug_sys.specs.declared.send_folder.TheConstants.{FILES_MAX};
+
+use crate::dir_lock::DirLock;
+use crate::failure::{Cause, EndDir, Resource};
+use crate::passed_over::{Lack, PassedOver};
+use crate::run_fault::RunFault;
+use crate::send_folder::{FILES_MAX, add_given, is_file, is_no_text, path_in_send};
+use std::alloc::Allocator;
+use std::fs;
+use std::fs::{DirEntry, ReadDir};
+use std::io::ErrorKind;
+use std::rt::Files;
+use uug_folder::local_source;
+use uug_session::{Job, Stored};
+use uug_talk::Name;
+
+/// The files in the folder `send` below that of an end: those that its jobs name, and behind them all others that the other
+/// end may ask for, `FILES_MAX` together. A missing folder is an empty one. What is hidden, or no regular file, is skipped, and
+/// so is a file of more than `FILE_MAX` bytes. What else is not given is said on standard error. Only a file that a job names
+/// stops the end: where it can't be read, or there are too many of them.
+pub fn read_given<A: Allocator + Copy, R: Files + Eprint + Alloc + Clone + Drop>(
+    alloc: A,
+    rt: &R,
+    lock: &DirLock<A>,
+    jobs: &[Job],
+) -> Result<Vec<Stored<A>, A>, RunFault>
+    ensures within { IfOk result (λ files. length files.items ≤ FILES_MAX) }
+    ensures no_other { IfErr result IsFolderFault }
+{
+    let dir = lock.dir();
+    let mut files = Vec::new(alloc);
+    add_sources(&mut files, alloc, rt, dir, jobs)?;
+    add_others(&mut files, alloc, rt, dir)?;
+    Ok(files)
+}
+
+/// Adds the files that these jobs name.
+fn add_sources<A: Allocator + Copy, R: Files>(
+    files: &mut Vec<Stored<A>, A>,
+    alloc: A,
+    rt: &R,
+    dir: EndDir<'_>,
+    jobs: &[Job],
+) -> Result<(), RunFault>
+    requires { length files.old.items ≤ FILES_MAX }
+    ensures within { OnOk result (length files.new.items ≤ FILES_MAX) }
+    ensures no_other { IfErr result IsFolderFault }
+{
+    for job in jobs {
+        if let Some(name) = source_of(job) {
+            add_source(files, alloc, rt, dir, name)?;
+        }
+    }
+    Ok(())
+}
+
+/// The name in `send` of the file that a job gives.
+fn source_of(job: &Job) -> Option<Name> {
+    match job {
+        Job::Send { source, .. } => local_source(source),
+        Job::Request { .. } => None,
+    }
+}
+
+/// Adds the file of this name, which a job names, unless it is there already.
+fn add_source<A: Allocator + Copy, R: Files>(
+    files: &mut Vec<Stored<A>, A>,
+    alloc: A,
+    rt: &R,
+    dir: EndDir<'_>,
+    name: Name,
+) -> Result<(), RunFault>
+    requires { length files.old.items ≤ FILES_MAX }
+    ensures within { OnOk result (length files.new.items ≤ FILES_MAX) }
+    ensures no_other { IfErr result IsFolderFault }
+{
+    if is_there(files.as_slice(), &name) {
+        return Ok(());
+    }
+    let path = path_in_send(alloc, dir, &name)?;
+    match is_file(rt, path.as_str()) {
+        Ok(true) => (),
+        Ok(false) => return Ok(()),
+        Err(error) => return Err(RunFault::of(&error, dir, Resource::Given(name))),
+    }
+    if files.len() >= FILES_MAX {
+        return Err(RunFault::System(dir.failure(Resource::Send, Cause::TooMuch)));
+    }
+    add_given(files, alloc, rt, dir, name, path.as_str())
+}
+
+/// Whether one of these files has this name.
+fn is_there<A: Allocator>(files: &[Stored<A>], name: &Name) -> bool {
+    files
+        .iter()
+        .any(|file| file.name.as_bytes() == name.as_bytes())
+}
+
+/// Adds the other files in `send`.
+fn add_others<A: Allocator + Copy, R: Files + Eprint + Alloc + Clone + Drop>(
+    files: &mut Vec<Stored<A>, A>,
+    alloc: A,
+    rt: &R,
+    dir: EndDir<'_>,
+) -> Result<(), RunFault>
+    requires { length files.old.items ≤ FILES_MAX }
+    ensures within { OnOk result (length files.new.items ≤ FILES_MAX) }
+    ensures no_other { IfErr result IsFolderFault }
+{
+    let front = dir.path;
+    let path = format!(in alloc; "{front}/send")?;
+    let mut passed = PassedOver::none(rt);
+    match fs::read_dir(rt, path.as_str()) {
+        Ok(entries) => add_entries(files, alloc, rt, dir, entries, path.as_str(), &mut passed)?,
+        Err(error) if error.kind() == ErrorKind::NotFound => (),
+        Err(error) => return Err(RunFault::of(&error, dir, Resource::Send)),
+    }
+    passed.say_rest(path.as_str());
+    Ok(())
+}
+
+/// Adds the files of these entries of the folder at this path.
+fn add_entries<A: Allocator + Copy, R: Files + Eprint + Alloc + Clone + Drop>(
+    files: &mut Vec<Stored<A>, A>,
+    alloc: A,
+    rt: &R,
+    dir: EndDir<'_>,
+    entries: ReadDir<R, R::A>,
+    send: &str,
+    passed: &mut PassedOver<'_, R>,
+) -> Result<(), RunFault>
+    requires { length files.old.items ≤ FILES_MAX }
+    ensures within { OnOk result (length files.new.items ≤ FILES_MAX) }
+    ensures no_other { IfErr result IsFolderFault }
+{
+    for entry in entries {
+        match entry {
+            Ok(entry) => add_entry(files, alloc, rt, dir, &entry, passed)?,
+            Err(error) if is_no_text(&error) => passed.note(Lack::Text, send),
+            Err(error) => return Err(RunFault::of(&error, dir, Resource::Send)),
+        }
+    }
+    Ok(())
+}
+
+/// Adds the file of an entry, or notes why not, unless it is hidden or no file.
+fn add_entry<A: Allocator + Copy, R: Files + Eprint + Alloc + Clone + Drop>(
+    files: &mut Vec<Stored<A>, A>,
+    alloc: A,
+    rt: &R,
+    dir: EndDir<'_>,
+    entry: &DirEntry<R, R::A>,
+    passed: &mut PassedOver<'_, R>,
+) -> Result<(), RunFault>
+    requires { length files.old.items ≤ FILES_MAX }
+    ensures within { OnOk result (length files.new.items ≤ FILES_MAX) }
+    ensures no_other { IfErr result IsFolderFault }
+{
+    let path = entry.path();
+    if entry.file_name().starts_with('.') || !may_be_file(rt, path.as_str()) {
+        return Ok(());
+    }
+    let Ok(name) = Name::new(entry.file_name().as_bytes()) else {
+        passed.note(Lack::Name, path.as_str());
+        return Ok(());
+    };
+    if is_there(files.as_slice(), &name) {
+        return Ok(());
+    }
+    if files.len() >= FILES_MAX {
+        passed.note(Lack::Room, path.as_str());
+        return Ok(());
+    }
+    match add_given(files, alloc, rt, dir, name, path.as_str()) {
+        Err(RunFault::System(_)) => {
+            passed.note(Lack::Access, path.as_str());
+            Ok(())
+        }
+        added => added,
+    }
+}
+
+/// Whether there is a regular file at a path, as far as that can be seen.
+fn may_be_file<R: Files>(rt: &R, path: &str) -> bool {
+    match is_file(rt, path) {
+        Ok(is_file) => is_file,
+        Err(_) => true,
+    }
+}

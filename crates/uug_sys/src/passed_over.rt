@@ -1,0 +1,93 @@
+//! What is said on standard error of files that are not given.
+ghost use Rattle.std.specs.Prelude.{◌<◌};
+
+/// So many reasons there are.
+const LACKS: usize = 4;
+
+/// Why a file in `send` is not given.
+#[derive(Clone, Copy)]
+pub(crate) enum Lack {
+    /// Its name is no text.
+    Text,
+    /// Its name is no `Name`.
+    Name,
+    /// It can't be read.
+    Access,
+    /// There are as many files as may be given.
+    Room,
+}
+
+impl Lack {
+    /// Its place among the reasons.
+    fn place(self) -> usize
+        ensures { result < LACKS }
+    {
+        match self {
+            Lack::Text => 0,
+            Lack::Name => 1,
+            Lack::Access => 2,
+            Lack::Room => 3,
+        }
+    }
+
+    /// What stands behind the path: a name that is no text is not known, and only the folder's path is.
+    fn rest(self) -> &'static str {
+        match self {
+            Lack::Text => "/?",
+            Lack::Name | Lack::Access | Lack::Room => "",
+        }
+    }
+
+    /// What is said of the file.
+    fn words(self) -> &'static str {
+        match self {
+            Lack::Text => "its name is no text",
+            Lack::Name => "its name is none of 1 to 200 printing characters without a space",
+            Lack::Access => "it can't be read",
+            Lack::Room => "there are more than 256 files",
+        }
+    }
+}
+
+/// Says on standard error which files in `send` are not given. For each reason one is named, and the others are counted. What
+/// can't be said is left out.
+#[derive(Drop)]
+pub(crate) struct PassedOver<'a, R> {
+    rt: &'a R,
+    /// How many there are, by the reasons.
+    counts: [u64; LACKS],
+}
+
+impl<'a, R: Eprint> PassedOver<'a, R> {
+    /// Nothing is passed over so far.
+    pub(crate) fn none(rt: &'a R) -> Self {
+        PassedOver {
+            rt,
+            counts: [0; LACKS],
+        }
+    }
+
+    /// The file at this path is not given. What can't be seen of the path is escaped.
+    pub(crate) fn note(&mut self, lack: Lack, path: &str) {
+        let place = lack.place();
+        if self.counts[place] == 0 {
+            let path = path.escape_debug();
+            let rest = lack.rest();
+            let words = lack.words();
+            let _ = eprint!(self.rt; "uucpair: {path}{rest} is not given: {words}\n");
+        }
+        self.counts[place] = self.counts[place].saturating_add(1);
+    }
+
+    /// Says how many more files in the folder at this path are not given.
+    pub(crate) fn say_rest(&self, send: &str) {
+        let mut more: u64 = 0;
+        for count in &self.counts {
+            more = more.saturating_add(count.saturating_sub(1));
+        }
+        if more > 0 {
+            let send = send.escape_debug();
+            let _ = eprint!(self.rt; "uucpair: {more} more files in {send} are not given\n");
+        }
+    }
+}

@@ -1,0 +1,147 @@
+//! What an end of `call` or `answer` takes up of a folder of the system, of which no clause can say what it holds: the files in
+//! `send` that it gives, and the names that are barred in `got`.
+
+use crate::calls::assertions::{assert_same, assert_same_at};
+use crate::pairs::runs::{Given, first, folder_path, place_all, remove, within};
+use std::alloc::Global;
+use std::fs::File;
+use std::net::Net;
+use std::process;
+use std::process::Abort;
+use std::rt::Files;
+use uug_folder::{Folder, read_jobs};
+use uug_session::Stored;
+use uug_sys::{SystemFolder, lock_dir, read_given};
+use uug_talk::Name;
+
+/// What is in the folder, the jobs of its end, how many files are given, and whether one of them is that of this name.
+struct Row<'a> {
+    given: &'a [Given<'a>],
+    jobs: &'a str,
+    count: usize,
+    name: &'a [u8],
+    is_given: bool,
+}
+
+const ROWS: &[Row<'static>] = &[
+    // what is hidden, has no name or is no file
+    Row {
+        given: &[
+            Given::File("a/send/x", b"x"),
+            Given::File("a/send/.h", b"h"),
+            Given::File("a/send/a b", b""),
+            Given::Folder("a/send/folder"),
+            Given::Link("a/send/nowhere", "none"),
+        ],
+        jobs: "send .h h u\nsend none y u\n",
+        count: 1,
+        name: b"x",
+        is_given: true,
+    },
+    // more files than may be given: that of a job is one of them
+    Row {
+        given: &[Given::Files("a/send/f", 300), Given::File("a/send/z", b"z")],
+        jobs: "request q q u\nsend ~/z y u\nsend z z u\n",
+        count: 256,
+        name: b"z",
+        is_given: true,
+    },
+    // a file that is a byte too large
+    Row {
+        given: &[
+            Given::Filled("a/send/x", b'x', 1_048_577),
+            Given::File("a/send/y", b"y"),
+        ],
+        jobs: "send x x u\n",
+        count: 1,
+        name: b"x",
+        is_given: false,
+    },
+];
+
+/// The files that an end over this folder gives.
+fn files_at(
+    rt: &(impl Files<File = File> + Eprint + Abort + AllocGlobal + Clone + Drop),
+    dir: &str,
+    jobs: &str,
+) -> Vec<Stored<Global>> {
+    let queue = read_jobs(rt.alloc(), jobs.as_bytes()).expect(rt, "jobs");
+    let lock = lock_dir(rt.alloc(), rt, first(dir)).expect(rt, "a lock");
+    let files = read_given(rt.alloc(), rt, &lock, queue.pending());
+    drop(lock);
+    files.expect(rt, "files")
+}
+
+impl Row<'_> {
+    fn play(
+        &self,
+        rt: &(impl Files<File = File> + Net + Eprint + Abort + AllocGlobal + Clone + Drop),
+        dir: &str,
+    ) {
+        place_all(rt, dir, self.given);
+        let folder = within(rt, dir, "a");
+        let files = files_at(rt, folder.as_str(), self.jobs);
+        let has = files.iter().any(|file| file.name.as_bytes() == self.name);
+        assert_same_at(
+            rt,
+            (files.len(), has),
+            (self.count, self.is_given),
+            self.jobs,
+        );
+        remove(rt, dir);
+    }
+}
+
+fn play_rows(
+    rt: &(impl Files<File = File> + Net + Eprint + Abort + AllocGlobal + Clone + Drop),
+    dir: &str,
+) {
+    for row in ROWS {
+        row.play(rt, dir);
+    }
+}
+
+// a hidden file that is given; a file of a job that is not, since there are others
+#[test]
+fn gives_what_it_can_give(rt: HostRuntime) {
+    let dir = folder_path(&rt, process::id(rt.process()), "given");
+    play_rows(&rt, dir.as_str());
+}
+
+/// What is in `got`: names that folders have are barred there, and those of files and links are not.
+const BARRED: &[(&[u8], bool)] = &[
+    (b"folder", true),
+    (b"file", false),
+    (b"link", false),
+    (b"none", false),
+];
+
+fn is_barred(rt: &impl Abort, folder: &impl Folder, name: &[u8]) -> bool {
+    folder.is_barred(&Name::new(name).expect(rt, "a name"))
+}
+
+fn look_at(rt: &(impl Files + Abort + AllocGlobal + Clone + Drop), dir: &str) {
+    let folder = SystemFolder::looking(rt.alloc(), rt, first(dir)).expect(rt, "memory");
+    for (name, barred) in BARRED {
+        assert_same(rt, is_barred(rt, &folder, name), *barred);
+    }
+}
+
+fn look_into_got(rt: &(impl Files + Net + Abort + AllocGlobal + Clone + Drop), dir: &str) {
+    let given = [
+        Given::Folder("a/got/folder"),
+        Given::File("a/got/file", b""),
+        Given::Link("a/got/link", "folder"),
+    ];
+    place_all(rt, dir, &given);
+    let folder = within(rt, dir, "a");
+    look_at(rt, folder.as_str());
+    remove(rt, dir);
+}
+
+// a folder that would be a fault once a file comes; a file that is refused, though another may take its place
+#[test]
+fn bars_the_names_of_folders(rt: HostRuntime) {
+    let dir = folder_path(&rt, process::id(rt.process()), "barred");
+    look_into_got(&rt, dir.as_str());
+}
