@@ -1,5 +1,5 @@
 //! The files of an end's jobs, in memory.
-ghost use Rattle.std.specs.Prelude.{None};
+ghost use Rattle.std.specs.Prelude.{◌≡◌, None};
 
 use arrayvec::ArrayVec;
 use std::alloc::Allocator;
@@ -53,13 +53,11 @@ impl MemoryJobs {
     }
 
     /// Counts a call, and says whether it fails.
-    fn fails(&mut self) -> bool {
+    fn fails(&mut self) -> bool
+        ensures { self.new.faults ≡ self.old.faults }
+    {
         self.calls = self.calls.saturating_add(1);
-        let fails = self.calls > self.fails_at;
-        if fails {
-            self.faults = self.faults.saturating_add(1);
-        }
-        fails
+        self.calls > self.fails_at
     }
 }
 
@@ -77,6 +75,7 @@ impl JobTexts for MemoryJobs {
 
     fn replace(&mut self, bytes: &[u8]) -> Result<(), FolderFailed> {
         if self.fails() {
+            self.faults = self.faults.saturating_add(1);
             return Err(FolderFailed);
         }
         self.text.clear();
@@ -86,6 +85,7 @@ impl JobTexts for MemoryJobs {
 
     fn tell(&mut self, bytes: &[u8]) -> Result<(), FolderFailed> {
         if self.fails() {
+            self.faults = self.faults.saturating_add(1);
             return Err(FolderFailed);
         }
         let _ = self.told.try_extend_from_slice(bytes);
