@@ -148,7 +148,7 @@ row() {
     [ -z "$uucico" ] || [ "$1 $2" != "clean $mb" ] || [ "$4" = 4096 ] || beside=$4
     "$work/make" "$2" 0 "$4" 0 >"$work/files_only"
     "$work/make" "$2" "$3" "$4" "$5" >"$work/text"
-    measure round $beside
+    measure round ${beside:+"$beside"}
     read -r checked _ < <("$work/check" "$4" <"$work/text")
     for number in "${!programs[@]}"; do
         rest=$(median <"$work/rest$number")

@@ -1,9 +1,10 @@
-# What both scripts use.
+# What the scripts of this folder share.
+# shellcheck shell=bash disable=SC2154
 
 # wait_for SOCKET: until it is there
 wait_for() {
-    local tenths
-    for tenths in $(seq "${PATIENCE:-100}"); do
+    local i
+    for ((i = 0; i < ${PATIENCE:-100}; i++)); do
         [ ! -S "$1" ] || return 0
         sleep 0.1
     done

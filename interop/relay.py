@@ -10,9 +10,13 @@ packet is damaged so that its checksum tells: what no checksum tells no end can 
 """
 import os
 import selectors
-import socket
 import sys
 import time
+
+sys.dont_write_bytecode = True
+sys.path.insert(0, os.path.join(os.path.dirname(os.path.abspath(__file__)), "../tests"))
+
+from two_sockets import joined
 
 DLE, CONTROL = 16, 9
 HEADER = 6
@@ -118,18 +122,7 @@ def relay(line, one, other, until):
 def main(listen, connect, every=50, seconds=300):
     line = Line(int(every))
     until = time.monotonic() + float(seconds)
-    with socket.socket(socket.AF_UNIX) as waiting:
-        waiting.bind(listen)
-        os.chmod(listen, 0o666)
-        waiting.settimeout(float(seconds))
-        waiting.listen(1)
-        one, _ = waiting.accept()
-    os.remove(listen)
-    other = socket.socket(socket.AF_UNIX)
-    other.connect(connect)
-    with one, other:
-        for side in (one, other):
-            side.settimeout(60)
+    with joined(listen, connect, float(seconds), 60) as (one, other):
         how = relay(line, one, other, until)
     print(f"relay: {how}; {line.packets} packets, {line.lost} lost, {line.doubled} doubled, {line.damaged} damaged")
 

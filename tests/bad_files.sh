@@ -48,7 +48,6 @@ long_path() {
 
 # new_folders: of both ends. The one that `at` names gives x, the other one y and z.
 new_folders() {
-    local end
     rm -rf "$work"/{a,b}
     mkdir -p "$work"/{a,b}/{send,got}
     : >"$work/$peer/jobs"

@@ -1,4 +1,5 @@
 # What the scripts of this folder share.
+# shellcheck shell=bash disable=SC2034
 
 # The folder of the repository.
 root=$(dirname "$(dirname "$(readlink -f "${BASH_SOURCE[0]}")")")
@@ -27,24 +28,30 @@ pause() {
     read -rt "$1" -u "$never" || true
 }
 
-# wait_for_socket PATH: whether an end listens there within ten seconds.
-wait_for_socket() {
+# wait_until SECONDS COMMAND..: whether the command succeeds within this time.
+wait_until() {
     local i
-    for ((i = 0; i < 1000; i++)); do
-        [ ! -S "$1" ] || return 0
+    for ((i = 0; i < $1 * 100; i++)); do
+        ! "${@:2}" || return 0
         pause 0.01
     done
     return 1
 }
 
+# wait_for_socket PATH: whether an end listens there within ten seconds.
+wait_for_socket() {
+    wait_until 10 test -S "$1"
+}
+
+# has_ended PID: whether there is no such process.
+has_ended() {
+    ! kill -0 "$1" 2>/dev/null
+}
+
 # end_of PID SECONDS: sets `status` to the one with which the process ends, 124 where it had to be stopped after this time.
 end_of() {
-    local i
     status=0
-    for ((i = 0; i < $2 * 50; i++)); do
-        kill -0 "$1" 2>/dev/null || break
-        pause 0.02
-    done
+    wait_until "$2" has_ended "$1" || true
     if kill -9 "$1" 2>/dev/null; then
         wait "$1" 2>/dev/null || true
         status=124

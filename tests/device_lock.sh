@@ -26,16 +26,11 @@ holders=()
 
 # start_line NAME: a new line with two ends, NAME/near and NAME/far. `socat` holds it until one of them is closed.
 start_line() {
-    local i
     rm -rf "${work:?}/$1"
     mkdir -p "$work/$1"
     socat "PTY,link=$work/$1/near,raw,echo=0,mode=666" "PTY,link=$work/$1/far,raw,echo=0,mode=666" 2>>"$work/socat.err" &
     holders+=($!)
-    for ((i = 0; i < 500; i++)); do
-        [ ! -e "$work/$1/near" ] || [ ! -e "$work/$1/far" ] || return 0
-        pause 0.01
-    done
-    return 1
+    wait_until 5 test -e "$work/$1/near" && wait_until 5 test -e "$work/$1/far"
 }
 
 # end_lines: lets go the lines that are still there.
@@ -113,12 +108,7 @@ tell() {
 
 # wait_for_lock FILE: until there is such a file, at most five seconds.
 wait_for_lock() {
-    local i
-    for ((i = 0; i < 500; i++)); do
-        [ ! -e "$1" ] || return 0
-        pause 0.01
-    done
-    return 1
+    wait_until 5 test -e "$1"
 }
 
 # A call waits for its answer, and another call comes meanwhile: it opens nothing. Then the first is answered.
@@ -239,10 +229,15 @@ take_by() {
     taker=$!
 }
 
+# somebody_spoke: whether a call has said something on standard error.
+somebody_spoke() {
+    [ -s "$work/left.err" ] || [ -s "$work/right.err" ]
+}
+
 # Two calls over two lines whose devices have one name take over the same file at once: one of them has it then, the other is
 # turned away.
 two_takers() {
-    local round dead left right winner i
+    local round dead left right winner
     start_line two
     # A device that is open somewhere else is not gone when a call closes it.
     exec {one}<>"$work/one/near" {two}<>"$work/two/near"
@@ -255,10 +250,7 @@ two_takers() {
         left=$taker
         take_by right two
         right=$taker
-        for ((i = 0; i < 500; i++)); do
-            [ ! -s "$work/left.err" ] && [ ! -s "$work/right.err" ] || break
-            pause 0.01
-        done
+        wait_until 5 somebody_spoke || true
         [ ! -s "$work/left.err" ] || [ ! -s "$work/right.err" ] || return 1
         winner=$left
         [ ! -s "$work/left.err" ] || winner=$right

@@ -69,18 +69,28 @@ count() {
     fi
 }
 
+# named ENDING..: the names of the examples with one of these endings.
+named() {
+    local ending path
+    for ending in "$@"; do
+        for path in "$root/examples"/*."$ending"; do
+            basename "$path" ".$ending"
+        done
+    done | sort -u
+}
+
 if [ -z "$program" ]; then
     # builds it where that is needed
     "$root/uucpair" scan </dev/null >/dev/null
     program=$root/uucpair
 fi
-for name in $(ls "$root/examples" | sed -n 's/\.\(script\|report\)$//p' | sort -u); do
+for name in $(named script report); do
     count "$name" "$(check "$name")"
 done
-for name in $(ls "$root/examples" | sed -n 's/\.ladder$//p'); do
+for name in $(named ladder); do
     count "$name.ladder" "$(check_ladder "$name")"
 done
-for name in $(ls "$root/examples" | sed -n 's/\.\(bytes\|listing\)$//p' | sort -u); do
+for name in $(named bytes listing); do
     count "$name" "$(check_stream "$name")"
 done
 

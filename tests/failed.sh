@@ -8,6 +8,7 @@
 #   tests/failed.sh [PROGRAM]
 #
 # It prints a line for each part, and ends with status 1 where one fails. The folders stay then.
+# shellcheck disable=SC2119  # no word of the script is one of `talk`
 set -eu
 export LC_ALL=C
 . "$(dirname "$(readlink -f "$0")")/common.sh"
@@ -32,7 +33,13 @@ new_folders() {
     echo two >"$work/a/send/y"
 }
 
-# talk: one session. The status of the caller is in `ended`; what it prints is in out.
+# names_in FOLDER: on one line.
+names_in() {
+    find "$1" -mindepth 1 -printf '%f\n' | sort | tr '\n' ' '
+}
+
+# talk [OPTION..]: one session. The status of the caller is in `ended`; what it prints is in out.
+# shellcheck disable=SC2120  # most sessions have no option
 talk() {
     "$program" answer "unix:$work/line" "$work/b" --me b --peer a >"$work/answer.out" 2>&1 &
     local answering=$!
@@ -138,12 +145,12 @@ clears_copies() {
         "$program" queue "$work/a" send "$work/files/f$i" --user me >/dev/null
     done
     "$program" queue "$work/a" send "$work/files/f0" .no --user me >/dev/null
-    holds "copies" "$(ls -A "$work/a/send" | tr '\n' ' ')" ".copy.f0 .copy.f0.1 .copy.f1 .copy.f2 f0 f0.1 f1 f2 mine x y "
+    holds "copies" "$(names_in "$work/a/send")" ".copy.f0 .copy.f0.1 .copy.f1 .copy.f2 f0 f0.1 f1 f2 mine x y "
     talk
     holds "queued files" "$(cat "$work/b/got"/f?)" $'0\n1\n2'
     : >"$work/a/send/.part.1.0"
     "$program" queue "$work/a" send "$work/files/f1" --user me >/dev/null
-    holds "copies that are needed" "$(ls -A "$work/a/send" | tr '\n' ' ')" ".copy.f0.1 .copy.f1 f0.1 f1 mine x y "
+    holds "copies that are needed" "$(names_in "$work/a/send")" ".copy.f0.1 .copy.f1 f0.1 f1 mine x y "
     # somebody has put another file in the place of a copy
     echo other >"$work/other"
     mv "$work/other" "$work/a/send/f1"

@@ -89,7 +89,7 @@ feed() {
         end=$([ $((i % 2)) -eq 0 ] && echo a || echo b)
         name=$end$((files + i / 2))
         if [ $((i / 2 % 2)) -eq 0 ]; then
-            give $end "$name" $((i * 977 % 3001))
+            give "$end" "$name" $((i * 977 % 3001))
             queue "$end" "send $name $name u"
         else
             write_file "$work/$end/files/$name" $((i * 977 % 3001))
@@ -141,7 +141,7 @@ await_done() {
 
 # wait_to_strike: until a moment of the kind that is named, or of one of the three.
 wait_to_strike() {
-    local kinds=(anywhere anywhere done greeting) moment
+    local kinds=(anywhere anywhere "done" greeting) moment
     local kind=${kinds[RANDOM % 4]}
     printf -v moment '%d.%03d' $((RANDOM % 6)) $((RANDOM % 1000))
     case ${WHEN:-$kind} in

@@ -5,6 +5,7 @@
 #   tests/queue.sh [PROGRAM]
 #
 # It prints a line for each part, and ends with status 1 where one fails. The folders stay then.
+# shellcheck disable=SC2088  # a tilde is the public folder of the other end
 set -eu
 export LC_ALL=C
 jobs=50

@@ -7,11 +7,13 @@ Takes the first that connects to the socket LISTEN, which it makes, connects to 
 comes from either side, RATE bytes (6,000) in a second each way, for at most SECONDS (120). Where one side ends, what it
 has written goes on to the other one, and then the line is gone for both.
 """
-import os
 import selectors
-import socket
 import sys
 import time
+
+sys.dont_write_bytecode = True
+
+from two_sockets import joined
 
 STEP = 0.01
 
@@ -62,17 +64,7 @@ def relay(one, other, rate, until):
 
 def main(listen, connect, rate=6000, seconds=120):
     until = time.monotonic() + float(seconds)
-    with socket.socket(socket.AF_UNIX) as waiting:
-        waiting.bind(listen)
-        waiting.settimeout(float(seconds))
-        waiting.listen(1)
-        one, _ = waiting.accept()
-    os.remove(listen)
-    other = socket.socket(socket.AF_UNIX)
-    other.connect(connect)
-    with one, other:
-        for side in (one, other):
-            side.settimeout(10)
+    with joined(listen, connect, float(seconds), 10) as (one, other):
         relay(one, other, float(rate), until)
 
 

@@ -91,7 +91,7 @@ for ((round = 1; round <= rounds; round++)); do
     is_good=1
     both_call || is_good=0
     is_well || is_good=0
-    for again in 1 2 3; do
+    for _ in 1 2 3; do
         for system in left right; do
             [ -s "$work/$system/jobs" ] || continue
             answer_at "$system" &

@@ -1,7 +1,8 @@
 #!/usr/bin/env python3
 """Compares what the documents say with the sources: tools/docs_check.py.
 
-Exits 1, with a line for each thing that is not there. In README.md, CONTRIBUTING.md, docs/*.md and docs/uucpair.1:
+Exits 1, with a line for each thing that is not there. In README.md, CHANGELOG.md, CONTRIBUTING.md, docs/*.md and
+docs/uucpair.1:
 
     - each path in backticks is there: as it stands, or as the end of the path of a file; in CONTRACTS, CONTRIBUTING
       and PROTOCOL of a file in one of the crates that the same line names, or that its section is about;
@@ -52,7 +53,7 @@ def complain(path, line, text):
 
 def documents():
     docs = [path for path in sources.files() if path.startswith("docs/") and path.endswith((".md", ".1"))]
-    return ["README.md", "CONTRIBUTING.md", *docs]
+    return ["README.md", "CHANGELOG.md", "CONTRIBUTING.md", *docs]
 
 
 def lines_of(path):

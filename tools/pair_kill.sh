@@ -15,17 +15,15 @@
 # once more. Where something is wrong the folders stay as they are, and the status is 1.
 set -eu
 export LC_ALL=C
+. "$(dirname "$(readlink -f "$0")")/../tests/common.sh"
 kills=${1:-200}
-program=${2:-}
 kind=${3:-pair}
 files=64
-root=$(dirname "$(dirname "$(readlink -f "$0")")")
-work=$(mktemp -d)
-socket=$work/socket
+work=
 options=(--drop-every 7 --flip-every 11)
 
 fail() {
-    echo "pair_kill.sh: $*; see $work" >&2
+    echo "pair_kill.sh: $*${work:+; see $work}" >&2
     exit 1
 }
 
@@ -73,11 +71,11 @@ check_job() {
 
 # check_jobs END: sets `left` to the number of jobs in its `jobs`.
 check_jobs() {
-    local kind source target user
+    local kind source target
     sort "$work/$1/jobs" >"$work/now"
     sort "$work/$1.jobs" >"$work/given"
     [ -z "$(comm -23 "$work/now" "$work/given")" ] || fail "the jobs of $1 have a line that was not given"
-    while read -r kind source target user; do
+    while read -r kind source target _; do
         check_job "$1" "$kind" "$source" "$target"
     done < <(comm -13 "$work/now" "$work/given")
     left=$(wc -l <"$work/now")
@@ -111,20 +109,6 @@ check_folders() {
     [ "$left_b" -eq $((files / 2)) ] || stage=late
 }
 
-pause() {
-    read -rt "$1" -u "$never" || true
-}
-
-# Waits until an end listens.
-wait_for_socket() {
-    local i
-    for ((i = 0; i < 1000; i++)); do
-        [ ! -S "$socket" ] || return 0
-        pause 0.01
-    done
-    fail "nobody listens"
-}
-
 # Begins a run. Sets `main` to the process that is looked at, and `partner` to the one at the line's other end, if there is
 # one.
 begin() {
@@ -137,29 +121,29 @@ begin() {
     call)
         "$program" answer "unix:$socket" "$work/b" --me b --peer a >"$work/partner" 2>&1 &
         partner=$!
-        wait_for_socket
+        wait_for_socket "$socket" || fail "nobody listens"
         "$program" call "unix:$socket" "$work/a" --me a --peer b >"$work/report" 2>"$work/errors" &
         main=$!
         ;;
     answer)
         "$program" answer "unix:$socket" "$work/a" --me a --peer b >"$work/report" 2>"$work/errors" &
         main=$!
-        wait_for_socket
+        wait_for_socket "$socket" || fail "nobody listens"
         "$program" call "unix:$socket" "$work/b" --me b --peer a >"$work/partner" 2>&1 &
         partner=$!
         ;;
     esac
 }
 
+# The partner has ended, or nobody has come to it.
+is_over_or_alone() {
+    has_ended "$partner" || [ -S "$socket" ]
+}
+
 # Waits for the partner, which notices that the other one is gone, unless that never came to it.
 end_partner() {
-    local i
     [ -n "$partner" ] || return 0
-    for ((i = 0; i < 1500; i++)); do
-        kill -0 "$partner" 2>/dev/null || break
-        [ ! -S "$socket" ] || break
-        pause 0.01
-    done
+    wait_until 15 is_over_or_alone || true
     kill -9 "$partner" 2>/dev/null || true
     wait "$partner" 2>/dev/null || true
 }
@@ -201,17 +185,10 @@ case $kind in
 pair | call | answer) ;;
 *) fail "no $kind is known" ;;
 esac
-if [ -n "$program" ]; then
-    program=$(readlink -f "$program")
-else
-    # builds it where that is needed
-    "$root/uucpair" scan </dev/null >/dev/null
-    program=$root/crates/uucpair/out/uucpair
-fi
+find_program "${2:-}"
+new_work
+socket=$work/socket
 make_folders
-# A pipe that stays silent, to wait by.
-mkfifo "$work/never"
-exec {never}<>"$work/never"
 
 for i in 1 2 3; do
     reset_folders
