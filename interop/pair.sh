@@ -68,7 +68,8 @@ run() {
 meet() {
     local dir=$1 status=$2 numbers=$3 answerer called answered kept
     shift 3
-    "$program" answer "unix:$work/line" "$work/b" --me b --peer a --timeout 5 "$@" >"$work/b.out" 2>"$work/b.err" &
+    # An end whose caller is refused waits for another one.
+    "$program" answer "unix:$work/line" "$work/b" --me b --peer a --timeout 5 --wait 10 "$@" >"$work/b.out" 2>"$work/b.err" &
     answerer=$!
     started+=("$answerer")
     wait_for "$work/line"

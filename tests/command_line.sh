@@ -287,6 +287,12 @@ row "a call without names" 2 "error: " "" call l a </dev/null
 row "a call with a window of 8" 2 "uucpair: bad usage$line_feed" "" call l a --me a --peer b --window 8 </dev/null
 row "a call with a size of 65" 2 "uucpair: bad usage$line_feed" "" call l a --me a --peer b --size 65 </dev/null
 row "a call that never waits" 2 "uucpair: bad usage$line_feed" "" call l a --me a --peer b --timeout 0 </dev/null
+row "a call over a line without a speed" 2 "uucpair: bad usage$line_feed" "" call l a --me a --peer b --speed 0 </dev/null
+row "a call over a line that is too slow" 2 "uucpair: bad usage$line_feed" "" call l a --me a --peer b --speed 299 </dev/null
+row "a call over a line that is too fast" 2 "uucpair: bad usage$line_feed" "" call l a --me a --peer b --speed 10000001 </dev/null
+row "a call that waits to be called" 2 "error: " "" call l a --me a --peer b --wait 5 </dev/null
+row "an answer that doesn't wait" 2 "uucpair: bad usage$line_feed" "" answer l a --me a --peer b --wait 0 </dev/null
+row "an answer that waits too long" 2 "uucpair: bad usage$line_feed" "" answer l a --me a --peer b --wait 1000000001 </dev/null
 row "a call to a port that is none" 2 "uucpair: bad usage$line_feed" "" call tcp:h:x a --me a --peer b </dev/null
 row "a call to a socket without a path" 2 "uucpair: bad usage$line_feed" "" call unix: a --me a --peer b </dev/null
 row "a call over a line without a name" 2 "uucpair: bad usage$line_feed" "" call "" a --me a --peer b </dev/null
@@ -398,6 +404,11 @@ row "a call that answers each repeat" 0 "" "caller done pending 0 struck 1 faile
     call "unix:$socket" "$a" --me a --peer b --no-quiet </dev/null
 wait "$answerer" || true
 folders "send x y u"
+answer_in_the_background --every-ack
+row "a call that acknowledges each packet" 0 "" "caller done pending 0 struck 1 failed 0$line_feed" \
+    call "unix:$socket" "$a" --me a --peer b --every-ack </dev/null
+wait "$answerer" || true
+folders "send x y u"
 answer_in_the_background --fill-commands
 row "a call that fills up its commands" 0 "" "caller done pending 0 struck 1 failed 0$line_feed" \
     call "unix:$socket" "$a" --me a --peer b --fill-commands </dev/null
@@ -421,7 +432,7 @@ row "a call with a path for a target" 0 "" \
     "caller done pending 0 struck 0 failed 1${line_feed}caller failed send x /etc/y u$line_feed" \
     call "unix:$socket" "$a" --me a --peer b </dev/null
 wait "$answerer" || true
-answer_in_the_background
+answer_in_the_background --wait 4
 row "a call of a stranger" 1 "" "caller refused pending 0 struck 0 failed 0$line_feed" \
     call "unix:$socket" "$a" --me c --peer b </dev/null
 wait "$answerer" || true
@@ -438,20 +449,20 @@ row "a call with the number that is kept" 0 "" "caller done pending 0 struck 0 f
 wait "$answerer" || true
 holds "the caller's number after it" "$a/number" "2$line_feed"
 rm "$a/number"
-answer_in_the_background
+answer_in_the_background --wait 4
 row "a call of a stranger who knows the names" 1 "uucpair: this end keeps no number$line_feed" "caller badsequence pending 0 struck 0 failed 0$line_feed" \
     call "unix:$socket" "$a" --me a --peer b </dev/null
 wait "$answerer" || true
 holds "what the end says that a stranger called" "$work/answered" \
-    "called badsequence pending 0 struck 0 failed 0${line_feed}uucpair: the number of this end is 2$line_feed"
+    "uucpair: the number of this end is 2${line_feed}called gaveup pending 0 struck 0 failed 0$line_feed"
 holds "the called end's number after a stranger" "$b/number" "2$line_feed"
 echo 17 >"$a/number"
-answer_in_the_background
+answer_in_the_background --wait 4
 row "a call with another number" 1 "uucpair: the number of this end is 17$line_feed" "caller badsequence pending 0 struck 0 failed 0$line_feed" \
     call "unix:$socket" "$a" --me a --peer b </dev/null
 wait "$answerer" || true
 holds "what the called end says of both numbers" "$work/answered" \
-    "called badsequence pending 0 struck 0 failed 0${line_feed}uucpair: the number of this end is 2, that of the other end 17$line_feed"
+    "uucpair: the number of this end is 2, that of the other end 17${line_feed}called gaveup pending 0 struck 0 failed 0$line_feed"
 folders "send x y u"
 printf 'seven\n' >"$a/number"
 row "a call with a bad number file" 2 "uucpair: bad number file$line_feed" "" \

@@ -1,5 +1,5 @@
 //! What the program does, from its command line to its status.
-ghost use Rattle.std.specs.Prelude.{◌≡◌, IfErr, IfOk, IsErrAnd, MatchResult, OnOk, map, string_bytes};
+ghost use Rattle.std.specs.Prelude.{◌≡◌, ◌≤◌, IfErr, IfOk, IsErrAnd, IsSome, MatchResult, OnOk, map, string_bytes};
 ghost use Rattle.uug_scan.specs.Scan.{IsScanFault};
 ghost use Rattle.uug_stream.specs.Streams.{Appends};
 ghost use Rattle.uug_sys.specs.Queued.{word_or_empty};
@@ -11,7 +11,7 @@ use crate::stop::Stop;
 use std::alloc::Global;
 use std::convert::AsStr;
 use std::fs::File;
-use std::net::Net;
+use std::net::{Net, TcpListener, TcpStream};
 use std::rt::{Env, Files};
 use std::time::Clock;
 use std::{env, io};
@@ -22,9 +22,10 @@ use uug_remark::play_remarked;
 use uug_scan::{READ_LIMIT, scan_detailed, scan_stream};
 use uug_stream::{Output, ToolFault, write_all};
 use uug_sys::{
-    Cause, Resource, SystemFailure, SystemInput, SystemObserver, SystemOutput, call_run, queue_run,
+    CallTask, Cause, Resource, SystemFailure, SystemInput, SystemObserver, SystemOutput, call_run,
+    queue_run,
 };
-use uug_words::{Task, VERSION, task_of};
+use uug_words::{PairTask, Task, VERSION, task_of};
 
 /// What is remarked of a script that is too much for a ladder.
 const TOO_MUCH: &str = "a ladder has at most 1000 events, and a picture 1000000 rungs";
@@ -337,6 +338,57 @@ fn end_of(
     }
 }
 
+/// Runs both ends over one socket.
+fn do_pair<R, O>(
+    rt: &R,
+    pair: &PairTask<'_>,
+    output: &mut O,
+    why: &mut Option<SystemFailure>,
+) -> Result<u8, ToolFault>
+where
+    R: Files<File = File> + Net + AllocGlobal + Clone + Drop,
+    O: Output,
+    ensures status { IfOk result (λ status. status ≤ 1) }
+    ensures named { result ≡ Err ToolFault.Device → IsSome why.new }
+{
+    pair_run(
+        rt.alloc(),
+        rt,
+        pair.socket,
+        pair.dir_a,
+        pair.dir_b,
+        pair.drop_every,
+        pair.flip_every,
+        output,
+        why,
+    )
+}
+
+/// Runs one end, and says on standard error how it stands where that is asked for.
+fn do_call<R, O>(
+    rt: &R,
+    call: &CallTask<'_>,
+    terminals: Terminals,
+    output: &mut O,
+    remark: &mut String,
+    why: &mut Option<SystemFailure>,
+) -> Result<u8, ToolFault>
+where
+    R: Files<File = File>
+        + Net<Stream = TcpStream, Listener = TcpListener>
+        + AllocGlobal
+        + Eprint
+        + Clock
+        + Clone
+        + Drop,
+    O: Output,
+    ensures status { IfOk result (λ status. status ≤ 1) }
+    ensures named { result ≡ Err ToolFault.Device → IsSome why.new }
+{
+    let observer = SystemObserver::new(rt.alloc(), rt, call, terminals.errors)?;
+    call_run(rt.alloc(), rt, call, observer, output, remark, why)
+}
+
 /// Does a task, and gives the program's status.
 fn do_task<R, I, O>(
     rt: &R,
@@ -348,72 +400,32 @@ fn do_task<R, I, O>(
     why: &mut Option<SystemFailure>,
 ) -> Result<u8, ToolFault>
 where
-    R: Files<File = File> + Net + Env + AllocGlobal + Eprint + Clock + Clone + Drop,
+    R: Files<File = File>
+        + Net<Stream = TcpStream, Listener = TcpListener>
+        + Env
+        + AllocGlobal
+        + Eprint
+        + Clock
+        + Clone
+        + Drop,
     I: uug_stream::Input,
     O: Output,
     ensures { Does task.entry (streams (I.to_come input.old) (I.to_come input.new)
         (O.written output.old) (O.written output.new)) (string_bytes remark.new) why.new result }
 {
-    let alloc = rt.alloc();
-    match task {
-        Task::Version => show_version(alloc, output),
-        Task::Scan(file) => do_on(rt, InputTask::Scan, file, input, output, remark, why),
-        Task::ScanVerbose(file) => do_on(
-            rt,
-            InputTask::ScanVerbose,
-            file,
-            input,
-            output,
-            remark,
-            why,
-        ),
-        Task::Play(file) => do_on(rt, InputTask::Play, file, input, output, remark, why),
-        Task::PlayVerbose(file) => do_on(
-            rt,
-            InputTask::PlayVerbose,
-            file,
-            input,
-            output,
-            remark,
-            why,
-        ),
-        Task::PlaySettled(file) => do_on(
-            rt,
-            InputTask::PlaySettled,
-            file,
-            input,
-            output,
-            remark,
-            why,
-        ),
-        Task::PlayDrawn(how, file) => {
-            do_on(
-                rt,
-                InputTask::PlayDrawn(how),
-                file,
-                input,
-                output,
-                remark,
-                why,
-            )
-        }
-        Task::Pair(pair) => pair_run(
-            alloc,
-            rt,
-            pair.socket,
-            pair.dir_a,
-            pair.dir_b,
-            pair.drop_every,
-            pair.flip_every,
-            output,
-            why,
-        ),
-        Task::Call(call) => {
-            let observer = SystemObserver::new(alloc, rt, &call, terminals.errors)?;
-            call_run(alloc, rt, &call, observer, output, remark, why)
-        }
-        Task::Queue(queue) => queue_run(alloc, rt, &queue, output, remark, why),
-    }
+    let (over, file) = match task {
+        Task::Scan(file) => (InputTask::Scan, file),
+        Task::ScanVerbose(file) => (InputTask::ScanVerbose, file),
+        Task::Play(file) => (InputTask::Play, file),
+        Task::PlayVerbose(file) => (InputTask::PlayVerbose, file),
+        Task::PlaySettled(file) => (InputTask::PlaySettled, file),
+        Task::PlayDrawn(how, file) => (InputTask::PlayDrawn(how), file),
+        Task::Version => return show_version(rt.alloc(), output),
+        Task::Pair(pair) => return do_pair(rt, &pair, output, why),
+        Task::Call(call) => return do_call(rt, &call, terminals, output, remark, why),
+        Task::Queue(queue) => return queue_run(rt.alloc(), rt, &queue, output, remark, why),
+    };
+    do_on(rt, over, file, input, output, remark, why)
 }
 
 /// Says that standard input is read, where somebody sits before it.
@@ -449,7 +461,14 @@ pub fn perform<R, S, I, O>(
     output: &mut O,
 ) -> Result<u8, Stop>
 where
-    R: Files<File = File> + Net + Env + Eprint + Clock + AllocGlobal + Clone + Drop,
+    R: Files<File = File>
+        + Net<Stream = TcpStream, Listener = TcpListener>
+        + Env
+        + Eprint
+        + Clock
+        + AllocGlobal
+        + Clone
+        + Drop,
     S: AsStr,
     I: uug_stream::Input,
     O: Output,
@@ -468,7 +487,16 @@ where
 /// Does what the program's own command line asks for, on standard input and output.
 pub fn run<R>(rt: &R, terminals: Terminals) -> Result<u8, Stop>
 where
-    R: Env + Input + Print + Eprint + Clock + Files<File = File> + Net + AllocGlobal + Clone + Drop,
+    R: Env
+        + Input
+        + Print
+        + Eprint
+        + Clock
+        + Files<File = File>
+        + Net<Stream = TcpStream, Listener = TcpListener>
+        + AllocGlobal
+        + Clone
+        + Drop,
 {
     let words: Vec<String> = env::args(rt)
         .map_err(|error| match error.kind() {

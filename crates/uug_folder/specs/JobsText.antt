@@ -87,6 +87,14 @@ pub record IsQueueOf (text : List ℕ) (queue : Lists) : Type 0 where
   pub jobs : jobs_of text ≡ Ok (pending queue)
   pub fresh : queue ≡ at_start (pending queue) [] []
 
+-- The queue of an end whose session begins has the first jobs of this text, at least one if there are any: all of them are still
+-- to be offered, and none was done or given up. Those behind them wait for another session.
+pub record IsFrontOf (text : List ℕ) (queue : Lists) : Type 0 where
+  pub behind : List Job
+  pub jobs : jobs_of text ≡ Ok (pending queue ++ behind)
+  pub fresh : queue ≡ at_start (pending queue) [] []
+  pub some : pending queue ≡ [] → behind ≡ []
+
 -- the fault says this line, which can't be added; being out of memory is left open
 abbrev pub RefusesLine : ℕ → JobsFault → Option (List Job) → Type 0
 RefusesLine number (fault.Bad n) added = (n ≡ number) × (added ≡ None)

@@ -5,6 +5,7 @@
 mod faults;
 mod folder;
 mod folder_spool;
+mod front;
 mod job_store;
 mod job_texts;
 mod jobs_file;
@@ -21,6 +22,7 @@ mod text_file;
 
 pub use folder::{Folder, FolderFailed};
 pub use folder_spool::FolderSpool;
+pub use front::first_jobs;
 pub use job_store::JobStore;
 pub use job_texts::JobTexts;
 pub use jobs_file::{JobsFile, settle_text};

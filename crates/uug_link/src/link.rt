@@ -198,6 +198,20 @@ impl Link {
         self.slots.len()
     }
 
+    /// The number of the oldest message that was sent and not acknowledged, or of the next to be sent.
+    pub fn oldest(&self) -> u8
+        ensures { result ≡ self.now.oldest }
+    {
+        self.status.oldest.value()
+    }
+
+    /// The number of the data packet that is to be taken next.
+    pub fn expected(&self) -> u8
+        ensures { result ≡ self.now.expected }
+    {
+        self.status.received.next().value()
+    }
+
     /// How many timeouts have passed in a row without progress; at the eighth the link gives up.
     pub fn timeouts(&self) -> u8
         ensures count { result ≡ self.now.timeouts }

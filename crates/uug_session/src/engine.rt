@@ -499,6 +499,20 @@ impl<A: Allocator + Copy> Engine<A> {
         self.link.unacked()
     }
 
+    /// The number of the oldest message that was sent and not acknowledged, or of the next to be sent.
+    pub(crate) fn oldest(&self) -> u8
+        ensures { result ≡ self.now.link.oldest }
+    {
+        self.link.oldest()
+    }
+
+    /// The number of the data packet that is to be taken next.
+    pub(crate) fn expected(&self) -> u8
+        ensures { result ≡ self.now.link.expected }
+    {
+        self.link.expected()
+    }
+
     /// How many timeouts have passed in a row without progress at an end that talks; at no other any is counted.
     pub(crate) fn timeouts(&self) -> u8
         ensures count { result ≡ timeouts_in

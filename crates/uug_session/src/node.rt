@@ -250,6 +250,21 @@ impl<S: Spool, A: Allocator + Copy> Node<S, A> {
         self.engine.unacked()
     }
 
+    /// The number of the oldest message that was sent and not acknowledged, or of the next to be sent: it moves on where one
+    /// is acknowledged.
+    pub fn oldest(&self) -> u8
+        ensures { result ≡ (node_of self.now).engine.link.oldest }
+    {
+        self.engine.oldest()
+    }
+
+    /// The number of the data packet that is to be taken next: it moves on where one is taken.
+    pub fn expected(&self) -> u8
+        ensures { result ≡ (node_of self.now).engine.link.expected }
+    {
+        self.engine.expected()
+    }
+
     /// How many timeouts have passed in a row without progress at an end that talks, at most `TIMEOUTS_MAX`. At any other it
     /// is 0.
     pub fn timeouts(&self) -> u8

@@ -1,8 +1,11 @@
 -- Why a run over the system gave up, and which call of the system failed first (this project's profile).
-use Rattle.std.specs.Prelude.{◌≡◌, ℕ, Option, Some, None}
+use Rattle.std.specs.Prelude.{◌≡◌, ℕ, Option, Some, None, ⊤}
+use Rattle.std.specs.declared.io.ErrorKind.TheVariants.{Interrupted, WouldBlock}
 use Rattle.uug_session.specs.Engine.{HasFailed, faults_max}
 use Rattle.uug_stream.specs.declared.fault.ToolFault.{ToolFault}
 use Rattle.uug_stream.specs.declared.fault.ToolFault.TheVariants.{Device}
+use Rattle.uug_sys.specs.declared.failure.Cause.{Cause}
+use Rattle.uug_sys.specs.declared.failure.Cause.TheVariants.{Refused}
 use Rattle.uug_sys.specs.declared.failure.SystemFailure.{SystemFailure}
 use Rattle.uug_sys.specs.declared.run_fault.RunFault.{RunFault}
 use Rattle.uug_sys.specs.declared.run_fault.RunFault.TheVariants.{System, Tool}
@@ -11,6 +14,12 @@ use Rattle.uug_sys.specs.declared.run_fault.RunFault.TheVariants.{System, Tool}
 abbrev pub first_of : Option SystemFailure → SystemFailure → Option SystemFailure
 first_of (Some first) failure = Some first
 first_of None failure = Some failure
+
+-- the call would have waited for longer than it may, or a signal came meanwhile
+abbrev pub IsSilence : Cause → Type 0
+IsSilence (Refused WouldBlock number) = ⊤
+IsSilence (Refused Interrupted number) = ⊤
+IsSilence _ = ⊥
 
 -- what the program answers
 abbrev pub fault_of_run : RunFault → ToolFault

@@ -5,3 +5,4 @@ pub mod Faults
 pub mod NumberRemarks
 pub mod Queued
 pub mod Tasks
+pub mod Timers

@@ -1,6 +1,5 @@
 -- What a task of one end says (this project's profile).
-use Rattle.std.specs.Prelude.{◌≡◌, ◌≢◌, ◌<◌, ◌≤◌, ◌*◌, ℕ, Bool, List, [], Some, None}
-use Rattle.std.specs.Duration.{as_nanos}
+use Rattle.std.specs.Prelude.{◌≡◌, ◌≢◌, ◌<◌, ◌≤◌, ℕ, Bool, List, [], Some, None, IfSome, true, false}
 use Rattle.uug_link.specs.Announced.{Announced, announced}
 use Rattle.uug_link.specs.Terms.{IsSize, IsWindow, size_of_code}
 use Rattle.uug_talk.specs.Name.{IsName}
@@ -15,16 +14,23 @@ use Rattle.uug_session.specs.Sessions.{HoldsNothing}
 use Rattle.uug_session.specs.declared.place.Place.{Place}
 use Rattle.uug_transfer.specs.BufferedNodes.{IsCleared}
 use Rattle.uug_transfer.specs.LineNames.{line_of, shown}
+use Rattle.uug_transfer.specs.declared.thinning.Thinning.{Thinning}
+use Rattle.uug_transfer.specs.declared.thinning.Thinning.TheVariants.{Repeats, RepeatsAndAcks}
 use Rattle.uug_sys.specs.declared.call.CallTask.{CallTask}
 use Rattle.uug_sys.specs.declared.call.Terms.{Terms}
 use Rattle.uug_sys.specs.declared.end_parts.EndParts.{EndParts}
-use Rattle.uug_sys.specs.declared.call.TheConstants.{SECONDS_MAX}
+use Rattle.uug_sys.specs.Timers.{IsSpeed, packets_of}
+use Rattle.uug_sys.specs.declared.call.TheConstants.{MOST_MIN, SECONDS_MAX, WAIT_MAX}
 
--- a task that may be run: its numbers are in their ranges, its line is one, and its names are names
+-- a task that may be run: its numbers are in their ranges, so that the largest file may go, its line is one, and its names are
+-- names
 pub record IsTask (task : CallTask) : Type 0 where
   pub seconds : (0 < task.seconds) × (task.seconds ≤ SECONDS_MAX)
+  pub speed : IfSome task.speed IsSpeed
+  pub wait : IfSome task.wait (λ wait. (0 < wait) × (wait ≤ WAIT_MAX))
   pub window : IsWindow task.window
   pub size : IsSize task.size
+  pub most : MOST_MIN ≤ task.most
   pub line : line_of task.line.now ≢ None
   pub me : IsName task.me.now
   pub peer : IsName task.peer.now
@@ -36,15 +42,24 @@ pub record Announces (window size : ℕ) (quiet short : Bool) (a : Announced) : 
   pub is_quiet : a.quiet ≡ quiet
   pub is_short : a.short ≡ short
 
--- The line, the names and what is announced are as the task says, and the line waits for as long. No number is read yet.
+-- The line, the names and what is announced are as the task says, and so is how long is waited. The other end may have on the
+-- way what this one lets it. No number is read yet.
 pub record IsSaidBy (task : CallTask) (terms : Terms) : Type 0 where
   pub line : line_of task.line.now ≡ Some (shown terms.line)
-  pub me : terms.place.me ≡ task.me.now
-  pub peer : terms.place.peer ≡ task.peer.now
-  pub announces : Announces task.window task.size task.is_quiet task.is_short (announced terms.place.announce)
-  pub number : terms.place.number ≡ None
-  pub seconds : as_nanos terms.patience ≡ task.seconds * 1000000000
+  pub me : terms.station.place.me ≡ task.me.now
+  pub peer : terms.station.place.peer ≡ task.peer.now
+  pub announces : Announces task.window task.size task.is_quiet task.is_short (announced terms.station.place.announce)
+  pub number : terms.station.place.number ≡ None
+  pub timeout : terms.station.pace.timeout ≡ task.seconds
+  pub speed : terms.station.pace.speed ≡ task.speed
+  pub theirs : terms.station.pace.theirs ≡ packets_of task.window task.size
+  pub wait : terms.station.wait ≡ task.wait
   pub within : (0 < task.seconds) × (task.seconds ≤ SECONDS_MAX)
+
+-- what an end leaves out of what it emits, by whether it acknowledges each data packet on its own
+abbrev pub thinning_with : (every_ack : Bool) → Thinning
+thinning_with true = Repeats
+thinning_with false = RepeatsAndAcks
 
 -- which end it is, by its place
 abbrev pub identity_at : Side → Place → Identity

@@ -1,49 +1,64 @@
 //! One end over a folder, and the line to the other one.
-ghost use Rattle.std.specs.Prelude.{◌≡◌, ◌≢◌, ◌<◌, ◌≤◌, ◌⊎◌, ◌↔◌, [], None, Ok, IfErr, IfOk, IfSome, IsSome, MatchOption, MatchResult};
-ghost use Rattle.uug_folder.specs.JobsText.{IsQueueOf};
+ghost use Rattle.std.specs.Prelude.{◌≡◌, ◌≢◌, ◌<◌, ◌≤◌, ◌⊎◌, ◌↔◌, [], None, Ok, IfErr, IfOk, IfSome, IsSome, IsTrue, MatchOption, MatchResult, length};
+ghost use Rattle.uug_folder.specs.JobsText.{IsFrontOf};
+ghost use Rattle.uug_conversation.specs.Jobs.{pending};
 ghost use Rattle.uug_folder.specs.NumberText.{begins_with, number_in};
 ghost use Rattle.uug_stream.specs.Streams.{CountsFault};
 ghost use Rattle.uug_sys.specs.Faults.{IsCallFault, IsLockFault, IsOpeningFault, IsStartFault};
-ghost use Rattle.uug_sys.specs.Tasks.{IsSaidBy, IsTask};
+ghost use Rattle.uug_sys.specs.Tasks.{IsSaidBy, IsTask, thinning_with};
 
+use crate::answer::answer_at;
 use crate::device_line::DeviceLine;
 use crate::device_lock::lock_device;
 use crate::dir_lock::{DirLock, lock_dir, see_folders};
 use crate::end_parts::{EndParts, FinishedEnd, make_node};
 use crate::failure::{Cause, EndDir, EndText, Resource, SystemFailure};
-use crate::given_files::read_given;
+use crate::given_files::{Given, read_given};
 use crate::number_remark::remark_numbers;
 use crate::opened_jobs::{OpenJobs, open_jobs};
 use crate::run_fault::RunFault;
 use crate::send_folder::read_text;
-use crate::sockets::{open_tcp, open_unix};
+use crate::session_line::{Pace, SessionLine};
+use crate::silent_line::SilentLine;
+use crate::sockets::{call_tcp, call_unix, listen_tcp, listen_unix};
 use crate::stream_line::StreamLine;
 use crate::system_folder::SystemFolder;
 use crate::system_jobs::SystemJobs;
 use crate::system_line::SystemLine;
 use crate::system_number::SystemNumber;
 use crate::system_text::SystemText;
+use crate::timed_line::TimedLine;
+use crate::timed_stream::TimedStream;
+use crate::timer::{SPEED_MAX, SPEED_MIN, packets};
 use std::alloc::{AllocError, Allocator};
 use std::fs::File;
 use std::io;
-use std::io::{Read, Write};
-use std::net::Net;
+use std::net::{Net, TcpListener, TcpStream};
 use std::rt::Files;
-use std::time::Duration;
+use std::time::{Clock, Duration};
 use uug_folder::{
-    FolderSpool, JobsFile, LocalNames, number_at_start, number_beside, read_number_text,
+    FolderSpool, JobsFile, LocalNames, first_jobs, number_at_start, number_beside, read_number_text,
 };
 use uug_link::Announce;
 use uug_session::{MemorySpool, Place, Queue, Side, Spool, Stored};
 use uug_stream::{Output, ToolFault};
 use uug_talk::Name;
 use uug_transfer::{
-    BufferedNode, EndLine, FaultInjector, GreetedLine, LineMonitor, LineName, SessionObserver,
-    TransferEnd, read_line_name,
+    BufferedNode, EndLine, FaultInjector, GreetedLine, LineMonitor, LineName, PatienceLimits,
+    SessionObserver, Thinning, TransferEnd, read_line_name,
 };
 
 /// The most seconds that a line waits.
 pub const SECONDS_MAX: u32 = 600;
+
+/// So many bytes of files an end offers in a session at least, if it has as many: each file that may go fits.
+pub const MOST_MIN: u32 = 1_048_576;
+
+/// The most seconds that an end waits to be called.
+pub const WAIT_MAX: u32 = 1_000_000_000;
+
+/// For so many seconds an end waits to be called at a socket that is told nothing else: a day.
+const WAIT: u32 = 86_400;
 
 /// What one end is run over.
 #[derive(Clone, Copy, Debug, PartialEq, Eq)]
@@ -64,21 +79,40 @@ pub struct CallTask<'a> {
     pub size: u32,
     /// For so many seconds the line waits.
     pub seconds: u32,
+    /// The bits a second of its line, where they are told.
+    pub speed: Option<u32>,
+    /// For so many seconds it waits to be called, where that is told.
+    pub wait: Option<u32>,
     /// Whether it is quiet on repeats.
     pub is_quiet: bool,
     /// Whether its commands are short.
     pub is_short: bool,
     /// Whether it refuses what it can't read, and goes on.
     pub is_lenient: bool,
+    /// Whether it acknowledges each data packet on its own.
+    pub is_every_ack: bool,
     /// Whether it begins to keep a number of its conversations, where it keeps none yet.
     pub is_numbered: bool,
     /// Whether it says on standard error how the end stands.
     pub is_loud: bool,
     /// The folder of the lock files of devices.
     pub locks: &'a str,
+    /// So many bytes at most have the files together of the jobs that it offers in a session.
+    pub most: u32,
 }
 
 impl<'a> CallTask<'a> {
+    /// What its end leaves out of what it emits.
+    fn thinning(&self) -> Thinning
+        ensures { result ≡ thinning_with self.now.is_every_ack }
+    {
+        if self.is_every_ack {
+            Thinning::Repeats
+        } else {
+            Thinning::RepeatsAndAcks
+        }
+    }
+
     /// The folder of the end.
     fn end_dir(&self) -> EndDir<'a> {
         EndDir {
@@ -111,15 +145,33 @@ type SystemParts<'a, R, A> = EndParts<
 #[derive(Clone, Copy)]
 struct Terms<'a> {
     line: LineName<'a>,
-    place: Place,
-    patience: Duration,
+    station: Station,
 }
 
-/// A terminal device, and how long its calls wait.
+/// Where an end stands, and how long it waits there.
 #[derive(Clone, Copy)]
-struct Device<'a> {
-    path: &'a str,
-    patience: Duration,
+pub(crate) struct Station {
+    place: Place,
+    pace: Pace,
+    /// For so many seconds the end waits to be called, where that is told.
+    wait: Option<u32>,
+}
+
+impl Station {
+    /// How long the line waits where nothing of this end is on the way.
+    pub(crate) fn time(&self) -> Duration {
+        self.pace.time(0)
+    }
+
+    /// How long bytes may come at the line without progress.
+    fn limits(&self) -> PatienceLimits {
+        PatienceLimits::of_timer(self.pace.longest())
+    }
+
+    /// How long the end waits to be called at a socket.
+    pub(crate) fn wait_at_socket(&self) -> Duration {
+        Duration::from_secs(u64::from(self.wait.unwrap_or(WAIT)))
+    }
 }
 
 /// What a task says, if its numbers are in their ranges and its names are names.
@@ -127,21 +179,42 @@ fn read_terms<'a>(task: &CallTask<'a>) -> Option<Terms<'a>>
     ensures said { MatchOption result (IsTask task.now → ⊥) (λ terms. IsSaidBy task.now terms) }
     ensures task { IfSome result (λ _. IsTask task.now) }
 {
-    if task.seconds == 0 || task.seconds > SECONDS_MAX {
+    if !is_within(Some(task.seconds), 1, SECONDS_MAX)
+        || !is_within(task.speed, SPEED_MIN, SPEED_MAX)
+        || !is_within(task.wait, 1, WAIT_MAX)
+        || task.most < MOST_MIN
+    {
         return None;
     }
     let window = u8::try_from(task.window).ok()?;
     let announce = Announce::new(window, task.size as usize).ok()?;
     Some(Terms {
         line: read_line_name(task.line)?,
-        place: Place {
-            me: Name::new(task.me.as_bytes()).ok()?,
-            peer: Name::new(task.peer.as_bytes()).ok()?,
-            announce: announce.with_quiet(task.is_quiet).with_short(task.is_short),
-            number: None,
+        station: Station {
+            place: Place {
+                me: Name::new(task.me.as_bytes()).ok()?,
+                peer: Name::new(task.peer.as_bytes()).ok()?,
+                announce: announce.with_quiet(task.is_quiet).with_short(task.is_short),
+                number: None,
+            },
+            pace: Pace {
+                timeout: task.seconds,
+                speed: task.speed,
+                theirs: packets(window, announce.size() as u16),
+            },
+            wait: task.wait,
         },
-        patience: Duration::from_secs(u64::from(task.seconds)),
     })
+}
+
+/// Whether a number is in its range, where there is one.
+fn is_within(number: Option<u32>, least: u32, most: u32) -> bool
+    ensures { IsTrue result ↔ IfSome number (λ n. (least ≤ n) × (n ≤ most)) }
+{
+    match number {
+        Some(number) => least <= number && number <= most,
+        None => true,
+    }
 }
 
 /// Runs one end over its folder and its line, for one session. What stands in a folder is said in `docs/PROTOCOL.md`. The
@@ -161,7 +234,13 @@ pub fn call_run<A, R, W, O, B>(
 ) -> Result<u8, ToolFault>
 where
     A: Allocator + Copy,
-    R: Files<File = File> + Net + Eprint + Alloc + Clone + Drop,
+    R: Files<File = File>
+        + Net<Stream = TcpStream, Listener = TcpListener>
+        + Clock
+        + Eprint
+        + Alloc
+        + Clone
+        + Drop,
     W: SessionObserver + Drop,
     O: Output,
     B: Allocator,
@@ -239,7 +318,13 @@ fn talk_at<A, R, W, O, B>(
 ) -> Result<u8, ToolFault>
 where
     A: Allocator + Copy,
-    R: Files<File = File> + Net + Eprint + Alloc + Clone + Drop,
+    R: Files<File = File>
+        + Net<Stream = TcpStream, Listener = TcpListener>
+        + Clock
+        + Eprint
+        + Alloc
+        + Clone
+        + Drop,
     W: SessionObserver + Drop,
     O: Output,
     B: Allocator,
@@ -250,35 +335,44 @@ where
     ensures no_usage { result ≢ Err ToolFault.Usage }
     ensures why { result ≡ Err ToolFault.Device → IsSome why.new }
 {
-    let Terms {
-        line,
-        place,
-        patience,
-    } = terms;
-    match line {
-        LineName::Unix(path) => {
-            let line = stream_line(open_unix(rt, task.side, path, patience));
-            talk_over(
-                alloc, rt, task, place, held, line, observer, output, remark, why,
+    let Terms { line, station } = terms;
+    match (line, task.side) {
+        (LineName::Unix(path), Side::Caller) => {
+            let line = stream_line(call_unix(rt, path, station.time()));
+            let (answer, observer) = talk_over(
+                alloc, rt, task, station, held, line, observer, output, remark, why,
+            );
+            drop(observer);
+            answer
+        }
+        (LineName::Tcp(host, port), Side::Caller) => {
+            let line = stream_line(call_tcp(alloc, rt, host, port, station.time()));
+            let (answer, observer) = talk_over(
+                alloc, rt, task, station, held, line, observer, output, remark, why,
+            );
+            drop(observer);
+            answer
+        }
+        (LineName::Unix(path), Side::Called) => {
+            let opened = listen_unix(alloc, rt, path);
+            answer_at(
+                alloc, rt, task, station, opened, observer, output, remark, why,
             )
         }
-        LineName::Tcp(host, port) => {
-            let line = stream_line(open_tcp(rt, task.side, host, port, patience));
-            talk_over(
-                alloc, rt, task, place, held, line, observer, output, remark, why,
+        (LineName::Tcp(host, port), Side::Called) => {
+            let opened = listen_tcp(alloc, rt, host, port);
+            answer_at(
+                alloc, rt, task, station, opened, observer, output, remark, why,
             )
         }
-        LineName::Device(path) => {
-            let device = Device { path, patience };
-            talk_at_device(
-                alloc, rt, task, place, held, device, observer, output, remark, why,
-            )
-        }
+        (LineName::Device(path), _) => talk_at_device(
+            alloc, rt, task, station, path, held, observer, output, remark, why,
+        ),
     }
 }
 
 /// The line over a stream, or why there is none.
-fn stream_line<T: Read + Write>(stream: io::Result<T>) -> Result<StreamLine<T>, Cause> {
+fn stream_line<T: TimedStream>(stream: io::Result<T>) -> Result<StreamLine<T>, Cause> {
     match stream {
         Ok(stream) => Ok(StreamLine::new(stream)),
         Err(error) => Err(Cause::of(&error)),
@@ -291,9 +385,9 @@ fn talk_at_device<A, R, W, O, B>(
     alloc: A,
     rt: &R,
     task: &CallTask<'_>,
-    place: Place,
+    station: Station,
+    path: &str,
     held: Option<DirLock<A>>,
-    device: Device<'_>,
     observer: W,
     output: &mut O,
     remark: &mut String<B>,
@@ -301,7 +395,13 @@ fn talk_at_device<A, R, W, O, B>(
 ) -> Result<u8, ToolFault>
 where
     A: Allocator + Copy,
-    R: Files<File = File> + Net + Eprint + Alloc + Clone + Drop,
+    R: Files<File = File>
+        + Net<Stream = TcpStream, Listener = TcpListener>
+        + Clock
+        + Eprint
+        + Alloc
+        + Clone
+        + Drop,
     W: SessionObserver + Drop,
     O: Output,
     B: Allocator,
@@ -312,16 +412,16 @@ where
     ensures no_usage { result ≢ Err ToolFault.Usage }
     ensures why { result ≡ Err ToolFault.Device → IsSome why.new }
 {
-    let lock = match lock_device(alloc, rt, task.locks, device.path) {
+    let lock = match lock_device(alloc, rt, task.locks, path) {
         Ok(lock) => lock,
         Err(fault) => {
             drop(held);
             return Err(fault.tell(why));
         }
     };
-    let line = DeviceLine::open(alloc, rt, device.path, device.patience);
-    let result = talk_over(
-        alloc, rt, task, place, held, line, observer, output, remark, why,
+    let line = DeviceLine::open(alloc, rt, path, station.time());
+    let result = talk_when_called(
+        alloc, rt, task, station, held, line, observer, output, remark, why,
     );
     if let Some(lock) = lock {
         lock.release(rt);
@@ -329,14 +429,15 @@ where
     result
 }
 
-/// The end talks over its line, if it has one, with its folder locked.
-fn talk_over<A, R, L, W, O, B>(
+/// An end that is told how long it waits to be called says nothing before the first byte has come over its device. Where none
+/// comes it has the session of an end that nobody has called.
+fn talk_when_called<A, R, W, O, B>(
     alloc: A,
     rt: &R,
     task: &CallTask<'_>,
-    place: Place,
+    station: Station,
     held: Option<DirLock<A>>,
-    line: Result<L, Cause>,
+    line: Result<DeviceLine<A>, Cause>,
     observer: W,
     output: &mut O,
     remark: &mut String<B>,
@@ -344,8 +445,7 @@ fn talk_over<A, R, L, W, O, B>(
 ) -> Result<u8, ToolFault>
 where
     A: Allocator + Copy,
-    R: Files<File = File> + Eprint + Alloc + Clone + Drop,
-    L: SystemLine + Drop,
+    R: Files<File = File> + Eprint + Clock + Alloc + Clone + Drop,
     W: SessionObserver + Drop,
     O: Output,
     B: Allocator,
@@ -356,19 +456,108 @@ where
     ensures no_usage { result ≢ Err ToolFault.Usage }
     ensures why { result ≡ Err ToolFault.Device → IsSome why.new }
 {
+    match called(line, task.side, station.wait) {
+        Ok(Some(line)) => {
+            let (answer, observer) = talk_over(
+                alloc,
+                rt,
+                task,
+                station,
+                held,
+                Ok(line),
+                observer,
+                output,
+                remark,
+                why,
+            );
+            drop(observer);
+            answer
+        }
+        Ok(None) => {
+            let (answer, observer) = talk_over(
+                alloc,
+                rt,
+                task,
+                station,
+                held,
+                Ok(SilentLine),
+                observer,
+                output,
+                remark,
+                why,
+            );
+            drop(observer);
+            answer
+        }
+        Err(cause) => {
+            drop(held);
+            drop(observer);
+            *why = Some(SystemFailure::on(Resource::Line, cause));
+            Err(ToolFault::Device)
+        }
+    }
+}
+
+/// The line over a device, if the end has been called there where it has to be, or why there is none.
+fn called<A: Allocator + Copy>(
+    line: Result<DeviceLine<A>, Cause>,
+    side: Side,
+    wait: Option<u32>,
+) -> Result<Option<DeviceLine<A>>, Cause> {
+    let mut line = line?;
+    match (side, wait) {
+        (Side::Called, Some(seconds)) => {
+            if line.wait_for_call(Duration::from_secs(u64::from(seconds)))? {
+                Ok(Some(line))
+            } else {
+                Ok(None)
+            }
+        }
+        _ => Ok(Some(line)),
+    }
+}
+
+/// The end talks over its line, if it has one, with its folder locked. The observer is given back.
+pub(crate) fn talk_over<A, R, L, W, O, B>(
+    alloc: A,
+    rt: &R,
+    task: &CallTask<'_>,
+    station: Station,
+    held: Option<DirLock<A>>,
+    line: Result<L, Cause>,
+    observer: W,
+    output: &mut O,
+    remark: &mut String<B>,
+    why: &mut Option<SystemFailure>,
+) -> (Result<u8, ToolFault>, W)
+where
+    A: Allocator + Copy,
+    R: Files<File = File> + Eprint + Clock + Alloc + Clone + Drop,
+    L: SystemLine + Drop,
+    W: SessionObserver + Drop,
+    O: Output,
+    B: Allocator,
+    ensures status { IfOk result.0 (λ status. status ≤ 1) }
+    ensures write { result.0 ≡ Err ToolFault.Write
+        → CountsFault (O.fault_count output.old) (O.fault_count output.new) }
+    ensures no_other { IfErr result.0 IsCallFault }
+    ensures no_usage { result.0 ≢ Err ToolFault.Usage }
+    ensures why { result.0 ≡ Err ToolFault.Device → IsSome why.new }
+{
     let line = match line {
         Ok(line) => line,
         Err(cause) => {
             drop(held);
             *why = Some(SystemFailure::on(Resource::Line, cause));
-            return Err(ToolFault::Device);
+            return (Err(ToolFault::Device), observer);
         }
     };
+    let line = TimedLine::new(rt, SessionLine::new(line, station.pace));
     let mut line = GreetedLine::new(alloc, LineMonitor::new(line, observer));
     let result = match lock_again(alloc, rt, task, held) {
         Ok(lock) => {
             let result = talk_locked(
-                alloc, rt, task, &lock, place, &mut line, output, remark, why,
+                alloc, rt, task, &lock, station, &mut line, output, remark, why,
             );
             drop(lock);
             result
@@ -376,7 +565,7 @@ where
         Err(fault) => Err(fault.tell(why)),
     };
     *why = why.or(line.line().line().failure());
-    result
+    (result, line.into_line().into_observer())
 }
 
 /// The lock on the folder of an end, also of one that let it go while it waited.
@@ -400,7 +589,7 @@ fn talk_locked<'a, A, R, L, O, B>(
     rt: &'a R,
     task: &CallTask<'a>,
     lock: &DirLock<A>,
-    place: Place,
+    station: Station,
     line: &mut GreetedLine<L, A>,
     output: &mut O,
     remark: &mut String<B>,
@@ -421,15 +610,22 @@ where
     ensures why { result ≡ Err ToolFault.Device
         → IsSome why.new ⊎ (0 < L.fault_count line.new.line) }
 {
-    let numbers = match meet(alloc, rt, task, lock, &place, line) {
+    let numbers = match meet(alloc, rt, task, lock, station, line) {
         Ok(numbers) => numbers,
         Err(fault) => return Err(fault.tell(why)),
     };
-    let parts = match read_parts(alloc, rt, task, lock, place, numbers) {
+    let parts = match read_parts(alloc, rt, task, lock, station.place, numbers) {
         Ok(parts) => parts,
         Err(fault) => return Err(fault.tell(why)),
     };
-    let finished = match parts.run(alloc, task.side, line, output) {
+    let finished = match parts.run(
+        alloc,
+        task.side,
+        task.thinning(),
+        line,
+        station.limits(),
+        output,
+    ) {
         Ok(finished) => finished,
         Err(AllocError) => return Err(ToolFault::Memory),
     };
@@ -466,19 +662,20 @@ fn read_parts<'a, A: Allocator + Copy, R: Files + Eprint + Alloc + Clone + Drop>
     ensures number_calm { IfOk result (λ parts. parts.number.file.faults.count ≡ 0) }
     ensures place { IfOk result (λ parts.
         parts.place ≡ record place { number = numbers.begins }) }
-    ensures jobs { IfOk result (λ parts. IsQueueOf parts.jobs.before.items parts.queue) }
+    ensures jobs { IfOk result (λ parts. IsFrontOf parts.jobs.before.items parts.queue) }
     ensures no_other { IfErr result IsStartFault }
 {
     place.number = numbers.begins;
     let jobs = open_jobs(alloc, rt, lock, task.end_dir())?;
-    let files = match read_given(alloc, rt, lock, jobs.queue.pending()) {
-        Ok(files) => files,
+    let most = u64::from(task.most);
+    let given = match read_given(alloc, rt, lock, jobs.queue.pending(), most) {
+        Ok(given) => given,
         Err(fault) => {
             drop(jobs);
             return Err(fault);
         }
     };
-    Ok(make_parts(alloc, rt, task, place, numbers.held, jobs, files)?)
+    Ok(make_parts(alloc, rt, task, place, numbers.held, jobs, given)?)
 }
 
 /// The numbers of an end's conversations as its session begins.
@@ -536,7 +733,7 @@ fn meet<A: Allocator + Copy, R: Files, L: EndLine>(
     rt: &R,
     task: &CallTask<'_>,
     lock: &DirLock<A>,
-    place: &Place,
+    station: Station,
     line: &mut GreetedLine<L, A>,
 ) -> Result<Numbers, RunFault>
     ensures { IfErr result IsStartFault }
@@ -545,7 +742,7 @@ fn meet<A: Allocator + Copy, R: Files, L: EndLine>(
     if task.side == Side::Caller || numbers.begins.is_none() {
         return Ok(numbers);
     }
-    let said = meet_caller(alloc, place, line)?;
+    let said = meet_caller(alloc, &station.place, line, station.limits().greeting)?;
     Ok(Numbers {
         begins: number_beside(numbers.begins, said),
         held: numbers.held,
@@ -553,11 +750,12 @@ fn meet<A: Allocator + Copy, R: Files, L: EndLine>(
     })
 }
 
-/// Lets a called end say its first words, and hear its caller's number.
+/// Lets a called end say its first words, and hear its caller's number, for so many seconds.
 fn meet_caller<A: Allocator + Copy, L: EndLine>(
     alloc: A,
     place: &Place,
     line: &mut GreetedLine<L, A>,
+    seconds: u64,
 ) -> Result<Option<u32>, AllocError> {
     let node = make_node(
         alloc,
@@ -567,12 +765,13 @@ fn meet_caller<A: Allocator + Copy, L: EndLine>(
         MemorySpool::new(alloc),
     )?;
     let buffered = BufferedNode::new(alloc, node, FaultInjector::none())?;
-    let said = line.meet(buffered.outgoing());
+    let said = line.meet(buffered.outgoing(), seconds);
     drop(buffered);
     said
 }
 
-/// What an end over the folder of the task is made of, with these jobs and these files to give.
+/// What an end over the folder of the task is made of, with these files to give, and the first of these jobs to offer.
+#[tactic(auto, using(crate::proofs::FrontLemmas::first_are_front))]
 fn make_parts<'a, A: Allocator + Copy, R: Files + Alloc + Clone + Drop>(
     alloc: A,
     rt: &'a R,
@@ -580,16 +779,19 @@ fn make_parts<'a, A: Allocator + Copy, R: Files + Alloc + Clone + Drop>(
     place: Place,
     held: Option<u32>,
     jobs: OpenJobs<'a, R, A>,
-    files: Vec<Stored<A>, A>,
+    given: Given<A>,
 ) -> Result<SystemParts<'a, R, A>, AllocError>
+    requires some { given.offered ≡ 0 → length (pending jobs.queue) ≡ 0 }
     ensures place { IfOk result (λ parts. parts.place ≡ place) }
     ensures jobs { IfOk result (λ parts. parts.jobs.file.file ≡ jobs.entry.file.file) }
-    ensures queue { IfOk result (λ parts. IsQueueOf parts.jobs.before.items parts.queue) }
+    ensures queue { IfOk result (λ parts. IsFrontOf parts.jobs.before.items parts.queue) }
     ensures lenient { IfOk result (λ parts. parts.spool.lenient ≡ task.now.is_lenient) }
-    ensures files { IfOk result (λ parts. parts.spool.files.files ≡ files.items) }
+    ensures files { IfOk result (λ parts. parts.spool.files.files ≡ given.files.items) }
     ensures number { IfOk result (λ parts. parts.number.file.faults.count ≡ 0) }
 {
-    let OpenJobs { file, queue } = jobs;
+    let OpenJobs { file, queue: all } = jobs;
+    let Given { files, offered } = given;
+    let queue = first_jobs(alloc, all.pending(), offered)?;
     let number = SystemText::new(alloc, rt, task.end_dir(), EndText::Number)?;
     let spool = make_spool(alloc, rt, task, files)?;
     let JobsFile { file, before } = file;

@@ -4,14 +4,13 @@ ghost use Rattle.uug_transfer.specs.ReadOutcomes.{IsWithin};
 
 use crate::failure::{Cause, Resource, SystemFailure};
 use crate::faults::Faults;
-use crate::stream_line::read_some;
+use crate::stream_line::{read_some, write_some};
 use crate::system_line::SystemLine;
 use mio::unix::SourceFd;
 use mio::{Events, Interest, Poll, Token};
 use std::alloc::Allocator;
 use std::fs::{File, OpenOptions, TryLockError};
 use std::io;
-use std::io::Write;
 use std::net::Net;
 use std::os::fd::{AsFd, AsRawFd};
 use std::os::unix::net::UnixStream;
@@ -22,36 +21,51 @@ use uug_transfer::{EndLine, LineFailed, ReadOutcome};
 /// The device is the one thing that is waited for.
 const DEVICE: Token = Token(0);
 
+/// A wait is made of waits for so many milliseconds, since a signal ends one of them.
+const SLICE_MILLIS: u64 = 100;
+
 /// What is needed to wait for a terminal device.
 #[derive(Drop)]
 struct Waiting<A: Allocator> {
     poll: Poll,
     events: Events<A>,
-    patience: Duration,
+    /// How many such waits there are.
+    slices: u64,
 }
 
 impl<A: Allocator + Copy> Waiting<A> {
     /// What is needed to wait for this device for so long.
-    fn new<R: Net>(alloc: A, rt: &R, file: &File, patience: Duration) -> io::Result<Self> {
+    fn new<R: Net>(alloc: A, rt: &R, file: &File, time: Duration) -> io::Result<Self> {
         let poll = Poll::new(rt)?;
         let events = Events::with_capacity(alloc, 1)?;
         make_ready(file, &poll)?;
         Ok(Waiting {
             poll,
             events,
-            patience,
+            slices: slices_of(time),
         })
     }
 
-    /// Waits for the device, and says whether it became ready.
+    /// Waits for the device, and says whether it became ready. A signal makes the wait shorter by one slice at most.
     fn wait(&mut self, file: &File, interest: Interest) -> io::Result<bool> {
         let fd = file.as_raw_fd();
         self.poll
             .registry()
             .reregister(&mut SourceFd(&fd), DEVICE, interest)?;
-        self.poll.poll(&mut self.events, Some(self.patience))?;
-        Ok(!self.events.is_empty())
+        let slice = Duration::from_millis(SLICE_MILLIS);
+        for _ in 0..self.slices {
+            self.poll.poll(&mut self.events, Some(slice))?;
+            if !self.events.is_empty() {
+                return Ok(true);
+            }
+        }
+        Ok(false)
     }
+}
+
+/// How many waits a wait for so long is made of.
+fn slices_of(time: Duration) -> u64 {
+    time.as_secs().saturating_mul(10)
 }
 
 /// A line over a terminal device, as it was set before.
@@ -64,22 +78,36 @@ pub struct DeviceLine<A: Allocator> {
 
 impl<A: Allocator + Copy> DeviceLine<A> {
     /// Opens the device at this path for this run alone: where another one holds it that is the cause of the failure. Its
-    /// calls wait for so long.
+    /// calls wait for so long, in whole seconds.
     pub fn open<R: Files<File = File> + Net>(
         alloc: A,
         rt: &R,
         path: &str,
-        patience: Duration,
+        time: Duration,
     ) -> Result<Self, Cause>
         ensures { IfOk result (λ line. ⟦<DeviceLine<A> as EndLine>⟧.fault_count line ≡ 0) }
     {
         let file = open_alone(rt, path)?;
-        match Waiting::new(alloc, rt, &file, patience) {
+        match Waiting::new(alloc, rt, &file, time) {
             Ok(waiting) => Ok(DeviceLine {
                 file,
                 waiting,
                 faults: Faults::none(),
             }),
+            Err(error) => Err(Cause::of(&error)),
+        }
+    }
+
+    /// Waits for the first byte, for so long at most, and says whether it came, or the line's end. Nothing is read.
+    pub(crate) fn wait_for_call(&mut self, time: Duration) -> Result<bool, Cause>
+        ensures { self.new.faults ≡ self.old.faults }
+    {
+        let slices = self.waiting.slices;
+        self.waiting.slices = slices_of(time);
+        let called = self.waiting.wait(&self.file, Interest::READABLE);
+        self.waiting.slices = slices;
+        match called {
+            Ok(called) => Ok(called),
             Err(error) => Err(Cause::of(&error)),
         }
     }
@@ -112,13 +140,14 @@ fn write_in_time<A: Allocator + Copy>(
     file: &mut File,
     waiting: &mut Waiting<A>,
     piece: &[u8],
-) -> io::Result<usize>
+) -> Result<usize, Cause>
     ensures { IfOk result (λ n. n ≤ length piece.now) }
 {
-    if waiting.wait(file, Interest::WRITABLE)? {
-        return file.write(piece);
+    match waiting.wait(file, Interest::WRITABLE) {
+        Ok(true) => write_some(file, piece),
+        Ok(false) => Ok(0),
+        Err(error) => Err(Cause::of(&error)),
     }
-    Ok(0)
 }
 
 /// Reads once the device has something.
@@ -143,14 +172,16 @@ impl<A: Allocator + Copy> EndLine for DeviceLine<A> {
 
     ghost taken = { λ _. None };
 
+    ghost writes = { λ _. None };
+
     fn write(&mut self, piece: &[u8]) -> Result<usize, LineFailed> {
-        let cause = match write_in_time(&mut self.file, &mut self.waiting, piece) {
-            Ok(0) => Cause::MovedNothing,
-            Ok(count) => return Ok(count),
-            Err(error) => Cause::of(&error),
-        };
-        self.faults.note(SystemFailure::on(Resource::Line, cause));
-        Err(LineFailed)
+        match write_in_time(&mut self.file, &mut self.waiting, piece) {
+            Ok(count) => Ok(count),
+            Err(cause) => {
+                self.faults.note(SystemFailure::on(Resource::Line, cause));
+                Err(LineFailed)
+            }
+        }
     }
 
     fn read(&mut self, buffer: &mut [u8]) -> Result<ReadOutcome, LineFailed> {
@@ -164,6 +195,10 @@ impl<A: Allocator + Copy> EndLine for DeviceLine<A> {
         }
     }
 
+    fn seconds(&self) -> u64 {
+        0
+    }
+
     fn faults(&self) -> u64 {
         self.faults.count()
     }
@@ -172,5 +207,9 @@ impl<A: Allocator + Copy> EndLine for DeviceLine<A> {
 impl<A: Allocator + Copy> SystemLine for DeviceLine<A> {
     fn failure(&self) -> Option<SystemFailure> {
         self.faults.first()
+    }
+
+    fn set_time(&mut self, time: Duration) {
+        self.waiting.slices = slices_of(time);
     }
 }

@@ -19,7 +19,10 @@ use uug_events::laws::{a_node_begins_as_an_end, events_follow_events};
 use uug_folder::{JobTexts, JobsFile, TextFile};
 use uug_session::{Node, Place, Queue, Side, Spool};
 use uug_stream::{Output, ToolFault};
-use uug_transfer::{BYTES_MAX, BufferedNode, EndLine, FaultInjector, TransferEnd, call_over};
+use uug_transfer::{
+    BYTES_MAX, BufferedNode, EndLine, FaultInjector, PatienceLimits, Thinning, TransferEnd,
+    call_over,
+};
 
 /// What an end is made of: where it stands, its jobs, its files, and the texts in which it stands from one session to the next.
 #[derive(Drop)]
@@ -97,7 +100,9 @@ impl<S: Spool + Drop, J: JobTexts + Drop, N: TextFile + Drop, A: Allocator + Cop
         self,
         alloc: A,
         side: Side,
+        thinning: Thinning,
         line: &mut L,
+        limits: PatienceLimits,
         output: &mut O,
     ) -> Result<FinishedEnd<S, J, N, A>, AllocError>
         ensures ran { IfOk result (λ finished. HasRun side
@@ -118,8 +123,9 @@ impl<S: Spool + Drop, J: JobTexts + Drop, N: TextFile + Drop, A: Allocator + Cop
             (N.fault_count finished.end.number))) }
     {
         events_follow_events();
-        let mut end = self.begin(alloc, side, FaultInjector::none())?;
-        let answer = call_over(alloc, side, &mut end, line, BYTES_MAX, output);
+        let injector = FaultInjector::without_faults(thinning);
+        let mut end = self.begin(alloc, side, injector)?;
+        let answer = call_over(alloc, side, &mut end, line, BYTES_MAX, limits, output);
         Ok(FinishedEnd { end, answer })
     }
 }

@@ -1,12 +1,12 @@
 //! The files that an end gives in a session. A single bad one stops none of the others.
-ghost use Rattle.std.specs.Prelude.{◌≤◌, IfErr, IfOk, OnOk, length};
+ghost use Rattle.std.specs.Prelude.{◌≡◌, ◌≤◌, IfErr, IfOk, OnOk, length};
 ghost use Rattle.uug_sys.specs.Faults.{IsFolderFault};
 ghost use Rattle.uug_sys.specs.declared.send_folder.TheConstants.{FILES_MAX};
 
 use crate::dir_lock::DirLock;
-use crate::failure::{Cause, EndDir, Resource};
+use crate::failure::{EndDir, Resource};
 use crate::passed_over::{Lack, PassedOver};
-use crate::run_fault::RunFault;
+use crate::run_fault::{LISTINGS_MAX, RunFault, was_interrupted};
 use crate::send_folder::{FILES_MAX, add_given, is_file, is_no_text, path_in_send};
 use std::alloc::Allocator;
 use std::fs;
@@ -17,44 +17,113 @@ use uug_folder::local_source;
 use uug_session::{Job, Stored};
 use uug_talk::Name;
 
-/// The files in the folder `send` below that of an end: those that its jobs name, and behind them all others that the other
-/// end may ask for, `FILES_MAX` together. A missing folder is an empty one. What is hidden, or no regular file, is skipped, and
-/// so is a file of more than `FILE_MAX` bytes. What else is not given is said on standard error. Only a file that a job names
-/// stops the end: where it can't be read, or there are too many of them.
+/// The files that an end gives in a session, and how many of its jobs it offers.
+#[derive(Drop)]
+pub struct Given<A: Allocator> {
+    /// The files: those of the jobs that are offered, and others that the other end may ask for.
+    pub files: Vec<Stored<A>, A>,
+    /// So many of its jobs are offered, from the front.
+    pub offered: usize,
+}
+
+/// The files in the folder `send` below that of an end: those of its first jobs, as many as come to `FILES_MAX` files and to
+/// `most` bytes together, and behind them all others that the other end may ask for, `FILES_MAX` together. The jobs behind those
+/// wait for another session, which is said on standard error. A missing folder is an empty one. What is hidden, or no regular
+/// file, is skipped, and so is a file of more than `FILE_MAX` bytes. What else is not given is said on standard error. Only a
+/// file that a job names stops the end, where it can't be read. A listing that a signal has ended is begun anew.
 pub fn read_given<A: Allocator + Copy, R: Files + Eprint + Alloc + Clone + Drop>(
     alloc: A,
     rt: &R,
     lock: &DirLock<A>,
     jobs: &[Job],
-) -> Result<Vec<Stored<A>, A>, RunFault>
-    ensures within { IfOk result (λ files. length files.items ≤ FILES_MAX) }
+    most: u64,
+) -> Result<Given<A>, RunFault>
+    ensures within { IfOk result (λ given. length given.files.items ≤ FILES_MAX) }
+    ensures offered { IfOk result (λ given. given.offered ≤ length jobs.now) }
+    ensures some { IfOk result (λ given. given.offered ≡ 0 → length jobs.now ≡ 0) }
     ensures no_other { IfErr result IsFolderFault }
 {
-    let dir = lock.dir();
-    let mut files = Vec::new(alloc);
-    add_sources(&mut files, alloc, rt, dir, jobs)?;
-    add_others(&mut files, alloc, rt, dir)?;
-    Ok(files)
+    let given = list_again(alloc, rt, lock.dir(), jobs, most)?;
+    say_waiting(rt, jobs.len() - given.offered);
+    Ok(given)
 }
 
-/// Adds the files that these jobs name.
+/// The same, but that nothing is said of the jobs that wait.
+fn list_again<A: Allocator + Copy, R: Files + Eprint + Alloc + Clone + Drop>(
+    alloc: A,
+    rt: &R,
+    dir: EndDir<'_>,
+    jobs: &[Job],
+    most: u64,
+) -> Result<Given<A>, RunFault>
+    ensures within { IfOk result (λ given. length given.files.items ≤ FILES_MAX) }
+    ensures offered { IfOk result (λ given. given.offered ≤ length jobs.now) }
+    ensures some { IfOk result (λ given. given.offered ≡ 0 → length jobs.now ≡ 0) }
+    ensures no_other { IfErr result IsFolderFault }
+{
+    for _ in 0..LISTINGS_MAX {
+        let given = list_given(alloc, rt, dir, jobs, most);
+        if !was_interrupted(&given) {
+            return given;
+        }
+        drop(given);
+    }
+    list_given(alloc, rt, dir, jobs, most)
+}
+
+/// The same, of one listing.
+fn list_given<A: Allocator + Copy, R: Files + Eprint + Alloc + Clone + Drop>(
+    alloc: A,
+    rt: &R,
+    dir: EndDir<'_>,
+    jobs: &[Job],
+    most: u64,
+) -> Result<Given<A>, RunFault>
+    ensures within { IfOk result (λ given. length given.files.items ≤ FILES_MAX) }
+    ensures offered { IfOk result (λ given. given.offered ≤ length jobs.now) }
+    ensures some { IfOk result (λ given. given.offered ≡ 0 → length jobs.now ≡ 0) }
+    ensures no_other { IfErr result IsFolderFault }
+{
+    let mut files = Vec::new(alloc);
+    let offered = add_sources(&mut files, alloc, rt, dir, jobs, most)?;
+    add_others(&mut files, alloc, rt, dir)?;
+    Ok(Given { files, offered })
+}
+
+/// Says how many jobs wait for another session.
+fn say_waiting(rt: &impl Eprint, count: usize) {
+    if count > 0 {
+        let _ = eprint!(rt; "uucpair: {count} jobs wait for the next session\n");
+    }
+}
+
+/// Adds the files of the first of these jobs, as long as there is room for them, and says of how many jobs. The first one is
+/// always among them.
 fn add_sources<A: Allocator + Copy, R: Files>(
     files: &mut Vec<Stored<A>, A>,
     alloc: A,
     rt: &R,
     dir: EndDir<'_>,
     jobs: &[Job],
-) -> Result<(), RunFault>
+    most: u64,
+) -> Result<usize, RunFault>
     requires { length files.old.items ≤ FILES_MAX }
     ensures within { OnOk result (length files.new.items ≤ FILES_MAX) }
+    ensures offered { IfOk result (λ offered. offered ≤ length jobs.now) }
+    ensures some { IfOk result (λ offered. offered ≡ 0 → length jobs.now ≡ 0) }
     ensures no_other { IfErr result IsFolderFault }
 {
-    for job in jobs {
-        if let Some(name) = source_of(job) {
-            add_source(files, alloc, rt, dir, name)?;
+    let mut room = most;
+    for (place, job) in jobs.iter().enumerate() {
+        let has_room = match source_of(job) {
+            Some(name) => add_source(files, alloc, rt, dir, name, &mut room)?,
+            None => true,
+        };
+        if !has_room && place > 0 {
+            return Ok(place);
         }
     }
-    Ok(())
+    Ok(jobs.len())
 }
 
 /// The name in `send` of the file that a job gives.
@@ -65,31 +134,51 @@ fn source_of(job: &Job) -> Option<Name> {
     }
 }
 
-/// Adds the file of this name, which a job names, unless it is there already.
+/// Adds the file of this name, which a job names, unless it is there already. Whether there is room for it.
 fn add_source<A: Allocator + Copy, R: Files>(
     files: &mut Vec<Stored<A>, A>,
     alloc: A,
     rt: &R,
     dir: EndDir<'_>,
     name: Name,
-) -> Result<(), RunFault>
+    room: &mut u64,
+) -> Result<bool, RunFault>
     requires { length files.old.items ≤ FILES_MAX }
     ensures within { OnOk result (length files.new.items ≤ FILES_MAX) }
     ensures no_other { IfErr result IsFolderFault }
 {
     if is_there(files.as_slice(), &name) {
-        return Ok(());
+        return Ok(true);
     }
     let path = path_in_send(alloc, dir, &name)?;
     match is_file(rt, path.as_str()) {
         Ok(true) => (),
-        Ok(false) => return Ok(()),
+        Ok(false) => return Ok(true),
         Err(error) => return Err(RunFault::of(&error, dir, Resource::Given(name))),
     }
-    if files.len() >= FILES_MAX {
-        return Err(RunFault::System(dir.failure(Resource::Send, Cause::TooMuch)));
+    let before = files.len();
+    if before >= FILES_MAX {
+        return Ok(false);
     }
-    add_given(files, alloc, rt, dir, name, path.as_str())
+    add_given(files, alloc, rt, dir, name, path.as_str())?;
+    Ok(fits(files, before, room))
+}
+
+/// Whether the file behind these, if one was added, fits in the room, which is then so much less. It is taken away again where it
+/// does not.
+fn fits<A: Allocator>(files: &mut Vec<Stored<A>, A>, before: usize, room: &mut u64) -> bool
+    ensures { length files.new.items ≤ length files.old.items }
+{
+    let size = match files.get(before) {
+        Some(file) => file.bytes.len() as u64,
+        None => return true,
+    };
+    if size > *room {
+        files.truncate(before);
+        return false;
+    }
+    *room -= size;
+    true
 }
 
 /// Whether one of these files has this name.

@@ -11,6 +11,9 @@ use std::io;
 use std::io::ErrorKind;
 use uug_stream::ToolFault;
 
+/// So many listings of a folder in a row are begun anew that a signal has ended.
+pub(crate) const LISTINGS_MAX: u32 = 100;
+
 /// Why a run gave up.
 #[derive(Clone, Copy, Debug)]
 pub enum RunFault {
@@ -45,6 +48,17 @@ impl RunFault {
             }
             RunFault::Tool(fault) => fault,
         }
+    }
+}
+
+/// Whether a signal has ended a call of the system.
+pub(crate) fn was_interrupted<T>(ended: &Result<T, RunFault>) -> bool {
+    match ended {
+        Err(RunFault::System(failure)) => match failure.cause {
+            Cause::Refused(kind, _) => kind == ErrorKind::Interrupted,
+            _ => false,
+        },
+        _ => false,
     }
 }
 

@@ -6,7 +6,7 @@ use crate::dir_lock::DirLock;
 use crate::failure::{Cause, EndDir, EndText, Resource};
 use crate::part_path::PART_FRONT;
 use crate::queued_copy::COPY_FRONT;
-use crate::run_fault::RunFault;
+use crate::run_fault::{LISTINGS_MAX, RunFault, was_interrupted};
 use std::alloc::{AllocError, Allocator};
 use std::fs::{DirEntry, File, ReadDir};
 use std::io::{ErrorKind, Read};
@@ -143,7 +143,7 @@ pub(crate) fn read_text_at<A: Allocator + Copy, R: Files>(
 
 /// The files in the folder `send` below that of an end of a pair. A missing folder is an empty one. What has a name that is no
 /// `Name`, or is no regular file, is skipped, and so is a file of more than `FILE_MAX` bytes, which still counts among the
-/// `FILES_MAX`.
+/// `FILES_MAX`. A listing that a signal has ended is begun anew.
 pub fn read_send<A: Allocator + Copy, R: Files + Alloc + Clone + Drop>(
     alloc: A,
     rt: &R,
@@ -152,7 +152,25 @@ pub fn read_send<A: Allocator + Copy, R: Files + Alloc + Clone + Drop>(
     ensures within { IfOk result (λ files. length files.items ≤ FILES_MAX) }
     ensures no_other { IfErr result IsFolderFault }
 {
-    let dir = lock.dir();
+    for _ in 0..LISTINGS_MAX {
+        let files = list_send(alloc, rt, lock.dir());
+        if !was_interrupted(&files) {
+            return files;
+        }
+        drop(files);
+    }
+    list_send(alloc, rt, lock.dir())
+}
+
+/// The same, of one listing.
+fn list_send<A: Allocator + Copy, R: Files + Alloc + Clone + Drop>(
+    alloc: A,
+    rt: &R,
+    dir: EndDir<'_>,
+) -> Result<Vec<Stored<A>, A>, RunFault>
+    ensures within { IfOk result (λ files. length files.items ≤ FILES_MAX) }
+    ensures no_other { IfErr result IsFolderFault }
+{
     let mut files = Vec::new(alloc);
     add_sends(&mut files, alloc, rt, dir)?;
     Ok(files)

@@ -1,12 +1,16 @@
 //! A line over a stream, as a socket is.
-ghost use Rattle.std.specs.Prelude.{◌≡◌, ◌<◌, ◌≤◌, length, IfOk, None};
+ghost use Rattle.std.specs.Prelude.{◌≡◌, ◌<◌, ◌≤◌, length, IfErr, IfOk, None};
+ghost use Rattle.uug_sys.specs.Failures.{IsSilence};
 ghost use Rattle.uug_transfer.specs.ReadOutcomes.{IsGiven, IsWithin};
 
 use crate::failure::{Cause, Resource, SystemFailure};
 use crate::faults::Faults;
+use crate::signals::{read_again, write_again};
 use crate::system_line::SystemLine;
+use crate::timed_stream::TimedStream;
 use std::io;
 use std::io::{ErrorKind, Read, Write};
+use std::time::Duration;
 use uug_transfer::{EndLine, LineFailed, ReadOutcome};
 
 /// A line over a stream whose calls wait no longer than its owner has said.
@@ -16,7 +20,7 @@ pub struct StreamLine<T> {
     faults: Faults,
 }
 
-impl<T: Read + Write> StreamLine<T> {
+impl<T: TimedStream> StreamLine<T> {
     /// The line over this stream, which has not failed yet.
     pub fn new(stream: T) -> Self
         ensures { ⟦<StreamLine<T> as EndLine>⟧.fault_count result ≡ 0 }
@@ -28,21 +32,23 @@ impl<T: Read + Write> StreamLine<T> {
     }
 }
 
-impl<T: Read + Write> EndLine for StreamLine<T> {
+impl<T: TimedStream> EndLine for StreamLine<T> {
     ghost fault_count = { λ line. line.faults.count };
 
     ghost received = { λ _. None };
 
     ghost taken = { λ _. None };
 
+    ghost writes = { λ _. None };
+
     fn write(&mut self, piece: &[u8]) -> Result<usize, LineFailed> {
-        let cause = match self.stream.write(piece) {
-            Ok(0) => Cause::MovedNothing,
-            Ok(count) => return Ok(count),
-            Err(error) => Cause::of(&error),
-        };
-        self.faults.note(SystemFailure::on(Resource::Line, cause));
-        Err(LineFailed)
+        match write_some(&mut self.stream, piece) {
+            Ok(count) => Ok(count),
+            Err(cause) => {
+                self.faults.note(SystemFailure::on(Resource::Line, cause));
+                Err(LineFailed)
+            }
+        }
     }
 
     fn read(&mut self, buffer: &mut [u8]) -> Result<ReadOutcome, LineFailed> {
@@ -56,26 +62,49 @@ impl<T: Read + Write> EndLine for StreamLine<T> {
         }
     }
 
+    fn seconds(&self) -> u64 {
+        0
+    }
+
     fn faults(&self) -> u64 {
         self.faults.count()
     }
 }
 
-impl<T: Read + Write> SystemLine for StreamLine<T> {
+impl<T: TimedStream> SystemLine for StreamLine<T> {
     fn failure(&self) -> Option<SystemFailure> {
         self.faults.first()
     }
+
+    fn set_time(&mut self, time: Duration) {
+        let _ = self.stream.set_time(time);
+    }
 }
 
-/// Reads once. A read that would have to wait for longer is a silence, and so is one that
-/// a signal ended.
+/// Writes once. A write that would have to wait for longer has taken nothing, and so has one that a signal ended; one that moves
+/// no byte without a word has failed.
+pub(crate) fn write_some<T: Write>(stream: &mut T, piece: &[u8]) -> Result<usize, Cause>
+    ensures within { IfOk result (λ n. n ≤ length piece.now) }
+    ensures no_silence { IfErr result (λ cause. IsSilence cause → ⊥) }
+{
+    match write_again(stream, piece) {
+        Ok(0) => Err(Cause::MovedNothing),
+        Ok(count) => Ok(count),
+        Err(error) => match error.kind() {
+            ErrorKind::WouldBlock | ErrorKind::Interrupted => Ok(0),
+            kind => Err(Cause::Refused(kind, error.raw_os_error())),
+        },
+    }
+}
+
+/// Reads once. A read that would have to wait for longer is a silence.
 pub(crate) fn read_some<T: Read>(stream: &mut T, buffer: &mut [u8]) -> io::Result<ReadOutcome>
     requires room { 0 < length buffer.old }
     ensures within { IfOk result (λ outcome. IsWithin (length buffer.old) outcome) }
     ensures given { IfOk result (λ outcome.
         IsGiven (T.remaining stream.old) (T.remaining stream.new) buffer.new outcome) }
 {
-    match stream.read(buffer) {
+    match read_again(stream, buffer) {
         Ok(0) => Ok(ReadOutcome::Eof),
         Ok(count) => Ok(ReadOutcome::Bytes(count)),
         Err(error) => match error.kind() {

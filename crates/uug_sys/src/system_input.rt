@@ -5,6 +5,7 @@ ghost use Rattle.std.specs.Prelude.{◌≡◌, ◌<◌, IsSome};
 
 use crate::failure::{Cause, Resource, SystemFailure};
 use crate::faults::Faults;
+use crate::signals::read_again;
 use std::io::Read;
 use uug_stream::{Input, ReadFailed};
 
@@ -40,7 +41,7 @@ impl<R: Read> Input for SystemInput<R> {
     ghost fault_count = { λ input. input.faults.count };
 
     fn read(&mut self, buffer: &mut [u8]) -> Result<usize, ReadFailed> {
-        match self.reader.read(buffer) {
+        match read_again(&mut self.reader, buffer) {
             Ok(count) => Ok(count),
             Err(error) => {
                 let cause = Cause::of(&error);

@@ -8,9 +8,11 @@ use uug_follow::{Observer, Way};
 use uug_session::Phase;
 use uug_transfer::{ReadOutcome, SessionObserver, SessionStatus};
 
-/// Says on standard error what becomes of a session: its phases, the jobs of both ends, and what was lost.
+/// Says on standard error what becomes of each session: its phases, the jobs of both ends, and what was lost.
 #[derive(Drop)]
 pub struct SystemObserver<'a, R, A: Allocator> {
+    alloc: A,
+    is_lenient: bool,
     /// Nobody looks where nothing is to be said.
     observer: Option<Observer<A>>,
     voice: Voice<'a, R, A>,
@@ -37,6 +39,8 @@ impl<'a, R: Eprint + Clock, A: Allocator + Copy> SystemObserver<'a, R, A> {
             None
         };
         Ok(SystemObserver {
+            alloc,
+            is_lenient: task.is_lenient,
             observer,
             voice: Voice::new(alloc, rt, at_terminal),
             phase: None,
@@ -44,6 +48,17 @@ impl<'a, R: Eprint + Clock, A: Allocator + Copy> SystemObserver<'a, R, A> {
             read: 0,
             silences: 0,
         })
+    }
+
+    /// The session is over: if another one follows nothing was seen of it.
+    fn begin_anew(&mut self) {
+        if self.observer.is_some() {
+            self.observer = Observer::new(self.alloc, self.is_lenient).ok();
+        }
+        self.phase = None;
+        self.written = 0;
+        self.read = 0;
+        self.silences = 0;
     }
 
     /// All that went over the line.
@@ -92,6 +107,7 @@ impl<R: Eprint + Clock, A: Allocator + Copy> SessionObserver for SystemObserver<
         self.phase = Some(status.phase);
         if status.is_over {
             self.say_counts();
+            self.begin_anew();
         }
     }
 }

@@ -5,6 +5,7 @@ ghost use Rattle.std.specs.Prelude.{◌≡◌, ◌<◌, IsSome};
 
 use crate::failure::{Cause, Resource, SystemFailure};
 use crate::faults::Faults;
+use crate::signals::write_again;
 use std::io::Write;
 use uug_stream::{Output, WriteFailed};
 
@@ -40,7 +41,7 @@ impl<W: Write> Output for SystemOutput<W> {
     ghost fault_count = { λ output. output.faults.count };
 
     fn write(&mut self, piece: &[u8]) -> Result<usize, WriteFailed> {
-        let cause = match self.writer.write(piece) {
+        let cause = match write_again(&mut self.writer, piece) {
             Ok(0) => Cause::MovedNothing,
             Ok(count) => return Ok(count),
             Err(error) => Cause::of(&error),

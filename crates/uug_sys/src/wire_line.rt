@@ -5,6 +5,7 @@ ghost use Rattle.uug_session.specs.Engine.{HasFailed};
 
 use crate::failure::{Cause, Resource, SystemFailure};
 use crate::faults::Faults;
+use crate::signals::{read_again, write_again};
 use std::io::{Read, Write};
 use uug_session::Side;
 use uug_transfer::{Line, LineFailed};
@@ -111,7 +112,7 @@ fn write_some<T: Write>(
     ensures fault { OnErr result (HasFailed u64.MAX faults.old.count faults.new.count) }
     ensures grows { faults.old.count ≤ faults.new.count }
 {
-    let cause = match stream.write(piece) {
+    let cause = match write_again(stream, piece) {
         Ok(0) => Cause::MovedNothing,
         Ok(count) => {
             *unread += count;
@@ -137,7 +138,7 @@ fn read_some<T: Read>(
     ensures grows { faults.old.count ≤ faults.new.count }
 {
     let most = buffer.len().min(*unread);
-    let cause = match stream.read(&mut buffer[..most]) {
+    let cause = match read_again(stream, &mut buffer[..most]) {
         Ok(0) => Cause::MovedNothing,
         Ok(count) => {
             *unread -= count;

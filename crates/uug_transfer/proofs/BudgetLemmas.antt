@@ -1,7 +1,8 @@
 -- Each thing that is outcome leaves fewer turns.
-use Rattle.std.proofs.Common.{◌≡◌, ℕ, ◌<◌, sym, subst, arith}
+use Rattle.std.proofs.Common.{◌≡◌, ℕ, zero, suc, ◌-◌, ◌<◌, refl, sym, subst, arith}
 use Rattle.uug_transfer.specs.ReadOutcomes.{IsWithin}
-use Rattle.uug_transfer.specs.ReadBudgets.{Lasts, bytes_left, silences_left, turns_left}
+use Rattle.uug_transfer.specs.ReadBudgets.{Lasts, bytes_left, silences_left, stalls_left, turns_left}
+use Rattle.uug_transfer.specs.declared.read_budget.TheConstants.{STALLS_MAX}
 use Rattle.uug_transfer.specs.declared.read_outcome.ReadOutcome.{ReadOutcome}
 use Rattle.uug_transfer.specs.declared.read_outcome.ReadOutcome.TheVariants.{Bytes, TimedOut, Eof}
 
@@ -18,3 +19,12 @@ fewer_then bytes silences bytes_then silences_then room outcome lasts within lef
     subst (λ (b : ℕ). turns_left b silences_then < turns_left bytes silences) (sym left)
     (subst (λ (s : ℕ). turns_left (bytes_left bytes outcome) s < turns_left bytes silences) (sym quiet)
     (fewer bytes silences room outcome lasts within))
+
+-- a write has taken nothing, or something
+pub one_fewer : (left count : ℕ) → count ≡ 0 → left - 1 ≡ stalls_left left count
+one_fewer left zero none = refl
+one_fewer left (suc n) none = omega (arith, none)
+
+pub all_again : (left count : ℕ) → (count ≡ 0 → ⊥) → STALLS_MAX ≡ stalls_left left count
+all_again left zero some = absurd (some refl)
+all_again left (suc n) some = refl

@@ -11,3 +11,8 @@ pub mod ReceivedLemmas
 pub mod ReportLemmas
 pub mod RoomLemmas
 pub mod SettlingLemmas
+pub mod ThinningFacts
+pub mod ThinningLemmas
+pub mod WaitingLemmas
+pub mod StallLemmas
+pub mod UnsettledLemmas

@@ -1,28 +1,31 @@
 -- What a line has brought so far led its end.
 use Rattle.std.proofs.Common.{◌≡◌, ℕ, ◌≤◌, List, [], ◌∷◌, ◌++◌, Option, Some, None, Result, Ok, Err, OnErr, drop, length, map, take, refl, sym, ap, subst, ◌∙◌, append-nil, append_assoc, arith}
 use Rattle.std.proofs.Math.Seq.{take-append-le}
-use Rattle.std.proofs.lemmas.List.{map-append, take-append-drop}
+use Rattle.std.proofs.lemmas.List.{take-append-drop}
 use Rattle.uug_conversation.specs.DialogueValue.{dialogue_has_parted}
 use Rattle.uug_conversation.specs.Holdings.{Holdings, Kept}
 use Rattle.uug_events.proofs.LineEventLemmas.{ListensOn, end_listens, late_listens, listens_at_first, listens_cleared, listens_more, lost_listens, piece_listens}
-use Rattle.uug_events.specs.LineEvents.{LineEvent, brings_bytes, brings_nothing, is_at_end, is_left}
+use Rattle.uug_events.specs.LineEvents.{HasListened, LineEvent, ListeningEnd, after_line_event, after_line_events, brings_bytes, brings_nothing, is_at_end, is_left, listening_at}
 use Rattle.uug_link.specs.Entries.{EntryValue}
+use Rattle.uug_session.specs.Arriving.{Buffered}
 use Rattle.uug_session.proofs.CallLemmas.{late_beside}
-use Rattle.uug_session.specs.EndStep.{Emitted, time_ran_out}
+use Rattle.uug_session.specs.EndStep.{Emitted, Identity, time_ran_out}
 use Rattle.uug_session.specs.Engine.{entry_of, hung_up, with_stage}
 use Rattle.uug_session.specs.Node.{NodeState, effect_of}
 use Rattle.uug_transfer.specs.BufferedNodes.{IsCleared, SendsOut}
-use Rattle.uug_transfer.specs.Listening.{HearsLine, HearsSaying, all_received, reads_in}
+use Rattle.uug_transfer.specs.Listening.{HearsLine, HearsSaying, SaysEach, all_received, all_said, reads_in}
 use Rattle.uug_transfer.specs.Outgoing.{count_behind, count_with, outgoing_from, outgoing_of_entry}
 use Rattle.uug_transfer.specs.ReadOutcomes.{IsWithin, TakesOutcome, outcome_bytes}
 use Rattle.uug_transfer.specs.SessionFaults.{UnlessRefused}
 use Rattle.uug_transfer.specs.Received.{Received, also_received, line_end, piece, received_of, silence}
-use Rattle.uug_transfer.specs.Writing.{TakesFront, TalksAtLine, also_taken, goes_out}
+use Rattle.uug_transfer.specs.Thinning.{thinned}
+use Rattle.uug_transfer.specs.Writing.{TakesFront, TalksAtLine, all_thinned, also_taken, goes_out}
 use Rattle.uug_transfer.specs.declared.fault_injector.FaultInjector.{FaultInjector}
 use Rattle.uug_transfer.specs.declared.read_outcome.ReadOutcome.{ReadOutcome}
 use Rattle.uug_transfer.specs.declared.read_outcome.ReadOutcome.TheVariants.{Bytes, TimedOut, Eof}
 use Rattle.uug_transfer.specs.declared.session_fault.SessionFault.{SessionFault}
 use Rattle.uug_transfer.specs.declared.session_fault.SessionFault.TheVariants as fault
+use Rattle.uug_transfer.specs.declared.thinning.Thinning.{Thinning}
 
 -- ---- what was received
 
@@ -46,32 +49,55 @@ one_received : (x : Received) (r : Option (List Received)) → also_received x r
 one_received x None = refl
 one_received x (Some rs) = refl
 
+-- ---- what each event had the end emit
+
+said_with : (said : List (List Emitted)) (says : List Emitted) → all_said (said ++ says ∷ []) ≡ all_said said ++ says
+said_with [] says = append-nil says
+said_with (first ∷ said) says =
+    ap (λ (z : List Emitted). first ++ z) (said_with said says) ∙ sym (append_assoc first (all_said said) says)
+
+says_one_more : (h : Holdings) (id : Identity) (e : LineEvent) (more : List Emitted) (es : List LineEvent) (says : List (List Emitted))
+    (b : Buffered ListeningEnd) → SaysEach h id es says b →
+    (after_line_event h id e (after_line_events h id es b)).end.emitted ≡ (after_line_events h id es b).end.emitted ++ more →
+    SaysEach h id (es ++ e ∷ []) (says ++ more ∷ []) b
+says_one_more h id e more [] [] b each is = (is, tt)
+says_one_more h id e more [] (said ∷ says) b each is = absurd each
+says_one_more h id e more (x ∷ es) [] b each is = absurd each
+says_one_more h id e more (x ∷ es) (said ∷ says) b each is =
+    (each.0, says_one_more h id e more es says (after_line_event h id x b) each.1 is)
+
 -- ---- one step behind another
 
 pub hears_at_first : (h : Holdings) (k : List Kept) (r : Option (List Received)) (a : NodeState) → HearsSaying h k k r r [] a a
-hears_at_first h k r a = record { events = []; listened = listens_at_first h k a; told = none_received r }
+hears_at_first h k r a = record { events = []; listened = listens_at_first h k a; each = tt; told = none_received r }
 
-hears_more : (h : Holdings) (k l m : List Kept) (r s t : Option (List Received)) (said : List Emitted) (a b d : NodeState)
+hears_more : (h : Holdings) (k l m : List Kept) (r s t : Option (List Received)) (said : List (List Emitted)) (a b d : NodeState)
     (e : LineEvent) (says : List Emitted) → HearsSaying h k l r s said a b → ListensOn h l m e says b d →
-    t ≡ all_received (reads_in (e ∷ [])) s → HearsSaying h k m r t (said ++ says) a d
+    t ≡ all_received (reads_in (e ∷ [])) s → HearsSaying h k m r t (said ++ says ∷ []) a d
 hears_more h k l m r s t said a b d e says heard on told = record {
   events = heard.events ++ e ∷ [];
-  listened = listens_more h k l m heard.events e said says a b d heard.listened on;
+  listened = subst (λ (z : List Emitted). HasListened h k m (heard.events ++ e ∷ []) z a d) (sym (said_with said says))
+      (listens_more h k l m heard.events e (all_said said) says a b d heard.listened on);
+  each = let now = after_line_events h a.engine.identity heard.events (listening_at h k a) in
+      says_one_more h a.engine.identity e says heard.events said (listening_at h k a) heard.each
+      (ap (λ (id : Identity). (after_line_event h id e now).end.emitted) (sym heard.listened.identity)
+      ∙ on.emitted now heard.listened.held heard.listened.state);
   told = told ∙ ap (all_received (reads_in (e ∷ []))) heard.told
       ∙ both_received (reads_in heard.events) (reads_in (e ∷ [])) r
       ∙ ap (λ (rs : List Received). all_received rs r) (sym (reads_append heard.events (e ∷ [])));
 }
 
-hears_cleared : (h : Holdings) (k l m : List Kept) (r s : Option (List Received)) (said : List Emitted) (a b d : NodeState) →
+hears_cleared : (h : Holdings) (k l m : List Kept) (r s : Option (List Received)) (said : List (List Emitted)) (a b d : NodeState) →
     HearsSaying h k l r s said a b → IsCleared b d → m ≡ l → HearsSaying h k m r s said a d
 hears_cleared h k l m r s said a b d heard cleared same = record {
   events = heard.events;
-  listened = listens_cleared h k l m heard.events said a b d heard.listened cleared.engine cleared.texts cleared.packets same;
+  listened = listens_cleared h k l m heard.events (all_said said) a b d heard.listened cleared.engine cleared.texts cleared.packets same;
+  each = heard.each;
   told = heard.told;
 }
 
 -- only what it writes has changed
-pub hears_same : (h : Holdings) (k l m : List Kept) (r s t : Option (List Received)) (said : List Emitted) (a b d : NodeState) →
+pub hears_same : (h : Holdings) (k l m : List Kept) (r s t : Option (List Received)) (said : List (List Emitted)) (a b d : NodeState) →
     HearsSaying h k l r s said a b → d ≡ b → m ≡ l → t ≡ s → HearsSaying h k m r t said a d
 hears_same h k l m r s t said a b d heard node kept received =
     subst (λ (n : NodeState). HearsSaying h k m r t said a n) (sym node)
@@ -88,13 +114,13 @@ says_by h l m failure Eof buffer i j bytes left b d takes = []
 
 -- one read more
 hears_outcome : (h : Holdings) (k l m : List Kept) (failure : Type 0) (outcome : ReadOutcome) (slice buffer : List ℕ)
-    (i j : FaultInjector) (bytes left : List ℕ) (r s t : Option (List Received)) (said : List Emitted) (a b d : NodeState) →
+    (i j : FaultInjector) (bytes left : List ℕ) (r s t : Option (List Received)) (said : List (List Emitted)) (a b d : NodeState) →
     HearsSaying h k l r s said a b → (takes : TakesOutcome h l m failure outcome buffer i j bytes left b d) →
     t ≡ also_received (received_of outcome slice) s → outcome_bytes outcome slice ≡ outcome_bytes outcome buffer →
-    HearsSaying h k m r t (said ++ says_by h l m failure outcome buffer i j bytes left b d takes) a d
+    HearsSaying h k m r t (said ++ says_by h l m failure outcome buffer i j bytes left b d takes ∷ []) a d
 unfolding says_by
 hears_outcome h k l m failure (Bytes n) slice buffer i j bytes left r s t said a b d heard takes told same =
-    hears_cleared h k m m r t (said ++ takes.takes.course.emitted) a takes.between d
+    hears_cleared h k m m r t (said ++ takes.takes.course.emitted ∷ []) a takes.between d
     (hears_more h k l m r s t said a b takes.between (brings_bytes (take n buffer) (takes.takes.course.failures ++ []))
     takes.takes.course.emitted heard (piece_listens h l m failure (take n buffer) b takes.between takes.takes)
     (told ∙ one_received (piece (take n slice)) s ∙ ap (λ (x : List ℕ). all_received (piece x ∷ []) s) same))
@@ -102,13 +128,13 @@ hears_outcome h k l m failure (Bytes n) slice buffer i j bytes left r s t said a
 hears_outcome h k l m failure TimedOut slice buffer i j bytes left r s t said a b d heard takes told same =
     let waits = takes.0 in
     let says = (effect_of h l time_ran_out b.engine).emitted in
-    hears_cleared h k l m r t (said ++ says) a waits.between d
+    hears_cleared h k l m r t (said ++ says ∷ []) a waits.between d
     (hears_more h k l l r s t said a b waits.between brings_nothing says heard
     (late_listens h l b waits.between waits.late waits.texts waits.packets)
     (told ∙ one_received silence s))
     waits.sends.cleared takes.1
 hears_outcome h k l m failure Eof slice buffer i j bytes left r s t said a b d heard takes told same =
-    hears_same h k l m r t t (said ++ []) a b d
+    hears_same h k l m r t t (said ++ [] ∷ []) a b d
     (hears_more h k l l r s t said a b b is_at_end [] heard (end_listens h l b) (told ∙ one_received line_end s)) takes.0 takes.1 refl
 
 -- what was read stands in front
@@ -119,14 +145,13 @@ front_read TimedOut slice rest room within size = refl
 front_read Eof slice rest room within size = refl
 
 -- it hangs up
-hears_lost : (h : Holdings) (k l m : List Kept) (r s t : Option (List Received)) (said : List Emitted) (a b d : NodeState) →
+hears_lost : (h : Holdings) (k l m : List Kept) (r s t : Option (List Received)) (said : List (List Emitted)) (a b d : NodeState) →
     HearsSaying h k l r s said a b →
     d.engine ≡ with_stage (hung_up (dialogue_has_parted b.engine.dialogue) b.engine.stage) b.engine → m ≡ l → t ≡ s →
-    HearsSaying h k m r t said a d
+    HearsSaying h k m r t (said ++ [] ∷ []) a d
 hears_lost h k l m r s t said a b d heard lost kept received =
-    subst (λ (x : List Emitted). HearsSaying h k m r t x a d) (append-nil said)
-    (hears_same h k l m r s t (said ++ []) a d d
-    (hears_more h k l l r s s said a b d is_left [] heard (lost_listens h l b d lost) (none_received s)) refl kept received)
+    hears_same h k l m r s t (said ++ [] ∷ []) a d d
+    (hears_more h k l l r s s said a b d is_left [] heard (lost_listens h l b d lost) (none_received s)) refl kept received
 
 -- ---- what goes out
 
@@ -141,21 +166,33 @@ count_append : (n : ℕ) (es more : List EntryValue) → count_behind n (es ++ m
 count_append n [] more = refl
 count_append n (e ∷ es) more = count_append (count_with n e) es more
 
+thinned_with : (thinning : Thinning) (said : List (List Emitted)) (more : List Emitted) →
+    all_thinned thinning (said ++ more ∷ []) ≡ all_thinned thinning said ++ thinned thinning (map entry_of more)
+thinned_with thinning [] more = append-nil (thinned thinning (map entry_of more))
+thinned_with thinning (first ∷ said) more =
+    ap (λ (z : List EntryValue). thinned thinning (map entry_of first) ++ z) (thinned_with thinning said more)
+    ∙ sym (append_assoc (thinned thinning (map entry_of first)) (all_thinned thinning said) (thinned thinning (map entry_of more)))
+
+-- what emits nothing adds nothing
+with_nothing : (thinning : Thinning) (said : List (List Emitted)) → all_thinned thinning (said ++ [] ∷ []) ≡ all_thinned thinning said
+with_nothing thinning said = thinned_with thinning said [] ∙ append-nil (all_thinned thinning said)
+
 -- the injector when this was emitted
-pub record HasCounted (injector now : FaultInjector) (said : List Emitted) : Type 0 where
-  pub count : now.count ≡ count_behind injector.count (map entry_of said)
+pub record HasCounted (injector now : FaultInjector) (said : List (List Emitted)) : Type 0 where
+  pub count : now.count ≡ count_behind injector.count (all_thinned injector.thinning said)
   pub drop_every : now.drop_every ≡ injector.drop_every
   pub flip_every : now.flip_every ≡ injector.flip_every
+  pub thinning : now.thinning ≡ injector.thinning
 
 -- Of what was to be written and goes out of what was said, this is left, and the line has taken the rest.
-pub record HasWritten (injector : FaultInjector) (bytes left : List ℕ) (said : List Emitted) (taken taken_after : Option (List ℕ)) : Type 0 where
+pub record HasWritten (injector : FaultInjector) (bytes left : List ℕ) (said : List (List Emitted)) (taken taken_after : Option (List ℕ)) : Type 0 where
   pub written : List ℕ
   pub all : bytes ++ goes_out injector said ≡ written ++ left
   pub took : taken_after ≡ also_taken written taken
 
 pub record TalksOn (h : Holdings) (k l : List Kept) (r s : Option (List Received)) (injector now : FaultInjector) (bytes left : List ℕ)
     (taken taken_after : Option (List ℕ)) (a b : NodeState) : Type 0 where
-  pub says : List Emitted
+  pub says : List (List Emitted)
   pub heard : HearsSaying h k l r s says a b
   pub writes : HasWritten injector bytes left says taken taken_after
   pub counted : HasCounted injector now says
@@ -175,7 +212,7 @@ talks_at_first h k r injector bytes t a cleared = record {
   says = [];
   heard = hears_at_first h k r a;
   writes = record { written = []; all = append-nil bytes; took = none_taken t };
-  counted = record { count = refl; drop_every = refl; flip_every = refl };
+  counted = record { count = refl; drop_every = refl; flip_every = refl; thinning = refl };
   cleared = cleared;
 }
 
@@ -199,22 +236,25 @@ talks_written h k l m r s t injector now then_now bytes left then_left u v w a b
 }
 
 -- what is emitted then goes out behind the rest
-more_goes_out : (injector now then_now : FaultInjector) (bytes left then_left : List ℕ) (said more : List Emitted) (u v : Option (List ℕ))
-    (between after : NodeState) → HasWritten injector bytes left said u v → HasCounted injector now said →
+more_goes_out : (injector now then_now : FaultInjector) (bytes left then_left : List ℕ) (said : List (List Emitted)) (more : List Emitted)
+    (u v : Option (List ℕ)) (between after : NodeState) → HasWritten injector bytes left said u v → HasCounted injector now said →
     between.engine.outbox.entries ≡ map entry_of more → SendsOut now then_now left then_left between after →
-    HasWritten injector bytes then_left (said ++ more) u v × HasCounted injector then_now (said ++ more)
+    HasWritten injector bytes then_left (said ++ more ∷ []) u v × HasCounted injector then_now (said ++ more ∷ [])
 more_goes_out injector now then_now bytes left then_left said more u v between after writes counted entries sends =
     let d = injector.drop_every in
     let f = injector.flip_every in
-    let es = map entry_of said in
-    let new = map entry_of more in
+    let es = all_thinned injector.thinning said in
+    let new = thinned injector.thinning (map entry_of more) in
     let n = count_behind injector.count es in
-    let appended : map entry_of (said ++ more) ≡ es ++ new = map-append entry_of said more in
-    let out : outgoing_from now.drop_every now.flip_every now.count between.engine.outbox.entries ≡ outgoing_from d f n new =
-    ap (λ x. outgoing_from x now.flip_every now.count between.engine.outbox.entries) counted.drop_every
-    ∙ ap (λ x. outgoing_from d x now.count between.engine.outbox.entries) counted.flip_every
-    ∙ ap (λ x. outgoing_from d f x between.engine.outbox.entries) counted.count
-    ∙ ap (outgoing_from d f n) entries in (
+    let appended : all_thinned injector.thinning (said ++ more ∷ []) ≡ es ++ new = thinned_with injector.thinning said more in
+    let remains : thinned now.thinning between.engine.outbox.entries ≡ new =
+    ap (λ x. thinned x between.engine.outbox.entries) counted.thinning ∙ ap (thinned injector.thinning) entries in
+    let out : outgoing_from now.drop_every now.flip_every now.count (thinned now.thinning between.engine.outbox.entries)
+    ≡ outgoing_from d f n new =
+    ap (λ x. outgoing_from x now.flip_every now.count (thinned now.thinning between.engine.outbox.entries)) counted.drop_every
+    ∙ ap (λ x. outgoing_from d x now.count (thinned now.thinning between.engine.outbox.entries)) counted.flip_every
+    ∙ ap (λ x. outgoing_from d f x (thinned now.thinning between.engine.outbox.entries)) counted.count
+    ∙ ap (outgoing_from d f n) remains in (
       record {
         written = writes.written;
         all = ap (λ x. bytes ++ outgoing_from d f injector.count x) appended
@@ -226,21 +266,32 @@ more_goes_out injector now then_now bytes left then_left said more u v between a
         took = writes.took;
       },
       record {
-        count = sends.count ∙ ap (λ x. count_behind x between.engine.outbox.entries) counted.count
-            ∙ ap (count_behind n) entries ∙ sym (count_append injector.count es new)
+        count = sends.count ∙ ap (λ x. count_behind x (thinned now.thinning between.engine.outbox.entries)) counted.count
+            ∙ ap (count_behind n) remains ∙ sym (count_append injector.count es new)
             ∙ ap (count_behind injector.count) (sym appended);
         drop_every = sends.drop_every ∙ counted.drop_every;
         flip_every = sends.flip_every ∙ counted.flip_every;
+        thinning = sends.thinning ∙ counted.thinning;
       },
     )
 
-nothing_more : (injector now : FaultInjector) (bytes left : List ℕ) (said : List Emitted) (u v : Option (List ℕ)) →
+nothing_more : (injector now : FaultInjector) (bytes left : List ℕ) (said : List (List Emitted)) (u v : Option (List ℕ)) →
     HasWritten injector bytes left said u v → HasCounted injector now said →
-    HasWritten injector bytes left (said ++ []) u v × HasCounted injector now (said ++ [])
-nothing_more injector now bytes left said u v writes counted = (
-  subst (λ (x : List Emitted). HasWritten injector bytes left x u v) (sym (append-nil said)) writes,
-  subst (λ (x : List Emitted). HasCounted injector now x) (sym (append-nil said)) counted,
-)
+    HasWritten injector bytes left (said ++ [] ∷ []) u v × HasCounted injector now (said ++ [] ∷ [])
+nothing_more injector now bytes left said u v writes counted =
+    let same = with_nothing injector.thinning said in (
+      record {
+        written = writes.written;
+        all = ap (λ x. bytes ++ outgoing_from injector.drop_every injector.flip_every injector.count x) same ∙ writes.all;
+        took = writes.took;
+      },
+      record {
+        count = counted.count ∙ ap (count_behind injector.count) (sym same);
+        drop_every = counted.drop_every;
+        flip_every = counted.flip_every;
+        thinning = counted.thinning;
+      },
+    )
 
 -- one read more
 talks_outcome : (h : Holdings) (k l m : List Kept) (failure : Type 0) (outcome : ReadOutcome) (slice buffer : List ℕ)
@@ -257,7 +308,7 @@ talks_outcome h k l m failure (Bytes n) slice buffer injector now then_now bytes
     let wrote = more_goes_out injector now then_now bytes left then_left talks.says more u v takes.between d talks.writes talks.counted
     entries takes.sends in
     record {
-      says = talks.says ++ more;
+      says = talks.says ++ more ∷ [];
       heard = hears_outcome h k l m failure (Bytes n) slice buffer now then_now left then_left r s t talks.says a b d talks.heard takes told same;
       writes = wrote.0;
       counted = wrote.1;
@@ -271,7 +322,7 @@ talks_outcome h k l m failure TimedOut slice buffer injector now then_now bytes 
     let wrote = more_goes_out injector now then_now bytes left then_left talks.says more u v waits.between d talks.writes talks.counted
     entries waits.sends in
     record {
-      says = talks.says ++ more;
+      says = talks.says ++ more ∷ [];
       heard = hears_outcome h k l m failure TimedOut slice buffer now then_now left then_left r s t talks.says a b d talks.heard takes told same;
       writes = wrote.0;
       counted = wrote.1;
@@ -280,10 +331,10 @@ talks_outcome h k l m failure TimedOut slice buffer injector now then_now bytes 
 talks_outcome h k l m failure Eof slice buffer injector now then_now bytes left then_left r s t u v a b d talks takes told same =
     let wrote = nothing_more injector now bytes left talks.says u v talks.writes talks.counted in
     record {
-      says = talks.says ++ [];
+      says = talks.says ++ [] ∷ [];
       heard = hears_outcome h k l m failure Eof slice buffer now then_now left then_left r s t talks.says a b d talks.heard takes told same;
-      writes = subst (λ (x : List ℕ). HasWritten injector bytes x (talks.says ++ []) u v) (sym takes.3) wrote.0;
-      counted = subst (λ (x : FaultInjector). HasCounted injector x (talks.says ++ [])) (sym takes.2) wrote.1;
+      writes = subst (λ (x : List ℕ). HasWritten injector bytes x (talks.says ++ [] ∷ []) u v) (sym takes.3) wrote.0;
+      counted = subst (λ (x : FaultInjector). HasCounted injector x (talks.says ++ [] ∷ [])) (sym takes.2) wrote.1;
       cleared = ap (λ (n : NodeState). n.engine.outbox.entries) takes.0 ∙ talks.cleared;
     }
 
@@ -309,12 +360,12 @@ talks_noted h k l r s t injector now bytes left u v w a b talks told took =
 
 -- ---- in the end
 
-takes_written : (injector : FaultInjector) (bytes left : List ℕ) (said : List Emitted) (u v : Option (List ℕ)) →
+takes_written : (injector : FaultInjector) (bytes left : List ℕ) (said : List (List Emitted)) (u v : Option (List ℕ)) →
     HasWritten injector bytes left said u v → TakesFront (bytes ++ goes_out injector said) u v
 takes_written injector bytes left said None v writes = tt
 takes_written injector bytes left said (Some before) v writes = (writes.written, left, writes.all, writes.took)
 
-takes_some : (injector : FaultInjector) (bytes left : List ℕ) (said : List Emitted) (u v w : Option (List ℕ)) →
+takes_some : (injector : FaultInjector) (bytes left : List ℕ) (said : List (List Emitted)) (u v w : Option (List ℕ)) →
     HasWritten injector bytes left said u v → TakesFront left v w → TakesFront (bytes ++ goes_out injector said) u w
 takes_some injector bytes left said None v w writes some = tt
 takes_some injector bytes left said (Some before) v w writes some =
@@ -351,9 +402,11 @@ pub talks_lost : (h : Holdings) (k l m : List Kept) (r s t : Option (List Receiv
     d.engine ≡ with_stage (hung_up (dialogue_has_parted b.engine.dialogue) b.engine.stage) b.engine → m ≡ l → t ≡ s → w ≡ v →
     TalksAtLine h k m r t injector bytes u w a d
 talks_lost h k l m r s t injector bytes u v w a b d talks lost kept received took = record {
-  says = talks.says;
+  says = talks.says ++ [] ∷ [];
   heard = hears_lost h k l m r s t talks.says a b d talks.heard lost kept received;
-  takes = subst (λ (x : Option (List ℕ)). TakesFront (bytes ++ goes_out injector talks.says) u x) (sym took) talks.takes;
+  takes = subst (λ (x : List EntryValue). TakesFront (bytes ++ outgoing_from injector.drop_every injector.flip_every injector.count x) u w)
+      (sym (with_nothing injector.thinning talks.says))
+      (subst (λ (x : Option (List ℕ)). TakesFront (bytes ++ goes_out injector talks.says) u x) (sym took) talks.takes);
 }
 
 -- ---- whatever it has emitted
@@ -375,7 +428,7 @@ line_read f h k l m failure outcome slice buffer i j bytes left r s t a b d held
     let here : TakesOutcome h l m failure outcome buffer i j bytes left b d =
     subst (λ (x : Holdings). TakesOutcome x l m failure outcome buffer i j bytes left b d) held takes in
     record {
-      says = line.says ++ says_by h l m failure outcome buffer i j bytes left b d here;
+      says = line.says ++ says_by h l m failure outcome buffer i j bytes left b d here ∷ [];
       heard = hears_outcome h k l m failure outcome slice buffer i j bytes left r s t line.says a b d line.heard here told same;
     }
 
@@ -383,7 +436,7 @@ pub line_lost : (h : Holdings) (k l m : List Kept) (r s t : Option (List Receive
     d.engine ≡ with_stage (hung_up (dialogue_has_parted b.engine.dialogue) b.engine.stage) b.engine → m ≡ l → t ≡ s →
     HearsLine h k m r t a d
 line_lost h k l m r s t a b d line lost kept received =
-    record { says = line.says; heard = hears_lost h k l m r s t line.says a b d line.heard lost kept received }
+    record { says = line.says ++ [] ∷ []; heard = hears_lost h k l m r s t line.says a b d line.heard lost kept received }
 
 -- ---- one write after another
 

@@ -9,6 +9,7 @@ use Rattle.uug_conversation.specs.OwnRequests.{KeepsWhatItAskedFor}
 use Rattle.uug_conversation.specs.Sharing.{HaveSameJobs}
 use Rattle.uug_conversation.specs.DialogueValue.{dialogue_has_parted}
 use Rattle.uug_transfer.specs.Outgoing.{count_behind, outgoing_from}
+use Rattle.uug_transfer.specs.Thinning.{thinned}
 use Rattle.uug_transfer.specs.declared.fault_injector.FaultInjector.{FaultInjector}
 use Rattle.uug_transfer.specs.declared.buffered_node.BufferedNode.{BufferedNode}
 
@@ -48,13 +49,15 @@ pub record IsCleared (before after : NodeState) : Type 0 where
   pub texts : after.texts ≡ before.texts
   pub packets : after.packets ≡ before.packets
 
--- What it had emitted is to be written behind what was, as far as it is not lost, and the packets in it were counted.
+-- What it had emitted is to be written behind what was, as far as it is not left out and not lost, and the packets that were
+-- not left out were counted.
 pub record SendsOut (injector injector_after : FaultInjector) (bytes bytes_after : List ℕ) (before after : NodeState) : Type 0 where
   pub goes_out : bytes_after ≡ bytes
-      ++ outgoing_from injector.drop_every injector.flip_every injector.count before.engine.outbox.entries
-  pub count : injector_after.count ≡ count_behind injector.count before.engine.outbox.entries
+      ++ outgoing_from injector.drop_every injector.flip_every injector.count (thinned injector.thinning before.engine.outbox.entries)
+  pub count : injector_after.count ≡ count_behind injector.count (thinned injector.thinning before.engine.outbox.entries)
   pub drop_every : injector_after.drop_every ≡ injector.drop_every
   pub flip_every : injector_after.flip_every ≡ injector.flip_every
+  pub thinning : injector_after.thinning ≡ injector.thinning
   pub cleared : IsCleared before after
 
 -- The piece has come, and all that is found in it was taken up; what it then had emitted is to be written.

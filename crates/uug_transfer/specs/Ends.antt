@@ -25,6 +25,7 @@ status_of is_over n = record {
   pending = length (pending (jobs_of_end n));
   struck = length (jobs_of_end n).struck;
   failed = length (jobs_of_end n).failed;
+  unacked = length n.engine.link.unacked;
   is_over = is_over;
 }
 

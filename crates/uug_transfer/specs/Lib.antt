@@ -5,10 +5,13 @@ pub mod FaultInjection
 pub mod LineNames
 pub mod Listening
 pub mod Outgoing
+pub mod Patience
 pub mod ReadBudgets
 pub mod ReadOutcomes
 pub mod Received
 pub mod SessionFaults
 pub mod Settling
+pub mod Thinning
 pub mod Turns
+pub mod WriteSilences
 pub mod Writing

@@ -1,9 +1,10 @@
 -- That what a line has brought led its end, and nothing else did (this project's profile).
-use Rattle.std.specs.Prelude.{◌≡◌, List, [], ◌∷◌, ◌++◌, Option, Some, None}
+use Rattle.std.specs.Prelude.{◌≡◌, List, [], ◌∷◌, ◌++◌, Option, Some, None, ⊤}
 use Rattle.uug_conversation.specs.Holdings.{Holdings, Kept}
-use Rattle.uug_session.specs.EndStep.{Emitted}
+use Rattle.uug_session.specs.Arriving.{Buffered}
+use Rattle.uug_session.specs.EndStep.{Emitted, Identity}
 use Rattle.uug_session.specs.Node.{NodeState}
-use Rattle.uug_events.specs.LineEvents.{HasListened, LineEvent, brings_bytes, brings_nothing, is_at_end, is_left}
+use Rattle.uug_events.specs.LineEvents.{HasListened, LineEvent, ListeningEnd, after_line_event, brings_bytes, brings_nothing, is_at_end, is_left, listening_at}
 use Rattle.uug_transfer.specs.Received.{Received, line_end, piece, silence}
 
 -- what reads bring, of what comes at a line: an end that hangs up reads nothing
@@ -19,15 +20,29 @@ abbrev pub all_received : List Received → Option (List Received) → Option (L
 all_received more None = None
 all_received more (Some rs) = Some (rs ++ more)
 
--- Just what the line has brought since came to the end, and was taken up; the end has emitted this by it, and may have hung up.
+-- all of it, one behind the other
+abbrev pub all_said : List (List Emitted) → List Emitted
+all_said [] = []
+all_said (said ∷ more) = said ++ all_said more
+
+-- each of these events has an end emit what stands at its place
+abbrev pub SaysEach : Holdings → Identity → List LineEvent → List (List Emitted) → Buffered ListeningEnd → Type 0
+SaysEach h id [] [] b = ⊤
+SaysEach h id (e ∷ es) (said ∷ more) b =
+    ((after_line_event h id e b).end.emitted ≡ b.end.emitted ++ said) × SaysEach h id es more (after_line_event h id e b)
+SaysEach h id _ _ b = ⊥
+
+-- Just what the line has brought since came to the end, and was taken up; the end has emitted this by each of it, and may have
+-- hung up.
 pub record HearsSaying (h : Holdings) (kept kept_after : List Kept) (received received_after : Option (List Received))
-    (says : List Emitted) (before after : NodeState) : Type 0 where
+    (says : List (List Emitted)) (before after : NodeState) : Type 0 where
   pub events : List LineEvent
-  pub listened : HasListened h kept kept_after events says before after
+  pub listened : HasListened h kept kept_after events (all_said says) before after
+  pub each : SaysEach h before.engine.identity events says (listening_at h kept before)
   pub told : received_after ≡ all_received (reads_in events) received
 
 -- whatever it has emitted
 pub record HearsLine (h : Holdings) (kept kept_after : List Kept) (received received_after : Option (List Received))
     (before after : NodeState) : Type 0 where
-  pub says : List Emitted
+  pub says : List (List Emitted)
   pub heard : HearsSaying h kept kept_after received received_after says before after

@@ -1,8 +1,8 @@
 -- How long an end stays at its line (this project's profile).
-use Rattle.std.specs.Prelude.{ℕ, ◌+◌, ◌*◌, ◌-◌, ◌<◌}
+use Rattle.std.specs.Prelude.{ℕ, zero, suc, ◌+◌, ◌*◌, ◌-◌, ◌<◌}
 use Rattle.uug_transfer.specs.declared.read_outcome.ReadOutcome.{ReadOutcome}
 use Rattle.uug_transfer.specs.declared.read_outcome.ReadOutcome.TheVariants.{Bytes, TimedOut, Eof}
-use Rattle.uug_transfer.specs.declared.read_budget.TheConstants.{SILENCES_MAX}
+use Rattle.uug_transfer.specs.declared.read_budget.TheConstants.{SILENCES_MAX, STALLS_MAX}
 
 -- so many bytes more are read
 abbrev pub bytes_left : (left : ℕ) → ReadOutcome → ℕ
@@ -15,6 +15,11 @@ abbrev pub silences_left : (left : ℕ) → ReadOutcome → ℕ
 silences_left left (Bytes n) = SILENCES_MAX
 silences_left left TimedOut = left - 1
 silences_left left Eof = left
+
+-- so many writes more in a row may take nothing, where one took so many bytes
+abbrev pub stalls_left : (left count : ℕ) → ℕ
+stalls_left left zero = left - 1
+stalls_left left (suc n) = STALLS_MAX
 
 -- there is something left of both
 pub record Lasts (bytes silences : ℕ) : Type 0 where

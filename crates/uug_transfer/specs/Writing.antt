@@ -1,13 +1,16 @@
 -- What an end has written at its line, and that it is what the end had to write, from the front (this project's profile).
-use Rattle.std.specs.Prelude.{◌≡◌, ◌++◌, ℕ, List, Option, Some, None, map, ⊤}
+use Rattle.std.specs.Prelude.{◌≡◌, ◌++◌, ℕ, List, [], ◌∷◌, Option, Some, None, map, ⊤}
 use Rattle.uug_conversation.specs.Holdings.{Holdings, Kept}
+use Rattle.uug_link.specs.Entries.{EntryValue}
 use Rattle.uug_session.specs.EndStep.{Emitted}
 use Rattle.uug_session.specs.Engine.{entry_of}
 use Rattle.uug_session.specs.Node.{NodeState}
 use Rattle.uug_transfer.specs.Listening.{HearsSaying}
 use Rattle.uug_transfer.specs.Outgoing.{outgoing_from}
 use Rattle.uug_transfer.specs.Received.{Received}
+use Rattle.uug_transfer.specs.Thinning.{thinned}
 use Rattle.uug_transfer.specs.declared.fault_injector.FaultInjector.{FaultInjector}
+use Rattle.uug_transfer.specs.declared.thinning.Thinning.{Thinning}
 
 -- where a line tells which bytes it has taken, these came last
 abbrev pub also_taken : List ℕ → Option (List ℕ) → Option (List ℕ)
@@ -19,14 +22,19 @@ abbrev pub TakesFront : List ℕ → (before after : Option (List ℕ)) → Type
 TakesFront bytes None after = ⊤
 TakesFront bytes (Some before) after = (front rest : List ℕ) × (bytes ≡ front ++ rest) × (after ≡ Some (before ++ front))
 
--- what goes out of this
-abbrev pub goes_out : FaultInjector → List Emitted → List ℕ
-goes_out injector said = outgoing_from injector.drop_every injector.flip_every injector.count (map entry_of said)
+-- what remains of what each event had an end emit
+abbrev pub all_thinned : Thinning → (says : List (List Emitted)) → List EntryValue
+all_thinned thinning [] = []
+all_thinned thinning (said ∷ more) = thinned thinning (map entry_of said) ++ all_thinned thinning more
 
--- Of the bytes that were to be written, and those that go out of what the end has emitted since by what its line brought, the
--- line has taken the first, in order.
+-- what goes out of it
+abbrev pub goes_out : FaultInjector → (says : List (List Emitted)) → List ℕ
+goes_out injector says = outgoing_from injector.drop_every injector.flip_every injector.count (all_thinned injector.thinning says)
+
+-- Of the bytes that were to be written, and those that go out of what the end has emitted since by each thing that its line
+-- brought, the line has taken the first, in order.
 pub record TalksAtLine (h : Holdings) (kept kept_after : List Kept) (received received_after : Option (List Received))
     (injector : FaultInjector) (bytes : List ℕ) (taken taken_after : Option (List ℕ)) (before after : NodeState) : Type 0 where
-  pub says : List Emitted
+  pub says : List (List Emitted)
   pub heard : HearsSaying h kept kept_after received received_after says before after
   pub takes : TakesFront (bytes ++ goes_out injector says) taken taken_after

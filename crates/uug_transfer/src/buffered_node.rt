@@ -16,8 +16,8 @@ use uug_session::node_laws::a_number_stands_as_the_session_does;
 use uug_session::{Node, Phase, Spool};
 
 /// One end at something that is written and read: a node, and the bytes that are still to be written for it. It is given
-/// what is read, and says what is to be written. What its node emits goes through an injector, which may lose packets or
-/// change them, as a line may. Without memory for a call it can only be hung up.
+/// is read, and says what is to be written. What its node emits goes through an injector, which may leave packets out,
+/// lose them or change them, as a line may. Without memory for a call it can only be hung up.
 #[derive(Drop)]
 pub struct BufferedNode<S: Spool, A: Allocator> {
     node: Node<S, A>,
@@ -180,11 +180,12 @@ impl<S: Spool + Drop, A: Allocator + Copy> BufferedNode<S, A> {
             pending: queue.pending().len(),
             struck: queue.struck().len(),
             failed: queue.failed().len(),
+            unacked: self.node.unacked(),
             is_over,
         }
     }
 
-    /// What the node has emitted is to be written behind the rest, as far as it is not lost.
+    /// What the node has emitted is to be written behind the rest, as far as it is not left out and not lost.
     fn note_emitted(&mut self) -> Result<(), AllocError>
         ensures sends { OnOk result
             (SendsOut (injector_in self.old) (injector_in self.new) (to_write self.old) (to_write self.new)

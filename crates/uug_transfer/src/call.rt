@@ -12,11 +12,13 @@ ghost use Rattle.uug_transfer.specs.Ends.{number_of_end, phase_of_end, report_of
 ghost use Rattle.uug_transfer.specs.Listening.{HearsLine};
 ghost use Rattle.uug_transfer.specs.Received.{ReadsWithin};
 ghost use Rattle.uug_transfer.specs.Settling.{IsNumberNow, IsSomeNumber, LosesNoJob, StaysInStore, TellsFailed};
+ghost use Rattle.uug_transfer.specs.WriteSilences.{WritesWithin};
 ghost use Rattle.uug_transfer.specs.Writing.{TalksAtLine};
-ghost use Rattle.uug_transfer.specs.declared.read_budget.TheConstants.{SILENCES_MAX};
+ghost use Rattle.uug_transfer.specs.declared.read_budget.TheConstants.{SILENCES_MAX, STALLS_MAX};
 
 use crate::end_line::EndLine;
 use crate::end_report::report;
+use crate::patience::PatienceLimits;
 use crate::session::run_session;
 use crate::session_fault::SessionFault;
 use crate::transfer_end::TransferEnd;
@@ -25,7 +27,7 @@ use uug_folder::{JobTexts, TextFile};
 use uug_session::{Node, Phase, Side, Spool};
 use uug_stream::{Output, ToolFault, write_all};
 
-/// An end stays at its line until its session is over, and reads so many bytes at most. What becomes of it is put on its disk
+/// An end stays at its line until its session is over, reads so many bytes at most, and has patience for so long. What becomes of it is put on its disk
 /// meanwhile: a job that is over is taken out of the file of jobs, where it has failed it is told why, and its number goes to its own file, if it keeps one, before
 /// anything that the end says of it is written. When the session is over the report goes to the output, also where the line or a
 /// file has failed. The answer is the program's status: 0 where the session is done, even if the line has failed behind it, and
@@ -37,6 +39,7 @@ pub fn call_over<S, L, J, N, O, A>(
     end: &mut TransferEnd<S, J, N, A>,
     line: &mut L,
     most: u64,
+    limits: PatienceLimits,
     output: &mut O,
 ) -> Result<u8, ToolFault>
 where
@@ -69,6 +72,7 @@ where
         (node_in end.old.buffered) (node_in end.new.buffered)) }
     ensures over { IsEnded (node_in end.new.buffered).engine.stage }
     ensures within { ReadsWithin most SILENCES_MAX (L.received line.old) (L.received line.new) }
+    ensures writes_within { WritesWithin STALLS_MAX (L.writes line.old) (L.writes line.new) }
     // Where its pending jobs, and no others, stood in its file, they do so again: on every way out but for want of memory, or
     // where the file has failed. No pending job is lost from it, whatever happens.
     ensures stays { IfWritten result
@@ -121,6 +125,7 @@ where
         &mut end.number,
         line,
         most,
+        limits,
     );
     match session {
         Ok(()) => match print_report(alloc, side, end.buffered.node(), output) {

@@ -2,6 +2,7 @@ ghost use Rattle.std.specs.Prelude.{◌≡◌, ℕ, ◌<◌, ◌≤◌, List, Op
 ghost use Rattle.uug_session.specs.Engine.{HasFailed};
 ghost use Rattle.uug_transfer.specs.ReadOutcomes.{IsWithin};
 ghost use Rattle.uug_transfer.specs.Received.{Received, also_received, received_of};
+ghost use Rattle.uug_transfer.specs.WriteSilences.{also_wrote};
 ghost use Rattle.uug_transfer.specs.Writing.{TakesFront, also_taken};
 
 use crate::line::LineFailed;
@@ -19,12 +20,17 @@ pub trait EndLine {
     /// Which bytes it has taken so far, in order, where the line tells it.
     ghost taken: { Self → Option (List ℕ) };
 
-    /// Writes the first bytes of a piece, at least one, and says how many. A write that can't go on for as long as the
-    /// line waits is a failure.
+    /// How many bytes each of its writes has taken so far, in order, where the line tells it.
+    ghost writes: { Self → Option (List ℕ) };
+
+    /// Writes the first bytes of a piece, and says how many. None is a silence: the write could not go on for as long as the
+    /// line waits.
     fn write(&mut self, piece: &[u8]) -> Result<usize, LineFailed>
         requires some { 0 < length piece.now }
-        ensures within { IfOk result (λ n. (0 < n) × (n ≤ length piece.now)) }
+        ensures within { IfOk result (λ n. n ≤ length piece.now) }
         ensures received { received self.new ≡ received self.old }
+        ensures writes { IfOk result (λ n. writes self.new ≡ also_wrote n (writes self.old)) }
+        ensures no_write { OnErr result (writes self.new ≡ writes self.old) }
         ensures taken { IfOk result (λ n.
             taken self.new ≡ also_taken (take n piece.now) (taken self.old)) }
         ensures taken_some { OnErr result
@@ -44,6 +50,7 @@ pub trait EndLine {
             ≡ also_received (received_of outcome buffer.new) (received self.old)) }
         ensures nothing { OnErr result (received self.new ≡ received self.old) }
         ensures taken { taken self.new ≡ taken self.old }
+        ensures writes { writes self.new ≡ writes self.old }
         ensures calm { OnOk result (fault_count self.new ≡ fault_count self.old) }
         ensures fault { OnErr result
             (HasFailed u64.MAX (fault_count self.old) (fault_count self.new)) }
@@ -53,8 +60,12 @@ pub trait EndLine {
     fn note(&mut self, _status: SessionStatus)
         ensures received { received self.new ≡ received self.old }
         ensures taken { taken self.new ≡ taken self.old }
+        ensures writes { writes self.new ≡ writes self.old }
         ensures calm { fault_count self.new ≡ fault_count self.old }
     {}
+
+    /// How many whole seconds have passed since the line was opened, as far as the system says; 0 of a line without a clock.
+    fn seconds(&self) -> u64;
 
     /// How many times the line has failed. At the greatest number the count stands.
     fn faults(&self) -> u64

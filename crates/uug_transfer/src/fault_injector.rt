@@ -3,6 +3,7 @@ ghost use Rattle.std.specs.Option.{ForSome};
 ghost use Rattle.uug_transfer.specs.FaultInjection.{fate_of, is_in_range, is_nth};
 
 use crate::packet_fate::PacketFate;
+use crate::thinning::Thinning;
 
 /// The least N of which every Nth packet may be lost or changed.
 pub const EVERY_MIN: u32 = 2;
@@ -10,10 +11,13 @@ pub const EVERY_MIN: u32 = 2;
 /// The greatest such N.
 pub const EVERY_MAX: u32 = 1_000_000;
 
-/// What is done to packets before they are written. They are counted from 1, over both directions, in the order in which they are
-/// emitted, those that are lost included.
+/// What is done to packets before they are written: some are left out that need not go, and some of the rest are lost or
+/// changed. Those that are not left out are counted from 1, over both directions, in the order in which they are emitted,
+/// those that are lost included.
 #[derive(Drop)]
 pub struct FaultInjector {
+    /// Which packets are left out.
+    pub thinning: Thinning,
     /// The N of which every Nth packet is lost, if any is.
     pub drop_every: Option<u32>,
     /// The N of which every Nth packet is changed, if any is.
@@ -32,11 +36,13 @@ impl FaultInjector {
         ensures drop_every { IfSome result (λ injector. injector.drop_every ≡ drop_every) }
         ensures flip_every { IfSome result (λ injector. injector.flip_every ≡ flip_every) }
         ensures count { IfSome result (λ injector. injector.count ≡ 0) }
+        ensures thinning { IfSome result (λ injector. injector.thinning ≡ Thinning.Nothing) }
     {
         if !is_in_range(drop_every) || !is_in_range(flip_every) {
             return None;
         }
         Some(FaultInjector {
+            thinning: Thinning::Nothing,
             drop_every,
             flip_every,
             count: 0,
@@ -48,8 +54,20 @@ impl FaultInjector {
         ensures drop_every { result.drop_every ≡ None }
         ensures flip_every { result.flip_every ≡ None }
         ensures count { result.count ≡ 0 }
+        ensures thinning { result.thinning ≡ Thinning.Nothing }
+    {
+        FaultInjector::without_faults(Thinning::Nothing)
+    }
+
+    /// One that loses and changes nothing: each packet that is not left out goes out as it is.
+    pub fn without_faults(thinning: Thinning) -> Self
+        ensures drop_every { result.drop_every ≡ None }
+        ensures flip_every { result.flip_every ≡ None }
+        ensures count { result.count ≡ 0 }
+        ensures thinning { result.thinning ≡ thinning }
     {
         FaultInjector {
+            thinning,
             drop_every: None,
             flip_every: None,
             count: 0,
@@ -62,6 +80,7 @@ impl FaultInjector {
         ensures fate { result ≡ fate_of self.old.drop_every self.old.flip_every self.new.count }
         ensures drop_every { self.new.drop_every ≡ self.old.drop_every }
         ensures flip_every { self.new.flip_every ≡ self.old.flip_every }
+        ensures thinning { self.new.thinning ≡ self.old.thinning }
     {
         self.count = self.count.saturating_add(1);
         if is_nth(self.drop_every, self.count) {

@@ -45,15 +45,22 @@ impl<L, A: Allocator> GreetedLine<L, A> {
     {
         &self.line
     }
+
+    /// The line as it is. What was heard and not read again is gone.
+    pub fn into_line(self) -> L
+        ensures { result ≡ self.line }
+    {
+        self.line
+    }
 }
 
 impl<L: EndLine, A: Allocator> GreetedLine<L, A> {
-    /// Writes the first words of the end, and hears the text that answers them. The answer is the number of a conversation in
-    /// it, if it has one. Whatever the line does, the session begins as if none of this had been.
-    pub fn meet(&mut self, words: &[u8]) -> Result<Option<u32>, AllocError> {
+    /// Writes the first words of the end, and hears the text that answers them, for so many seconds. The answer is the number
+    /// of a conversation in it, if it has one. Whatever the line does, the session begins as if none of this had been.
+    pub fn meet(&mut self, words: &[u8], seconds: u64) -> Result<Option<u32>, AllocError> {
         self.say(words);
         let mut hail = Hail::new();
-        self.hear(&mut hail)?;
+        self.hear(&mut hail, seconds)?;
         if hail.is_whole() {
             Ok(caller_number(hail.text()))
         } else {
@@ -61,26 +68,30 @@ impl<L: EndLine, A: Allocator> GreetedLine<L, A> {
         }
     }
 
-    /// Writes these words, as far as the line takes them.
+    /// Writes these words, as far as the line takes them without a silence.
     fn say(&mut self, words: &[u8]) {
         let mut rest = words;
         for _ in 0..words.len() {
             if rest.is_empty() {
                 return;
             }
-            let Ok(count) = self.line.write(rest) else {
-                return;
-            };
-            rest = &rest[count..];
-            self.said = self.said.saturating_add(count);
+            match self.line.write(rest) {
+                Ok(0) | Err(_) => return,
+                Ok(count) => {
+                    rest = &rest[count..];
+                    self.said = self.said.saturating_add(count);
+                }
+            }
         }
     }
 
-    /// Reads until a text is whole, or nothing more comes.
-    fn hear(&mut self, hail: &mut Hail) -> Result<(), AllocError> {
+    /// Reads until a text is whole, nothing more comes, or so many seconds are over.
+    fn hear(&mut self, hail: &mut Hail, seconds: u64) -> Result<(), AllocError> {
+        let begun = self.line.seconds();
         let mut silences = 0;
         for _ in 0..GREETING_READS_MAX {
-            if hail.is_whole() || silences >= GREETING_SILENCES_MAX {
+            let waited = self.line.seconds().saturating_sub(begun);
+            if hail.is_whole() || silences >= GREETING_SILENCES_MAX || waited > seconds {
                 return Ok(());
             }
             match self.hear_more(hail)? {
@@ -117,6 +128,8 @@ impl<L: EndLine, A: Allocator> EndLine for GreetedLine<L, A> {
 
     ghost taken = { λ _. None };
 
+    ghost writes = { λ _. None };
+
     fn write(&mut self, piece: &[u8]) -> Result<usize, LineFailed> {
         if self.said > 0 {
             let count = self.said.min(piece.len());
@@ -137,6 +150,10 @@ impl<L: EndLine, A: Allocator> EndLine for GreetedLine<L, A> {
 
     fn note(&mut self, status: SessionStatus) {
         self.line.note(status);
+    }
+
+    fn seconds(&self) -> u64 {
+        self.line.seconds()
     }
 
     fn faults(&self) -> u64 {

@@ -33,6 +33,7 @@ impl<L: EndLine, O: SessionObserver> LineMonitor<L, O> {
         ensures faults { ⟦<LineMonitor<L, O> as EndLine>⟧.fault_count result ≡ L.fault_count line }
         ensures received { ⟦<LineMonitor<L, O> as EndLine>⟧.received result ≡ L.received line }
         ensures taken { ⟦<LineMonitor<L, O> as EndLine>⟧.taken result ≡ L.taken line }
+        ensures writes { ⟦<LineMonitor<L, O> as EndLine>⟧.writes result ≡ L.writes line }
     {
         LineMonitor { line, observer }
     }
@@ -43,6 +44,15 @@ impl<L: EndLine, O: SessionObserver> LineMonitor<L, O> {
     {
         &self.line
     }
+
+    /// The observer, without the line.
+    pub fn into_observer(self) -> O
+    where
+        L: Drop,
+        ensures { result ≡ self.observer }
+    {
+        self.observer
+    }
 }
 
 impl<L: EndLine, O: SessionObserver> EndLine for LineMonitor<L, O> {
@@ -51,6 +61,8 @@ impl<L: EndLine, O: SessionObserver> EndLine for LineMonitor<L, O> {
     ghost received = { λ monitor. L.received monitor.line };
 
     ghost taken = { λ monitor. L.taken monitor.line };
+
+    ghost writes = { λ monitor. L.writes monitor.line };
 
     fn write(&mut self, piece: &[u8]) -> Result<usize, LineFailed> {
         let count = self.line.write(piece)?;
@@ -67,6 +79,10 @@ impl<L: EndLine, O: SessionObserver> EndLine for LineMonitor<L, O> {
     fn note(&mut self, status: SessionStatus) {
         self.line.note(status);
         self.observer.note(status);
+    }
+
+    fn seconds(&self) -> u64 {
+        self.line.seconds()
     }
 
     fn faults(&self) -> u64 {

@@ -2,14 +2,66 @@
 ghost use Rattle.std.specs.Prelude.{◌≡◌, ◌++◌, OnOk};
 ghost use Rattle.uug_link.specs.Entries.{shown_entry};
 ghost use Rattle.uug_transfer.specs.Outgoing.{count_behind, count_with, flipped, outgoing_from, outgoing_of, outgoing_of_entry};
+ghost use Rattle.uug_transfer.specs.Thinning.{thinned};
 
 use crate::fault_injector::FaultInjector;
 use crate::packet_fate::PacketFate;
+use crate::thinning::Thinning;
+use crate::waiting::{is_left_out, note_place};
 use std::alloc::{AllocError, Allocator};
 use uug_link::{Entry, Outbox};
 
-/// Appends what goes out of all that an outbox holds. Each packet is counted, and no text.
+/// Appends what goes out of all that an outbox holds, but for what its injector's thinning leaves out. Of what goes out
+/// each packet is counted, and no text.
 pub(crate) fn add_outgoing<A: Allocator + Copy>(
+    outgoing: &mut Vec<u8, A>,
+    outbox: &Outbox<A>,
+    injector: &mut FaultInjector,
+) -> Result<(), AllocError>
+    ensures bytes { OnOk result (outgoing.new.items ≡ outgoing.old.items
+        ++ outgoing_from injector.old.drop_every injector.old.flip_every injector.old.count
+        (thinned injector.old.thinning outbox.now.entries)) }
+    ensures count { OnOk result (injector.new.count
+        ≡ count_behind injector.old.count (thinned injector.old.thinning outbox.now.entries)) }
+    ensures drop_every { injector.new.drop_every ≡ injector.old.drop_every }
+    ensures flip_every { injector.new.flip_every ≡ injector.old.flip_every }
+    ensures thinning { injector.new.thinning ≡ injector.old.thinning }
+{
+    match injector.thinning {
+        Thinning::Nothing => add_all(outgoing, outbox, injector),
+        _ => add_thinned(outgoing, outbox, injector),
+    }
+}
+
+/// Appends what goes out of the entries that remain. So that an event that sends the same packets again and again takes
+/// no longer for each, an entry is compared with the data packets that remain, and not with all entries in front.
+fn add_thinned<A: Allocator + Copy>(
+    outgoing: &mut Vec<u8, A>,
+    outbox: &Outbox<A>,
+    injector: &mut FaultInjector,
+) -> Result<(), AllocError>
+    ensures bytes { OnOk result (outgoing.new.items ≡ outgoing.old.items
+        ++ outgoing_from injector.old.drop_every injector.old.flip_every injector.old.count
+        (thinned injector.old.thinning outbox.now.entries)) }
+    ensures count { OnOk result (injector.new.count
+        ≡ count_behind injector.old.count (thinned injector.old.thinning outbox.now.entries)) }
+    ensures drop_every { injector.new.drop_every ≡ injector.old.drop_every }
+    ensures flip_every { injector.new.flip_every ≡ injector.old.flip_every }
+    ensures thinning { injector.new.thinning ≡ injector.old.thinning }
+{
+    let mut waiting = Vec::new(*outgoing.allocator());
+    for i in 0..outbox.len() {
+        if is_left_out(injector.thinning, outbox, waiting.as_slice(), i) {
+            continue;
+        }
+        add_entry(outgoing, outbox.entry(i), injector)?;
+        note_place(&mut waiting, outbox, i)?;
+    }
+    Ok(())
+}
+
+/// Appends what goes out of all entries.
+fn add_all<A: Allocator + Copy>(
     outgoing: &mut Vec<u8, A>,
     outbox: &Outbox<A>,
     injector: &mut FaultInjector,
@@ -21,6 +73,7 @@ pub(crate) fn add_outgoing<A: Allocator + Copy>(
         ≡ count_behind injector.old.count outbox.now.entries) }
     ensures drop_every { injector.new.drop_every ≡ injector.old.drop_every }
     ensures flip_every { injector.new.flip_every ≡ injector.old.flip_every }
+    ensures thinning { injector.new.thinning ≡ injector.old.thinning }
 {
     for i in 0..outbox.len() {
         add_entry(outgoing, outbox.entry(i), injector)?;
@@ -40,6 +93,7 @@ fn add_entry<A: Allocator>(
     ensures count { injector.new.count ≡ count_with injector.old.count (shown_entry entry.entry) }
     ensures drop_every { injector.new.drop_every ≡ injector.old.drop_every }
     ensures flip_every { injector.new.flip_every ≡ injector.old.flip_every }
+    ensures thinning { injector.new.thinning ≡ injector.old.thinning }
 {
     match entry {
         Entry::Text(bytes) => outgoing.extend_from_slice(bytes),

@@ -1,5 +1,5 @@
 ghost use Rattle.std.specs.Prelude.{◌≡◌, ◌≤◌, ◌<◌, ◌↔◌, IsTrue};
-ghost use Rattle.uug_transfer.specs.ReadBudgets.{bytes_left, silences_left, Lasts};
+ghost use Rattle.uug_transfer.specs.ReadBudgets.{bytes_left, silences_left, stalls_left, Lasts};
 ghost use Rattle.uug_transfer.specs.declared.read_budget.TheConstants.{SILENCES_MAX};
 
 use crate::read_outcome::ReadOutcome;
@@ -10,6 +10,22 @@ pub const BYTES_MAX: u64 = 1_099_511_627_776;
 
 /// So many silences in a row are waited for at most. An end has given up by itself before.
 pub const SILENCES_MAX: u8 = TIMEOUTS_MAX + 1;
+
+/// So many writes in a row may take nothing. After the last one the line is taken for gone, as an end gives up at as many silent
+/// reads.
+pub const STALLS_MAX: u8 = TIMEOUTS_MAX;
+
+/// How many writes more in a row may take nothing, where so many were left and one has taken so many bytes.
+#[tactic(auto, using(crate::proofs::BudgetLemmas::one_fewer, crate::proofs::BudgetLemmas::all_again))]
+pub(crate) fn stalls_left(left: u8, count: usize) -> u8
+    ensures { result ≡ stalls_left left count }
+{
+    if count == 0 {
+        left.saturating_sub(1)
+    } else {
+        STALLS_MAX
+    }
+}
 
 /// How much more an end reads, and how often it waits, before it takes the line for gone.
 #[derive(Clone, Copy)]

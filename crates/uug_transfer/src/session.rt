@@ -1,22 +1,26 @@
 //! One end stays at its line until its session is over.
-ghost use Rattle.std.specs.Prelude.{◌≡◌, ◌≢◌, ◌≤◌, [], length, OnErr, OnOk};
+ghost use Rattle.std.specs.Prelude.{◌≡◌, ◌≢◌, ◌<◌, ◌≤◌, ◌↔◌, [], length, IfOk, IsTrue, OnErr, OnOk};
 ghost use Rattle.uug_session.specs.Engine.{HasFailed, IsEnded};
 ghost use Rattle.uug_session.specs.NumberStanding.{KeepsNumber};
 ghost use Rattle.uug_folder.specs.NumberText.{holding_number};
 ghost use Rattle.uug_transfer.specs.BufferedNodes.{injector_in, node_in, spool_in, to_write, IsLed, KeepsJobs};
 ghost use Rattle.uug_transfer.specs.Ends.{number_of_end};
 ghost use Rattle.uug_transfer.specs.Listening.{HearsLine};
+ghost use Rattle.uug_transfer.specs.Patience.{HasPatience};
+ghost use Rattle.uug_transfer.specs.ReadBudgets.{Lasts};
 ghost use Rattle.uug_transfer.specs.ReadOutcomes.{IsWithin, TakesOutcome};
 ghost use Rattle.uug_transfer.specs.Received.{ReadsWithin};
 ghost use Rattle.uug_transfer.specs.SessionFaults.{IfOnDisk, UnlessLine, UnlessNumber, UnlessRefused, UnlessUnsettled};
 ghost use Rattle.uug_transfer.specs.Settling.{IsNumberNow, IsOnDisk, IsSomeNumber, LosesNoJob, StaysInStore, TellsFailed, kept_then};
+ghost use Rattle.uug_transfer.specs.WriteSilences.{WritesUpTo, WritesWithin};
 ghost use Rattle.uug_transfer.specs.Writing.{TakesFront, TalksAtLine, also_taken};
-ghost use Rattle.uug_transfer.specs.declared.read_budget.TheConstants.{SILENCES_MAX};
+ghost use Rattle.uug_transfer.specs.declared.read_budget.TheConstants.{SILENCES_MAX, STALLS_MAX};
 
 use crate::buffered_node::BufferedNode;
 use crate::end_line::EndLine;
 use crate::line::{LineFailed, UNREAD_MAX};
-use crate::read_budget::ReadBudget;
+use crate::patience::{Patience, PatienceLimits, Standing};
+use crate::read_budget::{ReadBudget, STALLS_MAX, stalls_left};
 use crate::read_outcome::ReadOutcome;
 use crate::session_fault::SessionFault;
 use crate::settled::Settled;
@@ -26,7 +30,8 @@ use uug_session::Spool;
 
 /// Lets an end write and read at its line until its session is over. It writes all that it has to write, and reads once:
 /// bytes come to it, and a silence is a timeout. After the line's end it is hung up, also where the line failed, memory
-/// ran out, so many bytes were read of it, or it was silent for `SILENCES_MAX` reads in a row. The line is told each time
+/// ran out, so many bytes were read of it, it was silent for `SILENCES_MAX` reads in a row or took nothing
+/// for `STALLS_MAX` writes, or bytes came without progress for longer than the limits say. The line is told each time
 /// how far the session has come. What becomes of the end is on its disk before what it says of that is written: a job that is
 /// over is taken out of `jobs`, where it is told of each that has failed, and `number` has the number that the end keeps. Where that can't be done the end hangs up, and
 /// nothing more is written.
@@ -37,6 +42,7 @@ pub fn run_session<S, J, N, L, A>(
     number: &mut N,
     line: &mut L,
     most: u64,
+    limits: PatienceLimits,
 ) -> Result<(), SessionFault>
 where
     S: Spool + Drop,
@@ -85,12 +91,13 @@ where
     ensures number_fault { result ≡ Err SessionFault.Number
         → HasFailed u64.MAX (N.fault_count number.old) (N.fault_count number.new) }
     ensures within { ReadsWithin most SILENCES_MAX (L.received line.old) (L.received line.new) }
+    ensures writes_within { WritesWithin STALLS_MAX (L.writes line.old) (L.writes line.new) }
     ensures calm { UnlessLine result (L.fault_count line.new ≡ L.fault_count line.old) }
     ensures fault { result ≡ Err SessionFault.Line
         → HasFailed u64.MAX (L.fault_count line.old) (L.fault_count line.new) }
     ensures grows { L.fault_count line.old ≤ L.fault_count line.new }
 {
-    let result = take_turns(alloc, buffered, jobs, number, line, most);
+    let result = take_turns(alloc, buffered, jobs, number, line, most, limits);
     buffered.hang_up();
     line.note(buffered.status(true));
     result
@@ -105,6 +112,7 @@ fn take_turns<S, J, N, L, A>(
     number: &mut N,
     line: &mut L,
     most: u64,
+    limits: PatienceLimits,
 ) -> Result<(), SessionFault>
 where
     S: Spool + Drop,
@@ -152,6 +160,7 @@ where
     ensures number_fault { result ≡ Err SessionFault.Number
         → HasFailed u64.MAX (N.fault_count number.old) (N.fault_count number.new) }
     ensures within { ReadsWithin most SILENCES_MAX (L.received line.old) (L.received line.new) }
+    ensures writes_within { WritesWithin STALLS_MAX (L.writes line.old) (L.writes line.new) }
     ensures calm { UnlessLine result (L.fault_count line.new ≡ L.fault_count line.old) }
     ensures fault { result ≡ Err SessionFault.Line
         → HasFailed u64.MAX (L.fault_count line.old) (L.fault_count line.new) }
@@ -160,9 +169,13 @@ where
     let mut buffer = [0; UNREAD_MAX];
     let mut budget = ReadBudget::new(most);
     let node = buffered.node();
+    let mut patience = Patience::new(limits, Standing::of(node), line.seconds());
     let mut settled = Settled::begin(node.queue(), node.number(), number)?;
-    while budget.lasts() {
-        write_all(buffered, line, &settled, number)?;
+    while stays(&budget, &patience) {
+        let all_written = write_all(buffered, line, &settled, number)?;
+        if !all_written {
+            return Ok(());
+        }
         if buffered.has_ended() {
             return Ok(());
         }
@@ -178,38 +191,61 @@ where
             &buffer,
         )?;
         budget.spend(outcome);
+        patience.note(outcome, Standing::of(buffered.node()), line.seconds());
         line.note(buffered.status(false));
     }
     Ok(())
 }
 
-/// Writes all that there is to write: where all that has become of the end is on its disk, and not before.
+/// Whether an end stays at its line.
+fn stays(budget: &ReadBudget, patience: &Patience) -> bool
+    ensures lasts { IsTrue result → Lasts budget.now.bytes budget.now.silences }
+    ensures patient { IsTrue result → HasPatience patience.now }
+    ensures over { (IsTrue result → ⊥) → Lasts budget.now.bytes budget.now.silences
+        → HasPatience patience.now → ⊥ }
+{
+    budget.lasts() && patience.holds()
+}
+
+/// Whether something is left to write, at a line that is still waited for.
+fn may_write(left: u8, bytes: &[u8]) -> bool
+    ensures { IsTrue result ↔ ((0 < left) × (0 < length bytes.now)) }
+{
+    left > 0 && !bytes.is_empty()
+}
+
+/// Writes all that there is to write: where all that has become of the end is on its disk, and not before. The answer is false
+/// where the line took nothing for `STALLS_MAX` writes in a row: the rest is left then.
 fn write_all<S: Spool + Drop, N: TextFile, L: EndLine, A: Allocator + Copy>(
     buffered: &mut BufferedNode<S, A>,
     line: &mut L,
     _settled: &Settled,
     _number: &N,
-) -> Result<(), LineFailed>
+) -> Result<bool, LineFailed>
     requires on_disk { IsOnDisk _settled.now (node_in buffered.old) (N.text _number.now) }
     ensures node { node_in buffered.new ≡ node_in buffered.old }
     ensures spool { spool_in buffered.new ≡ spool_in buffered.old }
     ensures injector { injector_in buffered.new ≡ injector_in buffered.old }
-    ensures all { OnOk result (to_write buffered.new ≡ []) }
+    ensures all { IfOk result (λ all. IsTrue all → to_write buffered.new ≡ []) }
     ensures received { L.received line.new ≡ L.received line.old }
-    ensures taken { OnOk result (L.taken line.new
+    ensures taken { IfOk result (λ all. IsTrue all → L.taken line.new
         ≡ also_taken (to_write buffered.old) (L.taken line.old)) }
-    ensures taken_some { OnErr result (TakesFront (to_write buffered.old)
-        (L.taken line.old) (L.taken line.new)) }
+    ensures taken_some { TakesFront (to_write buffered.old) (L.taken line.old) (L.taken line.new) }
+    ensures within { WritesWithin STALLS_MAX (L.writes line.old) (L.writes line.new) }
+    ensures no_wait { IfOk result (λ all. IsTrue all
+        → WritesUpTo STALLS_MAX 0 (L.writes line.old) (L.writes line.new)) }
     ensures calm { OnOk result (L.fault_count line.new ≡ L.fault_count line.old) }
     ensures fault { OnErr result
         (HasFailed u64.MAX (L.fault_count line.old) (L.fault_count line.new)) }
     ensures grows { L.fault_count line.old ≤ L.fault_count line.new }
 {
-    while buffered.outgoing().len() > 0 {
+    let mut silences = STALLS_MAX;
+    while may_write(silences, buffered.outgoing()) {
         let count = line.write(buffered.outgoing())?;
         buffered.written(count);
+        silences = stalls_left(silences, count);
     }
-    Ok(())
+    Ok(buffered.outgoing().is_empty())
 }
 
 /// Tells an end whose session goes on what a read came to, and puts what becomes of it then on its disk: before anything that

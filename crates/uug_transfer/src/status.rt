@@ -11,6 +11,8 @@ pub struct SessionStatus {
     pub struck: usize,
     /// How many of them were given up.
     pub failed: usize,
+    /// How many messages were sent and not acknowledged.
+    pub unacked: usize,
     /// Whether the end has left its line: nothing is written or read any more.
     pub is_over: bool,
 }

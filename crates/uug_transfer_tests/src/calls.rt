@@ -11,15 +11,19 @@ mod memory_text;
 mod numbers;
 mod scenes;
 mod scripted_line;
+mod slow;
+mod slow_line;
 mod stops;
+mod stream_writes;
 mod telling;
 mod telling_line;
+mod thinning;
 
 use assertions::assert_same;
 use memory_jobs::MemoryJobs;
 use memory_text::MemoryText;
 use numbers::{JOB, jobs_file};
-use scenes::NEVER;
+use scenes::{LIMITS, NEVER};
 use scripted_line::ScriptedLine;
 use std::alloc::Global;
 use std::process::Abort;
@@ -136,7 +140,15 @@ fn play_at(
     let mut line = line(rt, alloc, None, manner);
     let mut jobs = jobs_file(rt, alloc, MemoryJobs::new(JOB, NEVER));
     let mut number = MemoryText::new(b"", false);
-    let answer = run_session(alloc, buffered, &mut jobs, &mut number, &mut line, most);
+    let answer = run_session(
+        alloc,
+        buffered,
+        &mut jobs,
+        &mut number,
+        &mut line,
+        most,
+        LIMITS,
+    );
     drop(jobs);
     let left = what_is_left(answer, buffered, line.other());
     assert_kept(rt, line.other(), bytes);

@@ -3,7 +3,7 @@ use Rattle.std.proofs.Common.{◌≡◌, true, false, List, [], ◌∷◌, Optio
 use Rattle.std.specs.Option.{option_map, option_map_or}
 use Rattle.clap.specs.Words.{Text, first_of, is_simple, subcommand_of, takes}
 use Rattle.clap.proofs.OnLiterals.{clap_on_literals}
-use Rattle.uug_words.specs.Asked.{Entries, drawn, is_given, manner_in, number_or_zero, text_in}
+use Rattle.uug_words.specs.Asked.{Entries, drawn, is_given, manner_in, number_in, number_or_zero, text_in}
 use Rattle.uug_words.specs.Tools.{uucpair}
 use Rattle.uug_ladder.specs.declared.play.Drawn.TheVariants.{AsPicture}
 
@@ -51,11 +51,11 @@ play_has_no_file : first_of (codes "FILE") (entries_of play_words) ≡ None
 unfolding clap_on_literals
 play_has_no_file = refl
 
--- ---- uucpair answer tcp:h:540 dir --me a --peer=b --window 3 --no-quiet
+-- ---- uucpair answer tcp:h:540 dir --me a --peer=b --window 3 --no-quiet --wait 60
 
 abbrev answer_words : List Text
 answer_words = codes "uucpair" ∷ codes "answer" ∷ codes "tcp:h:540" ∷ codes "dir" ∷ codes "--me" ∷ codes "a"
-    ∷ codes "--peer=b" ∷ codes "--window" ∷ codes "3" ∷ codes "--no-quiet" ∷ []
+    ∷ codes "--peer=b" ∷ codes "--window" ∷ codes "3" ∷ codes "--no-quiet" ∷ codes "--wait" ∷ codes "60" ∷ []
 
 answer_is_named : tool_of answer_words ≡ Some (codes "answer")
 unfolding clap_on_literals
@@ -89,6 +89,14 @@ answer_is_lenient : is_given (entries_of answer_words) (codes "strict") ≡ fals
 unfolding clap_on_literals
 answer_is_lenient = refl
 
+answer_has_wait : number_in (entries_of answer_words) (codes "wait") ≡ Some 60
+unfolding clap_on_literals
+answer_has_wait = refl
+
+answer_has_no_speed : number_in (entries_of answer_words) (codes "speed") ≡ None
+unfolding clap_on_literals
+answer_has_no_speed = refl
+
 answer_has_locks : text_in (entries_of answer_words) (codes "locks") ≡ codes "/var/lock"
 unfolding clap_on_literals
 answer_has_locks = refl
@@ -96,6 +104,24 @@ answer_has_locks = refl
 answer_is_taken : takes uucpair answer_words ≡ true
 unfolding clap_on_literals
 answer_is_taken = refl
+
+-- ---- uucpair call /dev/ttyS0 dir --me a --peer b --speed 1200 --every-ack
+
+abbrev slow_words : List Text
+slow_words = codes "uucpair" ∷ codes "call" ∷ codes "/dev/ttyS0" ∷ codes "dir" ∷ codes "--me" ∷ codes "a"
+    ∷ codes "--peer" ∷ codes "b" ∷ codes "--speed" ∷ codes "1200" ∷ codes "--every-ack" ∷ []
+
+slow_has_speed : number_in (entries_of slow_words) (codes "speed") ≡ Some 1200
+unfolding clap_on_literals
+slow_has_speed = refl
+
+slow_acknowledges_each : is_given (entries_of slow_words) (codes "every-ack") ≡ true
+unfolding clap_on_literals
+slow_acknowledges_each = refl
+
+slow_has_no_wait : number_in (entries_of slow_words) (codes "wait") ≡ None
+unfolding clap_on_literals
+slow_has_no_wait = refl
 
 -- ---- uucpair queue dir send /tmp/x --user me
 

@@ -115,12 +115,16 @@ pub record IsEndIn (entries : Entries) (task : CallTask) : Type 0 where
   pub window : task.window ≡ number_or_zero entries (codes "window")
   pub size : task.size ≡ number_or_zero entries (codes "size")
   pub seconds : task.seconds ≡ number_or_zero entries (codes "timeout")
+  pub speed : task.speed ≡ number_in entries (codes "speed")
+  pub wait : task.wait ≡ number_in entries (codes "wait")
   pub is_quiet : task.is_quiet ≡ not (is_given entries (codes "no-quiet"))
   pub is_short : task.is_short ≡ not (is_given entries (codes "fill-commands"))
   pub is_lenient : task.is_lenient ≡ not (is_given entries (codes "strict"))
+  pub is_every_ack : task.is_every_ack ≡ is_given entries (codes "every-ack")
   pub is_numbered : task.is_numbered ≡ is_given entries (codes "number")
   pub is_loud : task.is_loud ≡ is_given entries (codes "verbose")
   pub locks : task.locks.now ≡ text_in entries (codes "locks")
+  pub most : task.most ≡ number_or_zero entries (codes "most")
 
 pub record AsksForPair (tool : Text) (entries : Entries) (task : PairTask) : Type 0 where
   pub pairs : tool ≡ codes "pair"

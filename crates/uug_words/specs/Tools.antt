@@ -1,5 +1,5 @@
 -- The tools of the program, and what stands behind the name of each, as a parse of the words reads it (this project's profile).
-use Rattle.std.specs.Prelude.{◌≡◌, true, false, List, [], ◌∷◌, Some, codes, pos}
+use Rattle.std.specs.Prelude.{◌≡◌, ◌++◌, true, false, List, [], ◌∷◌, Some, codes, pos}
 use Rattle.clap.specs.Words.{App, Rule, Shape, Text, new_rule, rule_of, shape_of}
 use Rattle.clap.specs.declared.builder.arg.Arg.{Arg}
 use Rattle.clap.specs.declared.builder.command.Command.{Command}
@@ -86,7 +86,7 @@ pair_tool = tool (codes "pair")
     (path_rule (codes "SOCKET") ∷ path_rule (codes "DIR_A") ∷ path_rule (codes "DIR_B")
     ∷ every_rule (codes "drop-every") ∷ every_rule (codes "flip-every") ∷ [])
 
--- `call` and `answer`
+-- `call`, and `answer` without the option of its own
 abbrev pub end_tool : (name : Text) → Shape
 end_tool name = tool name
     (path_rule (codes "LINE") ∷ path_rule (codes "DIR")
@@ -94,10 +94,16 @@ end_tool name = tool name
     ∷ number_rule (codes "window") (codes "7")
     ∷ number_rule (codes "size") (codes "64")
     ∷ number_rule (codes "timeout") (codes "10")
+    ∷ every_rule (codes "speed")
     ∷ flag_rule (codes "no-quiet") ∷ flag_rule (codes "fill-commands")
-    ∷ flag_rule (codes "strict") ∷ flag_rule (codes "number")
+    ∷ flag_rule (codes "strict") ∷ flag_rule (codes "every-ack") ∷ flag_rule (codes "number")
     ∷ folder_rule (codes "locks") (codes "/var/lock")
+    ∷ number_rule (codes "most") (codes "67108864")
     ∷ verbose_rule ∷ [])
+
+-- with how long it waits to be called
+abbrev pub answer_tool : Shape
+answer_tool = let end = end_tool (codes "answer") in record end { rules = end.rules ++ every_rule (codes "wait") ∷ [] }
 
 abbrev pub queue_tool : Shape
 queue_tool = tool (codes "queue")
@@ -105,7 +111,7 @@ queue_tool = tool (codes "queue")
     ∷ word_rule (codes "user") ∷ [])
 
 abbrev pub tools : List Shape
-tools = scan_tool ∷ play_tool ∷ pair_tool ∷ end_tool (codes "call") ∷ end_tool (codes "answer") ∷ queue_tool ∷ []
+tools = scan_tool ∷ play_tool ∷ pair_tool ∷ end_tool (codes "call") ∷ answer_tool ∷ queue_tool ∷ []
 
 -- ---- the program
 

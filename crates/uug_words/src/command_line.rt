@@ -103,12 +103,16 @@ fn end_task<'a>(side: Side, matches: &ArgMatches<'a>) -> CallTask<'a>
         window: number(matches, "window").unwrap_or(0),
         size: number(matches, "size").unwrap_or(0),
         seconds: number(matches, "timeout").unwrap_or(0),
+        speed: number(matches, "speed"),
+        wait: number(matches, "wait"),
         is_quiet: !is_given(matches, "no-quiet"),
         is_short: !is_given(matches, "fill-commands"),
         is_lenient: !is_given(matches, "strict"),
+        is_every_ack: is_given(matches, "every-ack"),
         is_numbered: is_given(matches, "number"),
         is_loud: is_given(matches, "verbose"),
         locks: text(matches, "locks"),
+        most: number(matches, "most").unwrap_or(0),
     }
 }
 

@@ -103,8 +103,8 @@ prints
 and b/got/y is the file.";
 
 pub const END: &str = "LINE is
-  unix:PATH      a Unix socket: call connects to it, answer makes it, takes one call
-                 and removes it
+  unix:PATH      a Unix socket: call connects to it, answer makes it, and removes it
+                 when a caller has been let in
   tcp:HOST:PORT  the same over TCP; tcp:PORT is on this machine
   PATH           a terminal device, whose speed and raw mode are set before (stty); it
                  is locked, also by the file LCK..NAME that uucico and cu heed
@@ -146,4 +146,13 @@ pub const SIZE: &str = "The packet size that the other end is to use, 32 to 4096
 
 pub const TIMEOUT: &str = "How long the line waits, 1 to 600";
 
+pub const SPEED: &str =
+    "The speed of the line in bits a second, 300 to 10000000: the timer is longer by what is on the way";
+
+pub const WAIT: &str =
+    "How long it waits to be called, 1 to 1000000000; at a terminal device for the first byte";
+
 pub const LOCKS: &str = "The folder of the lock files of terminal devices";
+
+pub const MOST: &str =
+    "How many bytes the files that it offers in a session have together at most; what is left waits for the next";

@@ -1,7 +1,7 @@
 //! The tools of the program and their arguments, as the parser of the words takes them.
 ghost use Rattle.std.specs.Prelude.{◌≡◌, [], IfOk};
 ghost use Rattle.clap.specs.Words.{app_of};
-ghost use Rattle.uug_words.specs.Tools.{IsArg, IsTool, alone, end_tool, every_rule, excluding, file_rule, flag_rule, folder_rule, name_rule, number_rule, optional_rule, pair_tool, path_rule, play_tool, program, queue_tool, scan_tool, tool, uucpair, verbose_rule, word_rule};
+ghost use Rattle.uug_words.specs.Tools.{IsArg, IsTool, alone, answer_tool, end_tool, every_rule, excluding, file_rule, flag_rule, folder_rule, name_rule, number_rule, optional_rule, pair_tool, path_rule, play_tool, program, queue_tool, scan_tool, tool, uucpair, verbose_rule, word_rule};
 
 use crate::help;
 use clap::{Arg, ArgAction, Command, value_parser};
@@ -16,6 +16,9 @@ const WINDOW: &str = "7";
 const SIZE: &str = "64";
 
 const SECONDS: &str = "10";
+
+/// So many bytes of files an end offers in a session that is told nothing else.
+const MOST: &str = "67108864";
 
 /// The folder of the lock files of devices, where none is told: that of Debian's programs.
 const LOCKS: &str = "/var/lock";
@@ -33,11 +36,7 @@ pub fn command<'a>(alloc: Global) -> Result<Command<'a>, AllocError>
             "call",
             "Calls another system over a line, and exchanges files with it",
         )?)?
-        .subcommand(end_command(
-            alloc,
-            "answer",
-            "Waits for the call of another system over a line, and exchanges files with it",
-        )?)?
+        .subcommand(answer_command(alloc)?)?
         .subcommand(queue_command(alloc)?)
 }
 
@@ -161,6 +160,7 @@ fn end_command<'a>(alloc: Global, name: &'a str, about: &'a str) -> Result<Comma
         .arg(number(alloc, "window", "W", help::WINDOW, WINDOW))?
         .arg(number(alloc, "size", "S", help::SIZE, SIZE))?
         .arg(number(alloc, "timeout", "SECONDS", help::TIMEOUT, SECONDS))?
+        .arg(whole(alloc, "speed", "BPS", help::SPEED))?
         .arg(flag(
             alloc,
             "no-quiet",
@@ -178,14 +178,32 @@ fn end_command<'a>(alloc: Global, name: &'a str, about: &'a str) -> Result<Comma
         ))?
         .arg(flag(
             alloc,
+            "every-ack",
+            "Acknowledges each data packet on its own, also those that come at once",
+        ))?
+        .arg(flag(
+            alloc,
             "number",
             "Keeps the number of its conversations in DIR, from 0 on",
         ))?
         .arg(folder(alloc, "locks", help::LOCKS, LOCKS))?
+        .arg(number(alloc, "most", "BYTES", help::MOST, MOST))?
         .arg(verbose(
             alloc,
             "Says on standard error how each job goes, and what was lost on the line",
         ))
+}
+
+/// The tool that is one end at a line, where it is called.
+fn answer_command<'a>(alloc: Global) -> Result<Command<'a>, AllocError>
+    ensures { IfOk result (IsTool answer_tool) }
+{
+    end_command(
+        alloc,
+        "answer",
+        "Waits for the call of another system over a line, and exchanges files with it",
+    )?
+    .arg(whole(alloc, "wait", "SECONDS", help::WAIT))
 }
 
 /// The tool that queues jobs.
@@ -262,7 +280,14 @@ fn verbose<'a>(alloc: Global, help: &'a str) -> Arg<'a>
 fn every<'a>(alloc: Global, name: &'a str, help: &'a str) -> Arg<'a>
     ensures { IsArg (every_rule name.entry.now) result }
 {
-    named(alloc, name, "N", help).value_parser(value_parser!(u32))
+    whole(alloc, name, "N", help)
+}
+
+/// An option with a number of this kind, which may be left out.
+fn whole<'a>(alloc: Global, name: &'a str, value: &'a str, help: &'a str) -> Arg<'a>
+    ensures { IsArg (every_rule name.entry.now) result }
+{
+    named(alloc, name, value, help).value_parser(value_parser!(u32))
 }
 
 /// An option with a word.
@@ -300,7 +325,5 @@ fn number<'a>(
 ) -> Arg<'a>
     ensures { IsArg (number_rule name.entry.now default.entry.now) result }
 {
-    named(alloc, name, value, help)
-        .value_parser(value_parser!(u32))
-        .default_value(default)
+    whole(alloc, name, value, help).default_value(default)
 }

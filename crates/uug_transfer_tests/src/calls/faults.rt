@@ -1,7 +1,7 @@
 //! A call whose line fails at each of its reads and writes in turn: what its files have then, and what is printed.
 
 use super::numbers::{DONE, HUNG_UP, JOB, KEEPS_7, Left, MemoryEnd, end};
-use super::scenes::{AMPLE, NEVER};
+use super::scenes::{AMPLE, LIMITS, NEVER};
 use super::scripted_line::ScriptedLine;
 use super::{Manner, Other, line};
 use crate::calls::assertions::{assert_same, assert_so};
@@ -74,7 +74,7 @@ fn call_at(
 ) -> Option<usize> {
     let mut output = MemoryOutput::new(alloc);
     let side = Side::Caller;
-    let answer = call_over(alloc, side, end, line, AMPLE, &mut output);
+    let answer = call_over(alloc, side, end, line, AMPLE, LIMITS, &mut output);
     let left = Left {
         answer,
         jobs: end.jobs.file.text(),

@@ -10,18 +10,22 @@ use std::process;
 use std::process::Abort;
 use std::rt::Files;
 use uug_folder::{Folder, read_jobs};
-use uug_session::Stored;
 use uug_sys::{SystemFolder, lock_dir, read_given};
 use uug_talk::Name;
 
-/// What is in the folder, the jobs of its end, how many files are given, and whether one of them is that of this name.
+/// What is in the folder, the jobs of its end, how many bytes its files may have, how many files are given, whether one of them
+/// is that of this name, and how many jobs are offered.
 struct Row<'a> {
     given: &'a [Given<'a>],
     jobs: &'a str,
+    most: u64,
     count: usize,
     name: &'a [u8],
     is_given: bool,
+    offered: usize,
 }
+
+const MOST: u64 = 67_108_864;
 
 const ROWS: &[Row<'static>] = &[
     // what is hidden, has no name or is no file
@@ -34,17 +38,21 @@ const ROWS: &[Row<'static>] = &[
             Given::Link("a/send/nowhere", "none"),
         ],
         jobs: "send .h h u\nsend none y u\n",
+        most: MOST,
         count: 1,
         name: b"x",
         is_given: true,
+        offered: 2,
     },
     // more files than may be given: that of a job is one of them
     Row {
         given: &[Given::Files("a/send/f", 300), Given::File("a/send/z", b"z")],
         jobs: "request q q u\nsend ~/z y u\nsend z z u\n",
+        most: MOST,
         count: 256,
         name: b"z",
         is_given: true,
+        offered: 3,
     },
     // a file that is a byte too large
     Row {
@@ -53,23 +61,72 @@ const ROWS: &[Row<'static>] = &[
             Given::File("a/send/y", b"y"),
         ],
         jobs: "send x x u\n",
+        most: MOST,
         count: 1,
         name: b"x",
         is_given: false,
+        offered: 1,
+    },
+    // more bytes than may go in one session: the job of the second file waits, and so does the one behind it, and the other end
+    // may ask for their files
+    Row {
+        given: &[
+            Given::Filled("a/send/x", b'x', 600_000),
+            Given::Filled("a/send/y", b'y', 448_577),
+            Given::File("a/send/z", b"z"),
+        ],
+        jobs: "request q q u\nsend x x u\nsend x w u\nsend y y u\nsend z z u\n",
+        most: 1_048_576,
+        count: 3,
+        name: b"y",
+        is_given: true,
+        offered: 3,
+    },
+    // just as many as may go
+    Row {
+        given: &[
+            Given::Filled("a/send/x", b'x', 600_000),
+            Given::Filled("a/send/y", b'y', 448_576),
+        ],
+        jobs: "send x x u\nsend y y u\n",
+        most: 1_048_576,
+        count: 2,
+        name: b"y",
+        is_given: true,
+        offered: 2,
     },
 ];
 
-/// The files that an end over this folder gives.
-fn files_at(
+/// 300 files, each of which a job names: as many jobs are offered as there may be files.
+fn offer_many(
+    rt: &(impl Files<File = File> + Net + Eprint + Abort + AllocGlobal + Clone + Drop),
+    dir: &str,
+) {
+    let mut jobs = String::new(rt.alloc());
+    for number in 0..300 {
+        let line = format!(in rt.alloc(); "send f{number} f{number} u\n").expect(rt, "memory");
+        jobs.push_str(line.as_str()).expect(rt, "memory");
+    }
+    place_all(rt, dir, &[Given::Files("a/send/f", 300)]);
+    let folder = within(rt, dir, "a");
+    let given = given_at(rt, folder.as_str(), jobs.as_str(), MOST);
+    assert_same(rt, (given.files.len(), given.offered), (256, 256));
+    drop(given);
+    remove(rt, dir);
+}
+
+/// What an end over this folder gives and offers.
+fn given_at(
     rt: &(impl Files<File = File> + Eprint + Abort + AllocGlobal + Clone + Drop),
     dir: &str,
     jobs: &str,
-) -> Vec<Stored<Global>> {
+    most: u64,
+) -> uug_sys::Given<Global> {
     let queue = read_jobs(rt.alloc(), jobs.as_bytes()).expect(rt, "jobs");
     let lock = lock_dir(rt.alloc(), rt, first(dir)).expect(rt, "a lock");
-    let files = read_given(rt.alloc(), rt, &lock, queue.pending());
+    let given = read_given(rt.alloc(), rt, &lock, queue.pending(), most);
     drop(lock);
-    files.expect(rt, "files")
+    given.expect(rt, "files")
 }
 
 impl Row<'_> {
@@ -80,14 +137,18 @@ impl Row<'_> {
     ) {
         place_all(rt, dir, self.given);
         let folder = within(rt, dir, "a");
-        let files = files_at(rt, folder.as_str(), self.jobs);
-        let has = files.iter().any(|file| file.name.as_bytes() == self.name);
+        let given = given_at(rt, folder.as_str(), self.jobs, self.most);
+        let has = given
+            .files
+            .iter()
+            .any(|file| file.name.as_bytes() == self.name);
         assert_same_at(
             rt,
-            (files.len(), has),
-            (self.count, self.is_given),
+            (given.files.len(), has, given.offered),
+            (self.count, self.is_given, self.offered),
             self.jobs,
         );
+        drop(given);
         remove(rt, dir);
     }
 }
@@ -101,11 +162,12 @@ fn play_rows(
     }
 }
 
-// a hidden file that is given; a file of a job that is not, since there are others
+// a hidden file that is given; a file of a job that is not, since there are others; a job that is offered without its file
 #[test]
 fn gives_what_it_can_give(rt: HostRuntime) {
     let dir = folder_path(&rt, process::id(rt.process()), "given");
     play_rows(&rt, dir.as_str());
+    offer_many(&rt, dir.as_str());
 }
 
 /// What is in `got`: names that folders have are barred there, and those of files and links are not.

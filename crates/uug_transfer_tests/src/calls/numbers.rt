@@ -3,7 +3,7 @@
 
 use super::memory_jobs::MemoryJobs;
 use super::memory_text::MemoryText;
-use super::scenes::{AMPLE, BYTE_BY_BYTE, CLEAN, NEVER};
+use super::scenes::{AMPLE, BYTE_BY_BYTE, CLEAN, LIMITS, NEVER};
 use super::scripted_line::ScriptedLine;
 use super::{Manner, caller, line};
 use crate::calls::assertions::{assert_same, assert_same_at};
@@ -260,7 +260,7 @@ fn assert_call(
     line: &mut ScriptedLine,
 ) {
     let mut output = MemoryOutput::new(alloc);
-    let answer = call_over(alloc, Side::Caller, end, line, AMPLE, &mut output);
+    let answer = call_over(alloc, Side::Caller, end, line, AMPLE, LIMITS, &mut output);
     assert_same(rt, answer, left.answer);
     assert_same(rt, output.bytes(), left.report);
 }

@@ -5,7 +5,7 @@ use crate::calls::assertions::{assert_same, assert_same_at, assert_so};
 use std::alloc::Global;
 use std::process::Abort;
 use uug_session::{End, Phase};
-use uug_transfer::SessionFault;
+use uug_transfer::{PatienceLimits, SessionFault};
 
 /// More bytes, or calls, than any of these sessions has.
 pub(super) const NEVER: usize = 1_000_000;
@@ -13,10 +13,16 @@ pub(super) const NEVER: usize = 1_000_000;
 /// So many bytes are enough for each session that ends by itself.
 pub(super) const AMPLE: u64 = 1_000_000;
 
+/// Those of a line whose reads wait for ten seconds.
+pub(super) const LIMITS: PatienceLimits = PatienceLimits {
+    greeting: 60,
+    session: 200,
+};
+
 const HI: &[u8] = b"hi";
 
 /// Thirteen packets of 32 bytes, the last of them with 16, which is more than a window.
-const LONG: &[u8] = &[97; 400];
+pub(super) const LONG: &[u8] = &[97; 400];
 
 pub(super) const CLEAN: Manner = Manner {
     other: Other::Speaks,
@@ -34,7 +40,7 @@ pub(super) const BYTE_BY_BYTE: Manner = Manner {
     fails_at: NEVER,
 };
 
-const MUTE: Manner = Manner {
+pub(super) const MUTE: Manner = Manner {
     other: Other::IsMute,
     at_once: NEVER,
     takes: NEVER,
@@ -61,7 +67,7 @@ const ENDS_IN_THE_FILE: Manner = Manner {
 };
 
 /// The job is done.
-const DONE: Left = Left {
+pub(super) const DONE: Left = Left {
     answer: Ok(()),
     phase: Phase::Ended(End::Done),
     pending: 0,
@@ -70,7 +76,7 @@ const DONE: Left = Left {
 };
 
 /// It is still pending, since nothing came for too long, or the line was gone.
-const GAVE_UP: Left = Left {
+pub(super) const GAVE_UP: Left = Left {
     answer: Ok(()),
     phase: Phase::Ended(End::GaveUp),
     pending: 1,
@@ -78,7 +84,7 @@ const GAVE_UP: Left = Left {
     kept: 0,
 };
 
-const HUNG_UP: Left = Left {
+pub(super) const HUNG_UP: Left = Left {
     answer: Ok(()),
     phase: Phase::Ended(End::HungUp),
     pending: 1,

@@ -65,6 +65,8 @@ impl EndLine for ScriptedLine {
 
     ghost taken = { λ _. None };
 
+    ghost writes = { λ _. None };
+
     fn write(&mut self, piece: &[u8]) -> Result<usize, LineFailed> {
         if self.fails() {
             self.faults = self.faults.saturating_add(1);
@@ -99,6 +101,10 @@ impl EndLine for ScriptedLine {
             return Ok(ReadOutcome::TimedOut);
         }
         Ok(ReadOutcome::Bytes(count))
+    }
+
+    fn seconds(&self) -> u64 {
+        0
     }
 
     fn faults(&self) -> u64 {

@@ -3,7 +3,7 @@
 
 use super::memory_jobs::MemoryJobs;
 use super::memory_text::MemoryText;
-use super::scenes::{AMPLE, NEVER};
+use super::scenes::{AMPLE, LIMITS, NEVER};
 use super::scripted_line::ScriptedLine;
 use super::{Manner, MemoryEndAtLine, Other, buffered, line, place, spool};
 use crate::calls::assertions::{assert_same, assert_so};
@@ -61,7 +61,7 @@ fn talk(
     line: &mut ScriptedLine,
 ) -> Came {
     let mut number = MemoryText::new(b"", false);
-    let answer = run_session(alloc, end, jobs, &mut number, line, AMPLE);
+    let answer = run_session(alloc, end, jobs, &mut number, line, AMPLE, LIMITS);
     let failed = jobs.file.has_failed() || line.faults() > 0;
     assert_same(rt, answer.is_err(), failed);
     Came {

@@ -10,7 +10,7 @@ ghost use Rattle.uug_transfer.specs.Writing.{TalksAtLine};
 use super::memory_jobs::MemoryJobs;
 use super::memory_text::MemoryText;
 use super::numbers::{JOB, jobs_file};
-use super::scenes::{AMPLE, NEVER};
+use super::scenes::{AMPLE, LIMITS, NEVER};
 use super::telling_line::TellingLine;
 use super::{MemoryEndAtLine, called, caller, name};
 use crate::calls::assertions::assert_same;
@@ -20,7 +20,7 @@ use uug_session::{End, MemorySpool, Phase, Spool};
 use uug_transfer::{EndLine, SessionFault, run_session};
 
 /// What the called end writes, with a window of 7 packets of 32 bytes: first, and then to each piece of the caller's.
-const CALLED: [&[u8]; 9] = [
+pub(super) const CALLED: [&[u8]; 9] = [
     // its name
     b"\x10Shere=b\0",
     // it lets the caller in, and offers the protocol `g`
@@ -42,7 +42,7 @@ const CALLED: [&[u8]; 9] = [
 ];
 
 /// What the caller writes to each piece of the called end's: it sends `x`, which has the bytes `hi`, as `y`.
-const CALLER: [&[u8]; 9] = [
+pub(super) const CALLER: [&[u8]; 9] = [
     // its name
     b"\x10Sa\0",
     // the protocol, and INITA 7
@@ -91,13 +91,13 @@ fn talk<'a>(
 {
     let mut jobs = jobs_file(rt, alloc, MemoryJobs::new(JOB, NEVER));
     let mut number = MemoryText::new(b"", false);
-    let answer = run_session(alloc, buffered, &mut jobs, &mut number, line, AMPLE);
+    let answer = run_session(alloc, buffered, &mut jobs, &mut number, line, AMPLE, LIMITS);
     drop(jobs);
     answer
 }
 
 /// The session of an end whose line brings these pieces: it is done, all of them were brought, and the line has taken those.
-fn assert_session(
+pub(super) fn assert_session(
     rt: &impl Abort,
     alloc: Global,
     buffered: &mut MemoryEndAtLine,

@@ -1,5 +1,5 @@
 //! A line that tells what it has brought and taken.
-ghost use Rattle.std.specs.Prelude.{◌≡◌, ◌<◌, ◌≤◌, Some, length, map, take};
+ghost use Rattle.std.specs.Prelude.{◌≡◌, ◌<◌, ◌≤◌, Some, length, map, take, None};
 ghost use Rattle.uug_transfer.specs.Received.{piece};
 
 use std::alloc::Global;
@@ -43,6 +43,8 @@ impl EndLine for TellingLine<'_> {
 
     ghost taken = { λ line. Some line.taken.items };
 
+    ghost writes = { λ _. None };
+
     fn write(&mut self, piece: &[u8]) -> Result<usize, LineFailed> {
         if self.taken.extend_from_slice(piece).is_err() {
             self.faults = self.faults.saturating_add(1);
@@ -61,6 +63,10 @@ impl EndLine for TellingLine<'_> {
         }
         self.faults = self.faults.saturating_add(1);
         Err(LineFailed)
+    }
+
+    fn seconds(&self) -> u64 {
+        0
     }
 
     fn faults(&self) -> u64 {

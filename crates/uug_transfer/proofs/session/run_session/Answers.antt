@@ -4,6 +4,7 @@ use Rattle.uug_transfer.proofs.NumberLemmas.{later_unless}
 use Rattle.uug_transfer.proofs.KeepingLemmas.{keeps_later}
 use Rattle.uug_transfer.proofs.LedLemmas.{led_later}
 use Rattle.uug_transfer.proofs.ListeningLemmas.{heard_then, line_lost, talks_lost}
+use Rattle.uug_transfer.proofs.StallLemmas.{within_same}
 use Rattle.uug_transfer.proofs.session.run_session.Goals as goal
 
 pub returns-clause-jobs : goal.returns-clause-jobs
@@ -25,3 +26,6 @@ returns-clause-talked g c cleared =
     heard_then c.take_turns-result.result _ _ (c.take_turns-result.ensures.talked cleared)
     (λ talked. talks_lost _ _ _ _ _ _ _ _ _ _ _ _ _ _ _ talked c.hang_up.ensures.lost (ap g.S.Spool.kept c.hang_up.ensures.spool)
     c.note.ensures.received c.note.ensures.taken)
+
+pub returns-clause-writes_within : goal.returns-clause-writes_within
+returns-clause-writes_within g c = within_same _ _ _ _ c.take_turns-result.ensures.writes_within c.note.ensures.writes

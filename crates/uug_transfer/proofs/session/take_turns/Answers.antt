@@ -11,6 +11,8 @@ use Rattle.uug_transfer.proofs.LedLemmas.{led_kept, led_later, led_same}
 use Rattle.uug_transfer.proofs.ListeningLemmas.{front_read, heard_then, line_at_first, line_read, line_same, talks_at_first, talks_noted, talks_over, talks_read, talks_some, talks_written}
 use Rattle.uug_transfer.proofs.ReceivedLemmas.{room_of, spends_at_start, spends_more, spends_same, within_then}
 use Rattle.uug_transfer.proofs.SettlingLemmas.{file_then, follows_at_first, follows_then, loses_same, loses_then, on_disk_at_first, settled_handed_on, some_then, stays_same, stays_then, tells_of, tells_same, tells_then, unless_settled}
+use Rattle.uug_transfer.proofs.StallLemmas.{up_to_behind, up_to_same, up_to_within, within_behind, within_same, written_none}
+use Rattle.uug_transfer.proofs.UnsettledLemmas.{however_settled}
 use Rattle.uug_transfer.proofs.session.take_turns.Goals as goal
 
 pub loop-alloc-init : goal.loop-alloc-init
@@ -27,6 +29,7 @@ loop-alloc-init g c = record {
       (c.in_ok-settled.ensures.number ∙ (c.number.ensures ∙ ap number_of_end c.node-node.ensures))
       (c.in_ok-settled.ensures.ok
       ∙ ap (λ k. holding_number k (g.N.TextFile.text c.args.number.now)) (c.number.ensures ∙ ap number_of_end c.node-node.ensures));
+  writes = written_none (g.L.EndLine.writes c.args.line.now);
   follows = follows_at_first _ _ (c.in_ok-settled.ensures.number ∙ (c.number.ensures ∙ ap number_of_end c.node-node.ensures));
   file = c.in_ok-settled.ensures.ok
       ∙ ap (λ k. holding_number k (g.N.TextFile.text c.args.number.now)) (sym c.in_ok-settled.ensures.number);
@@ -55,24 +58,27 @@ loop-alloc-preserved g c = record {
       (ap g.S.Spool.kept c.write_all.ensures.spool) c.write_all.ensures.received)
       c.in_ok-take_and_settle.ensures.takes c.in_ok-outcome.ensures.received
       (front_read c.in_ok-outcome.outcome c.read.new.buffer _ _ c.in_ok-outcome.ensures.within (omega (arith, c.in_ok-outcome.ensures.size))))
-      refl refl c.note.ensures.received;
+      refl refl c.note-in-loop-alloc.ensures.received;
   talks = λ cleared. talks_noted _ _ _ _ _ _ _ _ _ _ _ _ _ _ _
       (talks_read _ _ _ _ _ _ c.in_ok-outcome.outcome c.read.new.buffer _ _ _ _ _ _ _ _ _ _ _ _ _ _ _ _
       (ap g.S.Spool.holdings c.write_all.ensures.spool ∙ c.loop-alloc.invariant.led.same)
       (talks_written _ _ _ _ _ _ _ _ _ _ _ _ _ _ _ _ _ _ _ (c.loop-alloc.invariant.talks cleared) c.write_all.ensures.node
       (ap g.S.Spool.kept c.write_all.ensures.spool) c.write_all.ensures.received c.write_all.ensures.injector
-      c.in_ok-write_all.ensures.all c.in_ok-write_all.ensures.taken)
+      (c.in_ok-all_written.ensures.all c.if-not-all_written.false) (c.in_ok-all_written.ensures.taken c.if-not-all_written.false))
       c.in_ok-take_and_settle.ensures.takes c.in_ok-outcome.ensures.received
       (front_read c.in_ok-outcome.outcome c.read.new.buffer _ _ c.in_ok-outcome.ensures.within (omega (arith, c.in_ok-outcome.ensures.size)))
       c.in_ok-outcome.ensures.taken)
-      c.note.ensures.received c.note.ensures.taken;
+      c.note-in-loop-alloc.ensures.received c.note-in-loop-alloc.ensures.taken;
   number = later c.loop-alloc.invariant.number (later (same c.write_all.ensures.node) c.in_ok-take_and_settle.ensures.number);
-  spends = spends_same _ _ _ _ _ _ c.note.ensures.received
+  spends = spends_same _ _ _ _ _ _ c.note-in-loop-alloc.ensures.received
       (spends_more _ _ _ _ _ _ _ _ _ c.in_ok-outcome.outcome c.read.new.buffer
       (spends_same _ _ _ _ _ _ c.write_all.ensures.received c.loop-alloc.invariant.spends)
-      (c.lasts.ensures.0 c.loop-alloc-test.true) c.in_ok-outcome.ensures.within (room_of _ _ c.loop-alloc.buffer c.room-room.ensures.bytes)
+      (c.stays.ensures.lasts c.loop-alloc-test.true) c.in_ok-outcome.ensures.within (room_of _ _ c.loop-alloc.buffer c.room-room.ensures.bytes)
       (omega (arith, c.in_ok-outcome.ensures.size)) c.in_ok-outcome.ensures.received
       c.spend.ensures.bytes c.spend.ensures.silences);
+  writes = up_to_same _ _ _ _ _
+      (up_to_behind _ _ _ _ c.loop-alloc.invariant.writes (c.in_ok-all_written.ensures.no_wait c.if-not-all_written.false))
+      (c.note-in-loop-alloc.ensures.writes ∙ c.read.ensures.writes);
   on_disk = c.in_ok-take_and_settle.ensures.on_disk;
   follows = follows_then _ _ _ _ _ c.in_ok-take_and_settle.ensures.kept c.loop-alloc.invariant.follows;
   file = file_then _ _ _ _ _ _ c.in_ok-take_and_settle.ensures.kept c.loop-alloc.invariant.file c.in_ok-take_and_settle.ensures.holds;
@@ -95,7 +101,7 @@ loop-alloc-preserved g c = record {
       c.in_ok-take_and_settle.ensures.told));
   jobs_calm = c.in_ok-take_and_settle.ensures.jobs_calm ∙ c.loop-alloc.invariant.jobs_calm;
   number_calm = c.in_ok-take_and_settle.ensures.number_calm ∙ c.loop-alloc.invariant.number_calm;
-  calm = c.note.ensures.calm ∙ (c.in_ok-outcome.ensures.calm ∙ (c.in_ok-write_all.ensures.calm ∙ c.loop-alloc.invariant.calm));
+  calm = c.note-in-loop-alloc.ensures.calm ∙ (c.in_ok-outcome.ensures.calm ∙ (c.in_ok-all_written.ensures.calm ∙ c.loop-alloc.invariant.calm));
 }
 
 pub returns-in_err-take_and_settle-clause-jobs : goal.returns-in_err-take_and_settle-clause-jobs
@@ -109,8 +115,8 @@ returns-in_err-outcome-clause-jobs g c = keeps_later _ _ _ _ _ _ c.loop-alloc.in
     (keeps_same _ _ _ _ (ap (λ (n : NodeState). n.engine.dialogue) c.write_all.ensures.node)
     (ap g.S.Spool.kept c.write_all.ensures.spool))
 
-pub returns-in_err-write_all-clause-jobs : goal.returns-in_err-write_all-clause-jobs
-returns-in_err-write_all-clause-jobs g c = keeps_later _ _ _ _ _ _ c.loop-alloc.invariant.jobs
+pub returns-in_err-all_written-clause-jobs : goal.returns-in_err-all_written-clause-jobs
+returns-in_err-all_written-clause-jobs g c = keeps_later _ _ _ _ _ _ c.loop-alloc.invariant.jobs
     (keeps_same _ _ _ _ (ap (λ (n : NodeState). n.engine.dialogue) c.write_all.ensures.node)
     (ap g.S.Spool.kept c.write_all.ensures.spool))
 
@@ -118,13 +124,55 @@ pub returns-in_err-outcome-clause-number : goal.returns-in_err-outcome-clause-nu
 returns-in_err-outcome-clause-number g c =
     unless_refused _ _ (later c.loop-alloc.invariant.number (same c.write_all.ensures.node))
 
-pub returns-in_err-write_all-clause-number : goal.returns-in_err-write_all-clause-number
-returns-in_err-write_all-clause-number g c =
+pub returns-in_err-all_written-clause-number : goal.returns-in_err-all_written-clause-number
+returns-in_err-all_written-clause-number g c =
     unless_refused _ _ (later c.loop-alloc.invariant.number (same c.write_all.ensures.node))
 
-pub returns-in_err-write_all-clause-within : goal.returns-in_err-write_all-clause-within
-returns-in_err-write_all-clause-within g c =
+pub returns-in_err-all_written-clause-within : goal.returns-in_err-all_written-clause-within
+returns-in_err-all_written-clause-within g c =
     within_then _ _ _ _ _ (spends_same _ _ _ _ _ _ c.write_all.ensures.received c.loop-alloc.invariant.spends)
+
+pub returns-then-not-all_written-clause-within : goal.returns-then-not-all_written-clause-within
+returns-then-not-all_written-clause-within g c =
+    within_then _ _ _ _ _ (spends_same _ _ _ _ _ _ c.write_all.ensures.received c.loop-alloc.invariant.spends)
+
+pub returns-then-not-all_written-clause-heard : goal.returns-then-not-all_written-clause-heard
+returns-then-not-all_written-clause-heard g c =
+    line_same _ _ _ _ _ _ _ _ _ _ c.loop-alloc.invariant.heard c.write_all.ensures.node
+    (ap g.S.Spool.kept c.write_all.ensures.spool) c.write_all.ensures.received
+
+pub returns-then-not-all_written-clause-talked : goal.returns-then-not-all_written-clause-talked
+returns-then-not-all_written-clause-talked g c cleared =
+    talks_some _ _ _ _ _ _ _ _ _ _ _ _ _ _ _ _ _ (c.loop-alloc.invariant.talks cleared) c.write_all.ensures.node
+    (ap g.S.Spool.kept c.write_all.ensures.spool) c.write_all.ensures.received c.write_all.ensures.taken_some
+
+pub returns-then-not-all_written-clause-writes_within : goal.returns-then-not-all_written-clause-writes_within
+returns-then-not-all_written-clause-writes_within g c =
+    within_behind _ _ _ _ c.loop-alloc.invariant.writes c.write_all.ensures.within
+
+pub returns-then-has_ended-clause-writes_within : goal.returns-then-has_ended-clause-writes_within
+returns-then-has_ended-clause-writes_within g c =
+    within_behind _ _ _ _ c.loop-alloc.invariant.writes c.write_all.ensures.within
+
+pub returns-in_err-all_written-clause-writes_within : goal.returns-in_err-all_written-clause-writes_within
+returns-in_err-all_written-clause-writes_within g c =
+    within_behind _ _ _ _ c.loop-alloc.invariant.writes c.write_all.ensures.within
+
+pub returns-in_err-outcome-clause-writes_within : goal.returns-in_err-outcome-clause-writes_within
+returns-in_err-outcome-clause-writes_within g c =
+    within_same _ _ _ _ (within_behind _ _ _ _ c.loop-alloc.invariant.writes c.write_all.ensures.within)
+    c.read.ensures.writes
+
+pub returns-in_err-take_and_settle-clause-writes_within : goal.returns-in_err-take_and_settle-clause-writes_within
+returns-in_err-take_and_settle-clause-writes_within g c =
+    within_same _ _ _ _ (within_behind _ _ _ _ c.loop-alloc.invariant.writes c.write_all.ensures.within)
+    c.read.ensures.writes
+
+pub returns-in_err-settled-clause-writes_within : goal.returns-in_err-settled-clause-writes_within
+returns-in_err-settled-clause-writes_within g c = up_to_within _ _ _ _ (written_none (g.L.EndLine.writes c.args.line.now))
+
+pub returns-clause-writes_within : goal.returns-clause-writes_within
+returns-clause-writes_within g c = up_to_within _ _ _ _ c.loop-alloc.invariant.writes
 
 pub returns-then-has_ended-clause-within : goal.returns-then-has_ended-clause-within
 returns-then-has_ended-clause-within g c =
@@ -139,7 +187,7 @@ pub returns-in_err-take_and_settle-clause-within : goal.returns-in_err-take_and_
 returns-in_err-take_and_settle-clause-within g c =
     within_then _ _ _ _ _ (spends_more _ _ _ _ _ _ _ _ _ c.in_ok-outcome.outcome c.read.new.buffer
     (spends_same _ _ _ _ _ _ c.write_all.ensures.received c.loop-alloc.invariant.spends)
-    (c.lasts.ensures.0 c.loop-alloc-test.true) c.in_ok-outcome.ensures.within (room_of _ _ c.loop-alloc.buffer c.room-room.ensures.bytes)
+    (c.stays.ensures.lasts c.loop-alloc-test.true) c.in_ok-outcome.ensures.within (room_of _ _ c.loop-alloc.buffer c.room-room.ensures.bytes)
     (omega (arith, c.in_ok-outcome.ensures.size)) c.in_ok-outcome.ensures.received refl refl)
 
 pub returns-clause-within : goal.returns-clause-within
@@ -152,8 +200,8 @@ returns-in_err-take_and_settle-clause-led g c =
     (led_kept g.S.Spool.holdings g.S.Spool.kept _ _ _ _ c.write_all.ensures.spool c.write_all.ensures.node)
     c.take_and_settle.ensures.led)
 
-pub returns-in_err-write_all-clause-heard : goal.returns-in_err-write_all-clause-heard
-returns-in_err-write_all-clause-heard g c =
+pub returns-in_err-all_written-clause-heard : goal.returns-in_err-all_written-clause-heard
+returns-in_err-all_written-clause-heard g c =
     unless_refused _ _
     (line_same _ _ _ _ _ _ _ _ _ _ c.loop-alloc.invariant.heard c.write_all.ensures.node
     (ap g.S.Spool.kept c.write_all.ensures.spool) c.write_all.ensures.received)
@@ -169,18 +217,18 @@ returns-in_err-outcome-clause-heard g c =
     (line_same _ _ _ _ _ _ _ _ _ _ c.loop-alloc.invariant.heard c.write_all.ensures.node
     (ap g.S.Spool.kept c.write_all.ensures.spool) (c.in_err-outcome.ensures.nothing ∙ c.write_all.ensures.received))
 
-pub returns-in_err-write_all-clause-talked : goal.returns-in_err-write_all-clause-talked
-returns-in_err-write_all-clause-talked g c cleared =
+pub returns-in_err-all_written-clause-talked : goal.returns-in_err-all_written-clause-talked
+returns-in_err-all_written-clause-talked g c cleared =
     unless_refused _ _
     (talks_some _ _ _ _ _ _ _ _ _ _ _ _ _ _ _ _ _ (c.loop-alloc.invariant.talks cleared) c.write_all.ensures.node
-    (ap g.S.Spool.kept c.write_all.ensures.spool) c.write_all.ensures.received c.in_err-write_all.ensures.taken_some)
+    (ap g.S.Spool.kept c.write_all.ensures.spool) c.write_all.ensures.received c.write_all.ensures.taken_some)
 
 pub returns-then-has_ended-clause-talked : goal.returns-then-has_ended-clause-talked
 returns-then-has_ended-clause-talked g c cleared =
     talks_over _ _ _ _ _ _ _ _ _ _ _ _ _ _ _ _ _
     (talks_written _ _ _ _ _ _ _ _ _ _ _ _ _ _ _ _ _ _ _ (c.loop-alloc.invariant.talks cleared) c.write_all.ensures.node
     (ap g.S.Spool.kept c.write_all.ensures.spool) c.write_all.ensures.received c.write_all.ensures.injector
-    c.in_ok-write_all.ensures.all c.in_ok-write_all.ensures.taken) refl refl refl refl
+    (c.in_ok-all_written.ensures.all c.if-not-all_written.false) (c.in_ok-all_written.ensures.taken c.if-not-all_written.false)) refl refl refl refl
 
 pub returns-in_err-outcome-clause-talked : goal.returns-in_err-outcome-clause-talked
 returns-in_err-outcome-clause-talked g c cleared =
@@ -188,7 +236,7 @@ returns-in_err-outcome-clause-talked g c cleared =
     (talks_over _ _ _ _ _ _ _ _ _ _ _ _ _ _ _ _ _
     (talks_written _ _ _ _ _ _ _ _ _ _ _ _ _ _ _ _ _ _ _ (c.loop-alloc.invariant.talks cleared) c.write_all.ensures.node
     (ap g.S.Spool.kept c.write_all.ensures.spool) c.write_all.ensures.received c.write_all.ensures.injector
-    c.in_ok-write_all.ensures.all c.in_ok-write_all.ensures.taken) refl refl
+    (c.in_ok-all_written.ensures.all c.if-not-all_written.false) (c.in_ok-all_written.ensures.taken c.if-not-all_written.false)) refl refl
     c.in_err-outcome.ensures.nothing c.read.ensures.taken)
 
 pub returns-clause-talked : goal.returns-clause-talked
@@ -233,7 +281,7 @@ returns-in_err-take_and_settle-clause-talked g c cleared =
     (ap g.S.Spool.holdings c.write_all.ensures.spool ∙ c.loop-alloc.invariant.led.same)
     (talks_written _ _ _ _ _ _ _ _ _ _ _ _ _ _ _ _ _ _ _ (c.loop-alloc.invariant.talks cleared) c.write_all.ensures.node
     (ap g.S.Spool.kept c.write_all.ensures.spool) c.write_all.ensures.received c.write_all.ensures.injector
-    c.in_ok-write_all.ensures.all c.in_ok-write_all.ensures.taken)
+    (c.in_ok-all_written.ensures.all c.if-not-all_written.false) (c.in_ok-all_written.ensures.taken c.if-not-all_written.false))
     takes c.in_ok-outcome.ensures.received
     (front_read c.in_ok-outcome.outcome c.read.new.buffer _ _ c.in_ok-outcome.ensures.within (omega (arith, c.in_ok-outcome.ensures.size)))
     c.in_ok-outcome.ensures.taken)
@@ -255,3 +303,8 @@ returns-in_err-take_and_settle-clause-told g c =
     (tells_same _ _ _ (node_in c.loop-alloc.buffered) (node_in c.write_all.new.buffered) (ap jobs_of_end c.write_all.ensures.node) refl)
     (tells_of _ _ _ _ (node_in c.write_all.new.buffered) (node_in c.take_and_settle.new.buffered)
     (sym (ap g.S.Spool.holdings c.write_all.ensures.spool ∙ c.loop-alloc.invariant.led.same)) told))))
+
+pub returns-in_err-settled-clause-told : goal.returns-in_err-settled-clause-told
+returns-in_err-settled-clause-told g c =
+    however_settled c.from_residual.result _
+    (tells_same _ _ _ (node_in c.args.buffered.now) (node_in c.args.buffered.now) refl refl)

@@ -7,6 +7,8 @@ use Rattle.uug_transfer.specs.Listening.{HearsLine}
 use Rattle.uug_transfer.specs.Settling.{IsOnDisk, LosesNoJob, StaysInStore, TellsFailed}
 use Rattle.uug_transfer.proofs.SettlingLemmas.{FollowsNumber}
 use Rattle.uug_transfer.specs.ReadBudgets.{turns_left}
+use Rattle.uug_transfer.specs.WriteSilences.{WritesUpTo}
+use Rattle.uug_transfer.specs.declared.read_budget.TheConstants.{STALLS_MAX}
 use Rattle.uug_transfer.proofs.ListeningLemmas.{TalksOn}
 use Rattle.uug_transfer.proofs.ReceivedLemmas.{SpendsSince}
 use Rattle.uug_transfer.proofs.session.take_turns.Given as goal
@@ -24,6 +26,7 @@ invariant-loop-alloc g l = record {
       (g.L.EndLine.taken l.fn.line) (g.L.EndLine.taken l.line) (node_in l.fn.buffered) (node_in l.buffered);
   number : KeepsNumber (node_in l.fn.buffered).engine (node_in l.buffered).engine;
   spends : SpendsSince l.fn.most l.budget.bytes l.budget.silences (g.L.EndLine.received l.fn.line) (g.L.EndLine.received l.line);
+  writes : WritesUpTo STALLS_MAX 0 (g.L.EndLine.writes l.fn.line) (g.L.EndLine.writes l.line);
   on_disk : IsOnDisk l.settled (node_in l.buffered) (g.N.TextFile.text l.number);
   follows : FollowsNumber (number_of_end (node_in l.fn.buffered)) l.settled.number (number_of_end (node_in l.buffered));
   file : g.N.TextFile.text l.number ≡ holding_number l.settled.number (g.N.TextFile.text l.fn.number);

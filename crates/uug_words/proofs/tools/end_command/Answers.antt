@@ -11,9 +11,12 @@ returns c =
     let window = adds peer c.in_ok-arg-5.ensures c.number.ensures in
     let size = adds window c.in_ok-arg-6.ensures c.number-2.ensures in
     let timeout = adds size c.in_ok-arg-7.ensures c.number-3.ensures in
-    let no_quiet = adds timeout c.in_ok-arg-8.ensures c.flag.ensures in
-    let fill_commands = adds no_quiet c.in_ok-arg-9.ensures c.flag-2.ensures in
-    let strict = adds fill_commands c.in_ok-arg-10.ensures c.flag-3.ensures in
-    let numbered = adds strict c.in_ok-arg-11.ensures c.flag-4.ensures in
-    let locks = adds numbered c.in_ok-arg-12.ensures c.folder.ensures in
-    IfOk-weaker c.arg-13.result _ _ (λ made step. adds locks step c.verbose.ensures) c.arg-13.ensures
+    let speed = adds timeout c.in_ok-arg-8.ensures c.whole.ensures in
+    let no_quiet = adds speed c.in_ok-arg-9.ensures c.flag.ensures in
+    let fill_commands = adds no_quiet c.in_ok-arg-10.ensures c.flag-2.ensures in
+    let strict = adds fill_commands c.in_ok-arg-11.ensures c.flag-3.ensures in
+    let every_ack = adds strict c.in_ok-arg-12.ensures c.flag-4.ensures in
+    let numbered = adds every_ack c.in_ok-arg-13.ensures c.flag-5.ensures in
+    let locks = adds numbered c.in_ok-arg-14.ensures c.folder.ensures in
+    let most = adds locks c.in_ok-arg-15.ensures c.number-4.ensures in
+    IfOk-weaker c.arg-16.result _ _ (λ made step. adds most step c.verbose.ensures) c.arg-16.ensures

@@ -1,0 +1,140 @@
+#!/usr/bin/env python3
+"""Whether a file of 20,000 bytes comes over clean slow lines, and how long it takes.
+
+    slow_lines.py [PROGRAM]
+
+Terminal devices (pseudo-terminals) are the line, which takes and gives so many bits a second in each direction, ten for a
+byte; a write to the device waits where it has taken no more. `uucpair` with `--speed` and no other option but window and
+size: at both ends, and at either end with Taylor UUCP at the other; and two ends of Taylor. All times are a tenth of what
+they say. Prints the seconds, ten times as many as were measured, `-` where the file did not come or an end did not say that
+it is done. Ends with status 1 where that is so with an end of `uucpair`.
+"""
+import os
+import pty
+import sys
+import tempfile
+import termios
+import threading
+import time
+import tty
+
+from ends import Ours, Taylor, all_came, fresh, load_files, stop
+
+SCALE = 10
+TICK = 0.01
+SPEEDS = [300, 1_200, 4_800, 9_600]
+SIZES = [64, 1_024, 4_096]
+WINDOWS = [3, 7]
+PAIRS = [("ours", "ours"), ("ours", "Taylor"), ("Taylor", "ours"), ("Taylor", "Taylor")]
+SIDE_BY_SIDE = 16
+
+
+class Device:
+    """A terminal device whose other side is here."""
+
+    def __init__(self):
+        self.master, self.slave = pty.openpty()
+        tty.setraw(self.slave, termios.TCSANOW)
+        os.set_blocking(self.master, False)
+        self.path = os.ttyname(self.slave)
+        os.chmod(self.path, 0o666)
+
+    def close(self):
+        os.close(self.master)
+        os.close(self.slave)
+
+
+def move(one, other, room):
+    """Hands on at most so many bytes. The answer is how many."""
+    try:
+        piece = os.read(one.master, room)
+        return os.write(other.master, piece)
+    except (BlockingIOError, OSError):
+        return 0
+
+
+def carry(one, other, bytes_a_second, is_over, until):
+    """Hands on what comes at the line's speed. The answer is when the last bytes came."""
+    rooms = [0.0, 0.0]
+    came = before = time.monotonic()
+    over = None
+    while (now := time.monotonic()) < until:
+        for way, (here, there) in enumerate(((one, other), (other, one))):
+            rooms[way] = min(rooms[way] + (now - before) * bytes_a_second, max(1.0, 2 * TICK * bytes_a_second))
+            if rooms[way] >= 1 and (count := move(here, there, int(rooms[way]))):
+                rooms[way] -= count
+                came = now
+        before = now
+        if over is None and is_over():
+            over = now
+        if over is not None and now - max(over, came) > 0.5:
+            break
+        time.sleep(TICK)
+    return came
+
+
+def end(kind, program, work, names, window, size, speed):
+    if kind == "Taylor":
+        return Taylor(work, *names, size, window, max(1, 10 // SCALE))
+    options = ["--window", str(window), "--size", str(size), "--timeout", str(10 // SCALE), "--speed", str(speed * SCALE)]
+    return Ours(program, work, *names, options + ["--locks", work])
+
+
+def run(pair, program, work, window, size, speed):
+    """The seconds that the file takes, or None, and what the ends said then."""
+    caller = end(pair[0], program, work, ("a", "b"), window, size, speed)
+    called = end(pair[1], program, work, ("b", "a"), window, size, speed)
+    files = load_files("file")
+    caller.queue(files)
+    one, other = Device(), Device()
+    answering = called.answer(other.path)
+    time.sleep(0.3)
+    calling = caller.call(one.path)
+    began = time.monotonic()
+    most = 12 * 20_000 * 10 / (speed * SCALE) + 30
+
+    def is_over():
+        return calling.poll() is not None and answering.poll() is not None
+
+    came = carry(one, other, speed * SCALE / 10, is_over, began + most)
+    is_done = is_over() and all(
+        process.returncode == 0 for kind, process in zip(pair, (calling, answering)) if kind == "ours"
+    )
+    stop(calling, answering)
+    one.close()
+    other.close()
+    if is_done and all_came(called, files):
+        return (came - began) * SCALE, ""
+    return None, f"{caller.said()} | {called.said()}"
+
+
+def main():
+    root = os.path.dirname(os.path.dirname(os.path.abspath(__file__)))
+    program = os.path.abspath(sys.argv[1]) if len(sys.argv) > 1 else f"{root}/crates/uucpair/out/uucpair"
+    taken, room = {}, threading.Semaphore(SIDE_BY_SIDE)
+
+    def measure(*cell):
+        with room, tempfile.TemporaryDirectory() as work:
+            os.chmod(work, 0o755)
+            taken[cell], why = run(cell[0], program, fresh(f"{work}/w"), *cell[1:])
+        if why:
+            print(f"  {cell}: {why}", file=sys.stderr)
+
+    cells = [(pair, window, size, speed) for pair in PAIRS for speed in SPEEDS for size in SIZES for window in WINDOWS]
+    threads = [threading.Thread(target=measure, args=cell) for cell in cells]
+    for thread in threads:
+        thread.start()
+    for thread in threads:
+        thread.join()
+    columns = [(window, size) for size in SIZES for window in WINDOWS]
+    print("| bit/s | caller, called | " + " | ".join(f"{window} x {size:,}" for window, size in columns) + " |")
+    print("|" + "---|" * (len(columns) + 2))
+    for speed in SPEEDS:
+        for pair in PAIRS:
+            row = [taken[(pair, window, size, speed)] for window, size in columns]
+            print(f"| {speed:,} | {', '.join(pair)} | " + " | ".join("-" if cell is None else f"{cell:.0f}" for cell in row) + " |")
+    sys.exit(any(seconds is None for cell, seconds in taken.items() if "ours" in cell[0]))
+
+
+if __name__ == "__main__":
+    main()

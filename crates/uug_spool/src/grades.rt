@@ -1,0 +1,26 @@
+//! The grades of jobs, and the order in which C. files are taken.
+ghost use Rattle.std.specs.Prelude.{◌≡◌};
+ghost use Rattle.uug_spool.specs.WorkOrder.{grade_of, work_order};
+
+use std::cmp::Ordering;
+
+/// The grade of the C. file of this name: the letter or digit behind `C.`. Files of other names are no jobs.
+pub fn grade_of(name: &[u8]) -> Option<u8>
+    ensures { result ≡ grade_of name.now }
+{
+    match name {
+        [b'C', b'.', grade, ..] if grade.is_ascii_alphanumeric() => Some(*grade),
+        _ => None,
+    }
+}
+
+/// The order in which C. files are taken: by grade, `0` to `9` before `A` to `Z` before `a` to `z`, and of one grade by
+/// name.
+pub fn work_order(name: &[u8], other: &[u8]) -> Ordering
+    ensures { result ≡ work_order name.now other.now }
+{
+    match grade_of(name).cmp(&grade_of(other)) {
+        Ordering::Equal => name.cmp(other),
+        order => order,
+    }
+}

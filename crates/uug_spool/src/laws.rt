@@ -1,0 +1,34 @@
+//! Laws of what this crate reads and writes. A call does nothing: its contract is the law.
+ghost use Rattle.std.specs.Prelude.{◌≡◌, ◌<◌, ℕ, List, All, Ok, true};
+ghost use Rattle.std.specs.Cmp.{IsTotalOrder};
+ghost use Rattle.std.specs.declared.cmp.Ordering.TheVariants.{Equal};
+ghost use Rattle.uug_spool.specs.CommandLines.{Line, command_of};
+ghost use Rattle.uug_spool.specs.CommandTexts.{IsLine, line_of};
+ghost use Rattle.uug_spool.specs.Quoting.{is_well_quoted, quoted, unquoted};
+ghost use Rattle.uug_spool.specs.WorkOrder.{work_order};
+ghost use Rattle.uug_spool.specs.declared.spool_names.TheConstants.{FAR_NAME_MAX, OWN_DATA_MAX, OWN_TEXT_MAX};
+
+/// The limits of names are these.
+pub fn limits()
+    ensures own_data { OWN_DATA_MAX ≡ 6 }
+    ensures own_text { OWN_TEXT_MAX ≡ 7 }
+    ensures far_name { FAR_NAME_MAX ≡ 14 }
+{}
+
+/// The order in which C. files are taken is one, and no two names are on a par.
+pub fn jobs_are_taken_in_one_order()
+    ensures order { IsTotalOrder work_order }
+    ensures names { (name other : List ℕ) → work_order name other ≡ Equal → name ≡ other }
+{}
+
+/// The word of a name is well quoted, and stands for the name.
+pub fn what_is_quoted_is_read()
+    ensures well { (name : List ℕ) → All (λ b. b < 256) name → is_well_quoted (quoted name) ≡ true }
+    ensures name { (name : List ℕ) → All (λ b. b < 256) name → unquoted (quoted name) ≡ name }
+{}
+
+/// The line of a command is read as the command, where its words are words, its names are well quoted, and its copy and its
+/// mode are such.
+pub fn written_commands_are_read()
+    ensures { (line : Line) → IsLine line → command_of (line_of line) ≡ Ok line }
+{}

@@ -1,0 +1,191 @@
+//! The names of the files of a spool: where a file goes that another system sends, and how data is called there.
+ghost use Rattle.std.specs.Prelude.{◌≡◌, ◌+◌, ◌≤◌, ◌++◌, length};
+ghost use Rattle.uug_spool.specs.SpoolNames.{far_name, has_slash, has_two_dots, is_data_name, is_system_name, local_name, public_spot, spool_spot, spot_of};
+ghost use Rattle.uug_spool.specs.declared.spool_names.TheConstants.{FAR_NAME_MAX};
+
+use arrayvec::ArrayVec;
+use thiserror::Error;
+use uug_talk::Name;
+
+/// The most bytes of a name that this system gives to its own data: `D.` and four digits.
+pub const OWN_DATA_MAX: usize = 6;
+
+/// The most bytes of a name that this system gives to its own texts: `D.X` and four digits.
+pub const OWN_TEXT_MAX: usize = 7;
+
+/// The most bytes of a name that data gets at another system.
+pub const FAR_NAME_MAX: usize = 14;
+
+/// So many letters of a node's name are in the names that its files get at another system.
+const NODE_LETTERS: usize = 7;
+
+/// Where a file is put that comes from a system.
+#[derive(Clone, Copy, Debug, PartialEq, Eq)]
+pub enum Room {
+    /// The system's `D.`: data.
+    Data,
+    /// The system's `D.X`: data whose name begins so.
+    Text,
+    /// The system's `X.`: execution files.
+    Execution,
+    /// The public folder.
+    Public,
+}
+
+/// The place of a file: a room, and the name in it.
+#[derive(Clone, Copy, Debug, PartialEq, Eq)]
+pub struct Spot {
+    /// Where it is.
+    pub room: Room,
+    /// Its name there.
+    pub name: Name,
+}
+
+/// Why no file is taken under a name.
+#[derive(Clone, Copy, Debug, PartialEq, Eq, Error)]
+pub enum Barred {
+    /// It is a path that may lead elsewhere, or names a folder.
+    #[error("not a name in the public folder or the spool")]
+    Path,
+    /// It is the name of a C. file.
+    #[error("the name of a job")]
+    Commands,
+    /// It is a name that this system gives to its own data.
+    #[error("the name of data of this system")]
+    Ours,
+    /// It begins with a dot in the public folder.
+    #[error("a hidden name")]
+    Hidden,
+}
+
+fn has_slash(name: &[u8]) -> bool
+    ensures { result ≡ has_slash name.now }
+{
+    name.contains(&b'/')
+}
+
+/// Whether two dots stand side by side somewhere in a name.
+fn has_two_dots(name: &[u8]) -> bool
+    ensures { result ≡ has_two_dots name.now }
+{
+    let mut rest = name;
+    while !rest.is_empty() {
+        if rest.starts_with(b"..") {
+            return true;
+        }
+        rest = &rest[1..];
+    }
+    false
+}
+
+/// The place of a file that another system sends under this name.
+///
+/// `D.` and `X.` names without a slash are in the spool, but those that this system gives to its own data. `~/x`, `/x` and
+/// `x` are `x` in the public folder. All else is barred: C. names, two dots side by side, any other slash, a dot in front,
+/// and the public folder itself.
+pub fn spot_of(target: &Name) -> Result<Spot, Barred>
+    ensures { result ≡ spot_of target.now }
+{
+    let name = target.as_bytes();
+    if has_two_dots(name) {
+        return Err(Barred::Path);
+    }
+    if name.starts_with(b"C.") {
+        Err(Barred::Commands)
+    } else if name.starts_with(b"D.X") {
+        spool_spot(Room::Text, OWN_TEXT_MAX, target)
+    } else if name.starts_with(b"D.") {
+        spool_spot(Room::Data, OWN_DATA_MAX, target)
+    } else if name.starts_with(b"X.") {
+        spool_spot(Room::Execution, 0, target)
+    } else {
+        public_spot(local_name(name))
+    }
+}
+
+/// The place of a file of the spool, where names of at most so many bytes are this system's own.
+fn spool_spot(room: Room, own_max: usize, name: &Name) -> Result<Spot, Barred>
+    ensures { result ≡ spool_spot room own_max name.now }
+{
+    let bytes = name.as_bytes();
+    if has_slash(bytes) {
+        return Err(Barred::Path);
+    }
+    if bytes.len() <= own_max {
+        return Err(Barred::Ours);
+    }
+    Ok(Spot { room, name: *name })
+}
+
+/// A name without the public folder or the root in front.
+fn local_name(name: &[u8]) -> &[u8]
+    ensures { result.now ≡ local_name name.now }
+{
+    if name.starts_with(b"~/") {
+        &name[2..]
+    } else if name.starts_with(b"/") {
+        &name[1..]
+    } else {
+        name
+    }
+}
+
+/// The place of a file of this name in the public folder.
+fn public_spot(name: &[u8]) -> Result<Spot, Barred>
+    ensures { result ≡ public_spot name.now }
+{
+    if has_slash(name) || name.starts_with(b"~") {
+        return Err(Barred::Path);
+    }
+    if name.starts_with(b".") {
+        return Err(Barred::Hidden);
+    }
+    match Name::new(name) {
+        Ok(name) => Ok(Spot {
+            room: Room::Public,
+            name,
+        }),
+        Err(_) => Err(Barred::Path),
+    }
+}
+
+/// Whether a name may be that of data in a spool, or of a file that is being received there: `D.` and more, without a slash
+/// and without two dots side by side.
+pub fn is_data_name(name: &[u8]) -> bool
+    ensures { result ≡ is_data_name name.now }
+{
+    name.len() > 2 && name.starts_with(b"D.") && !has_slash(name) && !has_two_dots(name)
+}
+
+/// Whether the name of a system may be that of its folder in a spool: no slash, and no dot in front.
+pub fn is_system_name(name: &Name) -> bool
+    ensures { result ≡ is_system_name name.now }
+{
+    let bytes = name.as_bytes();
+    !has_slash(bytes) && !bytes.starts_with(b".")
+}
+
+/// The name that a file of this node gets at another system: the kind of the file (`D` or `X`), a dot, the first seven
+/// letters of the node's name, the grade and the number.
+pub fn far_name(kind: u8, node: &Name, grade: u8, number: [u8; 4]) -> ArrayVec<u8, FAR_NAME_MAX>
+    ensures { result.items ≡ far_name kind node.now grade number }
+{
+    let node = node.as_bytes();
+    let letters = &node[..node.len().min(NODE_LETTERS)];
+    let mut name = ArrayVec::new();
+    name.push(kind);
+    name.push(b'.');
+    push_all(&mut name, letters);
+    name.push(grade);
+    push_all(&mut name, &number);
+    name
+}
+
+fn push_all(name: &mut ArrayVec<u8, FAR_NAME_MAX>, bytes: &[u8])
+    requires { length name.old.items + length bytes.now ≤ FAR_NAME_MAX }
+    ensures { name.new.items ≡ name.old.items ++ bytes.now }
+{
+    let Ok(()) = name.try_extend_from_slice(bytes) else {
+        unreachable!();
+    };
+}

@@ -1,0 +1,263 @@
+//! An end that is called at a socket. It goes on listening until a caller has been let in.
+ghost use Rattle.std.specs.Prelude.{◌≡◌, ◌≢◌, ◌≤◌, Err, IfErr, IfOk, IsSome};
+ghost use Rattle.uug_stream.specs.Streams.{CountsFault};
+ghost use Rattle.uug_sys.specs.Faults.{IsCallFault};
+
+use crate::call::{CallTask, Station, talk_over};
+use crate::deadline::Deadline;
+use crate::doorkeeper::Doorkeeper;
+use crate::failure::{Cause, Resource, SystemFailure};
+use crate::held_output::HeldOutput;
+use crate::listening::{Listener, Listening};
+use crate::silent_line::SilentLine;
+use crate::stream_line::StreamLine;
+use crate::system_line::SystemLine;
+use std::alloc::Allocator;
+use std::fs::File;
+use std::io;
+use std::net::Net;
+use std::rt::Files;
+use std::time::Clock;
+use uug_stream::{Output, ToolFault, write_all};
+use uug_transfer::SessionObserver;
+
+/// So many callers are heard at most.
+const CALLERS_MAX: u32 = u32::MAX;
+
+/// What came of a caller who was let in, or why no more are heard.
+#[derive(Drop)]
+struct Served<A: Allocator> {
+    answer: Result<u8, ToolFault>,
+    /// What is to be printed.
+    report: HeldOutput<A>,
+}
+
+/// The end waits to be called at this socket, and talks with the first caller whom it lets in. Of those before, whose greeting
+/// was refused or broke off, nothing is left but what the observer has said. Where the time to wait is over it has the session
+/// of an end that nobody has called.
+pub(crate) fn answer_at<A, R, T, W, O, B>(
+    alloc: A,
+    rt: &R,
+    task: &CallTask<'_>,
+    station: Station,
+    opened: io::Result<Listening<'_, '_, T, R, A>>,
+    observer: W,
+    output: &mut O,
+    remark: &mut String<B>,
+    why: &mut Option<SystemFailure>,
+) -> Result<u8, ToolFault>
+where
+    A: Allocator + Copy,
+    R: Files<File = File> + Net + Clock + Eprint + Alloc + Clone + Drop,
+    T: Listener + Drop,
+    W: SessionObserver + Drop,
+    O: Output,
+    B: Allocator,
+    ensures status { IfOk result (λ status. status ≤ 1) }
+    ensures write { result ≡ Err ToolFault.Write
+        → CountsFault (O.fault_count output.old) (O.fault_count output.new) }
+    ensures no_other { IfErr result IsCallFault }
+    ensures no_usage { result ≢ Err ToolFault.Usage }
+    ensures why { result ≡ Err ToolFault.Device → IsSome why.new }
+{
+    match opened {
+        Ok(listening) => answer_calls(
+            alloc, rt, task, station, listening, observer, output, remark, why,
+        ),
+        Err(error) => {
+            drop(observer);
+            Err(fails(why, &error))
+        }
+    }
+}
+
+/// The same, at a socket that listens.
+fn answer_calls<A, R, T, W, O, B>(
+    alloc: A,
+    rt: &R,
+    task: &CallTask<'_>,
+    station: Station,
+    listening: Listening<'_, '_, T, R, A>,
+    observer: W,
+    output: &mut O,
+    remark: &mut String<B>,
+    why: &mut Option<SystemFailure>,
+) -> Result<u8, ToolFault>
+where
+    A: Allocator + Copy,
+    R: Files<File = File> + Net + Clock + Eprint + Alloc + Clone + Drop,
+    T: Listener + Drop,
+    W: SessionObserver + Drop,
+    O: Output,
+    B: Allocator,
+    ensures status { IfOk result (λ status. status ≤ 1) }
+    ensures write { result ≡ Err ToolFault.Write
+        → CountsFault (O.fault_count output.old) (O.fault_count output.new) }
+    ensures no_other { IfErr result IsCallFault }
+    ensures no_usage { result ≢ Err ToolFault.Usage }
+    ensures why { result ≡ Err ToolFault.Device → IsSome why.new }
+{
+    let doorkeeper = Doorkeeper {
+        observer,
+        listening,
+    };
+    let served = first_served(alloc, rt, task, station, doorkeeper, remark, why);
+    give(served, output)
+}
+
+/// What came of the first caller who was let in, or of a session with nobody where none came in time.
+fn first_served<A, R, T, W, B>(
+    alloc: A,
+    rt: &R,
+    task: &CallTask<'_>,
+    station: Station,
+    mut doorkeeper: Doorkeeper<'_, '_, W, T, R, A>,
+    remark: &mut String<B>,
+    why: &mut Option<SystemFailure>,
+) -> Served<A>
+where
+    A: Allocator + Copy,
+    R: Files<File = File> + Net + Clock + Eprint + Alloc + Clone + Drop,
+    T: Listener + Drop,
+    W: SessionObserver + Drop,
+    B: Allocator,
+    ensures status { IfOk result.answer (λ status. status ≤ 1) }
+    ensures no_other { IfErr result.answer IsCallFault }
+    ensures no_usage { result.answer ≢ Err ToolFault.Usage }
+    // What is held is in memory, whose faults are no refused writes.
+    ensures no_write { result.answer ≢ Err ToolFault.Write }
+    ensures why { result.answer ≡ Err ToolFault.Device → IsSome why.new }
+{
+    let deadline = match Deadline::after(rt, station.wait_at_socket()) {
+        Ok(deadline) => deadline,
+        Err(error) => {
+            doorkeeper.listening.close();
+            drop(doorkeeper);
+            return broken(alloc, why, &error);
+        }
+    };
+    for _ in 0..CALLERS_MAX {
+        let stream = match doorkeeper.next_caller(&deadline, station.time()) {
+            Ok(Some(stream)) => stream,
+            Ok(None) => break,
+            Err(error) => {
+                doorkeeper.listening.close();
+                drop(doorkeeper);
+                return broken(alloc, why, &error);
+            }
+        };
+        let line = Ok(StreamLine::new(stream));
+        let (served, keeper) = serve(alloc, rt, task, station, line, doorkeeper, remark, why);
+        doorkeeper = keeper;
+        if !doorkeeper.listening.is_open() || !is_of_line(served.answer, *why) {
+            doorkeeper.listening.close();
+            drop(doorkeeper);
+            return served;
+        }
+        drop(served);
+        tell(rt, remark);
+        *why = None;
+    }
+    doorkeeper.listening.close();
+    let line = Ok(SilentLine);
+    let (served, doorkeeper) = serve(alloc, rt, task, station, line, doorkeeper, remark, why);
+    drop(doorkeeper);
+    served
+}
+
+/// The session at a line, whose report is held back. The doorkeeper is given back.
+fn serve<'a, 'p, A, R, L, T, W, B>(
+    alloc: A,
+    rt: &R,
+    task: &CallTask<'_>,
+    station: Station,
+    line: Result<L, Cause>,
+    doorkeeper: Doorkeeper<'a, 'p, W, T, R, A>,
+    remark: &mut String<B>,
+    why: &mut Option<SystemFailure>,
+) -> (Served<A>, Doorkeeper<'a, 'p, W, T, R, A>)
+where
+    A: Allocator + Copy,
+    R: Files<File = File> + Net + Clock + Eprint + Alloc + Clone + Drop,
+    L: SystemLine + Drop,
+    T: Listener + Drop,
+    W: SessionObserver + Drop,
+    B: Allocator,
+    ensures status { IfOk result.0.answer (λ status. status ≤ 1) }
+    ensures no_other { IfErr result.0.answer IsCallFault }
+    ensures no_usage { result.0.answer ≢ Err ToolFault.Usage }
+    ensures no_write { result.0.answer ≢ Err ToolFault.Write }
+    ensures why { result.0.answer ≡ Err ToolFault.Device → IsSome why.new }
+{
+    let mut report = HeldOutput::new(alloc);
+    let (answer, doorkeeper) = talk_over(
+        alloc,
+        rt,
+        task,
+        station,
+        None,
+        line,
+        doorkeeper,
+        &mut report,
+        remark,
+        why,
+    );
+    (Served { answer, report }, doorkeeper)
+}
+
+/// Says at once what is remarked of a caller who was not let in.
+fn tell<R: Eprint, B: Allocator>(rt: &R, remark: &mut String<B>) {
+    let said = remark.as_str();
+    let _ = eprint!(rt; "{said}");
+    remark.clear();
+}
+
+/// What is answered where the socket has failed.
+fn broken<A: Allocator>(alloc: A, why: &mut Option<SystemFailure>, error: &io::Error) -> Served<A>
+    ensures answer { result.answer ≡ Err ToolFault.Device }
+    ensures why { IsSome why.new }
+{
+    Served {
+        answer: Err(fails(why, error)),
+        report: HeldOutput::new(alloc),
+    }
+}
+
+/// Says that a call of the system on the line has failed.
+fn fails(why: &mut Option<SystemFailure>, error: &io::Error) -> ToolFault
+    ensures fault { result ≡ ToolFault.Device }
+    ensures why { IsSome why.new }
+{
+    *why = Some(SystemFailure::on(Resource::Line, Cause::of(error)));
+    ToolFault::Device
+}
+
+/// Whether it is the line that has ended a session, and not a file or the want of memory.
+fn is_of_line(answer: Result<u8, ToolFault>, why: Option<SystemFailure>) -> bool {
+    match (answer, why) {
+        (Ok(_), _) => true,
+        (Err(ToolFault::Device), Some(failure)) => matches!(failure.resource, Resource::Line),
+        _ => false,
+    }
+}
+
+/// Prints what is to be printed of a caller. What was answered first counts.
+fn give<A: Allocator, O: Output>(served: Served<A>, output: &mut O) -> Result<u8, ToolFault>
+    requires status { IfOk served.answer (λ status. status ≤ 1) }
+    requires no_other { IfErr served.answer IsCallFault }
+    requires no_usage { served.answer ≢ Err ToolFault.Usage }
+    requires no_write { served.answer ≢ Err ToolFault.Write }
+    ensures status { IfOk result (λ status. status ≤ 1) }
+    ensures write { result ≡ Err ToolFault.Write
+        → CountsFault (O.fault_count output.old) (O.fault_count output.new) }
+    ensures no_other { IfErr result IsCallFault }
+    ensures no_usage { result ≢ Err ToolFault.Usage }
+    ensures device { result ≡ Err ToolFault.Device → served.answer ≡ Err ToolFault.Device }
+{
+    let printed = write_all(output, served.report.bytes());
+    match (served.answer, printed) {
+        (Ok(status), Ok(())) => Ok(status),
+        (Ok(_), Err(fault)) => Err(fault),
+        (Err(fault), _) => Err(fault),
+    }
+}

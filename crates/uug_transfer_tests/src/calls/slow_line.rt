@@ -1,0 +1,105 @@
+//! A line that takes its time.
+ghost use Rattle.std.specs.Prelude.{◌≡◌, None};
+
+use super::MemoryEndAtLine;
+use super::scripted_line::ScriptedLine;
+use uug_transfer::{EndLine, LineFailed, ReadOutcome};
+
+/// How slow a line is.
+#[derive(Clone, Copy)]
+pub(super) struct Pace {
+    /// So many writes take nothing before one does, in so many seconds each.
+    pub(super) stalls: usize,
+    pub(super) stall: u64,
+    /// So many seconds pass at a read that brings bytes of the other end.
+    pub(super) seconds: u64,
+    /// Behind so many bytes of the other end each read brings one byte of somebody else, in nine seconds.
+    pub(super) drips_behind: usize,
+}
+
+/// A line of this pace, with a clock that goes on as it is read and written.
+#[derive(Drop)]
+pub(super) struct SlowLine {
+    line: ScriptedLine,
+    pace: Pace,
+    /// How many writes in a row have taken nothing.
+    stalled: usize,
+    /// How many bytes of the other end have come.
+    came: usize,
+    second: u64,
+}
+
+impl SlowLine {
+    pub(super) fn new(line: ScriptedLine, pace: Pace) -> Self {
+        SlowLine {
+            line,
+            pace,
+            stalled: 0,
+            came: 0,
+            second: 0,
+        }
+    }
+
+    pub(super) fn other(&self) -> &MemoryEndAtLine {
+        self.line.other()
+    }
+
+    fn pass(&mut self, seconds: u64)
+        ensures { self.new.line ≡ self.old.line }
+    {
+        self.second = self.second.saturating_add(seconds);
+    }
+
+    /// What a read has brought, and the time that it took.
+    fn note_read(&mut self, outcome: ReadOutcome)
+        ensures { self.new.line ≡ self.old.line }
+    {
+        match outcome {
+            ReadOutcome::Bytes(count) => {
+                self.came = self.came.saturating_add(count);
+                self.pass(self.pace.seconds);
+            }
+            ReadOutcome::TimedOut => self.pass(10),
+            ReadOutcome::Eof => {}
+        }
+    }
+}
+
+impl EndLine for SlowLine {
+    ghost fault_count = { λ slow. ⟦<ScriptedLine as EndLine>⟧.fault_count slow.line };
+
+    ghost received = { λ _. None };
+
+    ghost taken = { λ _. None };
+
+    ghost writes = { λ _. None };
+
+    fn write(&mut self, piece: &[u8]) -> Result<usize, LineFailed> {
+        if self.stalled < self.pace.stalls {
+            self.stalled += 1;
+            self.pass(self.pace.stall);
+            return Ok(0);
+        }
+        self.stalled = 0;
+        self.line.write(piece)
+    }
+
+    fn read(&mut self, buffer: &mut [u8]) -> Result<ReadOutcome, LineFailed> {
+        if self.came >= self.pace.drips_behind {
+            buffer[0] = b'x';
+            self.pass(9);
+            return Ok(ReadOutcome::Bytes(1));
+        }
+        let outcome = self.line.read(buffer)?;
+        self.note_read(outcome);
+        Ok(outcome)
+    }
+
+    fn seconds(&self) -> u64 {
+        self.second
+    }
+
+    fn faults(&self) -> u64 {
+        self.line.faults()
+    }
+}
