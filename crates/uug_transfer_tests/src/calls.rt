@@ -14,7 +14,6 @@ mod scripted_line;
 mod slow;
 mod slow_line;
 mod stops;
-mod stream_writes;
 mod telling;
 mod telling_line;
 mod thinning;
