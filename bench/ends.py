@@ -86,7 +86,6 @@ class Taylor:
             f"system {peer}",
             "time any",
             "port gate",
-            'chat ""',
             "protocol g",
             f"protocol-parameter g packet-size {size}",
             f"protocol-parameter g window {window}",
@@ -102,6 +101,15 @@ class Taylor:
 
     def port(self, *lines):
         self.write("port", "port gate", *lines)
+
+    def add(self, *lines):
+        """Lines of what it knows of the other system."""
+        with open(os.path.join(self.folder, "sys"), "a", encoding="ascii") as file:
+            file.writelines(f"{line}\n" for line in lines)
+
+    def is_done(self):
+        log = read(os.path.join(self.folder, "logfile")) or b""
+        return b"Call complete" in log and b"ERROR" not in log
 
     def queue(self, files):
         place = os.path.join(self.folder, "spool", self.peer)
@@ -122,8 +130,11 @@ class Taylor:
     def call(self, line):
         if line.startswith("unix:"):
             self.port("type pipe", f"command /usr/bin/socat - UNIX-CONNECT:{line[5:]}")
+            self.add('chat ""')
         else:
             self.port("type direct", f"device {line}", "speed 9600", "carrier false", "hardflow false")
+            # It speaks first, so that the other end can know that the device is open.
+            self.add('chat "" \\r\\c')
         self.own()
         return start(as_uucp(UUCICO, "-q", "-I", f"{self.folder}/config", "-f", "-s", self.peer), self.folder)
 

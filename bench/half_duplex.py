@@ -1,12 +1,13 @@
 #!/usr/bin/env python3
 """How long a file, and five mails, take over a half-duplex line of 1,200 bit/s that takes a second to turn round.
 
-    half_duplex.py [PROGRAM [ROUNDS]]
+    half_duplex.py [PROGRAM [ROUNDS [SCALE]]]
 
 Two ends of `uucpair`, and beside them two of Taylor UUCP, with each window and packet size of the table, in ROUNDS (3)
-rounds; all ends of a round run side by side. The line carries 150 bytes a second in one direction at a time: a station
-keys up when the channel is free and it has bytes, for a second, then it sends until it has none. All times are a tenth
-of what they say, so the table has ten times what was measured: medians, in seconds, with what the timers were.
+rounds; all that is in the table runs side by side. The line carries 150 bytes a second in one direction at a time: a
+station keys up when the channel is free and it has bytes, for a second, then it sends until it has none. All times are
+divided by SCALE (10), and the table has SCALE times what was measured, so also of what the programs and the disk take:
+medians, in seconds.
 
     uucpair --speed    `--speed 1200`, and no other option but window and size: timers of 10 s and what that adds
     uucpair            `--timeout 300`
@@ -17,19 +18,25 @@ bytes there. Ends with status 1 where `--speed` leaves something undone, the mai
 longer than 1.05 times.
 """
 import os
-import socket
+import select
 import statistics
 import sys
 import tempfile
 import threading
 import time
 
+sys.dont_write_bytecode = True
+sys.path.insert(0, os.path.join(os.path.dirname(os.path.abspath(__file__)), "../tests"))
+
+from two_sockets import connected, listening
+
 from ends import Ours, Taylor, all_came, fresh, load_files, stop
 
-SCALE = 10
+SCALE = int(sys.argv[3]) if len(sys.argv) > 3 else 10
 BYTES_A_SECOND = 150 * SCALE
 TURN = 1 / SCALE
-TICK = 0.01
+# So many bytes are handed on at a time.
+PIECE = max(1, BYTES_A_SECOND // 50)
 MOST = 2_000 / SCALE
 CELLS = [(7, 64), (7, 256), (3, 1024), (7, 1024), (3, 4096), (7, 4096)]
 KINDS = ["uucpair --speed", "uucpair", "Taylor"]
@@ -41,73 +48,63 @@ class Station:
 
     def __init__(self, stream):
         self.stream, self.waiting, self.is_over = stream, bytearray(), False
-        stream.setblocking(False)
+        stream.settimeout(30)
 
     def take(self):
-        while not self.is_over:
-            try:
-                came = self.stream.recv(65536)
-            except BlockingIOError:
-                return
-            except OSError:
-                came = b""
-            self.waiting += came
-            self.is_over = not came
+        try:
+            came = self.stream.recv(65536)
+        except OSError:
+            came = b""
+        self.waiting += came
+        self.is_over = not came
 
     def give(self, piece):
         try:
-            self.stream.setblocking(True)
             self.stream.sendall(piece)
         except OSError:
             self.is_over = True
-        finally:
-            self.stream.setblocking(False)
+
+
+def listen(stations, moment):
+    """Takes what the stations have to send, until the moment comes or one of them has something."""
+    streams = {station.stream: station for station in stations if not station.is_over}
+    for stream in select.select(list(streams), [], [], max(0.0, moment - time.monotonic()))[0]:
+        streams[stream].take()
+
+
+def next_to_speak(stations, last, until):
+    """The side that keys up next: the one that has listened, where both have bytes. None where the line is over."""
+    while time.monotonic() < until:
+        for side in (1 - last, last):
+            if stations[side].waiting:
+                return side
+        if any(station.is_over for station in stations):
+            return None
+        listen(stations, until)
+    return None
+
+
+def speak(stations, side):
+    """A station keys up, and sends until it has no bytes. The answer is when the last one came."""
+    waiting = stations[side].waiting
+    moment = time.monotonic() + TURN
+    while waiting:
+        piece = bytes(waiting[:PIECE])
+        del waiting[:PIECE]
+        moment += len(piece) / BYTES_A_SECOND
+        while time.monotonic() < moment:
+            listen(stations, moment)
+        stations[1 - side].give(piece)
+    return moment
 
 
 def channel(one, other, until):
-    """Hands on what comes, in one direction at a time. The answer is when the last bytes came, and how many did."""
+    """Hands on what comes, in one direction at a time. The answer is when the last bytes came."""
     stations = [Station(one), Station(other)]
-    owner, last, ready, carried, total = None, 1, 0.0, 0.0, 0
-    came = time.monotonic()
-    before = came
-    while (now := time.monotonic()) < until:
-        for station in stations:
-            station.take()
-        if owner is None:
-            for side in (1 - last, last):
-                if stations[side].waiting:
-                    owner, last, ready, carried = side, side, now + TURN, 0.0
-                    break
-            else:
-                if any(station.is_over for station in stations):
-                    break
-        elif now >= ready:
-            carried += (now - max(before, ready)) * BYTES_A_SECOND
-            station, count = stations[owner], int(carried)
-            piece = bytes(station.waiting[:count])
-            del station.waiting[:count]
-            carried -= count
-            if piece:
-                stations[1 - owner].give(piece)
-                came, total = now, total + len(piece)
-            if not station.waiting:
-                owner = None
-        before = now
-        time.sleep(TICK)
-    return came, total
-
-
-def connect(path, until):
-    while True:
-        stream = socket.socket(socket.AF_UNIX)
-        try:
-            stream.connect(path)
-            return stream
-        except OSError:
-            stream.close()
-            if time.monotonic() > until:
-                raise
-            time.sleep(0.02)
+    side, came = 1, time.monotonic()
+    while (side := next_to_speak(stations, side, until)) is not None:
+        came = speak(stations, side)
+    return came
 
 
 def ends(kind, program, work, window, size):
@@ -122,28 +119,25 @@ def ends(kind, program, work, window, size):
 
 
 def run(kind, program, work, window, size, load):
-    """The seconds of a call, ten times as many as were measured, or None, and what the ends said then."""
+    """The seconds of a call, SCALE times as many as were measured, or None, and what the ends said then."""
     caller, called = ends(kind, program, work, window, size)
     files = load_files(load)
     caller.queue(files)
     near, far = os.path.join(work, "near"), os.path.join(work, "far")
-    until = time.monotonic() + MOST
-    with socket.socket(socket.AF_UNIX) as listener:
-        listener.bind(near)
-        os.chmod(near, 0o666)
-        listener.listen(1)
-        listener.settimeout(20)
+    with listening(near) as door:
+        door.settimeout(20)
         answering = called.answer(f"unix:{far}")
-        other = connect(far, time.monotonic() + 20)
+        other = connected(far)
         calling = caller.call(f"unix:{near}")
         try:
-            one, _ = listener.accept()
+            one, _ = door.accept()
         except OSError:
             stop(calling, answering)
             return None, caller.said()
     began = time.monotonic()
+    until = began + MOST
     with one, other:
-        came, _ = channel(one, other, until)
+        came = channel(one, other, until)
     stop(calling, answering)
     if all_came(called, files) and came < until - 1:
         return (came - began) * SCALE, ""
@@ -164,18 +158,14 @@ def main():
         if seconds is None and why:
             print(f"  {cell}: {why}", file=sys.stderr)
 
+    cells = [(kind, *cell, load) for kind in KINDS for cell in CELLS for load in LOADS]
+    cells = [cell for cell in cells if cell[:3] != ("Taylor", 7, 4096)]
     for _ in range(rounds):
-        for kind in KINDS:
-            threads = [
-                threading.Thread(target=measure, args=(kind, window, size, load))
-                for window, size in CELLS
-                for load in LOADS
-                if (kind, window, size) != ("Taylor", 7, 4096)
-            ]
-            for thread in threads:
-                thread.start()
-            for thread in threads:
-                thread.join()
+        threads = [threading.Thread(target=measure, args=cell) for cell in cells]
+        for thread in threads:
+            thread.start()
+        for thread in threads:
+            thread.join()
     sys.exit(report(taken))
 
 

@@ -22,7 +22,7 @@ trap 'kill "${started[@]}" 2>/dev/null; rm -rf "$work"' EXIT
 sent() {
     local fault=$1 window=$2 answerer relay status=0
     rm -rf "$work/a" "$work/b" "$work/near" "$work/far"
-    mkdir -p "$work/a/send" "$work/b/got"
+    mkdir -p "$work"/{a,b}/{send,got}
     cp "$work/file" "$work/a/send/x"
     echo 'send x y u' >"$work/a/jobs"
     "$program" answer "unix:$work/far" "$work/b" --me b --peer a --window "$window" --timeout 1 "${@:3}" >"$work/b.out" 2>&1 &

@@ -8,9 +8,13 @@ answer is lost). When the call is over it prints how many data packets the calle
 """
 import os
 import select
-import socket
 import sys
 import time
+
+sys.dont_write_bytecode = True
+sys.path.insert(0, os.path.join(os.path.dirname(os.path.abspath(__file__)), "../tests"))
+
+from two_sockets import connected, taken
 
 EVERY = 50
 ONCE = 100
@@ -107,13 +111,8 @@ class Relay:
 
 def main():
     near_path, far_path, fault = sys.argv[1:]
-    listener = socket.socket(socket.AF_UNIX)
-    listener.bind(near_path)
-    listener.listen(1)
-    near, _ = listener.accept()
-    os.unlink(near_path)
-    far = socket.socket(socket.AF_UNIX)
-    far.connect(far_path)
+    near = taken(near_path)
+    far = connected(far_path)
     relay = Relay(near, far, fault)
     try:
         relay.run()

@@ -13,31 +13,18 @@ import socket
 import sys
 import time
 
+sys.dont_write_bytecode = True
+sys.path.insert(0, os.path.join(os.path.dirname(os.path.abspath(__file__)), "../tests"))
 
-def connect(path, until):
-    """The stream to a socket that may not be there yet."""
-    while True:
-        stream = socket.socket(socket.AF_UNIX)
-        try:
-            stream.connect(path)
-            return stream
-        except OSError:
-            stream.close()
-            if time.monotonic() > until:
-                raise
-            time.sleep(0.05)
+from two_sockets import connected, taken
 
 
 def main():
     listen, path = sys.argv[1:3]
-    until = time.monotonic() + float(sys.argv[3] if len(sys.argv) > 3 else 60)
-    with socket.socket(socket.AF_UNIX) as door:
-        door.bind(listen)
-        os.chmod(listen, 0o666)
-        door.listen(1)
-        near, _ = door.accept()
-    os.unlink(listen)
-    far = connect(path, until)
+    seconds = float(sys.argv[3] if len(sys.argv) > 3 else 60)
+    until = time.monotonic() + seconds
+    near = taken(listen)
+    far = connected(path, seconds)
     other = {near: far, far: near}
     counted = {near: 0, far: 0}
     with selectors.DefaultSelector() as waiting:

@@ -104,12 +104,12 @@ run_noisy() {
     rm -rf "$work/a" "$work/b"
     fill "$work/a" a b
     fill "$work/b" b a
-    timeout 400 "$program" answer "unix:$work/far" "$work/b" --me b --peer a --size "$size" --window "$window" --timeout 1 >"$work/b.out" 2>"$work/b.err" &
+    timeout 900 "$program" answer "unix:$work/far" "$work/b" --me b --peer a --size "$size" --window "$window" --timeout 1 >"$work/b.out" 2>"$work/b.err" &
     answerer=$!
     started+=("$answerer")
     wait_for "$work/far"
     start_relay "$work/near" "$work/far"
-    timeout 400 "$program" call "unix:$work/near" "$work/a" --me a --peer b --size "$size" --window "$window" --timeout 1 >"$work/a.out" 2>"$work/a.err"
+    timeout 900 "$program" call "unix:$work/near" "$work/a" --me a --peer b --size "$size" --window "$window" --timeout 1 >"$work/a.out" 2>"$work/a.err"
     called=$?
     wait "$answerer"
     answered=$?

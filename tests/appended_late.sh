@@ -6,8 +6,6 @@
 #   tests/appended_late.sh [PROGRAM]
 #
 # It prints a line for each, and ends with status 1 where the job is lost. It needs strace.
-set -eu
-export LC_ALL=C
 . "$(dirname "$(readlink -f "$0")")/common.sh"
 find_program "${1:-}"
 command -v strace >/dev/null || {

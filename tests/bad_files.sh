@@ -21,12 +21,9 @@
 #   told     what the end with the bad file said on standard error, where it ought to
 #
 # The status is 1 where a row was not as it ought to be.
-set -eu
-export LC_ALL=C
 . "$(dirname "$(readlink -f "$0")")/common.sh"
 find_program "${1:-}"
-new_work
-trap 'rm -rf "$work"' EXIT
+new_passing_work
 as_user=()
 [ "$(id -u)" -ne 0 ] || as_user=(setpriv --reuid 65534 --regid 65534 --clear-groups)
 
@@ -102,6 +99,7 @@ prepare() {
         mkdir "$work/$at/got/f"
         echo "request y f u" >>"$work/$at/jobs"
         wants_failed="$(side "$at") failed request y f u"
+        wants_told="uucpair: request y f u: not given by the other end, or not to be put in its place here"
         ;;
     long)
         name=$(printf 'n%.0s' {1..100})

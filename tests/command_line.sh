@@ -2,30 +2,15 @@
 # Tests what no contract says of the program: its command line, its texts, and that the system's streams move bytes and
 # faults.
 #
-#     tests/command_line.sh
+#     tests/command_line.sh [PROGRAM]
 #
-# The program is proved and built first where that is needed. Says how many rows passed, and ends with status 1 where one
+# Without PROGRAM it is the one of the sources here, which is proved and built first where that is needed. Says how many rows passed, and ends with status 1 where one
 # did not. Needs python3, as rt does.
-set -eu
-export LC_ALL=C
-root=$(dirname "$(dirname "$(readlink -f "$0")")")
-program=$root/crates/uucpair/out/uucpair
-work=$(mktemp -d)
-trap 'rm -rf "$work"' EXIT
-passed=0
-failed=0
+. "$(dirname "$(readlink -f "$0")")/common.sh"
+find_program "${1:-}"
+new_passing_work
 line_feed='
 '
-
-# report NAME FAULT: counts the row, which passed where the fault is empty.
-report() {
-    if [ -z "$2" ]; then
-        passed=$((passed + 1))
-    else
-        failed=$((failed + 1))
-        echo "$1: $2" >&2
-    fi
-}
 
 # row NAME STATUS SAID PRINTED WORD..: runs the program with the words on standard input, by the function that `by` names,
 # if it does. What it says on standard error begins with SAID, and is nothing where SAID is; what it prints is PRINTED, to
@@ -229,9 +214,6 @@ called number 9
 verdict clean
 '
 
-# Builds the program.
-"$root/uucpair" scan </dev/null >/dev/null
-
 row "a scan of nothing" 0 "" "REST 0$line_feed" scan </dev/null
 row "a scan of a packet" 0 "" "INITA 3${line_feed}REST 0$line_feed" scan < <(packet)
 detailed="INITA 3 AT 0 LENGTH 6${line_feed}REST 0 AT 6 LENGTH 0$line_feed"
@@ -428,12 +410,14 @@ helps "how it ends" " s: send ~/x y: done 0 bytes in "
 helps "what was lost" " bytes rejects 0 repeats 0 damaged 0"
 folders "send x /etc/y u"
 answer_in_the_background
-row "a call with a path for a target" 0 "" \
+row "a call with a path for a target" 0 "uucpair: send x /etc/y u: refused by the other end$line_feed" \
     "caller done pending 0 struck 0 failed 1${line_feed}caller failed send x /etc/y u$line_feed" \
     call "unix:$socket" "$a" --me a --peer b </dev/null
 wait "$answerer" || true
 answer_in_the_background --wait 4
-row "a call of a stranger" 1 "" "caller refused pending 0 struck 0 failed 0$line_feed" \
+row "a call of a stranger" 1 \
+    "uucpair: the other end refused: \"RYou are unknown to me\" (it does not know the name of this end)$line_feed" \
+    "caller refused pending 0 struck 0 failed 0$line_feed" \
     call "unix:$socket" "$a" --me c --peer b </dev/null
 wait "$answerer" || true
 folders "send x y u"
@@ -454,7 +438,7 @@ row "a call of a stranger who knows the names" 1 "uucpair: this end keeps no num
     call "unix:$socket" "$a" --me a --peer b </dev/null
 wait "$answerer" || true
 holds "what the end says that a stranger called" "$work/answered" \
-    "uucpair: the number of this end is 2${line_feed}called gaveup pending 0 struck 0 failed 0$line_feed"
+    "uucpair: the number of this end is 2${line_feed}uucpair: heard nothing${line_feed}called gaveup pending 0 struck 0 failed 0$line_feed"
 holds "the called end's number after a stranger" "$b/number" "2$line_feed"
 echo 17 >"$a/number"
 answer_in_the_background --wait 4
@@ -462,7 +446,7 @@ row "a call with another number" 1 "uucpair: the number of this end is 17$line_f
     call "unix:$socket" "$a" --me a --peer b </dev/null
 wait "$answerer" || true
 holds "what the called end says of both numbers" "$work/answered" \
-    "uucpair: the number of this end is 2, that of the other end 17${line_feed}called gaveup pending 0 struck 0 failed 0$line_feed"
+    "uucpair: the number of this end is 2, that of the other end 17${line_feed}uucpair: heard nothing${line_feed}called gaveup pending 0 struck 0 failed 0$line_feed"
 folders "send x y u"
 printf 'seven\n' >"$a/number"
 row "a call with a bad number file" 2 "uucpair: bad number file$line_feed" "" \

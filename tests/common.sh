@@ -1,5 +1,7 @@
-# What the scripts of this folder share.
+# What the scripts of this folder share. A script that reads it ends with the first command that fails.
 # shellcheck shell=bash disable=SC2034
+set -eu
+export LC_ALL=C
 
 # The folder of the repository.
 root=$(dirname "$(dirname "$(readlink -f "${BASH_SOURCE[0]}")")")
@@ -23,6 +25,37 @@ new_work() {
     rm "$work/never"
 }
 
+# new_passing_work: the same, of a folder that is gone when the script ends.
+new_passing_work() {
+    new_work
+    trap 'rm -rf "$work"' EXIT
+}
+
+passed=0
+failed=0
+
+# report NAME FAULT: counts a row, which passed where the fault is empty.
+report() {
+    if [ -z "$2" ]; then
+        passed=$((passed + 1))
+    else
+        failed=$((failed + 1))
+        echo "$1: $2" >&2
+    fi
+}
+
+# The processes at the other side of a line, which are ended together.
+helpers=()
+
+end_helpers() {
+    local pid
+    for pid in "${helpers[@]}"; do
+        kill "$pid" 2>/dev/null || true
+        wait "$pid" 2>/dev/null || true
+    done
+    helpers=()
+}
+
 # pause SECONDS: starts no process.
 pause() {
     read -rt "$1" -u "$never" || true
@@ -38,9 +71,15 @@ wait_until() {
     return 1
 }
 
+# listens_at PATH: a socket is there a moment before it listens, so the system is asked, which knows it by the path that it was
+# made at, from whichever folder. A relay makes its own under another name.
+listens_at() {
+    [ -S "$1" ] && grep -qE " 00010000 .* ($1|${1##*/})(\.new)?\$" /proc/net/unix
+}
+
 # wait_for_socket PATH: whether an end listens there within ten seconds.
 wait_for_socket() {
-    wait_until 10 test -S "$1"
+    wait_until 10 listens_at "$1"
 }
 
 # has_ended PID: whether there is no such process.
@@ -58,4 +97,19 @@ end_of() {
     else
         wait "$1" 2>/dev/null || status=$?
     fi
+}
+
+# same TEXT FILE: whether the file has this text, and nothing else.
+same() {
+    printf '%s' "$1" | cmp -s - "$2"
+}
+
+# is_locked FILE: whether somebody holds its lock. It takes none itself, which another could find.
+is_locked() {
+    grep -q "FLOCK .*:$(stat -c %i "$1") " /proc/locks
+}
+
+# listens PORT: whether somebody listens at this port of this machine.
+listens() {
+    grep -Eq ":$(printf '%04X' "$1") [0:]+ 0A" /proc/net/tcp /proc/net/tcp6
 }

@@ -9,8 +9,6 @@
 # ROUNDS is how often two runs race for one lock. It needs Debian's packages (apt-get install uucp socat strace), and root,
 # since a user who may not write the folder of the locks is another one. Each scene is a line; the status is 1 where one
 # went wrong, and the folders stay then.
-set -eu
-export LC_ALL=C
 . "$(dirname "$(readlink -f "$0")")/common.sh"
 rounds=${1:-20}
 find_program "${2:-}"
@@ -22,25 +20,14 @@ locks=$work/locks
 lock=$locks/LCK..near
 mkdir -m 777 "$locks"
 failed=0
-holders=()
 
 # start_line NAME: a new line with two ends, NAME/near and NAME/far. `socat` holds it until one of them is closed.
 start_line() {
     rm -rf "${work:?}/$1"
     mkdir -p "$work/$1"
     socat "PTY,link=$work/$1/near,raw,echo=0,mode=666" "PTY,link=$work/$1/far,raw,echo=0,mode=666" 2>>"$work/socat.err" &
-    holders+=($!)
+    helpers+=($!)
     wait_until 5 test -e "$work/$1/near" && wait_until 5 test -e "$work/$1/far"
-}
-
-# end_lines: lets go the lines that are still there.
-end_lines() {
-    local holder
-    for holder in "${holders[@]}"; do
-        kill "$holder" 2>/dev/null || true
-        wait "$holder" 2>/dev/null || true
-    done
-    holders=()
 }
 
 # make_folders: `left` and `right`, each with a file for `hub`.
@@ -103,7 +90,7 @@ tell() {
         echo "$1: WRONG"
         failed=1
     fi
-    end_lines
+    end_helpers
 }
 
 # wait_for_lock FILE: until there is such a file, at most five seconds.
@@ -276,7 +263,7 @@ beside_cu() {
     answer_at one left
     wait "$call"
     has_called left && [ ! -e /var/lock/LCK..near ] || return 1
-    end_lines
+    end_helpers
     start_line one
     cu -l "$work/one/near" <&"$never" >"$work/cu.out" 2>&1 &
     cu=$!

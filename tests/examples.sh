@@ -7,14 +7,9 @@
 # PROGRAM is run as `PROGRAM play`, `PROGRAM play --ladder` and `PROGRAM scan -v`; without it `uucpair` is, which is proved and built first where that
 # is needed. Says how many examples passed, and ends with status 1 where one did not, or where a script has no report, a
 # report no script, a stream no listing or a listing no stream.
-set -eu
-export LC_ALL=C
-root=$(dirname "$(dirname "$(readlink -f "$0")")")
-program=${1:-}
-work=$(mktemp -d)
-trap 'rm -rf "$work"' EXIT
-passed=0
-failed=0
+. "$(dirname "$(readlink -f "$0")")/common.sh"
+find_program "${1:-}"
+new_passing_work
 
 # expected_status REPORT: 5 where the line fooled an end; else 1 unless both ends were done in the last session.
 expected_status() {
@@ -59,16 +54,6 @@ check_stream() {
         diff - "$work/plain" || true
 }
 
-# count NAME FAULT: counts the example, which passed where the fault is empty.
-count() {
-    if [ -z "$2" ]; then
-        passed=$((passed + 1))
-    else
-        failed=$((failed + 1))
-        printf '%s: %s\n' "$1" "$2" >&2
-    fi
-}
-
 # named ENDING..: the names of the examples with one of these endings.
 named() {
     local ending path
@@ -79,19 +64,14 @@ named() {
     done | sort -u
 }
 
-if [ -z "$program" ]; then
-    # builds it where that is needed
-    "$root/uucpair" scan </dev/null >/dev/null
-    program=$root/uucpair
-fi
 for name in $(named script report); do
-    count "$name" "$(check "$name")"
+    report "$name" "$(check "$name")"
 done
 for name in $(named ladder); do
-    count "$name.ladder" "$(check_ladder "$name")"
+    report "$name.ladder" "$(check_ladder "$name")"
 done
 for name in $(named bytes listing); do
-    count "$name" "$(check_stream "$name")"
+    report "$name" "$(check_stream "$name")"
 done
 
 echo "$passed passed, $failed failed"

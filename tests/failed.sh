@@ -9,21 +9,15 @@
 #
 # It prints a line for each part, and ends with status 1 where one fails. The folders stay then.
 # shellcheck disable=SC2119  # no word of the script is one of `talk`
-set -eu
-export LC_ALL=C
 . "$(dirname "$(readlink -f "$0")")/common.sh"
 find_program "${1:-}"
 new_work
-failed=0
-passed=0
 
+# holds NAME FOUND EXPECTED
 holds() {
-    if [ "$2" = "$3" ]; then
-        passed=$((passed + 1))
-    else
-        failed=$((failed + 1))
-        printf '%s: found %q, expected %q\n' "$1" "$2" "$3" >&2
-    fi
+    local fault=
+    [ "$2" = "$3" ] || printf -v fault 'found %q, expected %q' "$2" "$3"
+    report "$1" "$fault"
 }
 
 new_folders() {

@@ -16,8 +16,6 @@
 #
 # The status is 1 where a fault was not told, something is lost or missing, or an end didn't end by itself. It needs root,
 # as it mounts.
-set -eu
-export LC_ALL=C
 . "$(dirname "$(readlink -f "$0")")/common.sh"
 files=4
 size=3000

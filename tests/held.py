@@ -1,12 +1,13 @@
 #!/usr/bin/env python3
 """What `answer` does with a caller that holds it, or storms at it, tried for real over a Unix socket.
 
-    tests/held.py [PROGRAM]
+    tests/held.py [PROGRAM [SCENE..]]
 
 The caller here speaks the greeting and the start of the link itself. Each scene prints a line; the last line says how many
 went well, and the status is 1 where one did not. PROGRAM is crates/uucpair/out/uucpair where none is named.
 """
 import os
+import select
 import socket
 import subprocess
 import sys
@@ -14,8 +15,11 @@ import tempfile
 import time
 
 ROOT = os.path.dirname(os.path.dirname(os.path.abspath(__file__)))
+sys.dont_write_bytecode = True
 sys.path.insert(0, os.path.join(ROOT, "interop"))
-from relay import checksum  # noqa: E402
+
+from relay import checksum
+from two_sockets import listening
 
 DLE, CONTROL = 16, 9
 RJ, RR, INITC, INITB, INITA = 2, 4, 5, 6, 7
@@ -187,7 +191,48 @@ def never_reads(program, work):
     return said is not None and "device fault" not in said, f"{lasted:.0f} s; {said and said.splitlines()[0]}"
 
 
-SCENES = [storm, junk, junk_in_greeting, never_reads]
+def byte_by_byte(program, work):
+    """A line that takes and gives one byte at a time: the whole file comes."""
+    held = Held(program, work)
+    folder = os.path.join(work, "a")
+    os.makedirs(os.path.join(folder, "got"))
+    with open(os.path.join(folder, "jobs"), "w", encoding="ascii") as file:
+        file.write("request x x u\n")
+    path = os.path.join(work, "near")
+    with listening(path) as door:
+        words = ["call", f"unix:{path}", folder, "--me", "a", "--peer", "b"]
+        caller = subprocess.Popen([program, *words], stdout=subprocess.PIPE)
+        near, _ = door.accept()
+    far = held.connect()
+    ways = {near: far, far: near}
+    for side in ways:
+        side.setsockopt(socket.SOL_SOCKET, socket.SO_RCVBUF, 2048)
+    passed = 0
+    while len(ways) == 2:
+        for side in select.select(list(ways), [], [], 30)[0]:
+            byte = side.recv(1)
+            passed += len(byte)
+            if not byte or not hand_on(ways[side], byte):
+                ways.pop(side)
+                break
+    near.close()
+    far.close()
+    said = [caller.communicate(timeout=15)[0].decode(), held.end(15)]
+    with open(os.path.join(folder, "got", "x"), "rb") as file:
+        is_whole = file.read() == FILE
+    is_done = all(text is not None and " done pending 0 " in text for text in said)
+    return is_whole and is_done, f"{passed:,} bytes"
+
+
+def hand_on(stream, byte):
+    try:
+        stream.sendall(byte)
+        return True
+    except OSError:
+        return False
+
+
+SCENES = [storm, junk, junk_in_greeting, never_reads, byte_by_byte]
 
 
 def main():

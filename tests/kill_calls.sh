@@ -23,8 +23,6 @@
 #
 # A kill strikes one job at most: so the status is 1 where a trial has more files again, or twice, than it has kills, and
 # where it has any of the others. The folders of such a trial stay. It needs python3, as rt does.
-set -eu
-export LC_ALL=C
 . "$(dirname "$(readlink -f "$0")")/common.sh"
 trials=${1:-20}
 seed=${3:-1}
@@ -52,8 +50,9 @@ write_file() {
     seq -f "${1##*/} %g" 1000 | head -c "$2" >"$1"
 }
 
-# queue END LINE: appends a job as a person does.
+# queue END LINE: appends a job as a person does. Before it is in `jobs` it is known as offered, behind that as given.
 queue() {
+    echo "$2" >>"$work/$1.offered"
     echo "$2" >>"$work/$1/jobs"
     echo "$2" >>"$work/$1.given"
 }
@@ -61,13 +60,14 @@ queue() {
 # new_folders: of three files of each end one is requested by the other one, and two are sent.
 new_folders() {
     local i end
-    rm -rf "$work"/{a,b} "$work"/{lost,read,stamps.*,log.*,*.given}
+    rm -rf "$work"/{a,b} "$work"/{lost,read,stamps.*,log.*,*.given,*.offered}
     : >"$work/lost"
     : >"$work/read"
     for end in a b; do
         mkdir -p "$work/$end"/{files,send,got}
         : >"$work/stamps.$end"
         : >"$work/$end.given"
+        : >"$work/$end.offered"
     done
     for end in a b; do
         for ((i = 0; i < files; i++)); do
@@ -93,6 +93,7 @@ feed() {
             queue "$end" "send $name $name u"
         else
             write_file "$work/$end/files/$name" $((i * 977 % 3001))
+            echo "send $name $name u" >>"$work/$end.offered"
             "$program" queue "$work/$end" send "$work/$end/files/$name" --user u >/dev/null
             echo "send $name $name u" >>"$work/$end.given"
         fi
@@ -201,13 +202,13 @@ session() {
     end_session
 }
 
-# check_jobs END: what is gone from its `jobs` is whole where it belongs. A job may be appended meanwhile, first to `jobs`
-# and then to what was given, of which only what stood there before has to be in `jobs` or done.
+# check_jobs END: what is gone from its `jobs` is whole where it belongs. A job may be appended meanwhile, so what was given
+# before `jobs` is read has to be in it or done, and what is in it has to be offered when it has been read.
 check_jobs() {
     local kind source target from
     sort "$work/$1.given" >"$work/before"
     sort "$work/$1/jobs" >"$work/now"
-    sort "$work/$1.given" >"$work/after"
+    sort "$work/$1.offered" >"$work/after"
     comm -23 "$work/now" "$work/after" | sed "s/^/jobs of $1: nobody gave /" >>"$work/lost"
     while read -r kind source target _; do
         from=$1
@@ -323,7 +324,7 @@ for ((trial = 1; trial <= trials; trial++)); do
     if [ $((lost + refused + left + stuck)) -gt 0 ] || [ $again -gt $kills ] || [ $twice -gt $kills ]; then
         bad=$((bad + 1))
         mkdir "$work/trial$trial"
-        cp -a "$work"/{a,b,lost,read} "$work"/{log,stamps}.* "$work"/*.given "$work/trial$trial"
+        cp -a "$work"/{a,b,lost,read} "$work"/{log,stamps}.* "$work"/*.{given,offered} "$work/trial$trial"
     fi
 done
 echo "kill_calls: $trials trials, $all_kills kills, $all_lost lost, $all_again sent again, $all_stuck stuck"

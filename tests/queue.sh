@@ -6,38 +6,28 @@
 #
 # It prints a line for each part, and ends with status 1 where one fails. The folders stay then.
 # shellcheck disable=SC2088  # a tilde is the public folder of the other end
-set -eu
-export LC_ALL=C
 jobs=50
 feeders=4
 . "$(dirname "$(readlink -f "$0")")/common.sh"
 find_program "${1:-}"
 new_work
-failed=0
-passed=0
 
 # row NAME STATUS PRINTED SAID WORD..: runs `queue` with the words. What it says on standard error ends with SAID.
 row() {
-    local name=$1 status=$2 printed=$3 said=$4 ended=0 text
+    local name=$1 status=$2 printed=$3 said=$4 ended=0 text fault=
     shift 4
     "$program" queue "$@" >"$work/out" 2>"$work/err" || ended=$?
     text=$(cat "$work/err")
-    if [ "$ended" -eq "$status" ] && [ "$(cat "$work/out")" = "$printed" ] && [[ $text == *"$said" && (-n $said || -z $text) ]]; then
-        passed=$((passed + 1))
-    else
-        failed=$((failed + 1))
-        echo "$name: status $ended, printed $(cat "$work/out"), said $text" >&2
-    fi
+    [ "$ended" -eq "$status" ] && [ "$(cat "$work/out")" = "$printed" ] && [[ $text == *"$said" && (-n $said || -z $text) ]] ||
+        fault="status $ended, printed $(cat "$work/out"), said $text"
+    report "$name" "$fault"
 }
 
 # holds NAME FILE TEXT
 holds() {
-    if [ "$(cat "$2")" = "$3" ]; then
-        passed=$((passed + 1))
-    else
-        failed=$((failed + 1))
-        echo "$1: $2 has $(cat "$2")" >&2
-    fi
+    local fault=
+    [ "$(cat "$2")" = "$3" ] || fault="$2 has $(cat "$2")"
+    report "$1" "$fault"
 }
 
 forms() {
@@ -67,21 +57,21 @@ forms() {
         exit "$failed"
     ) || failed=$((failed + 1))
     row "the longest file" 0 "queued send most most me" "" "$d" send "$work/most" --user me
-    row "a file that is too long" 3 "" "can't read $work/more" "$d" send "$work/more"
-    row "no file" 3 "" "can't read $work/none" "$d" send "$work/none"
-    row "a folder" 3 "" "can't read $work/files" "$d" send "$work/files"
+    row "a file that is too long" 3 "" "can't read $work/more"$'\n'"uucpair: $work/more: over 1048576 bytes" "$d" send "$work/more"
+    row "no file" 3 "" "can't read $work/none"$'\n'"uucpair: $work/none: no such file or directory" "$d" send "$work/none"
+    row "a folder" 3 "" "can't read $work/files"$'\n'"uucpair: $work/files: invalid argument" "$d" send "$work/files"
     mkfifo "$work/pipe"
-    row "a pipe" 3 "" "can't read $work/pipe" "$d" send "$work/pipe"
+    row "a pipe" 3 "" "can't read $work/pipe"$'\n'"uucpair: $work/pipe: invalid argument" "$d" send "$work/pipe"
     row "a hidden file" 2 "" "without a space or a dot in front" "$d" send "$work/.hidden"
     row "a file with a space" 2 "" "without a space or a dot in front" "$d" send "$work/a b"
     row "no file is named" 2 "" "without a space or a dot in front" "$d" send
     row "a bad target" 2 "" "without a space" "$d" send "$work/x" 'a b'
     row "a bad user" 2 "" "without a space" "$d" send "$work/x" --user 'a b'
     row "another order" 2 "" "what is queued is send or request" "$d" fetch x
-    row "a folder that is not there" 3 "" "device fault" "$work/gone"
-    row "a folder that is not there" 3 "" "device fault" "$work/gone" request q
+    row "a folder that is not there" 3 "" "device fault"$'\n'"uucpair: $work/gone: no such file or directory" "$work/gone"
+    row "a folder that is not there" 3 "" "device fault"$'\n'"uucpair: $work/gone: no such file or directory" "$work/gone" request q
     mkdir "$work/bare"
-    row "no send" 3 "" "device fault" "$work/bare" send "$work/x"
+    row "no send" 3 "" "device fault"$'\n'"uucpair: $work/bare/send: no such file or directory" "$work/bare" send "$work/x"
     row "a request needs none" 0 "queued request q q me" "" "$work/bare" request q --user me
     # A name that a job has whose file is not there is taken too; a line without its line feed gets one.
     mkdir -p "$work/e/send"
@@ -102,7 +92,7 @@ forms() {
     long=$(head -c 200 /dev/zero | tr '\0' n)
     : >"$work/$long"
     row "a long name" 0 "queued send $long $long me" "" "$d" send "$work/$long" --user me
-    row "a long name that is taken" 3 "" "device fault" "$d" send "$work/$long" --user me
+    row "a long name that is taken" 3 "" "device fault"$'\n'"uucpair: $d/send/$long: it exists already" "$d" send "$work/$long" --user me
     echo "forms: $passed of $((passed + failed)) rows passed"
 }
 

@@ -5,8 +5,6 @@
 #   tests/queued_meanwhile.sh [PROGRAM]
 #
 # It prints a line for each of the three, and ends with status 1 where a file is lost. The folders stay then.
-set -eu
-export LC_ALL=C
 . "$(dirname "$(readlink -f "$0")")/common.sh"
 count=20
 find_program "${1:-}"

@@ -6,12 +6,9 @@
 #
 # The root has the C library of this machine and nothing else. It prints a line for each part, and ends with status 1 where
 # one fails. It needs lintian, and root or a kernel that lets a user be root in a namespace.
-set -eu
-export LC_ALL=C
 . "$(dirname "$(readlink -f "$0")")/common.sh"
 find_program "${1:-}"
-new_work
-trap 'rm -rf "$work"' EXIT
+new_passing_work
 clean=$work/root
 failed=0
 as_root=()

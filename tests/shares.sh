@@ -6,11 +6,9 @@
 #
 # PROGRAM is the one that is built of the sources here where none is named. Prints a line for each; the status is 1 where one
 # went wrong.
-set -u
-. "$(dirname "$0")/common.sh"
+. "$(dirname "$(readlink -f "$0")")/common.sh"
 find_program "${1:-}"
-new_work
-trap 'rm -rf "$work"' EXIT
+new_passing_work
 bad=0
 
 # session OPTIONS: `a` calls `b` once; what it says is in `said`
@@ -19,8 +17,8 @@ session() {
     "$program" answer "unix:$work/line" "$work/b" --me b --peer a >"$work/answered" 2>&1 &
     answerer=$!
     wait_for_socket "$work/line" || echo "  nobody answers"
-    "$program" call "unix:$work/line" "$work/a" --me a --peer b --size 1024 "$@" >"$work/out" 2>"$work/said"
-    status=$?
+    status=0
+    "$program" call "unix:$work/line" "$work/a" --me a --peer b --size 1024 "$@" >"$work/out" 2>"$work/said" || status=$?
     wait "$answerer" || status=1
 }
 

@@ -22,6 +22,10 @@ import sys
 import time
 import tty
 
+sys.dont_write_bytecode = True
+
+from two_sockets import connected, taken
+
 
 def open_socket(address):
     """A socket, and the address in its family."""
@@ -83,13 +87,7 @@ def full(address, ready, seconds, room=None):
 
 
 def hold(listen, connect, seconds):
-    waiting, place = open_socket("unix:" + listen)
-    waiting.bind(place)
-    waiting.listen(1)
-    one, _ = waiting.accept()
-    os.remove(listen)
-    other, place = open_socket("unix:" + connect)
-    other.connect(place)
+    one, other = taken(listen), connected(connect)
     time.sleep(float(seconds))
     ways = {one: other, other: one}
     while True:

@@ -7,14 +7,11 @@
 #
 # Each scene is a line. It ends with how many went well, and with status 1 where one did not; the folders stay then. It takes
 # some three minutes.
-set -eu
-export LC_ALL=C
 . "$(dirname "$(readlink -f "$0")")/common.sh"
 find_program "${1:-}"
 new_work
 lines=$root/tests/slow_lines.py
 well=0 all=0
-helpers=()
 
 # helper COMMAND..: one at the other side, which is ended with the scene.
 helper() {
@@ -22,23 +19,10 @@ helper() {
     helpers+=($!)
 }
 
-end_helpers() {
-    local pid
-    for pid in "${helpers[@]}"; do
-        kill "$pid" 2>/dev/null || true
-        wait "$pid" 2>/dev/null || true
-    done
-    helpers=()
-}
-
-# wait_for FILE: whether it is there within ten seconds.
-wait_for() {
-    local i
-    for ((i = 0; i < 1000; i++)); do
-        [ ! -e "$1" ] || return 0
-        pause 0.01
-    done
-    return 1
+# pace RATE SECONDS: a serial line that carries so many bytes a second. Whether it is there.
+pace() {
+    helper paced "$work/near" "$work/far" "$1" "$2"
+    wait_until 10 test -e "$work/far"
 }
 
 # make_folders BYTES: `a` has a file of so many bytes for `b`.
@@ -125,19 +109,15 @@ nobody_comes() {
 a_slow_stranger() {
     answer "unix:$work/line"
     wait_for_socket "$work/line"
-    local i
     helper drip "unix:$work/line" 80
-    for ((i = 0; i < 1000; i++)); do
-        [ ! -s "$work/helper.out" ] || break
-        pause 0.01
-    done
+    wait_until 10 test -s "$work/helper.out" || return 1
     call "unix:$work/line" --timeout 30
     both_done 100 && [ "$(sed -n 2p "$work/helper.out")" -le 70 ]
 }
 
 a_full_path() {
     helper full "unix:$work/line" "$work/ready" 20
-    wait_for "$work/ready" || return 1
+    wait_until 10 test -e "$work/ready" || return 1
     call "unix:$work/line" --timeout 2
     fails_within 2 4
 }
@@ -145,7 +125,7 @@ a_full_path() {
 # There is room for one more before the time is over: the call connects, and hears nothing.
 room_at_last() {
     helper full "unix:$work/line" "$work/ready" 30 3
-    wait_for "$work/ready" || return 1
+    wait_until 10 test -e "$work/ready" || return 1
     call "unix:$work/line" --timeout 6
     pause 7
     kill -0 "$caller" 2>/dev/null || return 1
@@ -156,7 +136,7 @@ room_at_last() {
 
 a_full_port() {
     helper full tcp:0 "$work/ready" 20
-    wait_for "$work/ready" || return 1
+    wait_until 10 test -e "$work/ready" || return 1
     call "tcp:127.0.0.1:$(cat "$work/ready")" --timeout 2
     fails_within 2 4
 }
@@ -184,8 +164,7 @@ stopped_at_a_socket() {
 }
 
 stopped_at_a_device() {
-    helper paced "$work/near" "$work/far" 2000 60
-    wait_for "$work/far" || return 1
+    pace 2000 60 || return 1
     call "$work/near" --timeout 10 -v
     pause 1
     stop_and_go "$caller"
@@ -195,8 +174,7 @@ stopped_at_a_device() {
 
 # The device is spoken to only once somebody has called.
 a_quiet_device() {
-    helper paced "$work/near" "$work/far" 2000 60
-    wait_for "$work/far" || return 1
+    pace 2000 60 || return 1
     answer "$work/far" --wait 20 -v
     pause 3
     [ ! -s "$work/b.err" ] || return 1
@@ -207,8 +185,7 @@ a_quiet_device() {
 
 # 1,200 bit/s are 120 bytes a second: what is on the way takes far longer than the timeout.
 a_slow_line() {
-    helper paced "$work/near" "$work/far" 120 200
-    wait_for "$work/far" || return 1
+    pace 120 200 || return 1
     answer "$work/far" --timeout 3 --size 256 --speed 1200
     call "$work/near" --timeout 3 --size 256 --speed 1200 -v
     both_done 120 && grep -q "^uucpair: 0 timeouts" "$work/a.err"

@@ -6,8 +6,6 @@
 #   tests/two_runs.sh [ROUNDS [PROGRAM]]
 #
 # It prints how many rounds were well, and ends with status 1 where one was not. The folders stay then.
-set -eu
-export LC_ALL=C
 . "$(dirname "$(readlink -f "$0")")/common.sh"
 rounds=${1:-12}
 files=8

@@ -1,4 +1,4 @@
-"""On which definitions a clause rests: for tools/contracts_index.py.
+"""On which definitions a clause rests: for tools/contracts_index.py and tools/docs_check.py.
 
 From the words of the clause by the imports of its file to definitions of specs/, by the words of these and the
 imports of their files to others, and so on to the last. A type or a constant of the program that one of them names
@@ -102,10 +102,15 @@ def lines_and_file(thing):
     return lines, path
 
 
-def rests_on(function, clauses):
+def rests_on(function, clauses, kinds=("ensures",)):
     """All that these clauses of a function rest on."""
-    texts = [text for kind, name, text in function.clause_texts() if kind == "ensures" and name in clauses]
-    seen, left = set(), named_in(texts, function.path)
+    texts = [text for kind, name, text in function.clause_texts() if kind in kinds and name in clauses]
+    return reached_from(named_in(texts, function.path))
+
+
+def reached_from(things):
+    """These things, and all that they name."""
+    seen, left = set(), set(things)
     while left:
         thing = left.pop()
         seen.add(thing)

@@ -6,15 +6,19 @@ docs/uucpair.1:
 
     - each path in backticks is there: as it stands, or as the end of the path of a file; in CONTRACTS, CONTRIBUTING
       and PROTOCOL of a file in one of the crates that the same line names, or that its section is about;
-    - each crate is one of crates.txt, and each of crates.txt stands in the tables of README and ARCHITECTURE;
+    - each crate is one of crates.txt, and each of crates.txt stands in the table of ARCHITECTURE and has a section in
+      PROOFS, or is one of its crates of tests;
     - each word of code in backticks (with _, ::, or a capital inside) stands somewhere in the sources;
-    - in CONTRACTS each function of a row is there, and each clause of the row is one of its contract;
+    - in CONTRACTS and PROOFS each function of a row is there, and each clause of the row is one of its contract; in PROOFS
+      a function without clauses has one without a name, what stands in brackets is in the sources, and the clauses rest
+      on a definition of each file that stands beside them;
     - a definition in brackets behind the file that it is of, (`File.antt`, `name`), is in that file;
     - each constant of OPERATING's limits has the value that the row says, and a law `limits` names it where the row
       says "law", and nowhere else; each that PROTOCOL names in brackets has a value that its sentence says;
     - each edit is there, and a number of wrong bodies "now" is the number of files;
     - each name in the first column of GLOSSARY stands in the file of its row;
     - a link leads to a document and a heading that are there; so does a document's name with a heading in quotes;
+    - code between the lines ```rust and ``` stands so in one of the sources, but for what it is moved to the right;
     - each option in backticks (--x) is one of the command line, or of a script of the repository.
 
 What it can't see: whether a promise in words is what its clause says; numbers without a constant beside them; names
@@ -22,16 +26,19 @@ that are one plain word; definitions that a text names far from their file; meas
 whether the parts that tools/contracts_index.py makes are up to date (its --check says so). Of two functions in a row of
 CONTRACTS a clause may be of either.
 """
+import functools
 import os
 import re
 import sys
 
 sys.dont_write_bytecode = True
 
+import believed
 import contracts_index
 import sources
 
 CONTRACTS = "docs/CONTRACTS.md"
+PROOFS = "docs/PROOFS.md"
 CODE = re.compile(r"`([^`\n]+)`")
 ENDINGS = tuple(".rt .antt .edit .sh .py .c .md .script .report .ladder .bytes .listing .bash".split())
 FOLDERS = tuple("crates src specs proofs must-fail tests tools interop bench examples docs .ci".split())
@@ -42,7 +49,7 @@ ORDINALS = "zeroth first second third fourth fifth sixth seventh eighth ninth te
 OF_OTHERS = {"std", "make_contiguous", "--inetd"}
 
 # Documents whose lines name a crate and then files of it.
-OF_CRATES = (CONTRACTS, "CONTRIBUTING.md", "docs/PROTOCOL.md")
+OF_CRATES = (CONTRACTS, PROOFS, "CONTRIBUTING.md", "docs/PROTOCOL.md")
 
 complaints = []
 
@@ -138,13 +145,23 @@ def check_crates(path):
 
 
 def check_tables_of_crates():
-    for path in ("README.md", "docs/ARCHITECTURE.md"):
-        table = sources.read(path).split("\n## The crates", 1)[-1].split("\n## ", 1)[0]
-        rows = [line.split("|")[1] for line in table.split("\n") if line.startswith("| `")]
-        told = {crate for row in rows for crate in CODE.findall(row)}
+    table = part_behind(sources.read("docs/ARCHITECTURE.md"), "## The crates")
+    rows = [line.split("|")[1] for line in table.split("\n") if line.startswith("| `")]
+    proofs = sources.read(PROOFS)
+    tests = part_behind(proofs, "## The crates of tests").split("\n\n|")[0]
+    told = {
+        "docs/ARCHITECTURE.md": {crate for row in rows for crate in CODE.findall(row)},
+        PROOFS: set(re.findall(r"^## `(\w+)`$", proofs, re.M)) | set(re.findall(r"`(uug_\w*tests)`", tests)),
+    }
+    for path, crates in told.items():
         for crate in sources.crates():
-            if crate not in told:
-                complain(path, 1, f"its table of crates lacks {crate}")
+            if crate not in crates:
+                complain(path, 1, f"lacks the crate {crate}")
+
+
+def part_behind(text, heading):
+    """What stands below a heading of the second level."""
+    return text.split(f"\n{heading}\n", 1)[-1].split("\n## ", 1)[0]
 
 
 # Links.
@@ -170,6 +187,29 @@ def check_links(path):
         for home, heading in re.findall(r"`(docs/[A-Z]+\.md|README\.md|CONTRIBUTING\.md)`,? \(?\"([^\"]+)\"", line):
             if home in sources.files() and not any(heading.rstrip(",.") in known for known in headings_of(home)):
                 complain(path, number, f"{home} has no heading \"{heading}\"")
+
+
+# Code.
+
+
+def check_code(path):
+    """Each block of code stands in a source, as it is but for the width of its margin."""
+    blocks = re.finditer(r"^```rust\n(.*?)^```$", sources.read(path), re.M | re.S)
+    for block in blocks:
+        wanted = without_margin(block.group(1))
+        if not any(wanted in text for text in all_code()):
+            number = sources.read(path).count("\n", 0, block.start()) + 1
+            complain(path, number, "no source has this code")
+
+
+def without_margin(text):
+    return "\n" + "\n".join(line.strip() for line in text.strip().split("\n")) + "\n"
+
+
+@functools.lru_cache(None)
+def all_code():
+    paths = [path for crate in sources.crates() for path in sources.of_crate(crate, "src", ".rt")]
+    return [without_margin(sources.read(path)) for path in paths]
 
 
 # Words of code.
@@ -276,6 +316,70 @@ def all_of_traits():
         for path in sources.of_crate(crate, "src", ".rt"):
             found |= set(re.findall(r"^\s+ghost (\w+):", sources.read(path), re.M))
     return found
+
+
+# Promises.
+
+
+# What a cell of PROOFS names: functions, or what a trait asks of a type; behind a colon their clauses.
+TOLD = re.compile(r"((?:`[\w:]+`(?:, )?)+)(, as an? `\w+`[^:]*)?(?:: (.*))?$", re.S)
+
+
+def functions_in(crate, names):
+    """The functions that stand in a cell, and what is none. A crate may stand in front of a name."""
+    found, unknown = [], []
+    for word in names:
+        home, _, rest = word.partition("::")
+        if home not in sources.crates():
+            home, rest = crate, word
+        known, strange = contracts_index.named_functions(home, f"`{rest}`") if home else ([], [word])
+        found.append((word, [function for _, some, _ in known for function in some]))
+        unknown += strange
+    return found, unknown
+
+
+def defined_in(crate, names):
+    """The definitions of these names in specs/ of a crate."""
+    paths = sources.spec_files(crate) if crate else []
+    return {("definition", path, name) for path in paths for name in names if name in believed.definitions_of(path)[0]}
+
+
+def check_told(number, crate, told, beside):
+    """One of the functions in a cell of PROOFS, with its clauses: gives what these rest on."""
+    inside = CODE.findall(" ".join(re.findall(r"\([^)]*\)", told)))
+    for word in inside:
+        if word not in beside:
+            complain(PROOFS, number, f"no source has {word}")
+    match = TOLD.match(re.sub(r" ?\([^)]*\)", "", told))
+    if not match:
+        complain(PROOFS, number, f"this names no function: {told}")
+        return set()
+    found, unknown = functions_in(crate, CODE.findall(match.group(1)))
+    for word in unknown:
+        complain(PROOFS, number, f"{crate} has no function or type {word}")
+    functions = [function for _, some in found for function in some]
+    named, clauses = set(CODE.findall(match.group(3) or "")), {name for f in functions for _, name in f.clauses}
+    for word in sorted(named - clauses):
+        complain(PROOFS, number, f"no contract of {match.group(1)} has a clause {word}")
+    if not match.group(2) and not named:
+        for word, some in found:
+            if some and not any(("ensures", "") in function.clauses for function in some):
+                complain(PROOFS, number, f"{word} has no clause without a name")
+    things = believed.reached_from(defined_in(crate, inside))
+    return things.union(*(believed.rests_on(f, named or {""}, ("ensures", "requires")) for f in functions))
+
+
+def check_proofs():
+    beside = known_beside() | {name for crate in sources.crates() for name in sources.types_of(crate)}
+    for number, line, crate in lines_of(PROOFS):
+        cells = [cell.strip() for cell in line.strip().strip("|").split("|")]
+        if not line.startswith("| ") or len(cells) != 4 or cells[1] == "Contract":
+            continue
+        things = set().union(*(check_told(number, crate, told, beside) for told in cells[1].split("; ")))
+        homes = {path for kind, path, _ in things if kind == "definition"}
+        for file in CODE.findall(cells[2]):
+            if file.endswith(".antt") and not any(home.endswith("/" + file) for home in homes):
+                complain(PROOFS, number, f"the clauses of this row do not rest on {file}")
 
 
 # Definitions.
@@ -394,12 +498,14 @@ def main():
         check_paths(path)
         check_crates(path)
         check_links(path)
+        check_code(path)
         check_words(path, words)
         check_options(path, options)
         check_definitions(path)
         check_edits(path)
     check_tables_of_crates()
     check_contracts()
+    check_proofs()
     check_glossary()
     check_limits()
     for line in complaints:

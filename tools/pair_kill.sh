@@ -13,8 +13,6 @@
 # Half of the moments lie anywhere in a run, the other half in the part in which the `jobs` are replaced, or what is near
 # to it: the last tenth of the time that a run takes. A run that has ended before its moment is not counted, and is made
 # once more. Where something is wrong the folders stay as they are, and the status is 1.
-set -eu
-export LC_ALL=C
 . "$(dirname "$(readlink -f "$0")")/../tests/common.sh"
 kills=${1:-200}
 kind=${3:-pair}
@@ -155,6 +153,8 @@ run_to_end() {
     begun=${EPOCHREALTIME/./}
     begin
     wait "$main" || status=$?
+    # It waits for another caller where this one has not come to it.
+    [ "$status" -eq 0 ] || end_partner
     [ -z "$partner" ] || wait "$partner" || status=$?
     took=$((${EPOCHREALTIME/./} - begun))
     [ "$status" -eq 0 ] || fail "status $status: $(cat "$work/errors" "$work/report")"

@@ -12,7 +12,7 @@ set -eu
 export LC_ALL=C
 umask 022
 root=$(dirname "$(dirname "$(readlink -f "$0")")")
-documents=(README.md CHANGELOG.md docs/OPERATING.md docs/PROTOCOL.md docs/INTEROP.md)
+documents=(README.md CHANGELOG.md docs/{TUTORIAL,OPERATING,PROTOCOL,INTEROP,PROOFS}.md)
 
 fail() {
     echo "release.sh: $*" >&2

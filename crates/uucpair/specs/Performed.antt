@@ -16,8 +16,8 @@ use Rattle.uug_remark.specs.Remarks.{remark_text, wrong_at}
 use Rattle.clap.specs.Words.{kind_of, takes}
 use Rattle.clap.specs.declared.error.Error.{Error}
 use Rattle.clap.specs.declared.error.kind.ErrorKind.TheVariants.{OutOfMemory}
-use Rattle.uug_sys.specs.Faults.{IsQueueFault}
-use Rattle.uug_sys.specs.declared.failure.SystemFailure.{SystemFailure}
+use Rattle.uug_failure.specs.Faults.{IsQueueFault}
+use Rattle.uug_failure.specs.declared.failure.SystemFailure.{SystemFailure}
 use Rattle.uug_words.specs.Asked.{Asks}
 use Rattle.uug_words.specs.Tools.{uucpair}
 use Rattle.uug_words.specs.declared.command_line.Task.{Task}
@@ -25,7 +25,7 @@ use Rattle.uug_words.specs.declared.command_line.Task.TheVariants.{Version, Scan
 use Rattle.uucpair.specs.declared.input_task.InputTask.{InputTask}
 use Rattle.uucpair.specs.declared.input_task.InputTask.TheVariants as over
 use Rattle.uucpair.specs.declared.stop.Stop.{Stop}
-use Rattle.uucpair.specs.declared.stop.Stop.TheVariants.{Fault, Remarked, File, InUse, System, CommandLine}
+use Rattle.uucpair.specs.declared.stop.Stop.TheVariants.{Fault, Remarked, File, InUse, Told, CommandLine}
 use Rattle.uucpair.specs.Stop.{EndsSo}
 
 abbrev pub version_line : List ℕ
@@ -184,9 +184,9 @@ abbrev pub IsNoTask : Stop → Type 0
 IsNoTask (CommandLine error) = ⊤
 IsNoTask (Fault fault) = fault ≡ faults.Memory
 IsNoTask (Remarked fault remark) = ⊥
-IsNoTask (File name why) = ⊥
+IsNoTask (File name reason) = ⊥
 IsNoTask (InUse name) = ⊥
-IsNoTask (System failure) = ⊥
+IsNoTask (Told fault line) = ⊥
 
 -- how the program ends where the parser of the words gives this error
 pub record IsRefusal (error : Error) (stop : Stop) : Type 0 where

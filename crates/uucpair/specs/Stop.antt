@@ -1,25 +1,29 @@
 -- How the program ends (this project's profile).
-use Rattle.std.specs.Prelude.{◌≡◌, ◌==◌, ℕ, List, codes, if◌then◌else◌, None, Option, Some, Result, Ok, Err, IsErrAnd, string_bytes}
+use Rattle.std.specs.Prelude.{◌≡◌, ◌==◌, ℕ, List, [], codes, if◌then◌else◌, None, Option, Some, Result, Ok, Err, IsErrAnd, string_bytes}
 use Rattle.uug_stream.specs.Fault.{status_of}
 use Rattle.uug_stream.specs.declared.fault.ToolFault.{ToolFault}
-use Rattle.uug_stream.specs.declared.fault.ToolFault.TheVariants.{Device, InUse, Memory, Read, Script, Usage}
-use Rattle.uug_sys.specs.Queued.{word_or_empty}
-use Rattle.uug_sys.specs.declared.failure.Cause.{Cause}
-use Rattle.uug_sys.specs.declared.failure.Cause.TheVariants as causes
-use Rattle.uug_sys.specs.declared.failure.SystemFailure.{SystemFailure}
+use Rattle.uug_stream.specs.declared.fault.ToolFault.TheVariants.{Device, InUse, Jobs, Memory, Read, Script, Usage, Write}
+use Rattle.uug_disk.specs.Queued.{word_or_empty}
+use Rattle.uug_failure.specs.declared.failure.Cause.{Cause}
+use Rattle.uug_failure.specs.declared.failure.Cause.TheVariants as causes
+use Rattle.uug_failure.specs.declared.failure.SystemFailure.{SystemFailure}
+use Rattle.uug_reason.specs.Reasons.{Places, places, reason_line}
+use Rattle.uug_words.specs.UsageWords.{IsUsageOf, pair_words}
+use Rattle.uug_sys.specs.declared.task.CallTask.{CallTask}
+use Rattle.uug_words.specs.declared.command_line.PairTask.{PairTask}
 use Rattle.uug_words.specs.declared.command_line.Task.{Task}
 use Rattle.uug_words.specs.declared.command_line.Task.TheVariants.{Scan, ScanVerbose, Play, PlayVerbose, PlaySettled, PlayDrawn, Pair, Call, Queue}
 use Rattle.uucpair.specs.declared.stop.Stop.{Stop}
-use Rattle.uucpair.specs.declared.stop.Stop.TheVariants.{Fault, Remarked, File, System, CommandLine}
+use Rattle.uucpair.specs.declared.stop.Stop.TheVariants.{Fault, Remarked, File, Told, CommandLine}
 use Rattle.uucpair.specs.declared.stop.Stop.TheVariants as stops
 
 -- the status where the program ends before its task is done: usage and help count as bad usage
 abbrev pub status_of_stop : Stop → ℕ
 status_of_stop (Fault fault) = status_of fault
 status_of_stop (Remarked fault remark) = status_of fault
-status_of_stop (File name why) = status_of Read
+status_of_stop (File name reason) = status_of Read
 status_of_stop (stops.InUse name) = status_of (InUse 0)
-status_of_stop (System failure) = status_of Device
+status_of_stop (Told fault line) = status_of fault
 status_of_stop (CommandLine error) = status_of Usage
 
 -- ---- after a task
@@ -28,19 +32,46 @@ status_of_stop (CommandLine error) = status_of Usage
 abbrev pub HasRemark : ToolFault → (remark : List ℕ) → Stop → Type 0
 HasRemark fault remark (Remarked f text) = (f ≡ fault) × (string_bytes text ≡ remark)
 HasRemark fault remark (Fault f) = ⊥
-HasRemark fault remark (File name why) = ⊥
+HasRemark fault remark (File name reason) = ⊥
 HasRemark fault remark (stops.InUse name) = ⊥
-HasRemark fault remark (System failure) = ⊥
+HasRemark fault remark (Told f line) = ⊥
 HasRemark fault remark (CommandLine error) = ⊥
 
--- the file of this name is named, and the call of the system that failed on it, unless there was no memory for that
+-- this line says on what a call of the system failed, and why, unless there was no memory for that
+abbrev pub SaysReason : (reason : List ℕ) → Stop → Type 0
+SaysReason reason (Told fault line) = (fault ≡ Device) × (string_bytes line ≡ reason)
+SaysReason reason (Fault fault) = fault ≡ Device
+SaysReason reason (Remarked fault remark) = ⊥
+SaysReason reason (File name line) = ⊥
+SaysReason reason (stops.InUse name) = ⊥
+SaysReason reason (CommandLine error) = ⊥
+
+-- the fault and this line, which may be empty
+abbrev pub HasLine : ToolFault → (line : List ℕ) → Stop → Type 0
+HasLine fault line (Told f text) = (f ≡ fault) × (string_bytes text ≡ line)
+HasLine fault line (Fault f) = ⊥
+HasLine fault line (Remarked f remark) = ⊥
+HasLine fault line (File name reason) = ⊥
+HasLine fault line (stops.InUse name) = ⊥
+HasLine fault line (CommandLine error) = ⊥
+
+-- why a file of this name can't be read, as a line, where it is known
+abbrev pub why_not_read : (path : List ℕ) → (why : Option SystemFailure) → List ℕ
+why_not_read path (Some failure) = reason_line (places path [] [] []) failure
+why_not_read path None = []
+
+-- the file of this name is named, and this reason, unless there was no memory for that
+abbrev pub NamesFileFor : (path reason : List ℕ) → Stop → Type 0
+NamesFileFor path reason (File name line) = (string_bytes name ≡ path) × (string_bytes line ≡ reason)
+NamesFileFor path reason (Fault fault) = fault ≡ Memory
+NamesFileFor path reason (Remarked fault remark) = ⊥
+NamesFileFor path reason (stops.InUse name) = ⊥
+NamesFileFor path reason (Told f line) = ⊥
+NamesFileFor path reason (CommandLine error) = ⊥
+
+-- the same, and why it can't be read
 abbrev pub NamesFile : (path : List ℕ) → (why : Option SystemFailure) → Stop → Type 0
-NamesFile path why (File name reason) = (string_bytes name ≡ path) × (reason ≡ why)
-NamesFile path why (Fault fault) = fault ≡ Memory
-NamesFile path why (Remarked fault remark) = ⊥
-NamesFile path why (stops.InUse name) = ⊥
-NamesFile path why (System failure) = ⊥
-NamesFile path why (CommandLine error) = ⊥
+NamesFile path why stop = NamesFileFor path (why_not_read path why) stop
 
 -- the file is named where it refused to be opened or read
 abbrev pub StopsOnFile : (path : List ℕ) → (why : Option SystemFailure) → ToolFault → Stop → Type 0
@@ -63,9 +94,9 @@ too_much = codes "a ladder has at most 1000 events, and a picture 1000000 rungs"
 abbrev pub SaysTooMuch : Stop → Type 0
 SaysTooMuch (Fault fault) = fault ≡ Memory
 SaysTooMuch (Remarked fault remark) = HasRemark Usage too_much (Remarked fault remark)
-SaysTooMuch (File name why) = ⊥
+SaysTooMuch (File name reason) = ⊥
 SaysTooMuch (stops.InUse name) = ⊥
-SaysTooMuch (System failure) = ⊥
+SaysTooMuch (Told f line) = ⊥
 SaysTooMuch (CommandLine error) = ⊥
 
 abbrev pub StopsOnDrawing : ToolFault → Stop → Type 0
@@ -80,34 +111,51 @@ StopsOnDrawingFile path why fault stop = StopsOnDrawing fault stop
 abbrev pub NamesFolder : (dir : List ℕ) → Stop → Type 0
 NamesFolder dir (stops.InUse name) = string_bytes name ≡ dir
 NamesFolder dir (Fault fault) = fault ≡ Memory
-NamesFolder dir (File name why) = ⊥
+NamesFolder dir (File name reason) = ⊥
 NamesFolder dir (Remarked fault remark) = ⊥
-NamesFolder dir (System failure) = ⊥
+NamesFolder dir (Told f line) = ⊥
 NamesFolder dir (CommandLine error) = ⊥
 
--- The folder is named that another run holds: of several the one of that number, counted from 0. And the call of the system
--- is named that failed, where it is known.
-abbrev pub StopsOnFolders : (first second : List ℕ) → (why : Option SystemFailure) → ToolFault → Stop → Type 0
-StopsOnFolders first second why (InUse folder) stop = NamesFolder (if folder == 0 then first else second) stop
-StopsOnFolders first second (Some failure) Device stop = stop ≡ System failure
-StopsOnFolders first second why fault stop = stop ≡ Fault fault
+-- The folder is named that another run holds: of several the one of that number, counted from 0. And it is said on what a call of
+-- the system failed, and why, where it is known.
+abbrev pub StopsOnFolders : (line first second : List ℕ) → (why : Option SystemFailure) → ToolFault → Stop → Type 0
+StopsOnFolders line first second why (InUse folder) stop = NamesFolder (if folder == 0 then first else second) stop
+StopsOnFolders line first second (Some failure) Device stop = SaysReason (reason_line (places [] line first second) failure) stop
+StopsOnFolders line first second why fault stop = stop ≡ Fault fault
 
-abbrev pub StopsOnCause : (line : List ℕ) → SystemFailure → Cause → Stop → Type 0
-StopsOnCause line failure causes.InUse stop = NamesFolder line stop
-StopsOnCause line failure cause stop = stop ≡ System failure
+abbrev pub StopsOnCause : (line dir : List ℕ) → SystemFailure → Cause → Stop → Type 0
+StopsOnCause line dir failure causes.InUse stop = NamesFolder line stop
+StopsOnCause line dir failure cause stop = SaysReason (reason_line (places [] line dir dir) failure) stop
 
--- Of one end the line is named that another run holds, and else the same.
-abbrev pub StopsOnEnd : (line dir : List ℕ) → (why : Option SystemFailure) → ToolFault → Stop → Type 0
-StopsOnEnd line dir (Some failure) Device stop = StopsOnCause line failure failure.cause stop
-StopsOnEnd line dir why fault stop = StopsOnFolders dir dir why fault stop
+-- it is said what is wrong with the usage, which this holds of, unless there was no memory for that
+abbrev pub SaysUsage : (List ℕ → Type 0) → Stop → Type 0
+SaysUsage IsWrong (Remarked fault remark) = (fault ≡ Usage) × IsWrong (string_bytes remark)
+SaysUsage IsWrong (Fault fault) = fault ≡ Usage
+SaysUsage IsWrong (File name reason) = ⊥
+SaysUsage IsWrong (stops.InUse name) = ⊥
+SaysUsage IsWrong (Told f line) = ⊥
+SaysUsage IsWrong (CommandLine error) = ⊥
 
--- Of what was to be queued the file is named that can't be copied, and it is said what is wrong with the order. The call of the
--- system is named that failed, where it is known.
-abbrev pub StopsOnQueue : (file : List ℕ) → (why : Option SystemFailure) → ToolFault → (remark : List ℕ) → Stop → Type 0
-StopsOnQueue file why Read remark stop = NamesFile file why stop
-StopsOnQueue file why Usage remark stop = HasRemark Usage remark stop
-StopsOnQueue file (Some failure) Device remark stop = stop ≡ System failure
-StopsOnQueue file why fault remark stop = stop ≡ Fault fault
+abbrev pub StopsOnPair : PairTask → (why : Option SystemFailure) → ToolFault → (remark : List ℕ) → Stop → Type 0
+StopsOnPair pair why Usage remark stop = SaysUsage (λ said. said ≡ pair_words pair.drop_every pair.flip_every) stop
+StopsOnPair pair why (Jobs line) remark stop = HasLine (Jobs line) remark stop
+StopsOnPair pair why fault remark stop = StopsOnFolders pair.socket.now pair.dir_a.now pair.dir_b.now why fault stop
+
+-- Of one end it is said what is wrong with its task, or with a line of its jobs, the line is named that another run holds, and else
+-- the same.
+abbrev pub StopsOnEnd : CallTask → (why : Option SystemFailure) → ToolFault → (remark : List ℕ) → Stop → Type 0
+StopsOnEnd call why Usage remark stop = SaysUsage (IsUsageOf call) stop
+StopsOnEnd call why (Jobs line) remark stop = HasLine (Jobs line) remark stop
+StopsOnEnd call (Some failure) Device remark stop = StopsOnCause call.line.now call.dir.now failure failure.cause stop
+StopsOnEnd call why fault remark stop = StopsOnFolders call.line.now call.dir.now call.dir.now why fault stop
+
+-- Of what was to be queued the file is named that can't be copied, and it is said what is wrong with the order, and on what a call
+-- of the system failed, and why, where it is known.
+abbrev pub StopsOnQueue : (dir file : List ℕ) → (why : Option SystemFailure) → ToolFault → (remark : List ℕ) → Stop → Type 0
+StopsOnQueue dir file why Read remark stop = NamesFile file why stop
+StopsOnQueue dir file why Usage remark stop = HasRemark Usage remark stop
+StopsOnQueue dir file (Some failure) Device remark stop = SaysReason (reason_line (places [] [] dir dir) failure) stop
+StopsOnQueue dir file why fault remark stop = stop ≡ Fault fault
 
 abbrev pub StopsAs : Task → ToolFault → (remark : List ℕ) → (why : Option SystemFailure) → Stop → Type 0
 StopsAs (Scan (Some path)) fault remark why stop = StopsOnFile path.now why fault stop
@@ -118,12 +166,23 @@ StopsAs (PlayVerbose None) fault remark why stop = StopsOnScript fault remark st
 StopsAs (PlayVerbose (Some path)) fault remark why stop = StopsOnScriptFile path.now why fault remark stop
 StopsAs (PlayDrawn how None) fault remark why stop = StopsOnDrawing fault stop
 StopsAs (PlayDrawn how (Some path)) fault remark why stop = StopsOnDrawingFile path.now why fault stop
-StopsAs (Pair pair) fault remark why stop = StopsOnFolders pair.dir_a.now pair.dir_b.now why fault stop
-StopsAs (Call call) fault remark why stop = StopsOnEnd call.line.now call.dir.now why fault stop
-StopsAs (Queue queue) fault remark why stop = StopsOnQueue (word_or_empty queue.file) why fault remark stop
+StopsAs (Pair pair) fault remark why stop = StopsOnPair pair why fault remark stop
+StopsAs (Call call) fault remark why stop = StopsOnEnd call why fault remark stop
+StopsAs (Queue queue) fault remark why stop = StopsOnQueue queue.dir.now (word_or_empty queue.file) why fault remark stop
 StopsAs task fault remark why stop = stop ≡ Fault fault
 
 -- how the program ends after a task that answered this, with this remark, where this call of the system failed
 abbrev pub EndsSo : Task → Result ℕ ToolFault → (remark : List ℕ) → (why : Option SystemFailure) → Result ℕ Stop → Type 0
 EndsSo task (Ok status) remark why ends = ends ≡ Ok status
 EndsSo task (Err fault) remark why ends = IsErrAnd ends (StopsAs task fault remark why)
+
+-- ---- of standard input and output
+
+abbrev pub streams_places : Places
+streams_places = places (codes "standard input") [] [] []
+
+-- Where standard input refused a read, or standard output a write, the line says why, if it is known; else the end stays.
+abbrev pub SaysStream : (stop : Stop) → (input output : Option SystemFailure) → (ends : Stop) → Type 0
+SaysStream (Fault Read) (Some failure) output ends = SaysReason (reason_line streams_places failure) ends
+SaysStream (Fault Write) input (Some failure) ends = SaysReason (reason_line streams_places failure) ends
+SaysStream stop input output ends = ends ≡ stop

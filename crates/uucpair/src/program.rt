@@ -2,30 +2,31 @@
 ghost use Rattle.std.specs.Prelude.{◌≡◌, ◌≤◌, IfErr, IfOk, IsErrAnd, IsSome, MatchResult, OnOk, map, string_bytes};
 ghost use Rattle.uug_scan.specs.Scan.{IsScanFault};
 ghost use Rattle.uug_stream.specs.Streams.{Appends};
-ghost use Rattle.uug_sys.specs.Queued.{word_or_empty};
+ghost use Rattle.uug_disk.specs.Queued.{word_or_empty};
 ghost use Rattle.uucpair.specs.Performed.{Does, DoesOn, DoesOver, IsFaultOf, Performs, Scans, ScansVerbose, streams, version_line};
-ghost use Rattle.uucpair.specs.Stop.{EndsSo, NamesFile, NamesFolder, SaysTooMuch, StopsAs, StopsOnDrawing, StopsOnCause, StopsOnDrawingFile, StopsOnEnd, StopsOnFile, StopsOnFolders, StopsOnQueue, StopsOnScript, StopsOnScriptFile, status_of_stop};
+ghost use Rattle.uucpair.specs.Stop.{EndsSo, NamesFile, NamesFileFor, NamesFolder, SaysStream, SaysTooMuch, StopsAs, StopsOnDrawing, StopsOnCause, StopsOnDrawingFile, StopsOnEnd, StopsOnFile, StopsOnFolders, StopsOnPair, StopsOnQueue, StopsOnScript, StopsOnScriptFile, status_of_stop, why_not_read};
 
 use crate::input_task::InputTask;
 use crate::stop::Stop;
-use std::alloc::Global;
+use std::alloc::{AllocError, Global};
 use std::convert::AsStr;
 use std::fs::File;
 use std::net::{Net, TcpListener, TcpStream};
 use std::rt::{Env, Files};
 use std::time::Clock;
-use std::{env, io};
+use std::{env, fs, io};
+use uug_disk::queue_run;
+use uug_failure::{Cause, Resource, SystemFailure};
 use uug_ladder::play_ladder;
 use uug_pair::pair_run;
 use uug_play::{play_settled, play_stream};
+use uug_port::{SystemInput, SystemOutput};
+use uug_reason::{jobs_remark, reason_line};
 use uug_remark::play_remarked;
 use uug_scan::{READ_LIMIT, scan_detailed, scan_stream};
 use uug_stream::{Output, ToolFault, write_all};
-use uug_sys::{
-    CallTask, Cause, Resource, SystemFailure, SystemInput, SystemObserver, SystemOutput, call_run,
-    queue_run,
-};
-use uug_words::{PairTask, Task, VERSION, task_of};
+use uug_sys::{CallTask, SystemObserver, call_run};
+use uug_words::{PairTask, Task, VERSION, pair_remark, task_of, usage_remark};
 
 /// What is remarked of a script that is too much for a ladder.
 const TOO_MUCH: &str = "a ladder has at most 1000 events, and a picture 1000000 rungs";
@@ -176,12 +177,43 @@ fn stop_of_drawing_file(
     }
 }
 
-/// That the file of this name can't be read, where there is memory to say so.
+/// That a call of the system failed, as this line says, where there was memory for it.
+fn says_reason(reason: Result<String, AllocError>) -> Stop
+    ensures { MatchResult reason (λ line. result ≡ Stop.Told ToolFault.Device line)
+        (λ _. result ≡ Stop.Fault ToolFault.Device) }
+{
+    match reason {
+        Ok(line) => Stop::Told(ToolFault::Device, line),
+        Err(_) => Stop::Fault(ToolFault::Device),
+    }
+}
+
+/// Why the file of this name can't be read, as a line, where it is known.
+fn why_not_read(alloc: Global, path: &str, why: Option<SystemFailure>) -> Result<String, AllocError>
+    ensures { IfOk result (λ line. string_bytes line ≡ why_not_read path.now why) }
+{
+    match why {
+        Some(failure) => reason_line(alloc, path, "", "", "", failure),
+        None => Ok(String::new(alloc)),
+    }
+}
+
+/// That the file of this name can't be read, and why, where there is memory to say so.
 fn names_file(alloc: Global, path: &str, why: Option<SystemFailure>) -> Stop
     ensures { NamesFile path.now why result }
 {
+    match why_not_read(alloc, path, why) {
+        Ok(reason) => names_file_for(alloc, path, reason),
+        Err(_) => Stop::Fault(ToolFault::Memory),
+    }
+}
+
+/// The same for this reason.
+fn names_file_for(alloc: Global, path: &str, reason: String) -> Stop
+    ensures { NamesFileFor path.now (string_bytes reason) result }
+{
     match String::from_str(alloc, path) {
-        Ok(name) => Stop::File(name, why),
+        Ok(name) => Stop::File(name, reason),
         Err(_) => Stop::Fault(ToolFault::Memory),
     }
 }
@@ -233,65 +265,102 @@ fn names_folder(alloc: Global, dir: &str) -> Stop
 }
 
 /// Why a task gave up that works in these folders, of which the second may be the first again: the folder is named where
-/// another run holds it, and the call of the system that failed, where it is known.
+/// another run holds it, and on what a call of the system failed, and why, where it is known.
 fn stop_of_folders(
     alloc: Global,
+    line: &str,
     first: &str,
     second: &str,
     fault: ToolFault,
     why: Option<SystemFailure>,
 ) -> Stop
-    ensures { StopsOnFolders first.now second.now why fault result }
+    ensures { StopsOnFolders line.now first.now second.now why fault result }
 {
     match (fault, why) {
         (ToolFault::InUse(0), _) => names_folder(alloc, first),
         (ToolFault::InUse(_), _) => names_folder(alloc, second),
-        (ToolFault::Device, Some(failure)) => Stop::System(failure),
+        (ToolFault::Device, Some(failure)) => {
+            says_reason(reason_line(alloc, "", line, first, second, failure))
+        }
         (fault, _) => Stop::Fault(fault),
     }
 }
 
-/// Why the task of one end gave up: the line is named where another run holds it, and so is the folder.
-fn stop_of_end(
+/// What is wrong with the usage, where there was memory for it.
+fn says_usage(remark: Result<String, AllocError>) -> Stop
+    ensures { MatchResult remark (λ text. result ≡ Stop.Remarked ToolFault.Usage text)
+        (λ _. result ≡ Stop.Fault ToolFault.Usage) }
+{
+    match remark {
+        Ok(remark) => Stop::Remarked(ToolFault::Usage, remark),
+        Err(_) => Stop::Fault(ToolFault::Usage),
+    }
+}
+
+/// Why two ends gave up: what is wrong with their usage is said, and with a line of jobs.
+fn stop_of_pair(
     alloc: Global,
-    line: &str,
-    dir: &str,
+    pair: &PairTask<'_>,
     fault: ToolFault,
+    remark: String,
     why: Option<SystemFailure>,
 ) -> Stop
-    ensures { StopsOnEnd line.now dir.now why fault result }
+    ensures { StopsOnPair pair.now why fault (string_bytes remark) result }
+{
+    match fault {
+        ToolFault::Usage => says_usage(pair_remark(alloc, pair.drop_every, pair.flip_every)),
+        ToolFault::Jobs(_) => Stop::Told(fault, remark),
+        fault => stop_of_folders(alloc, pair.socket, pair.dir_a, pair.dir_b, fault, why),
+    }
+}
+
+/// Why the task of one end gave up: what is wrong with it is said, and the line is named where another run holds it, and so is
+/// the folder.
+fn stop_of_end(
+    alloc: Global,
+    call: &CallTask<'_>,
+    fault: ToolFault,
+    remark: String,
+    why: Option<SystemFailure>,
+) -> Stop
+    ensures { StopsOnEnd call.now why fault (string_bytes remark) result }
 {
     match (fault, why) {
-        (ToolFault::Device, Some(failure)) => stop_of_cause(alloc, line, failure),
-        (fault, why) => stop_of_folders(alloc, dir, dir, fault, why),
+        (ToolFault::Usage, _) => says_usage(usage_remark(alloc, call)),
+        (ToolFault::Jobs(_), _) => Stop::Told(fault, remark),
+        (ToolFault::Device, Some(failure)) => stop_of_cause(alloc, call.line, call.dir, failure),
+        (fault, why) => stop_of_folders(alloc, call.line, call.dir, call.dir, fault, why),
     }
 }
 
 /// Why one end gave up for which a call of the system failed.
-fn stop_of_cause(alloc: Global, line: &str, failure: SystemFailure) -> Stop
-    ensures { StopsOnCause line.now failure failure.cause result }
+fn stop_of_cause(alloc: Global, line: &str, dir: &str, failure: SystemFailure) -> Stop
+    ensures { StopsOnCause line.now dir.now failure failure.cause result }
 {
     match failure.cause {
         Cause::InUse => names_folder(alloc, line),
-        _ => Stop::System(failure),
+        _ => says_reason(reason_line(alloc, "", line, dir, dir, failure)),
     }
 }
 
-/// Why nothing was queued or listed: the file that can't be copied is named, what is wrong with the order is said, and the
-/// call of the system that failed, where it is known.
+/// Why nothing was queued or listed: the file that can't be copied is named, what is wrong with the order is said, and on what
+/// a call of the system failed, and why, where it is known.
 fn stop_of_queue(
     alloc: Global,
+    dir: &str,
     file: Option<&str>,
     fault: ToolFault,
     remark: String,
     why: Option<SystemFailure>,
 ) -> Stop
-    ensures { StopsOnQueue (word_or_empty file.entry) why fault (string_bytes remark) result }
+    ensures { StopsOnQueue dir.now (word_or_empty file.entry) why fault (string_bytes remark) result }
 {
     match (fault, why) {
         (ToolFault::Read, _) => names_file(alloc, file.unwrap_or(""), why),
         (ToolFault::Usage, _) => Stop::Remarked(fault, remark),
-        (ToolFault::Device, Some(failure)) => Stop::System(failure),
+        (ToolFault::Device, Some(failure)) => {
+            says_reason(reason_line(alloc, "", "", dir, dir, failure))
+        }
         (fault, _) => Stop::Fault(fault),
     }
 }
@@ -315,9 +384,9 @@ fn stop_of(
         Task::PlayDrawn(_, None) => stop_of_drawing(alloc, fault),
         Task::PlayDrawn(_, Some(path)) => stop_of_drawing_file(alloc, path, fault, why),
         Task::PlayVerbose(Some(path)) => stop_of_script_file(alloc, path, fault, remark, why),
-        Task::Pair(pair) => stop_of_folders(alloc, pair.dir_a, pair.dir_b, fault, why),
-        Task::Call(call) => stop_of_end(alloc, call.line, call.dir, fault, why),
-        Task::Queue(queue) => stop_of_queue(alloc, queue.file, fault, remark, why),
+        Task::Pair(pair) => stop_of_pair(alloc, &pair, fault, remark, why),
+        Task::Call(call) => stop_of_end(alloc, &call, fault, remark, why),
+        Task::Queue(queue) => stop_of_queue(alloc, queue.dir, queue.file, fault, remark, why),
         _ => Stop::Fault(fault),
     }
 }
@@ -343,6 +412,7 @@ fn do_pair<R, O>(
     rt: &R,
     pair: &PairTask<'_>,
     output: &mut O,
+    remark: &mut String,
     why: &mut Option<SystemFailure>,
 ) -> Result<u8, ToolFault>
 where
@@ -351,7 +421,7 @@ where
     ensures status { IfOk result (λ status. status ≤ 1) }
     ensures named { result ≡ Err ToolFault.Device → IsSome why.new }
 {
-    pair_run(
+    let answer = pair_run(
         rt.alloc(),
         rt,
         pair.socket,
@@ -361,7 +431,33 @@ where
         pair.flip_every,
         output,
         why,
-    )
+    );
+    remark_jobs(rt, pair.dir_a, answer, remark);
+    if remark.is_empty() {
+        remark_jobs(rt, pair.dir_b, answer, remark);
+    }
+    answer
+}
+
+/// Appends what is wrong with the jobs of this folder, where a line of them is the fault. What can't be said is left out.
+fn remark_jobs<R: Files + AllocGlobal>(
+    rt: &R,
+    dir: &str,
+    answer: Result<u8, ToolFault>,
+    remark: &mut String,
+) {
+    if let Err(ToolFault::Jobs(line)) = answer {
+        if let Ok(said) = read_remark(rt, dir, line) {
+            let _ = remark.push_str(said.as_str());
+        }
+    }
+}
+
+/// What is wrong with this line of the jobs of this folder, which are read again.
+fn read_remark<R: Files + AllocGlobal>(rt: &R, dir: &str, line: usize) -> io::Result<String> {
+    let path = format!(in rt.alloc(); "{dir}/jobs")?;
+    let text = fs::read(rt, path.as_str())?;
+    Ok(jobs_remark(rt.alloc(), dir, text.as_slice(), line)?)
 }
 
 /// Runs one end, and says on standard error how it stands where that is asked for.
@@ -386,7 +482,9 @@ where
     ensures named { result ≡ Err ToolFault.Device → IsSome why.new }
 {
     let observer = SystemObserver::new(rt.alloc(), rt, call, terminals.errors)?;
-    call_run(rt.alloc(), rt, call, observer, output, remark, why)
+    let answer = call_run(rt.alloc(), rt, call, observer, output, remark, why);
+    remark_jobs(rt, call.dir, answer, remark);
+    answer
 }
 
 /// Does a task, and gives the program's status.
@@ -421,7 +519,7 @@ where
         Task::PlaySettled(file) => (InputTask::PlaySettled, file),
         Task::PlayDrawn(how, file) => (InputTask::PlayDrawn(how), file),
         Task::Version => return show_version(rt.alloc(), output),
-        Task::Pair(pair) => return do_pair(rt, &pair, output, why),
+        Task::Pair(pair) => return do_pair(rt, &pair, output, remark, why),
         Task::Call(call) => return do_call(rt, &call, terminals, output, remark, why),
         Task::Queue(queue) => return queue_run(rt.alloc(), rt, &queue, output, remark, why),
     };
@@ -507,11 +605,12 @@ where
     let mut input = SystemInput::new(rt.reader());
     let mut output = SystemOutput::new(io::writer(rt));
     let ended = perform(rt, &words, terminals, &mut input, &mut output);
-    with_reason(ended, input.failure(), output.failure())
+    with_reason(rt.alloc(), ended, input.failure(), output.failure())
 }
 
-/// The same end, with the call of the system that failed on a stream, where it is known.
+/// The same end, with the call of the system that failed on standard input or output, where it is known.
 fn with_reason(
+    alloc: Global,
     ended: Result<u8, Stop>,
     input: Option<SystemFailure>,
     output: Option<SystemFailure>,
@@ -519,10 +618,18 @@ fn with_reason(
     ensures ok { IfOk ended (λ status. result ≡ Ok status) }
     ensures status { IfErr ended (λ stop.
         IsErrAnd result (λ ends. status_of_stop ends ≡ status_of_stop stop)) }
+    ensures said { IfErr ended (λ stop. IsErrAnd result (SaysStream stop input output)) }
 {
     match (ended, input, output) {
         (Err(Stop::Fault(ToolFault::Read)), Some(failure), _)
-        | (Err(Stop::Fault(ToolFault::Write)), _, Some(failure)) => Err(Stop::System(failure)),
+        | (Err(Stop::Fault(ToolFault::Write)), _, Some(failure)) => Err(says_reason(reason_line(
+            alloc,
+            "standard input",
+            "",
+            "",
+            "",
+            failure,
+        ))),
         (ended, _, _) => ended,
     }
 }

@@ -7,7 +7,6 @@ use clap::error::ErrorKind;
 use std::alloc::AllocError;
 use thiserror::Error;
 use uug_stream::ToolFault;
-use uug_sys::SystemFailure;
 
 /// Why the program ends before its task is done. Its text is what the program says on standard error.
 #[derive(Debug, Drop, Error)]
@@ -17,15 +16,15 @@ pub enum Stop {
     /// A fault, and a remark on it.
     #[error("uucpair: {0}\nuucpair: {1}\n")]
     Remarked(ToolFault, String),
-    /// The file of this name can't be opened or read, since this call of the system failed, where it is known.
-    #[error("uucpair: device fault\nuucpair: can't read {0}\n")]
-    File(String, Option<SystemFailure>),
+    /// The file of this name can't be opened or read; a line says why, where it is known.
+    #[error("uucpair: device fault\nuucpair: can't read {0}\n{1}")]
+    File(String, String),
     /// Another run works in the folder of this name, or holds the line of this name.
     #[error("uucpair: device fault\nuucpair: {0} is in use\n")]
     InUse(String),
-    /// This call of the system failed.
-    #[error("uucpair: device fault\n")]
-    System(SystemFailure),
+    /// A fault, and a line that says where and why, if it is known.
+    #[error("uucpair: {0}\n{1}")]
+    Told(ToolFault, String),
     /// The command line asks for no task: the usage, or the help where it was asked for.
     #[error("{0}")]
     CommandLine(clap::error::Error),
@@ -37,10 +36,9 @@ impl Stop {
         ensures { result ≡ status_of_stop self.now }
     {
         match self {
-            Stop::Fault(fault) | Stop::Remarked(fault, _) => fault.status(),
+            Stop::Fault(fault) | Stop::Remarked(fault, _) | Stop::Told(fault, _) => fault.status(),
             Stop::File(_, _) => ToolFault::Read.status(),
             Stop::InUse(_) => ToolFault::InUse(0).status(),
-            Stop::System(_) => ToolFault::Device.status(),
             Stop::CommandLine(_) => ToolFault::Usage.status(),
         }
     }

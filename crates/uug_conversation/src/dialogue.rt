@@ -2,7 +2,7 @@ ghost use Rattle.std.specs.Prelude.{◌≡◌, ◌≢◌, ◌≤◌, ◌<◌, �
 ghost use Rattle.std.specs.Bool.{OnTrue, OnFalse};
 ghost use Rattle.uug_talk.specs.Gathering.{OfFile};
 ghost use Rattle.uug_conversation.specs.Jobs.{Lists, at_start, pending};
-ghost use Rattle.uug_conversation.specs.Machine.{between, kind_awaited, on_past_limit, opening, reply_to, step};
+ghost use Rattle.uug_conversation.specs.Machine.{between, kind_awaited, on_past_limit, opening, replies, reply_to, step};
 ghost use Rattle.uug_conversation.specs.Outgoing.{IsSayable, sayings_of};
 ghost use Rattle.uug_conversation.specs.Party.{HasNames};
 ghost use Rattle.uug_conversation.specs.Reactions.{HasModeInRange, reply_of};
@@ -115,6 +115,8 @@ impl<A: Allocator + Copy> Dialogue<A> {
 
     /// The link has come up, and messages have at most this size. Where `short` is set, the last one of a command or an
     /// answer ends with its zero byte.
+    // Once a session: apart, so that a packet makes no room for what this brings to be said.
+    #[inline(never)]
     pub fn open<S: Spool>(&mut self, side: Side, spool: &S, size: usize, short: bool)
         requires room { SAYINGS_MAX ≤ self.old.outgoing.room }
         requires some { 0 < size }
@@ -136,6 +138,66 @@ impl<A: Allocator + Copy> Dialogue<A> {
     /// Takes the other end's next message. `Memory` and `Device` leave all as it was, and are the spool's where a file is
     /// to be kept; `Device` comes there alone.
     pub fn take<S: Spool>(&mut self, spool: &mut S, message: &[u8]) -> Result<(), FileFault>
+        requires room { SAYINGS_MAX ≤ self.old.outgoing.room }
+        requires opened { self.old.opened ≡ true }
+        ensures holdings { S.holdings spool.new ≡ S.holdings spool.old }
+        ensures taken { OnOk result (dialogue_of (S.holdings spool.old) (S.kept spool.new) self.new
+            ≡ taking (S.holdings spool.old) message.now
+            (dialogue_of (S.holdings spool.old) (S.kept spool.old) self.old)) }
+        ensures same { OnErr result (self.new ≡ self.old) }
+        ensures none_kept { OnErr result (S.kept spool.new ≡ S.kept spool.old) }
+        ensures stands { result ≢ Err FileFault.Device → S.faults spool.new ≡ S.faults spool.old }
+        ensures asked { result ≡ Err FileFault.Device
+            → asks_spool (S.holdings spool.old) self.old.machine message.now ≡ true }
+        ensures device { result ≡ Err FileFault.Device
+            → (S.faults spool.old < S.faults spool.new) ⊎ (S.faults spool.old ≡ u64.MAX) }
+        ensures count { S.faults spool.old ≤ S.faults spool.new }
+    {
+        if self.awaits.is_file() && !message.is_empty() {
+            return self.take_part(spool, message);
+        }
+        self.take_and_say(spool, message)
+    }
+
+    /// Takes a part of a file. Nothing is said to it, so no reaction is made: that has room for two commands, and takes
+    /// longer to make than the part to take.
+    fn take_part<S: Spool>(&mut self, spool: &S, message: &[u8]) -> Result<(), FileFault>
+        requires opened { self.old.opened ≡ true }
+        requires file { kind_awaited self.old.machine.awaits ≡ OfFile }
+        requires some { message.now ≢ [] }
+        ensures taken { OnOk result (dialogue_of (S.holdings spool.now) (S.kept spool.now) self.new
+            ≡ taking (S.holdings spool.now) message.now
+            (dialogue_of (S.holdings spool.now) (S.kept spool.now) self.old)) }
+        ensures same { OnErr result (self.new ≡ self.old) }
+        ensures memory { IfErr result (λ fault. fault ≡ FileFault.Memory) }
+    {
+        match self.gather.push(message) {
+            Ok(_) => Ok(()),
+            Err(BadText::Memory) => Err(FileFault::Memory),
+            Err(_) => {
+                self.pass_limit(spool);
+                Ok(())
+            }
+        }
+    }
+
+    /// The file that comes is past its limit.
+    #[inline(never)]
+    fn pass_limit<S: Spool>(&mut self, spool: &S)
+        ensures machine { on_past_limit (S.holdings spool.now).lenient
+            (kind_awaited self.old.machine.awaits) self.old.machine.awaits self.old.machine.lists
+            ≡ record { state = self.new.machine; says = []; keeps = [] } }
+        ensures opened { self.new.opened ≡ self.old.opened }
+        ensures measure { self.new.measure ≡ self.old.measure }
+        ensures outgoing { self.new.outgoing ≡ self.old.outgoing }
+    {
+        self.awaits = awaits_past_limit(spool, &self.awaits);
+        self.gather = gather_for(&self.awaits, self.alloc);
+    }
+
+    /// Takes a message to which something may be said. What it may bring is kept out of the way of the parts of a file.
+    #[inline(never)]
+    fn take_and_say<S: Spool>(&mut self, spool: &mut S, message: &[u8]) -> Result<(), FileFault>
         requires room { SAYINGS_MAX ≤ self.old.outgoing.room }
         requires opened { self.old.opened ≡ true }
         ensures holdings { S.holdings spool.new ≡ S.holdings spool.old }
@@ -350,27 +412,22 @@ fn reaction_to_part<A: Allocator, S: Spool>(
         Ok(Progress::More) => Ok(None),
         Ok(Progress::Whole) => Ok(Some(on_text(queue, spool, *awaits, gather.bytes()))),
         Err(BadText::Memory) => Err(FileFault::Memory),
-        Err(_) => Ok(Some(past_limit(spool, awaits))),
+        Err(_) => Ok(Some(Reaction::quiet(awaits_past_limit(spool, awaits)))),
     }
 }
 
-/// A text or a file has come past its limit: a lenient end lets a file come to its end.
-fn past_limit<S: Spool>(spool: &S, awaits: &Awaits) -> Reaction
+/// What is awaited behind a text or a file that has come past its limit: a lenient end lets a file come to its end.
+fn awaits_past_limit<S: Spool>(spool: &S, awaits: &Awaits) -> Awaits
     ensures reply { (l : Lists) → on_past_limit (S.holdings spool.now).lenient
-        (kind_awaited awaits.now) awaits.now l ≡ reply_of (S.holdings spool.now) l result [] }
-    ensures mode { HasModeInRange result.awaits }
-    ensures sayable { All IsSayable (sayings_of result.says) }
+        (kind_awaited awaits.now) awaits.now l ≡ replies l result [] }
+    ensures mode { HasModeInRange result }
 {
     if !spool.is_lenient() {
-        return Reaction::out_of_turn();
+        return Awaits::Bad;
     }
     match awaits {
-        Awaits::SentFile { .. } | Awaits::DroppedSentFile => {
-            Reaction::quiet(Awaits::DroppedSentFile)
-        }
-        Awaits::AskedFile { .. } | Awaits::DroppedAskedFile => {
-            Reaction::quiet(Awaits::DroppedAskedFile)
-        }
-        _ => Reaction::out_of_turn(),
+        Awaits::SentFile { .. } | Awaits::DroppedSentFile => Awaits::DroppedSentFile,
+        Awaits::AskedFile { .. } | Awaits::DroppedAskedFile => Awaits::DroppedAskedFile,
+        _ => Awaits::Bad,
     }
 }

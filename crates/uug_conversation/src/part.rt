@@ -1,4 +1,6 @@
 ghost use Rattle.std.specs.Prelude.{◌≡◌, ◌≢◌, ◌+◌, ◌<◌, ◌≤◌, [], ◌∷◌, false, length, drop};
+ghost use Rattle.uug_talk.specs.Answer.{IsWritten, answer_text};
+ghost use Rattle.uug_talk.specs.Order.{HasMode, order_text};
 ghost use Rattle.uug_talk.specs.Chunks.{IsCommandText, command_messages, file_messages};
 ghost use Rattle.uug_talk.specs.MessagesLeft.{messages_left};
 ghost use Rattle.uug_conversation.specs.Outgoing.{IsSayable, IsWithin, messages_from, unless_last};
@@ -8,7 +10,7 @@ use crate::choice::to_give;
 use crate::reaction::Saying;
 use crate::spool::Spool;
 use uug_talk::laws::{file_goes_on, messages_fit};
-use uug_talk::{Chunks, FILE_MAX, MESSAGE_MAX, Message, write_answer, write_order};
+use uug_talk::{Answer, Chunks, FILE_MAX, MESSAGE_MAX, Message, Order, write_answer, write_order};
 
 /// Puts the message of at most `size` bytes that stands at an offset in the text or file into `message`, and says whether
 /// it is the last. Where `short` is set, the last one of a text ends with its zero byte.
@@ -34,13 +36,63 @@ pub(crate) fn part_of<S: Spool>(
     ensures limit { result ≡ false → offset < FILE_MAX }
 {
     match saying {
-        Saying::Order(order) => part_of_text(&write_order(order), size, short, offset, message),
-        Saying::Answer(answer) => part_of_text(&write_answer(answer), size, short, offset, message),
+        Saying::Order(order) => part_of_order(order, size, short, offset, message),
+        Saying::Answer(answer) => part_of_answer(answer, size, short, offset, message),
         Saying::File(name) => match to_give(spool, name) {
             Some(file) => part_of_file(file.bytes, size, offset, message),
             None => part_of_file(&[], size, offset, message),
         },
     }
+}
+
+/// A call of its own, so that a file's message makes no room for the text of a command.
+#[inline(never)]
+fn part_of_order(
+    order: &Order,
+    size: usize,
+    short: bool,
+    offset: usize,
+    message: &mut Message,
+) -> bool
+    requires writable { HasMode order.now }
+    requires within { offset ≤ length (order_text order.now) }
+    requires some { 0 < size }
+    requires fits { size ≤ MESSAGE_MAX }
+    ensures messages { command_messages (record { size = size; short = short })
+        (drop offset (order_text order.now))
+        ≡ message.new.items ∷ unless_last result
+        (command_messages (record { size = size; short = short })
+        (drop (offset + size) (order_text order.now))) }
+    ensures size { length message.new.items ≤ size }
+    ensures next { result ≡ false → offset + size ≤ length (order_text order.now) }
+    ensures limit { result ≡ false → offset < FILE_MAX }
+{
+    part_of_text(&write_order(order), size, short, offset, message)
+}
+
+/// The same of an answer.
+#[inline(never)]
+fn part_of_answer(
+    answer: &Answer,
+    size: usize,
+    short: bool,
+    offset: usize,
+    message: &mut Message,
+) -> bool
+    requires writable { IsWritten answer.now }
+    requires within { offset ≤ length (answer_text answer.now) }
+    requires some { 0 < size }
+    requires fits { size ≤ MESSAGE_MAX }
+    ensures messages { command_messages (record { size = size; short = short })
+        (drop offset (answer_text answer.now))
+        ≡ message.new.items ∷ unless_last result
+        (command_messages (record { size = size; short = short })
+        (drop (offset + size) (answer_text answer.now))) }
+    ensures size { length message.new.items ≤ size }
+    ensures next { result ≡ false → offset + size ≤ length (answer_text answer.now) }
+    ensures limit { result ≡ false → offset < FILE_MAX }
+{
+    part_of_text(&write_answer(answer), size, short, offset, message)
 }
 
 fn part_of_text(text: &[u8], size: usize, short: bool, offset: usize, message: &mut Message) -> bool

@@ -1,6 +1,7 @@
 pub mod FolderLemmas
 pub mod JobsAfterLemmas
 pub mod JobsTextLemmas
+pub mod LastPlaceLemmas
 pub mod LocalFacts
 pub mod LocalLemmas
 pub mod NumberTextLemmas

@@ -67,7 +67,15 @@ impl<F: Folder, A: Allocator + Copy> FolderSpool<F, A> {
         ensures { result ≡ (folder_holdings (F.barred self.now.folder)
             (map kept_of self.now.files)).immovable name.now }
     {
-        is_hidden(name) || self.folder.is_barred(name)
+        is_hidden(name.as_bytes()) || self.folder.is_barred(name)
+    }
+
+    /// The file of the name that has these bytes, if there is one.
+    pub(crate) fn fetch_by(&self, name: &[u8]) -> Option<FileView<'_>>
+        ensures { shown_file result ≡ (folder_holdings (F.barred self.now.folder)
+            (map kept_of self.now.files)).file name.now }
+    {
+        first_named(self.files.as_slice(), name)
     }
 }
 
@@ -79,7 +87,7 @@ impl<F: Folder, A: Allocator + Copy> Spool for FolderSpool<F, A> {
     ghost faults = { λ s. F.fault_count s.folder };
 
     fn may_keep(&self, name: &Name) -> Verdict {
-        if is_hidden(name) {
+        if is_hidden(name.as_bytes()) {
             Verdict::Never
         } else {
             Verdict::Yes
@@ -87,7 +95,7 @@ impl<F: Folder, A: Allocator + Copy> Spool for FolderSpool<F, A> {
     }
 
     fn fetch(&self, name: &Name) -> Option<FileView<'_>> {
-        first_named(self.files.as_slice(), name)
+        self.fetch_by(name.as_bytes())
     }
 
     fn keep(&mut self, name: &Name, mode: u16, bytes: &[u8]) -> Result<(), KeepFault> {
@@ -116,14 +124,13 @@ impl<F: Folder, A: Allocator + Copy> Spool for FolderSpool<F, A> {
 }
 
 /// A name that would be hidden in a folder, or lead out of it.
-pub(crate) fn is_hidden(name: &Name) -> bool
+pub(crate) fn is_hidden(name: &[u8]) -> bool
     ensures { result ≡ is_hidden name.now }
 {
-    let bytes = name.as_bytes();
-    if bytes.contains(&b'/') {
+    if name.contains(&b'/') {
         return true;
     }
-    match bytes {
+    match name {
         [first, ..] => *first == b'.',
         [] => false,
     }
@@ -198,11 +205,11 @@ fn push_stored<A: Allocator>(stored: &mut Vec<Snapshot<Stored<A>>, A>, file: &St
     stored.push_reserved(Snapshot::of(file));
 }
 
-fn first_named<'a, A: Allocator>(files: &'a [Stored<A>], name: &Name) -> Option<FileView<'a>>
+fn first_named<'a, A: Allocator>(files: &'a [Stored<A>], name: &[u8]) -> Option<FileView<'a>>
     ensures { shown_file result ≡ first_named (map kept_of files.now) name.now }
 {
     for file in files {
-        if file.name.as_bytes() == name.as_bytes() {
+        if file.name.as_bytes() == name {
             return Some(FileView {
                 mode: file.mode,
                 bytes: file.bytes.as_slice(),

@@ -1,9 +1,9 @@
-ghost use Rattle.std.specs.Prelude.{◌≡◌, ◌<◌, ◌++◌, [], ◌∷◌, MatchOption, Some, false, map, vec_len, vec_capacity};
+ghost use Rattle.std.specs.Prelude.{◌≡◌, ◌<◌, ◌++◌, [], ◌∷◌, MatchOption, Some, None, false, map, vec_len, vec_capacity};
 ghost use Rattle.uug_folder.specs.Folders.{folder_holdings};
 ghost use Rattle.uug_conversation.specs.MemoryHoldings.{kept_of};
 ghost use Rattle.uug_conversation.specs.Code.StoredModes.{modes_in_range};
 ghost use Rattle.uug_folder.specs.Code.LocalModes.{local_modes};
-ghost use Rattle.uug_folder.specs.LocalNames.{StandUnder, behind_root, holdings_here, in_folder, kept_here, local_name, local_source};
+ghost use Rattle.uug_folder.specs.LocalNames.{StandUnder, behind_root, holdings_here, kept_here, local_name, local_source};
 
 use crate::folder::Folder;
 use crate::folder_spool::{FolderSpool, is_hidden};
@@ -85,7 +85,7 @@ impl<F: Folder, A: Allocator + Copy> Spool for LocalNames<F, A> {
     }
 
     fn fetch(&self, name: &Name) -> Option<FileView<'_>> {
-        self.files.fetch(&local_source(name)?)
+        self.files.fetch_by(source_bytes(name)?)
     }
 
     fn keep(&mut self, name: &Name, mode: u16, bytes: &[u8]) -> Result<(), KeepFault> {
@@ -129,17 +129,19 @@ fn local_name(name: &Name) -> Option<Name>
 pub fn local_source(name: &Name) -> Option<Name>
     ensures { result ≡ local_source name.now }
 {
-    in_folder(local_name(name)?)
+    Name::new(source_bytes(name)?).ok()
 }
 
-/// The name, where it has no slash in it, and no dot in front.
-fn in_folder(name: Name) -> Option<Name>
-    ensures { result ≡ in_folder (Some name) }
+/// The bytes of that name. A file is asked for again for each of its messages, so that no name is made of them.
+fn source_bytes(name: &Name) -> Option<&[u8]>
+    ensures { MatchOption result (local_source name.now ≡ None)
+        (λ local. local_source name.now ≡ Some local.now) }
 {
-    if is_hidden(&name) {
+    let local = behind_root(name.as_bytes());
+    if local.is_empty() || is_hidden(local) {
         return None;
     }
-    Some(name)
+    Some(local)
 }
 
 /// A name without what says that it is in the public folder or the root of a system.

@@ -1,4 +1,4 @@
-ghost use Rattle.std.specs.Prelude.{◌≡◌, ◌<◌, length};
+ghost use Rattle.std.specs.Prelude.{◌≡◌, ◌<◌, ◌==◌, ◌||◌, nat_lt, length, bit_xor};
 ghost use Rattle.uug_packet.specs.Checksum.{check};
 ghost use Rattle.uug_packet.specs.Spelling.{checksum_of};
 
@@ -22,12 +22,30 @@ pub fn check(field: &[u8]) -> u16
     for byte in field {
         check = check.rotate_left(1).wrapping_add(u16::from(*byte));
         mixed = mixed.wrapping_add(check ^ (place % 0x1_0000) as u16);
-        if *byte == 0 || check < u16::from(*byte) {
-            check ^= mixed;
+        if mixes(*byte, check) {
+            check = mixed_into(check, mixed);
         }
         place -= 1;
     }
     check
+}
+
+/// Whether a byte mixes the second register in: it is 0, or the addition wrapped. One test tells both, as a zero less one is
+/// the greatest number.
+fn mixes(byte: u8, check: u16) -> bool
+    ensures { result ≡ (byte == 0 || nat_lt check byte) }
+{
+    check <= u16::from(byte).wrapping_sub(1)
+}
+
+/// The check with the second register mixed in. Few bytes ask for it. It is a call, so that the processor guesses that a byte
+/// does not, and goes on to the next: otherwise each byte would wait for both registers.
+#[cold]
+#[inline(never)]
+fn mixed_into(check: u16, mixed: u16) -> u16
+    ensures { result ≡ bit_xor check mixed }
+{
+    check ^ mixed
 }
 
 /// The checksum that a header carries: `0xaaaa` less the number.

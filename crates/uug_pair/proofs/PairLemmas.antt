@@ -7,7 +7,7 @@ use Rattle.uug_stream.specs.declared.fault.ToolFault.TheVariants as faults
 use Rattle.uug_session.specs.Phases.{is_done}
 use Rattle.uug_transfer.specs.EndOver.{IsEndFault}
 use Rattle.uug_transfer.specs.Ends.{status_of_phases}
-use Rattle.uug_sys.specs.Faults.{IsRunFault}
+use Rattle.uug_failure.specs.Faults.{IsRunFault}
 
 pub run_fault : (r : Result ℕ ToolFault) → IfErr r IsEndFault → IfErr r IsRunFault
 run_fault (Ok status) h = h

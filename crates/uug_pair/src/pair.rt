@@ -6,7 +6,7 @@ ghost use Rattle.uug_events.specs.NodeRuns.{HasRun};
 ghost use Rattle.uug_folder.specs.JobsText.{IsQueueOf};
 ghost use Rattle.uug_stream.specs.Streams.{CountsFault};
 ghost use Rattle.uug_transfer.specs.FaultInjection.{is_in_range};
-ghost use Rattle.uug_sys.specs.Faults.{IsReadingFault, IsRunFault};
+ghost use Rattle.uug_failure.specs.Faults.{IsReadingFault, IsRunFault};
 ghost use Rattle.uug_pair.specs.GoneJobs.{GoneJobsWereDone, beginnings_of, kept_by, nodes_of};
 ghost use Rattle.uug_pair.specs.Places.{IsPlaceInPair};
 ghost use Rattle.uug_sys.specs.Tasks.{beginning_of};
@@ -16,16 +16,18 @@ use std::alloc::{AllocError, Allocator};
 use std::fs::File;
 use std::net::Net;
 use std::rt::Files;
+use uug_disk::{
+    DirLock, NoFile, OpenJobs, SystemFolder, SystemText, lock_dir, open_jobs, read_send,
+};
 use uug_ends::laws::the_file_of_a_job_that_is_gone_was_kept;
 use uug_events::laws::events_follow_events;
+use uug_failure::{EndDir, RunFault, SystemFailure};
 use uug_folder::FolderSpool;
 use uug_link::Announce;
+use uug_port::open_wire;
 use uug_session::{Place, Side, Spool, Stored};
 use uug_stream::{Output, ToolFault};
-use uug_sys::{
-    DirLock, EndDir, EndParts, NoFile, OpenJobs, RunFault, SystemFailure, SystemFolder, SystemText,
-    lock_dir, open_jobs, open_wire, read_send,
-};
+use uug_sys::EndParts;
 use uug_talk::Name;
 use uug_transfer::{FaultInjector, TransferEnd, pair_over};
 

@@ -78,7 +78,7 @@ words_of_letter letter (v ∷ vs) h some solid =
     words_behind (letter ∷ []) (v ++ spaced vs) (All-from_recursion (λ b. is_space b ≡ false) (letter ∷ []) (h, tt))
     ∙ ap (λ ws. (letter ∷ []) ∷ ws) (spaced_words (v ∷ vs) solid)
 
-word_passes : (w : List ℕ) (ws : List (List ℕ)) → 0 < length w → filter is_word (w ∷ ws) ≡ w ∷ filter is_word ws
+pub word_passes : (w : List ℕ) (ws : List (List ℕ)) → 0 < length w → filter is_word (w ∷ ws) ≡ w ∷ filter is_word ws
 word_passes [] ws h = absurd (omega (arith, h))
 word_passes (b ∷ bs) ws h = refl
 

@@ -1,9 +1,12 @@
 mod CommandFacts
 pub mod CommandLemmas
-mod SequenceFacts
-mod SpoolNameFacts
-pub mod SpacedLemmas
-mod TextFacts
-pub mod NameLemmas
+mod LogFacts
+pub mod PartsLemmas
 pub mod QuotingLemmas
+mod SequenceFacts
+pub mod SpacedLemmas
+mod SpoolNameFacts
+mod StatusFacts
+pub mod StatusLemmas
+mod TextFacts
 pub mod WorkOrderLemmas

@@ -1,8 +1,16 @@
 pub mod CommandLines
 pub mod CommandTexts
+pub mod DiskOrder
 pub mod ExecutionTexts
+pub mod LogLines
+pub mod MemoryDisks
+pub mod Moments
+pub mod Operations
 pub mod Quoting
 pub mod Sequence
 pub mod ShownCommands
+pub mod ShownLines
 pub mod SpoolNames
+pub mod StatsLines
+pub mod StatusTexts
 pub mod WorkOrder

@@ -1,11 +1,13 @@
 //! Laws of what this crate reads and writes. A call does nothing: its contract is the law.
-ghost use Rattle.std.specs.Prelude.{◌≡◌, ◌<◌, ℕ, List, All, Ok, true};
+ghost use Rattle.std.specs.Prelude.{◌≡◌, ◌<◌, ℕ, List, All, Ok, Some, true};
 ghost use Rattle.std.specs.Cmp.{IsTotalOrder};
 ghost use Rattle.std.specs.declared.cmp.Ordering.TheVariants.{Equal};
 ghost use Rattle.uug_spool.specs.CommandLines.{Line, command_of};
 ghost use Rattle.uug_spool.specs.CommandTexts.{IsLine, line_of};
 ghost use Rattle.uug_spool.specs.Quoting.{is_well_quoted, quoted, unquoted};
+ghost use Rattle.uug_spool.specs.StatusTexts.{IsStatus, status_line, status_of};
 ghost use Rattle.uug_spool.specs.WorkOrder.{work_order};
+ghost use Rattle.uug_spool.specs.declared.status.Status.{Status};
 ghost use Rattle.uug_spool.specs.declared.spool_names.TheConstants.{FAR_NAME_MAX, OWN_DATA_MAX, OWN_TEXT_MAX};
 
 /// The limits of names are these.
@@ -31,4 +33,10 @@ pub fn what_is_quoted_is_read()
 /// mode are such.
 pub fn written_commands_are_read()
     ensures { (line : Line) → IsLine line → command_of (line_of line) ≡ Ok line }
+{}
+
+/// The line of a status is read as the status, whatever the system is called.
+pub fn written_statuses_are_read()
+    ensures { (s : Status) (system : List ℕ) → IsStatus s
+        → status_of (status_line s system) ≡ Some s }
 {}

@@ -19,9 +19,11 @@ pub const FAR_NAME_MAX: usize = 14;
 /// So many letters of a node's name are in the names that its files get at another system.
 const NODE_LETTERS: usize = 7;
 
-/// Where a file is put that comes from a system.
+/// A folder of a spool, or the public one.
 #[derive(Clone, Copy, Debug, PartialEq, Eq)]
 pub enum Room {
+    /// The system's `C.`: jobs for it.
+    Commands,
     /// The system's `D.`: data.
     Data,
     /// The system's `D.X`: data whose name begins so.
@@ -30,6 +32,12 @@ pub enum Room {
     Execution,
     /// The public folder.
     Public,
+    /// `.Temp`, the system's folder there: files that come.
+    Temporary,
+    /// `.Received`, the system's folder there: a marker for each file that has come.
+    Marked,
+    /// `.Preserve`: data of jobs that have failed.
+    Preserved,
 }
 
 /// The place of a file: a room, and the name in it.

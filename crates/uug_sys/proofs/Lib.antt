@@ -1,8 +1,3 @@
-mod DeviceLockFacts
-pub mod FaultLemmas
 pub mod FrontLemmas
-pub mod LockTextLemmas
-pub mod NameLemmas
 mod NumberRemarkFacts
-mod TimerFacts
-pub mod TimerLemmas
+pub mod FailedRemarkFacts

@@ -16,11 +16,11 @@ use Rattle.uug_transfer.specs.BufferedNodes.{IsCleared}
 use Rattle.uug_transfer.specs.LineNames.{line_of, shown}
 use Rattle.uug_transfer.specs.declared.thinning.Thinning.{Thinning}
 use Rattle.uug_transfer.specs.declared.thinning.Thinning.TheVariants.{Repeats, RepeatsAndAcks}
-use Rattle.uug_sys.specs.declared.call.CallTask.{CallTask}
-use Rattle.uug_sys.specs.declared.call.Terms.{Terms}
+use Rattle.uug_sys.specs.declared.task.CallTask.{CallTask}
+use Rattle.uug_sys.specs.declared.task.Terms.{Terms}
 use Rattle.uug_sys.specs.declared.end_parts.EndParts.{EndParts}
-use Rattle.uug_sys.specs.Timers.{IsSpeed, packets_of}
-use Rattle.uug_sys.specs.declared.call.TheConstants.{MOST_MIN, SECONDS_MAX, WAIT_MAX}
+use Rattle.uug_port.specs.Timers.{IsSpeed, packets_of}
+use Rattle.uug_sys.specs.declared.task.TheConstants.{MOST_MIN, SECONDS_MAX, WAIT_MAX}
 
 -- a task that may be run: its numbers are in their ranges, so that the largest file may go, its line is one, and its names are
 -- names

@@ -1,23 +1,20 @@
 //! An end that is called at a socket. It goes on listening until a caller has been let in.
 ghost use Rattle.std.specs.Prelude.{◌≡◌, ◌≢◌, ◌≤◌, Err, IfErr, IfOk, IsSome};
 ghost use Rattle.uug_stream.specs.Streams.{CountsFault};
-ghost use Rattle.uug_sys.specs.Faults.{IsCallFault};
+ghost use Rattle.uug_failure.specs.Faults.{IsCallFault};
 
-use crate::call::{CallTask, Station, talk_over};
-use crate::deadline::Deadline;
+use crate::call::talk_over;
 use crate::doorkeeper::Doorkeeper;
-use crate::failure::{Cause, Resource, SystemFailure};
 use crate::held_output::HeldOutput;
-use crate::listening::{Listener, Listening};
-use crate::silent_line::SilentLine;
-use crate::stream_line::StreamLine;
-use crate::system_line::SystemLine;
+use crate::task::{CallTask, Station};
 use std::alloc::Allocator;
 use std::fs::File;
 use std::io;
 use std::net::Net;
 use std::rt::Files;
 use std::time::Clock;
+use uug_failure::{Cause, Resource, SystemFailure};
+use uug_port::{Deadline, Listener, Listening, SilentLine, StreamLine, SystemLine};
 use uug_stream::{Output, ToolFault, write_all};
 use uug_transfer::SessionObserver;
 

@@ -1,13 +1,11 @@
 //! Who sees that a caller has been let in.
 
-use crate::deadline::Deadline;
-use crate::listening::{Listener, Listening};
-use crate::timed_stream::TimedStream;
 use std::alloc::Allocator;
 use std::io;
 use std::net::Net;
 use std::rt::Files;
 use std::time::{Clock, Duration};
+use uug_port::{Deadline, Listener, Listening, TimedStream};
 use uug_session::Phase;
 use uug_transfer::{ReadOutcome, SessionObserver, SessionStatus};
 

@@ -1,11 +1,14 @@
 //! What a person follows on standard error.
 
-use crate::call::CallTask;
+use crate::hearing::Hearing;
+use crate::task::CallTask;
 use crate::voice::Voice;
 use std::alloc::{AllocError, Allocator};
 use std::time::Clock;
 use uug_follow::{Observer, Way};
-use uug_session::Phase;
+use uug_reason::heard_remark;
+use uug_session::{Phase, Side};
+use uug_talk::Name;
 use uug_transfer::{ReadOutcome, SessionObserver, SessionStatus};
 
 /// Says on standard error what becomes of each session: its phases, the jobs of both ends, and what was lost.
@@ -22,6 +25,11 @@ pub struct SystemObserver<'a, R, A: Allocator> {
     written: u64,
     read: u64,
     silences: u64,
+    /// Whether the end calls, or is called, and the name of the other end, if it is one.
+    side: Side,
+    peer: Option<Name>,
+    /// What was heard of it.
+    hearing: Hearing,
 }
 
 impl<'a, R: Eprint + Clock, A: Allocator + Copy> SystemObserver<'a, R, A> {
@@ -47,6 +55,9 @@ impl<'a, R: Eprint + Clock, A: Allocator + Copy> SystemObserver<'a, R, A> {
             written: 0,
             read: 0,
             silences: 0,
+            side: task.side,
+            peer: Name::new(task.peer.as_bytes()).ok(),
+            hearing: Hearing::nothing(),
         })
     }
 
@@ -59,6 +70,7 @@ impl<'a, R: Eprint + Clock, A: Allocator + Copy> SystemObserver<'a, R, A> {
         self.written = 0;
         self.read = 0;
         self.silences = 0;
+        self.hearing = Hearing::nothing();
     }
 
     /// All that went over the line.
@@ -71,6 +83,14 @@ impl<'a, R: Eprint + Clock, A: Allocator + Copy> SystemObserver<'a, R, A> {
         self.voice
             .say_counts("read", self.read, observer.counts(Way::In));
         self.voice.say_silences(self.silences);
+    }
+
+    /// What was heard of the other end, where the session ended badly.
+    fn say_heard(&self, phase: Phase) {
+        if let (Phase::Ended(end), Some(peer)) = (phase, &self.peer) {
+            let heard = self.hearing.heard();
+            self.voice.say(heard_remark(self.alloc, self.side, end, peer.as_str(), heard));
+        }
     }
 
     /// These bytes go over the line.
@@ -97,6 +117,10 @@ impl<R: Eprint + Clock, A: Allocator + Copy> SessionObserver for SystemObserver<
             ReadOutcome::TimedOut => self.silences = self.silences.saturating_add(1),
             ReadOutcome::Eof => {}
         }
+        // What comes behind the greeting are packets.
+        if matches!(self.phase, None | Some(Phase::Hail)) {
+            self.hearing.hear(piece);
+        }
         self.see(Way::In, piece);
     }
 
@@ -106,6 +130,7 @@ impl<R: Eprint + Clock, A: Allocator + Copy> SessionObserver for SystemObserver<
         }
         self.phase = Some(status.phase);
         if status.is_over {
+            self.say_heard(status.phase);
             self.say_counts();
             self.begin_anew();
         }

@@ -47,7 +47,7 @@ impl<'a, R: Eprint + Clock, A: Allocator + Copy> Voice<'a, R, A> {
         }
     }
 
-    fn say(&self, line: Result<String<A>, AllocError>) {
+    pub(crate) fn say(&self, line: Result<String<A>, AllocError>) {
         if let Ok(line) = line {
             let line = line.as_str();
             let _ = eprint!(self.rt; "{line}");

@@ -60,7 +60,11 @@ impl<S: Spool + Drop, A: Allocator + Copy> BufferedNode<S, A> {
         ensures spool { spool_in self.new ≡ spool_in self.old }
         ensures injector { injector_in self.new ≡ injector_in self.old }
     {
-        self.outgoing.drain(..count);
+        if count == self.outgoing.len() {
+            self.outgoing.clear();
+        } else {
+            self.outgoing.drain(..count);
+        }
     }
 
     /// These bytes were read.

@@ -6,6 +6,7 @@ mod assertions;
 mod faults;
 mod folders;
 mod follow;
+mod keeping;
 mod memory_jobs;
 mod memory_text;
 mod numbers;

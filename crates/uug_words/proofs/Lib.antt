@@ -1,3 +1,4 @@
 pub mod AskedFacts
 pub mod AskedLemmas
 pub mod ToolLemmas
+pub mod UsageFacts

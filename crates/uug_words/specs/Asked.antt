@@ -13,8 +13,8 @@ use Rattle.uug_conversation.specs.declared.side.Side.{Side}
 use Rattle.uug_conversation.specs.declared.side.Side.TheVariants.{Caller, Called}
 use Rattle.uug_ladder.specs.declared.play.Drawn.{Drawn}
 use Rattle.uug_ladder.specs.declared.play.Drawn.TheVariants.{AsText, AsPicture}
-use Rattle.uug_sys.specs.declared.call.CallTask.{CallTask}
-use Rattle.uug_sys.specs.declared.queue.QueueTask.{QueueTask}
+use Rattle.uug_sys.specs.declared.task.CallTask.{CallTask}
+use Rattle.uug_disk.specs.declared.queue.QueueTask.{QueueTask}
 use Rattle.uug_words.specs.declared.command_line.PairTask.{PairTask}
 use Rattle.uug_words.specs.declared.command_line.Task.{Task}
 use Rattle.uug_words.specs.declared.command_line.Task.TheVariants.{Version, Scan, ScanVerbose, Play, PlayVerbose, PlaySettled, PlayDrawn, Pair, Call, Queue}

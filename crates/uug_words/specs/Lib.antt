@@ -1,2 +1,4 @@
 pub mod Asked
 pub mod Tools
+pub mod Parts
+pub mod UsageWords

@@ -11,8 +11,9 @@ use clap::{ArgMatches, Error};
 use std::alloc::Global;
 use std::convert::AsStr;
 use uug_conversation::Side;
+use uug_disk::QueueTask;
 use uug_ladder::Drawn;
-use uug_sys::{CallTask, QueueTask};
+use uug_sys::CallTask;
 
 /// What the command line asks for.
 #[derive(Clone, Copy, Debug, PartialEq, Eq)]

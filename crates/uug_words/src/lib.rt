@@ -1,9 +1,13 @@
-//! The words of a command line of `uucpair`, and the task that they ask for.
+//! The words of a command line of `uucpair`, the task that they ask for, and what is wrong with one that may not be run.
 #![tactic(auto)]
 
 mod command_line;
 mod help;
+mod part;
 mod tools;
+mod usage;
 
 pub use command_line::{PairTask, Task, task_of};
+pub use part::{Part, wrong_part};
 pub use tools::VERSION;
+pub use usage::{pair_remark, usage_remark};

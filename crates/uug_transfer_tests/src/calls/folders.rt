@@ -9,8 +9,8 @@ use std::net::Net;
 use std::process;
 use std::process::Abort;
 use std::rt::Files;
+use uug_disk::{SystemFolder, lock_dir, read_given};
 use uug_folder::{Folder, read_jobs};
-use uug_sys::{SystemFolder, lock_dir, read_given};
 use uug_talk::Name;
 
 /// What is in the folder, the jobs of its end, how many bytes its files may have, how many files are given, whether one of them
@@ -121,7 +121,7 @@ fn given_at(
     dir: &str,
     jobs: &str,
     most: u64,
-) -> uug_sys::Given<Global> {
+) -> uug_disk::Given<Global> {
     let queue = read_jobs(rt.alloc(), jobs.as_bytes()).expect(rt, "jobs");
     let lock = lock_dir(rt.alloc(), rt, first(dir)).expect(rt, "a lock");
     let given = read_given(rt.alloc(), rt, &lock, queue.pending(), most);

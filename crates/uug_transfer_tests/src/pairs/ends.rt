@@ -5,11 +5,11 @@ use crate::pairs::memory_jobs::MemoryJobs;
 use crate::pairs::tasks::{CALLED, CALLER, Given};
 use std::alloc::Global;
 use std::process::Abort;
+use uug_disk::{GIVEN_MODE, NoFile};
 use uug_folder::{FolderSpool, JobsFile, read_jobs};
 use uug_link::Announce;
 use uug_refusal::Refusing;
 use uug_session::{Node, Place, Side, Stored};
-use uug_sys::{GIVEN_MODE, NoFile};
 use uug_talk::Name;
 use uug_transfer::{BufferedNode, FaultInjector, TransferEnd};
 

@@ -12,11 +12,12 @@ use std::os::unix::net::UnixListener;
 use std::process::Abort;
 use std::rt::{Env, Files};
 use std::{env, fs, io, process};
+use uug_disk::{SystemText, lock_dir};
+use uug_failure::{Cause, EndDir, EndText, Resource, SystemFailure};
 use uug_folder::TextFile;
 use uug_pair::pair_run;
 use uug_refusal::Refusing;
 use uug_stream::ToolFault;
-use uug_sys::{Cause, EndDir, EndText, Resource, SystemFailure, SystemText, lock_dir};
 use uug_talk::Name;
 
 /// What there is before a run, beside the folder `a/send`. `a` and `b` are the folders of the two ends.

@@ -2,8 +2,8 @@
 
 use crate::pairs::assertions::assert_same;
 use std::io;
+use uug_port::WireLine;
 use uug_session::Side;
-use uug_sys::WireLine;
 use uug_transfer::{Line, LineFailed};
 
 // a line that takes the end of a stream for a read of nothing

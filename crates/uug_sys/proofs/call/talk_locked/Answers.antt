@@ -1,5 +1,5 @@
 use Rattle.std.proofs.Common.{inl, inr}
-use Rattle.uug_sys.proofs.FaultLemmas.{has_failed_since, has_faults}
+use Rattle.uug_failure.proofs.FaultLemmas.{has_failed_since, has_faults}
 use Rattle.uug_sys.proofs.call.talk_locked.Goals as goal
 
 pub returns-clause-why : goal.returns-clause-why

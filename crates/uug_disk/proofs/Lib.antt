@@ -1,0 +1,3 @@
+mod DeviceLockFacts
+pub mod LockTextLemmas
+pub mod NameLemmas

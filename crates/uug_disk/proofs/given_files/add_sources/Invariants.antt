@@ -1,0 +1,7 @@
+use Rattle.std.proofs.Common.{◌≤◌, length}
+use Rattle.uug_disk.specs.declared.send_folder.TheConstants.{FILES_MAX}
+use Rattle.uug_disk.proofs.given_files.add_sources.Given as goal
+
+-- no more files than may be given
+abbrev pub invariant-loop-place : goal.invariant-loop-place
+invariant-loop-place g l = length l.files.items ≤ FILES_MAX

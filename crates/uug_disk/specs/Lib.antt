@@ -1,0 +1,3 @@
+pub mod Barred
+pub mod DeviceLocks
+pub mod Queued

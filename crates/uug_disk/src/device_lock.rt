@@ -1,0 +1,216 @@
+//! The lock file of a device, by which programs that use the same one keep out of each other's way.
+ghost use Rattle.std.specs.Prelude.{◌≤◌, IfErr, IfOk};
+ghost use Rattle.uug_failure.specs.Faults.{IsFolderFault};
+
+use crate::lock_text::{Holder, holder_of, is_held, lock_path, lock_text};
+use crate::part_path::{PartPath, process_text};
+use std::alloc::{AllocError, Allocator};
+use std::fs::{File, Permissions};
+use std::io::{ErrorKind, Read, Write};
+use std::os::unix::fs::PermissionsExt;
+use std::rt::Files;
+use std::{fs, io};
+use uug_failure::{Cause, Resource, RunFault, SystemFailure};
+use uug_talk::{NUMBER_MAX, read_number};
+
+/// So many bytes of a lock file are read.
+const READ_MAX: usize = 64;
+
+/// Everybody may read a lock file.
+const LOCK_MODE: u32 = 0o644;
+
+/// The lock file of a device that this run holds. It is removed by `release`.
+#[derive(Drop)]
+pub struct DeviceLock<A: Allocator> {
+    path: String<A>,
+    process: u32,
+}
+
+/// What an attempt to take a lock came to.
+#[derive(Clone, Copy)]
+enum Attempt {
+    /// This run holds the lock.
+    Taken,
+    /// Another run holds it.
+    Held,
+    /// Nobody holds it, and the system refused to make one.
+    Refused,
+}
+
+/// Takes the lock of a device in the folder of the locks. The lock is the file there that is called after the device, and has
+/// the number of the process that holds it. The lock of a process that is gone is taken over. Where the system refuses to
+/// make a file there, none is made, and there is no lock to be held.
+pub fn lock_device<A: Allocator + Copy, R: Files<File = File>>(
+    alloc: A,
+    rt: &R,
+    folder: &str,
+    device: &str,
+) -> Result<Option<DeviceLock<A>>, RunFault>
+    ensures { IfErr result IsFolderFault }
+{
+    let path = lock_path(alloc, folder, device)?;
+    let own = own_number(alloc, rt)?;
+    if is_taken(alloc, rt, own, path.as_str())? {
+        return Err(in_use());
+    }
+    let Some(process) = own else {
+        return Ok(None);
+    };
+    match take(alloc, rt, process, folder, path.as_str())? {
+        Attempt::Taken => Ok(Some(DeviceLock { path, process })),
+        Attempt::Refused => Ok(None),
+        Attempt::Held => Err(in_use()),
+    }
+}
+
+impl<A: Allocator> DeviceLock<A> {
+    /// Removes the lock, unless another process has it by now.
+    pub fn release<R: Files>(self, rt: &R) {
+        if holder_at(rt, self.path.as_str()) == Holder::Process(self.process) {
+            let _ = fs::remove_file(rt, self.path.as_str());
+        }
+    }
+}
+
+/// That another run holds the lock of the line.
+fn in_use() -> RunFault
+    ensures { IsFolderFault result }
+{
+    RunFault::System(SystemFailure::on(Resource::Line, Cause::InUse))
+}
+
+/// The number of this process, where the system tells it.
+fn own_number<A: Allocator + Copy, R: Files>(alloc: A, rt: &R) -> Result<Option<u32>, AllocError> {
+    let text = process_text(alloc, rt)?;
+    Ok(read_number(text.as_bytes(), NUMBER_MAX))
+}
+
+/// Makes a lock file whole beside its place, and puts it there. Nobody else sees a part of it.
+fn take<A: Allocator + Copy, R: Files<File = File>>(
+    alloc: A,
+    rt: &R,
+    process: u32,
+    folder: &str,
+    path: &str,
+) -> Result<Attempt, AllocError> {
+    let text = lock_text(alloc, process)?;
+    let mut part = PartPath::new(alloc, rt, folder)?;
+    let Ok(mut file) = part.create(rt) else {
+        return Ok(Attempt::Refused);
+    };
+    let attempt = match write_lock(&mut file, text.as_slice()) {
+        Ok(()) => place(alloc, rt, process, folder, part.as_str(), path),
+        Err(_) => Ok(Attempt::Refused),
+    };
+    let _ = fs::remove_file(rt, part.as_str());
+    attempt
+}
+
+/// Writes the text of a lock, which everybody may read.
+fn write_lock(file: &mut File, text: &[u8]) -> io::Result<()> {
+    file.set_permissions(Permissions::from_mode(LOCK_MODE))?;
+    file.write_all(text)
+}
+
+/// Gives the file at `part` the name of the lock, if nobody holds that.
+fn place<A: Allocator + Copy, R: Files<File = File>>(
+    alloc: A,
+    rt: &R,
+    process: u32,
+    folder: &str,
+    part: &str,
+    path: &str,
+) -> Result<Attempt, AllocError> {
+    match fs::hard_link(rt, part, path) {
+        Ok(()) => Ok(Attempt::Taken),
+        Err(error) if error.kind() == ErrorKind::AlreadyExists => {
+            take_over(alloc, rt, process, folder, part, path)
+        }
+        Err(_) => Ok(Attempt::Refused),
+    }
+}
+
+/// Puts the file at `part` in the place of a lock whose process is gone. Another run that does the same at this moment would
+/// remove the lock that this one has just made, so the folder is locked meanwhile.
+fn take_over<A: Allocator + Copy, R: Files<File = File>>(
+    alloc: A,
+    rt: &R,
+    process: u32,
+    folder: &str,
+    part: &str,
+    path: &str,
+) -> Result<Attempt, AllocError> {
+    let Ok(locks) = File::open(rt, folder) else {
+        return Ok(Attempt::Held);
+    };
+    if locks.try_lock().is_err() || is_taken(alloc, rt, Some(process), path)? {
+        return Ok(Attempt::Held);
+    }
+    let attempt = replace(rt, part, path);
+    drop(locks);
+    Ok(attempt)
+}
+
+/// Removes a lock that nobody holds, and gives its name to the file at `part`.
+fn replace<R: Files>(rt: &R, part: &str, path: &str) -> Attempt {
+    match fs::remove_file(rt, path) {
+        Err(error) if error.kind() != ErrorKind::NotFound => return Attempt::Refused,
+        _ => (),
+    }
+    match fs::hard_link(rt, part, path) {
+        Ok(()) => Attempt::Taken,
+        Err(error) if error.kind() == ErrorKind::AlreadyExists => Attempt::Held,
+        Err(_) => Attempt::Refused,
+    }
+}
+
+/// Whether another process holds the lock at this path. One of this process is left over from another with its number, since
+/// a run takes a lock once.
+fn is_taken<A: Allocator + Copy, R: Files>(
+    alloc: A,
+    rt: &R,
+    own: Option<u32>,
+    path: &str,
+) -> Result<bool, AllocError> {
+    let holder = holder_at(rt, path);
+    let is_gone = match holder {
+        Holder::Process(process) => own == Some(process) || is_gone(alloc, rt, process)?,
+        _ => false,
+    };
+    Ok(is_held(holder, is_gone))
+}
+
+/// Who holds the lock at this path. What can't be read may be anybody's.
+fn holder_at<R: Files>(rt: &R, path: &str) -> Holder {
+    let mut buffer = [0; READ_MAX];
+    match read_lock(rt, path, &mut buffer) {
+        Ok(count) => holder_of(&buffer[..count]),
+        Err(error) if error.kind() == ErrorKind::NotFound => Holder::Nobody,
+        Err(_) => Holder::Unknown,
+    }
+}
+
+/// Reads the front of a lock file. A pipe, which would wait for a writer, is not opened.
+fn read_lock<R: Files>(rt: &R, path: &str, buffer: &mut [u8; READ_MAX]) -> io::Result<usize>
+    ensures { IfOk result (λ count. count ≤ READ_MAX) }
+{
+    if !fs::symlink_metadata(rt, path)?.is_file() {
+        return Err(io::Error::from(ErrorKind::InvalidInput));
+    }
+    File::open(rt, path)?.read(buffer)
+}
+
+/// Whether there is no process of this number. That is known only where the system shows the processes of others.
+fn is_gone<A: Allocator + Copy, R: Files>(
+    alloc: A,
+    rt: &R,
+    process: u32,
+) -> Result<bool, AllocError> {
+    let path = format!(in alloc; "/proc/{process}")?;
+    match fs::symlink_metadata(rt, path.as_str()) {
+        Err(error) if error.kind() == ErrorKind::NotFound => {
+            Ok(fs::symlink_metadata(rt, "/proc/1").is_ok())
+        }
+        _ => Ok(false),
+    }
+}

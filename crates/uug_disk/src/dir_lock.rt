@@ -1,0 +1,153 @@
+//! The folder of an end for one run alone.
+ghost use Rattle.std.specs.Prelude.{◌≡◌, IfErr, IsOk, OnOk};
+ghost use Rattle.uug_failure.specs.Faults.{IsFolderFault, IsLockFault};
+
+use crate::part_path::PART_FRONT;
+use std::alloc::{AllocError, Allocator};
+use std::fs::{File, TryLockError};
+use std::io::ErrorKind;
+use std::rt::Files;
+use std::{fs, io};
+use uug_failure::{EndDir, Resource, RunFault};
+use uug_folder::sends_any;
+use uug_session::Job;
+use uug_stream::ToolFault;
+
+/// The lock on the folder of an end. The system gives it back when this is dropped, and when the process dies. What reads the
+/// jobs, the number or the files of an end asks for it, so that none of them is read before.
+#[derive(Drop)]
+pub struct DirLock<A: Allocator> {
+    _file: File,
+    path: String<A>,
+    number: usize,
+}
+
+impl<A: Allocator> DirLock<A> {
+    /// The folder that is locked.
+    pub fn dir(&self) -> EndDir<'_>
+        ensures { result.number ≡ self.now.number }
+    {
+        EndDir {
+            path: self.path.as_str(),
+            number: self.number,
+        }
+    }
+}
+
+/// Locks the folder of an end, and removes what runs that were killed left of files that were not whole. Nothing is made in
+/// it. A folder that another run holds is `InUse`.
+pub fn lock_dir<A: Allocator + Copy, R: Files<File = File> + Alloc + Clone + Drop>(
+    alloc: A,
+    rt: &R,
+    dir: EndDir<'_>,
+) -> Result<DirLock<A>, RunFault>
+    ensures no_other { IfErr result IsLockFault }
+{
+    let path = String::from_str(alloc, dir.path)?;
+    let file = match open_dir(rt, dir.path) {
+        Ok(file) => file,
+        Err(error) => return Err(RunFault::of(&error, dir, Resource::Dir)),
+    };
+    grant(file.try_lock(), dir)?;
+    clear_dir(alloc, rt, dir.path)?;
+    Ok(DirLock {
+        _file: file,
+        path,
+        number: dir.number,
+    })
+}
+
+/// What a run does that was answered so when it asked for the lock of a folder: it goes on only where it has got it.
+fn grant(answer: Result<(), TryLockError>, dir: EndDir<'_>) -> Result<(), RunFault>
+    ensures granted { OnOk result (IsOk answer) }
+    ensures no_other { IfErr result IsLockFault }
+{
+    match answer {
+        Ok(()) => Ok(()),
+        Err(TryLockError::WouldBlock) => Err(RunFault::Tool(ToolFault::InUse(dir.number))),
+        Err(TryLockError::Error(error)) => Err(RunFault::of(&error, dir, Resource::Dir)),
+    }
+}
+
+/// Sees that there is a folder of an end.
+pub(crate) fn see_dir<R: Files>(rt: &R, dir: EndDir<'_>) -> Result<(), RunFault>
+    ensures no_other { IfErr result IsFolderFault }
+{
+    match open_dir(rt, dir.path) {
+        Ok(_) => Ok(()),
+        Err(error) => Err(RunFault::of(&error, dir, Resource::Dir)),
+    }
+}
+
+/// Sees that the folders in that of an end are there which a session with these jobs needs: `got`, and `send` where one of
+/// them sends a file.
+pub fn see_folders<A: Allocator + Copy, R: Files>(
+    alloc: A,
+    rt: &R,
+    dir: EndDir<'_>,
+    jobs: &[Job],
+) -> Result<(), RunFault>
+    ensures no_other { IfErr result IsFolderFault }
+{
+    see_below(alloc, rt, dir, "got", Resource::GotFolder)?;
+    if sends_any(jobs) {
+        see_below(alloc, rt, dir, "send", Resource::Send)?;
+    }
+    Ok(())
+}
+
+/// Sees that the folder of this name is there, in that of an end.
+fn see_below<A: Allocator + Copy, R: Files>(
+    alloc: A,
+    rt: &R,
+    dir: EndDir<'_>,
+    name: &str,
+    resource: Resource,
+) -> Result<(), RunFault>
+    ensures { IfErr result IsFolderFault }
+{
+    let front = dir.path;
+    let path = format!(in alloc; "{front}/{name}")?;
+    match open_dir(rt, path.as_str()) {
+        Ok(_) => Ok(()),
+        Err(error) => Err(RunFault::of(&error, dir, resource)),
+    }
+}
+
+/// Opens a folder. A pipe, which would wait for a writer, is not opened.
+pub(crate) fn open_dir<R: Files>(rt: &R, dir: &str) -> io::Result<R::File> {
+    if fs::metadata(rt, dir)?.is_dir() {
+        File::open(rt, dir)
+    } else {
+        Err(io::Error::from(ErrorKind::NotADirectory))
+    }
+}
+
+/// Removes what is left of files that were not whole, in `dir` and in `got` below it. What can't be removed is in nobody's
+/// way.
+fn clear_dir<A: Allocator + Copy, R: Files + Alloc + Clone + Drop>(
+    alloc: A,
+    rt: &R,
+    dir: &str,
+) -> Result<(), AllocError> {
+    let got = format!(in alloc; "{dir}/got")?;
+    remove_parts(rt, dir);
+    remove_parts(rt, got.as_str());
+    Ok(())
+}
+
+/// Removes the files in a folder whose names begin as those of files that are not whole.
+fn remove_parts<R: Files + Alloc + Clone + Drop>(rt: &R, dir: &str) {
+    let Ok(entries) = fs::read_dir(rt, dir) else {
+        return;
+    };
+    for entry in entries {
+        // a name that is no text is nobody's of this program
+        let Ok(entry) = entry else {
+            continue;
+        };
+        if entry.file_name().starts_with(PART_FRONT) {
+            let _ = fs::remove_file(rt, entry.path().as_str());
+        }
+    }
+}

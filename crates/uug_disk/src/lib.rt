@@ -1,0 +1,34 @@
+//! The folder of an end on a disk: its lock, its jobs and its number, the files that it gives and takes, files that are replaced
+//! whole, and jobs that a person queues. Beside it, the lock files of devices.
+#![tactic(auto)]
+
+mod atomic_file;
+mod device_lock;
+mod dir_lock;
+mod given_files;
+pub mod laws;
+mod lock_text;
+mod no_file;
+mod opened_jobs;
+mod part_path;
+mod passed_over;
+mod queue;
+mod queued_copy;
+mod queued_line;
+mod send_folder;
+mod system_folder;
+mod system_jobs;
+mod system_number;
+mod system_text;
+
+pub use device_lock::{DeviceLock, lock_device};
+pub use dir_lock::{DirLock, lock_dir, see_folders};
+pub use given_files::{Given, read_given};
+pub use no_file::NoFile;
+pub use opened_jobs::{OpenJobs, open_jobs};
+pub use queue::{QueueTask, queue_run};
+pub use send_folder::{FILES_MAX, GIVEN_MODE, TEXT_MAX, read_send, read_text};
+pub use system_folder::SystemFolder;
+pub use system_jobs::SystemJobs;
+pub use system_number::SystemNumber;
+pub use system_text::SystemText;

@@ -1,0 +1,56 @@
+//! The file of an end's jobs as its session begins.
+ghost use Rattle.std.specs.Prelude.{◌≡◌, IfErr, IfOk};
+ghost use Rattle.uug_folder.specs.JobsText.{IsJobsFault, IsQueueOf, jobs_of};
+ghost use Rattle.uug_failure.specs.Failures.{fault_of_run};
+ghost use Rattle.uug_failure.specs.Faults.{IsReadingFault};
+
+use crate::dir_lock::DirLock;
+use crate::system_text::SystemText;
+use std::alloc::Allocator;
+use std::rt::Files;
+use uug_failure::{EndDir, EndText, RunFault};
+use uug_folder::{JobsFault, JobsFile, read_jobs};
+use uug_session::Queue;
+use uug_stream::ToolFault;
+
+/// The file of an end's jobs, and the jobs that its text says.
+#[derive(Drop)]
+pub struct OpenJobs<'a, R: Files, A: Allocator> {
+    pub file: JobsFile<SystemText<'a, R, A>, A>,
+    pub queue: Queue<A>,
+    pub ghost read: { IsQueueOf file.before.items queue },
+}
+
+/// Reads the jobs in the folder of an end, with its lock. A folder without a file of them has none.
+pub fn open_jobs<'a, A: Allocator + Copy, R: Files>(
+    alloc: A,
+    rt: &'a R,
+    _lock: &DirLock<A>,
+    dir: EndDir<'a>,
+) -> Result<OpenJobs<'a, R, A>, RunFault>
+    ensures calm { IfOk result (λ opened. opened.file.file.faults.count ≡ 0) }
+    ensures jobs { IfOk result (λ opened. IsQueueOf opened.file.before.items opened.queue) }
+    ensures no_other { IfErr result IsReadingFault }
+{
+    let mut file = SystemText::new(alloc, rt, dir, EndText::Jobs)?;
+    let before = file.read_now(alloc)?;
+    let queue = queue_of(alloc, before.as_slice())?;
+    Ok(OpenJobs {
+        file: JobsFile { file, before },
+        queue,
+    })
+}
+
+/// The jobs that a text says.
+fn queue_of<A: Allocator + Copy>(alloc: A, text: &[u8]) -> Result<Queue<A>, RunFault>
+    ensures jobs { IfOk result (λ queue. IsQueueOf text.now queue) }
+    ensures fault { IfErr result (λ fault.
+        IsJobsFault (fault_of_run fault) (jobs_of text.now)) }
+    ensures no_other { IfErr result IsReadingFault }
+{
+    match read_jobs(alloc, text) {
+        Ok(queue) => Ok(queue),
+        Err(JobsFault::Bad(line)) => Err(RunFault::Tool(ToolFault::Jobs(line))),
+        Err(JobsFault::Memory) => Err(RunFault::Tool(ToolFault::Memory)),
+    }
+}

@@ -1,0 +1,292 @@
+//! Jobs that a person queues, also while sessions run over the same folder, and the list of those that wait.
+ghost use Rattle.std.specs.Prelude.{◌≡◌, IfErr, IfOk, IsSome, string_bytes};
+ghost use Rattle.uug_folder.specs.Queueing.{ordered, shown_text, target_with, user_with};
+ghost use Rattle.uug_failure.specs.Faults.{IsQueueFault, IsReadingFault};
+ghost use Rattle.uug_disk.specs.Queued.{IsListOf, word_in, word_or_empty};
+
+use crate::dir_lock::see_dir;
+use crate::queued_copy::{clear_copies, lock_send, place_copy, read_copied};
+use crate::queued_line::{add_job, jobs_at, jobs_in};
+use std::alloc::{AllocError, Allocator};
+use std::env;
+use std::env::VarError;
+use std::fs::File;
+use std::rt::{Env, Files};
+use uug_failure::{EndDir, RunFault, SystemFailure};
+use uug_folder::{OrderFault, default_user, ordered_job, queued_line, with_source, write_jobs};
+use uug_session::Job;
+use uug_stream::{Output, ToolFault, write_all};
+use uug_talk::Name;
+
+/// What a person queues.
+#[derive(Clone, Copy, Debug, PartialEq, Eq)]
+pub struct QueueTask<'a> {
+    /// The folder of the end.
+    pub dir: &'a str,
+    /// What is to be done with the file: `send` or `request`. Without it the jobs that wait are listed.
+    pub order: Option<&'a str>,
+    /// The path of the file that is sent, or the name of the one that is asked for.
+    pub file: Option<&'a str>,
+    /// The name that it is to have where it comes.
+    pub target: Option<&'a str>,
+    /// Who queues it.
+    pub user: Option<&'a str>,
+}
+
+impl<'a> QueueTask<'a> {
+    /// The folder of the end.
+    fn end_dir(&self) -> EndDir<'a> {
+        EndDir {
+            path: self.dir,
+            number: 0,
+        }
+    }
+
+    /// The file, which is an empty text where none is named.
+    fn file(&self) -> &'a str
+        ensures { result.now ≡ word_or_empty self.now.file }
+    {
+        self.file.unwrap_or("")
+    }
+}
+
+/// Lists the jobs that wait in the folder of an end, or queues one more. A file that is sent is copied into `send`, under its
+/// own name or one with a number. The job is appended to `jobs`, whether a session runs or not. A line says which one it is.
+/// The answer is the program's status; `remark` says why an order is bad usage, and `why` which call of the system failed.
+pub fn queue_run<A, R, O, B>(
+    alloc: A,
+    rt: &R,
+    task: &QueueTask<'_>,
+    output: &mut O,
+    remark: &mut String<B>,
+    why: &mut Option<SystemFailure>,
+) -> Result<u8, ToolFault>
+where
+    A: Allocator + Copy,
+    R: Files<File = File> + Env + Alloc + Clone + Drop,
+    O: Output,
+    B: Allocator,
+    ensures status { IfOk result (λ status. status ≡ 0) }
+    ensures no_other { IfErr result IsQueueFault }
+    // A device fault always says which call it was.
+    ensures why { result ≡ Err ToolFault.Device → IsSome why.new }
+{
+    *why = None;
+    let done = match task.order {
+        Some(order) => queue_order(alloc, rt, task, order, output, remark, why),
+        None => list_dir(alloc, rt, task.end_dir(), output, why),
+    };
+    match done {
+        Ok(()) => Ok(0),
+        Err(fault) => Err(fault),
+    }
+}
+
+/// Lists the jobs in the folder of an end.
+fn list_dir<A: Allocator + Copy, R: Files, O: Output>(
+    alloc: A,
+    rt: &R,
+    dir: EndDir<'_>,
+    output: &mut O,
+    why: &mut Option<SystemFailure>,
+) -> Result<(), ToolFault>
+    ensures no_other { IfErr result IsQueueFault }
+    ensures why { result ≡ Err ToolFault.Device → IsSome why.new }
+{
+    match list_at(alloc, rt, dir) {
+        Ok(list) => {
+            write_all(output, list.as_bytes())?;
+            Ok(())
+        }
+        Err(fault) => Err(fault.tell(why)),
+    }
+}
+
+/// The list of the jobs in the folder of an end.
+fn list_at<A: Allocator + Copy, R: Files>(
+    alloc: A,
+    rt: &R,
+    dir: EndDir<'_>,
+) -> Result<String<A>, RunFault>
+    ensures { IfErr result IsReadingFault }
+{
+    see_dir(rt, dir)?;
+    let text = jobs_at(alloc, rt, dir)?;
+    list_of(alloc, text.as_slice())
+}
+
+/// The jobs of a text, one line a job.
+fn list_of<A: Allocator + Copy>(alloc: A, text: &[u8]) -> Result<String<A>, RunFault>
+    ensures lists { IfOk result (λ list. IsListOf text.now (string_bytes list)) }
+    ensures no_other { IfErr result IsReadingFault }
+{
+    let queue = jobs_in(alloc, text)?;
+    Ok(write_jobs(alloc, queue.pending())?)
+}
+
+/// Queues what a person orders.
+fn queue_order<A, R, O, B>(
+    alloc: A,
+    rt: &R,
+    task: &QueueTask<'_>,
+    order: &str,
+    output: &mut O,
+    remark: &mut String<B>,
+    why: &mut Option<SystemFailure>,
+) -> Result<(), ToolFault>
+where
+    A: Allocator + Copy,
+    R: Files<File = File> + Env + Alloc + Clone + Drop,
+    O: Output,
+    B: Allocator,
+    ensures no_other { IfErr result IsQueueFault }
+    ensures why { result ≡ Err ToolFault.Device → IsSome why.new }
+{
+    let user = user_at(rt)?;
+    let job = match job_of(task, order, user) {
+        Ok(job) => job,
+        Err(fault) => {
+            write!(remark, "{fault}")?;
+            return Err(ToolFault::Usage);
+        }
+    };
+    let queued = queue_job(alloc, rt, task, &job, why)?;
+    let line = queued_line(alloc, &queued)?;
+    write_all(output, line.as_bytes())?;
+    Ok(())
+}
+
+/// The job that is ordered. The source of one that sends is the name of the file, under which it is not in `send` yet.
+fn job_of(task: &QueueTask<'_>, order: &str, user: Name) -> Result<Job, OrderFault>
+    ensures { result ≡ ordered order.now (word_or_empty task.now.file)
+        (target_with (word_in task.now.target) (word_or_empty task.now.file))
+        (user_with (word_in task.now.user) user) }
+{
+    ordered_job(
+        order.as_bytes(),
+        task.file().as_bytes(),
+        bytes_of(task.target),
+        bytes_of(task.user),
+        user,
+    )
+}
+
+/// The bytes of a word.
+fn bytes_of(word: Option<&str>) -> Option<&[u8]>
+    ensures { shown_text result ≡ word_in word.entry }
+{
+    match word {
+        Some(word) => Some(word.as_bytes()),
+        None => None,
+    }
+}
+
+/// Who queues a job, where that is not said: the user that the system names.
+fn user_at<R: Env + Alloc>(rt: &R) -> Result<Name, AllocError> {
+    let user = variable(rt, "USER")?;
+    let login = variable(rt, "LOGNAME")?;
+    Ok(default_user(
+        user.as_ref().map(|text| text.as_bytes()),
+        login.as_ref().map(|text| text.as_bytes()),
+    ))
+}
+
+/// The text of a variable of the system, where it has one.
+fn variable<R: Env + Alloc>(rt: &R, name: &str) -> Result<Option<String<R::A>>, AllocError> {
+    match env::var(rt, name) {
+        Ok(text) => Ok(Some(text)),
+        Err(VarError::OutOfMemory) => Err(AllocError),
+        Err(_) => Ok(None),
+    }
+}
+
+/// Queues a job in the folder of the task. The answer is the job as it was queued: the source of one that sends is the name
+/// of its copy.
+fn queue_job<A, R>(
+    alloc: A,
+    rt: &R,
+    task: &QueueTask<'_>,
+    job: &Job,
+    why: &mut Option<SystemFailure>,
+) -> Result<Job, ToolFault>
+where
+    A: Allocator + Copy,
+    R: Files<File = File> + Alloc + Clone + Drop,
+    ensures no_other { IfErr result IsQueueFault }
+    ensures why { result ≡ Err ToolFault.Device → IsSome why.new }
+{
+    let queued = match job {
+        Job::Send { source, .. } => {
+            let bytes = read_copied(alloc, rt, task.file(), why)?;
+            queue_copy(alloc, rt, task.end_dir(), job, source, bytes.as_slice())
+        }
+        Job::Request { .. } => queue_line(alloc, rt, task.end_dir(), job),
+    };
+    match queued {
+        Ok(queued) => Ok(queued),
+        Err(fault) => Err(fault.tell(why)),
+    }
+}
+
+/// Puts a copy of the file of a job into `send`, and appends the job, with no other who queues meanwhile.
+fn queue_copy<A, R>(
+    alloc: A,
+    rt: &R,
+    dir: EndDir<'_>,
+    job: &Job,
+    base: &Name,
+    bytes: &[u8],
+) -> Result<Job, RunFault>
+where
+    A: Allocator + Copy,
+    R: Files<File = File> + Alloc + Clone + Drop,
+    ensures { IfErr result IsReadingFault }
+{
+    see_dir(rt, dir)?;
+    let lock = lock_send(alloc, rt, dir)?;
+    let queued = queue_copy_alone(alloc, rt, dir, job, base, bytes);
+    drop(lock);
+    queued
+}
+
+/// The same, where `send` is locked: copies of jobs that are over are removed before.
+fn queue_copy_alone<A, R>(
+    alloc: A,
+    rt: &R,
+    dir: EndDir<'_>,
+    job: &Job,
+    base: &Name,
+    bytes: &[u8],
+) -> Result<Job, RunFault>
+where
+    A: Allocator + Copy,
+    R: Files<File = File> + Alloc + Clone + Drop,
+    ensures { IfErr result IsReadingFault }
+{
+    let text = jobs_at(alloc, rt, dir)?;
+    let waiting = jobs_in(alloc, text.as_slice())?;
+    clear_copies(alloc, rt, dir, waiting.pending())?;
+    let copy = place_copy(alloc, rt, dir, base, waiting.pending(), bytes)?;
+    let placed = with_source(job, copy.name);
+    match add_job(alloc, rt, dir, &placed) {
+        Ok(()) => Ok(placed),
+        Err(fault) => {
+            copy.remove(rt);
+            Err(fault)
+        }
+    }
+}
+
+/// Appends a job that needs no copy.
+fn queue_line<A: Allocator + Copy, R: Files<File = File>>(
+    alloc: A,
+    rt: &R,
+    dir: EndDir<'_>,
+    job: &Job,
+) -> Result<Job, RunFault>
+    ensures { IfErr result IsReadingFault }
+{
+    see_dir(rt, dir)?;
+    add_job(alloc, rt, dir, job)?;
+    Ok(*job)
+}

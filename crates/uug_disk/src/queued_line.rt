@@ -1,0 +1,157 @@
+//! A job that is appended to `jobs`, also while sessions take others out of it.
+ghost use Rattle.std.specs.Prelude.{IfErr, IfOk};
+ghost use Rattle.uug_folder.specs.JobsText.{IsJobsFault, IsQueueOf, jobs_of};
+ghost use Rattle.uug_failure.specs.Failures.{fault_of_run};
+ghost use Rattle.uug_failure.specs.Faults.{IsFolderFault, IsReadingFault};
+
+use crate::atomic_file::append_whole;
+use crate::send_folder::{TEXT_MAX, read_text};
+use std::alloc::{AllocError, Allocator};
+use std::fs::{File, OpenOptions};
+use std::io::ErrorKind;
+use std::os::unix::fs::MetadataExt;
+use std::rt::Files;
+use std::{fs, io};
+use uug_failure::{Cause, EndDir, EndText, Resource, RunFault};
+use uug_folder::{JobsFault, appended_job, is_among, read_jobs};
+use uug_session::{Job, Queue};
+use uug_stream::ToolFault;
+
+/// So often in a row another file may come in the place of `jobs` while a job is appended.
+pub(crate) const APPENDS_MAX: u32 = 1000;
+
+/// Appends a job to `jobs` in the folder of an end, and sees it on the device. Who takes the place of `jobs` meanwhile holds
+/// the same lock, as the sessions of this program do; else the new file is looked at, and the job appended again where it is
+/// not among those there.
+pub(crate) fn add_job<A: Allocator + Copy, R: Files<File = File>>(
+    alloc: A,
+    rt: &R,
+    dir: EndDir<'_>,
+    job: &Job,
+) -> Result<(), RunFault>
+    ensures { IfErr result IsReadingFault }
+{
+    let front = dir.path;
+    let path = format!(in alloc; "{front}/jobs")?;
+    let mut is_appended = false;
+    for _ in 0..APPENDS_MAX {
+        let Some(file) = lock_jobs(rt, dir, path.as_str())? else {
+            continue;
+        };
+        let text = jobs_at(alloc, rt, dir)?;
+        if is_appended && has_job(alloc, text.as_slice(), job)? {
+            return Ok(());
+        }
+        append(alloc, rt, dir, &file, text.as_slice(), job)?;
+        is_appended = true;
+        if is_at(rt, &file, path.as_str()) {
+            return Ok(());
+        }
+    }
+    let failed = io::Error::from(ErrorKind::WouldBlock);
+    Err(RunFault::of(&failed, dir, Resource::Text(EndText::Jobs)))
+}
+
+/// The file of the jobs, locked, or none where another one took its place meanwhile. Where there is none it is made.
+fn lock_jobs<R: Files<File = File>>(
+    rt: &R,
+    dir: EndDir<'_>,
+    path: &str,
+) -> Result<Option<File>, RunFault>
+    ensures { IfErr result IsFolderFault }
+{
+    match open_locked(rt, path) {
+        Ok(file) if is_at(rt, &file, path) => Ok(Some(file)),
+        Ok(_) => Ok(None),
+        Err(error) => Err(RunFault::of(&error, dir, Resource::Text(EndText::Jobs))),
+    }
+}
+
+/// Opens a file to append to, and waits for its lock.
+fn open_locked<R: Files<File = File>>(rt: &R, path: &str) -> io::Result<File> {
+    let file = OpenOptions::new().append(true).create(true).open(rt, path)?;
+    file.lock()?;
+    Ok(file)
+}
+
+/// Whether an open file is the one at a path.
+fn is_at<R: Files>(rt: &R, file: &File, path: &str) -> bool {
+    match (file.metadata(), fs::metadata(rt, path)) {
+        (Ok(open), Ok(there)) => open.dev() == there.dev() && open.ino() == there.ino(),
+        _ => false,
+    }
+}
+
+/// The text of the jobs in the folder of an end.
+pub(crate) fn jobs_at<A: Allocator + Copy, R: Files>(
+    alloc: A,
+    rt: &R,
+    dir: EndDir<'_>,
+) -> Result<Vec<u8, A>, RunFault>
+    ensures { IfErr result IsFolderFault }
+{
+    match read_text(alloc, rt, dir, EndText::Jobs)? {
+        Some(text) => Ok(text),
+        None => Ok(Vec::new(alloc)),
+    }
+}
+
+/// The jobs that a text says.
+pub(crate) fn jobs_in<A: Allocator + Copy>(alloc: A, text: &[u8]) -> Result<Queue<A>, RunFault>
+    ensures jobs { IfOk result (IsQueueOf text.now) }
+    ensures fault { IfErr result (λ fault.
+        IsJobsFault (fault_of_run fault) (jobs_of text.now)) }
+    ensures no_other { IfErr result IsReadingFault }
+{
+    match read_jobs(alloc, text) {
+        Ok(queue) => Ok(queue),
+        Err(JobsFault::Bad(line)) => Err(RunFault::Tool(ToolFault::Jobs(line))),
+        Err(JobsFault::Memory) => Err(RunFault::Tool(ToolFault::Memory)),
+    }
+}
+
+/// Whether a text has a job.
+fn has_job<A: Allocator + Copy>(alloc: A, text: &[u8], job: &Job) -> Result<bool, RunFault>
+    ensures { IfErr result IsReadingFault }
+{
+    let queue = jobs_in(alloc, text)?;
+    Ok(is_among(queue.pending(), job))
+}
+
+/// Appends a job to the file of the jobs, which has this text, unless the text would then be bad or too long.
+fn append<A: Allocator + Copy, R: Files>(
+    alloc: A,
+    rt: &R,
+    dir: EndDir<'_>,
+    file: &File,
+    text: &[u8],
+    job: &Job,
+) -> Result<(), RunFault>
+    ensures { IfErr result IsReadingFault }
+{
+    let added = appended_job(alloc, text, job)?;
+    see_text(alloc, dir, text, added.as_bytes())?;
+    match append_whole(rt, file, dir.path, added.as_bytes()) {
+        Ok(()) => Ok(()),
+        Err(error) => Err(RunFault::of(&error, dir, Resource::Text(EndText::Jobs))),
+    }
+}
+
+/// Sees that a text is one of jobs with what is added to it.
+fn see_text<A: Allocator + Copy>(
+    alloc: A,
+    dir: EndDir<'_>,
+    text: &[u8],
+    added: &[u8],
+) -> Result<(), RunFault>
+    ensures { IfErr result IsReadingFault }
+{
+    let mut whole = text.to_vec(alloc)?;
+    whole.extend_from_slice(added)?;
+    if whole.len() > TEXT_MAX {
+        let resource = Resource::Text(EndText::Jobs);
+        return Err(RunFault::System(dir.failure(resource, Cause::TooMuch)));
+    }
+    drop(jobs_in(alloc, whole.as_slice())?);
+    Ok(())
+}

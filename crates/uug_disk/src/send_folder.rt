@@ -1,0 +1,323 @@
+//! What is in the folder of an end at the start: its jobs, and the files that it has to give.
+ghost use Rattle.std.specs.Prelude.{◌≡◌, ◌+◌, ◌<◌, ◌≤◌, IfOk, IfErr, IfSome, OnOk, length};
+ghost use Rattle.uug_failure.specs.Faults.{IsFolderFault};
+
+use crate::dir_lock::DirLock;
+use crate::part_path::PART_FRONT;
+use crate::queued_copy::COPY_FRONT;
+use std::alloc::{AllocError, Allocator};
+use std::fs::{DirEntry, File, ReadDir};
+use std::io::{ErrorKind, Read};
+use std::rt::Files;
+use std::{fs, io};
+use uug_failure::{Cause, EndDir, EndText, LISTINGS_MAX, Resource, RunFault, was_interrupted};
+use uug_session::Stored;
+use uug_talk::{FILE_MAX, Name};
+
+/// The most files that a folder may have to give.
+pub const FILES_MAX: usize = 256;
+
+/// The mode of each file that is given.
+pub const GIVEN_MODE: u16 = 0o644;
+
+/// The most bytes of a text in a folder, such as that of its jobs.
+pub const TEXT_MAX: usize = 16_777_216;
+
+/// All that comes from a reader, unless it is more than so many bytes.
+fn read_within<A: Allocator, R: Read + Drop>(
+    alloc: A,
+    reader: R,
+    most: usize,
+) -> io::Result<Option<Vec<u8, A>>>
+    requires { most < u64.MAX }
+    ensures within { IfOk result (λ found. IfSome found (λ bytes. length bytes.items ≤ most)) }
+{
+    let mut bytes = Vec::new(alloc);
+    let mut front = reader.take(most as u64 + 1);
+    front.read_to_end(&mut bytes)?;
+    if bytes.len() > most {
+        return Ok(None);
+    }
+    Ok(Some(bytes))
+}
+
+/// Whether there is a regular file at a path, at the end of links too: a link that leads nowhere has none. So no pipe
+/// is opened, which would wait for a writer.
+pub(crate) fn is_file<R: Files>(rt: &R, path: &str) -> io::Result<bool> {
+    match fs::metadata(rt, path) {
+        Ok(metadata) => Ok(metadata.is_file()),
+        Err(error) => match error.kind() {
+            ErrorKind::NotFound | ErrorKind::NotADirectory | ErrorKind::FilesystemLoop => Ok(false),
+            _ => Err(error),
+        },
+    }
+}
+
+/// The bytes of the regular file at a path, unless they are more than so many.
+pub(crate) fn read_file<A: Allocator, R: Files>(
+    alloc: A,
+    rt: &R,
+    path: &str,
+    most: usize,
+) -> io::Result<Option<Vec<u8, A>>>
+    requires { most < u64.MAX }
+    ensures within { IfOk result (λ found. IfSome found (λ bytes. length bytes.items ≤ most)) }
+{
+    read_within(alloc, File::open(rt, path)?, most)
+}
+
+fn given<A: Allocator>(name: Name, bytes: Vec<u8, A>) -> Stored<A> {
+    Stored {
+        name,
+        mode: GIVEN_MODE,
+        bytes,
+    }
+}
+
+/// Adds a file to those that are given, unless it is too large.
+pub(crate) fn add_given<A: Allocator, R: Files>(
+    files: &mut Vec<Stored<A>, A>,
+    alloc: A,
+    rt: &R,
+    dir: EndDir<'_>,
+    name: Name,
+    path: &str,
+) -> Result<(), RunFault>
+    ensures one { length files.new.items ≤ length files.old.items + 1 }
+    ensures no_other { IfErr result IsFolderFault }
+{
+    match read_file(alloc, rt, path, FILE_MAX) {
+        Ok(Some(bytes)) => {
+            files.reserve(1)?;
+            files.push_reserved(given(name, bytes));
+        }
+        Ok(None) => (),
+        Err(error) => return Err(RunFault::of(&error, dir, Resource::Given(name))),
+    }
+    Ok(())
+}
+
+/// The text of this file in the folder of an end, if there is one.
+pub fn read_text<A: Allocator + Copy, R: Files>(
+    alloc: A,
+    rt: &R,
+    dir: EndDir<'_>,
+    which: EndText,
+) -> Result<Option<Vec<u8, A>>, RunFault>
+    ensures within { IfOk result (λ found. IfSome found (λ text. length text.items ≤ TEXT_MAX)) }
+    ensures no_other { IfErr result IsFolderFault }
+{
+    let front = dir.path;
+    let name = which.name();
+    let path = format!(in alloc; "{front}/{name}")?;
+    read_text_at(alloc, rt, dir, which, path.as_str())
+}
+
+/// The text of this file in the folder of an end, which is at this path, if there is one.
+pub(crate) fn read_text_at<A: Allocator + Copy, R: Files>(
+    alloc: A,
+    rt: &R,
+    dir: EndDir<'_>,
+    which: EndText,
+    path: &str,
+) -> Result<Option<Vec<u8, A>>, RunFault>
+    ensures within { IfOk result (λ found. IfSome found (λ text. length text.items ≤ TEXT_MAX)) }
+    ensures no_other { IfErr result IsFolderFault }
+{
+    let resource = Resource::Text(which);
+    let metadata = match fs::metadata(rt, path) {
+        Ok(metadata) => metadata,
+        Err(error) if error.kind() == ErrorKind::NotFound => return Ok(None),
+        Err(error) => return Err(RunFault::of(&error, dir, resource)),
+    };
+    if !metadata.is_file() {
+        return Err(RunFault::System(dir.failure(resource, Cause::NotAFile)));
+    }
+    match read_file(alloc, rt, path, TEXT_MAX) {
+        Ok(Some(text)) => Ok(Some(text)),
+        Ok(None) => Err(RunFault::System(dir.failure(resource, Cause::TooMuch))),
+        Err(error) => Err(RunFault::of(&error, dir, resource)),
+    }
+}
+
+/// The files in the folder `send` below that of an end of a pair. A missing folder is an empty one. What has a name that is no
+/// `Name`, or is no regular file, is skipped, and so is a file of more than `FILE_MAX` bytes, which still counts among the
+/// `FILES_MAX`. A listing that a signal has ended is begun anew.
+pub fn read_send<A: Allocator + Copy, R: Files + Alloc + Clone + Drop>(
+    alloc: A,
+    rt: &R,
+    lock: &DirLock<A>,
+) -> Result<Vec<Stored<A>, A>, RunFault>
+    ensures within { IfOk result (λ files. length files.items ≤ FILES_MAX) }
+    ensures no_other { IfErr result IsFolderFault }
+{
+    for _ in 0..LISTINGS_MAX {
+        let files = list_send(alloc, rt, lock.dir());
+        if !was_interrupted(&files) {
+            return files;
+        }
+        drop(files);
+    }
+    list_send(alloc, rt, lock.dir())
+}
+
+/// The same, of one listing.
+fn list_send<A: Allocator + Copy, R: Files + Alloc + Clone + Drop>(
+    alloc: A,
+    rt: &R,
+    dir: EndDir<'_>,
+) -> Result<Vec<Stored<A>, A>, RunFault>
+    ensures within { IfOk result (λ files. length files.items ≤ FILES_MAX) }
+    ensures no_other { IfErr result IsFolderFault }
+{
+    let mut files = Vec::new(alloc);
+    add_sends(&mut files, alloc, rt, dir)?;
+    Ok(files)
+}
+
+/// Adds the files in the folder `send` below that of an end to those that are given, of which there are none.
+fn add_sends<A: Allocator + Copy, R: Files + Alloc + Clone + Drop>(
+    files: &mut Vec<Stored<A>, A>,
+    alloc: A,
+    rt: &R,
+    dir: EndDir<'_>,
+) -> Result<(), RunFault>
+    requires { length files.old.items ≡ 0 }
+    ensures within { OnOk result (length files.new.items ≤ FILES_MAX) }
+    ensures no_other { IfErr result IsFolderFault }
+{
+    let front = dir.path;
+    let path = format!(in alloc; "{front}/send")?;
+    match fs::read_dir(rt, path.as_str()) {
+        Ok(entries) => add_entries(files, alloc, rt, dir, entries),
+        Err(error) if error.kind() == ErrorKind::NotFound => Ok(()),
+        Err(error) => Err(RunFault::of(&error, dir, Resource::Send)),
+    }
+}
+
+/// Adds the files of these entries to those that are given, of which there are none.
+fn add_entries<A: Allocator + Copy, R: Files + Alloc + Clone + Drop>(
+    files: &mut Vec<Stored<A>, A>,
+    alloc: A,
+    rt: &R,
+    dir: EndDir<'_>,
+    entries: ReadDir<R, R::A>,
+) -> Result<(), RunFault>
+    requires { length files.old.items ≡ 0 }
+    ensures within { OnOk result (length files.new.items ≤ FILES_MAX) }
+    ensures no_other { IfErr result IsFolderFault }
+{
+    let mut count = 0;
+    for entry in entries {
+        let entry = match entry {
+            Ok(entry) => entry,
+            Err(error) => return Err(RunFault::of(&error, dir, Resource::Send)),
+        };
+        add_entry(files, alloc, rt, dir, &entry, &mut count)?;
+    }
+    Ok(())
+}
+
+/// Adds the file of an entry, if it has one that may be given. Each of them is counted.
+fn add_entry<A: Allocator + Copy, R: Files + Alloc + Clone + Drop>(
+    files: &mut Vec<Stored<A>, A>,
+    alloc: A,
+    rt: &R,
+    dir: EndDir<'_>,
+    entry: &DirEntry<R, R::A>,
+    count: &mut usize,
+) -> Result<(), RunFault>
+    requires counted { length files.old.items ≤ count.old }
+    requires within { count.old ≤ FILES_MAX }
+    ensures counted { OnOk result (length files.new.items ≤ count.new) }
+    ensures within { OnOk result (count.new ≤ FILES_MAX) }
+    ensures no_other { IfErr result IsFolderFault }
+{
+    let name = match given_name(rt, dir, entry) {
+        Ok(Some(name)) => name,
+        Ok(None) => return Ok(()),
+        Err(fault) => return Err(fault),
+    };
+    if *count >= FILES_MAX {
+        return Err(RunFault::System(dir.failure(Resource::Send, Cause::TooMuch)));
+    }
+    *count += 1;
+    add_given(files, alloc, rt, dir, name, entry.path().as_str())
+}
+
+/// The name of an entry's file, if it has one that may be given. One that is not whole yet may not, nor the mark of a copy.
+fn given_name<R: Files + Alloc + Clone + Drop>(
+    rt: &R,
+    dir: EndDir<'_>,
+    entry: &DirEntry<R, R::A>,
+) -> Result<Option<Name>, RunFault>
+    ensures { IfErr result IsFolderFault }
+{
+    if entry.file_name().starts_with(PART_FRONT) || entry.file_name().starts_with(COPY_FRONT) {
+        return Ok(None);
+    }
+    let Ok(name) = Name::new(entry.file_name().as_bytes()) else {
+        return Ok(None);
+    };
+    match is_file(rt, entry.path().as_str()) {
+        Ok(true) => Ok(Some(name)),
+        Ok(false) => Ok(None),
+        Err(error) => Err(RunFault::of(&error, dir, Resource::Given(name))),
+    }
+}
+
+/// How many files the folder `send`, at this path, has that may be given.
+pub(crate) fn count_send<R: Files + Alloc + Clone + Drop>(
+    rt: &R,
+    dir: EndDir<'_>,
+    send: &str,
+) -> Result<usize, RunFault>
+    ensures { IfErr result IsFolderFault }
+{
+    let entries = match fs::read_dir(rt, send) {
+        Ok(entries) => entries,
+        Err(error) => return Err(RunFault::of(&error, dir, Resource::Send)),
+    };
+    let mut count: usize = 0;
+    for entry in entries {
+        let entry = match entry {
+            Ok(entry) => entry,
+            Err(error) if is_no_text(&error) => continue,
+            Err(error) => return Err(RunFault::of(&error, dir, Resource::Send)),
+        };
+        if has_given_name(rt, dir, &entry)? {
+            count = count.saturating_add(1);
+        }
+    }
+    Ok(count)
+}
+
+/// Whether a listing has come to a name that is no text. It goes on behind that.
+pub(crate) fn is_no_text(error: &io::Error) -> bool {
+    error.kind() == ErrorKind::InvalidFilename
+}
+
+/// The path of a file in the folder `send` below that of an end.
+pub(crate) fn path_in_send<A: Allocator + Copy>(
+    alloc: A,
+    dir: EndDir<'_>,
+    name: &Name,
+) -> Result<String<A>, AllocError> {
+    let front = dir.path;
+    let name = name.as_str();
+    format!(in alloc; "{front}/send/{name}")
+}
+
+/// Whether the file of an entry may be given.
+fn has_given_name<R: Files + Alloc + Clone + Drop>(
+    rt: &R,
+    dir: EndDir<'_>,
+    entry: &DirEntry<R, R::A>,
+) -> Result<bool, RunFault>
+    ensures { IfErr result IsFolderFault }
+{
+    match given_name(rt, dir, entry) {
+        Ok(name) => Ok(name.is_some()),
+        Err(fault) => Err(fault),
+    }
+}

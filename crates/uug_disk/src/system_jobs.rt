@@ -1,0 +1,67 @@
+ghost use Rattle.std.specs.Prelude.{◌≡◌, ◌<◌, IfOk, IsSome, None};
+
+use crate::atomic_file::append_at;
+use crate::system_text::SystemText;
+use std::alloc::{AllocError, Allocator};
+use std::fs::File;
+use std::rt::Files;
+use uug_failure::{Cause, EndText, Resource, SystemFailure};
+use uug_folder::{FolderFailed, JobTexts, TextFile};
+use uug_stream::ToolFault;
+
+/// The files of an end's jobs in its folder: `jobs` has those that wait, and `failed` tells of those that were given up.
+#[derive(Drop)]
+pub struct SystemJobs<'a, R: Files, A: Allocator> {
+    pub(crate) file: SystemText<'a, R, A>,
+    /// The path of the file that tells of those that were given up.
+    failed: String<A>,
+}
+
+impl<'a, R: Files, A: Allocator + Copy> SystemJobs<'a, R, A> {
+    /// The files of this end's jobs, of which this one has those that wait.
+    pub fn new(alloc: A, file: SystemText<'a, R, A>) -> Result<Self, AllocError>
+        ensures { IfOk result (λ jobs. jobs.file ≡ file.entry) }
+    {
+        let front = file.dir().path;
+        let name = EndText::Failed.name();
+        let failed = format!(in alloc; "{front}/{name}")?;
+        Ok(SystemJobs { file, failed })
+    }
+}
+
+impl<R: Files, A: Allocator> SystemJobs<'_, R, A> {
+    /// Why a call of the system on one of the files failed first, if one did.
+    pub fn failure(&self) -> Option<SystemFailure>
+        ensures told { 0 < self.now.file.faults.count → IsSome result }
+    {
+        self.file.failure()
+    }
+}
+
+impl<R: Files<File = File>, A: Allocator> JobTexts for SystemJobs<'_, R, A> {
+    ghost text = { λ _. None };
+
+    ghost told = { λ _. None };
+
+    ghost fault_count = { λ jobs. jobs.file.faults.count };
+
+    fn read<B: Allocator + Copy>(&mut self, alloc: B) -> Result<Vec<u8, B>, ToolFault> {
+        self.file.read(alloc)
+    }
+
+    fn replace(&mut self, bytes: &[u8]) -> Result<(), FolderFailed> {
+        self.file.replace(bytes)
+    }
+
+    fn tell(&mut self, bytes: &[u8]) -> Result<(), FolderFailed> {
+        let dir = self.file.dir().path;
+        match append_at(self.file.runtime(), dir, self.failed.as_str(), bytes) {
+            Ok(()) => Ok(()),
+            Err(error) => {
+                let resource = Resource::Text(EndText::Failed);
+                self.file.note(resource, Cause::of(&error));
+                Err(FolderFailed)
+            }
+        }
+    }
+}

@@ -1,0 +1,66 @@
+ghost use Rattle.std.specs.Prelude.{◌≡◌, ◌<◌, IsSome, None};
+
+use crate::system_text::SystemText;
+use std::alloc::Allocator;
+use std::fs::File;
+use std::rt::Files;
+use uug_failure::SystemFailure;
+use uug_folder::{FolderFailed, TextFile, read_number_text};
+use uug_stream::ToolFault;
+
+/// The file of the number of an end's conversations. The number that it has is not written again, and nor is the one before it,
+/// with which a called end may begin a session: a number in the file never falls by one.
+#[derive(Drop)]
+pub struct SystemNumber<'a, R: Files, A: Allocator> {
+    pub(crate) file: SystemText<'a, R, A>,
+    /// The number that it has, if it has one.
+    held: Option<u32>,
+}
+
+impl<'a, R: Files, A: Allocator> SystemNumber<'a, R, A> {
+    /// This file, which has this number, or none.
+    pub fn new(file: SystemText<'a, R, A>, held: Option<u32>) -> Self
+        ensures { result.file ≡ file.entry }
+    {
+        SystemNumber { file, held }
+    }
+
+    /// Why a call of the system on the file failed first, if one did.
+    pub fn failure(&self) -> Option<SystemFailure>
+        ensures told { 0 < self.now.file.faults.count → IsSome result }
+    {
+        self.file.failure()
+    }
+
+    /// Whether the file is left as it is where it is to have this number.
+    fn stays_with(&self, number: Option<u32>) -> bool {
+        match (self.held, number) {
+            (Some(held), Some(number)) => number == held || number.wrapping_add(1) == held,
+            _ => false,
+        }
+    }
+}
+
+impl<R: Files<File = File>, A: Allocator> TextFile for SystemNumber<'_, R, A> {
+    ghost text = { λ _. None };
+
+    ghost fault_count = { λ number. number.file.faults.count };
+
+    fn read<B: Allocator + Copy>(&mut self, alloc: B) -> Result<Vec<u8, B>, ToolFault> {
+        self.file.read(alloc)
+    }
+
+    fn replace(&mut self, bytes: &[u8]) -> Result<(), FolderFailed> {
+        let number = read_number_text(bytes);
+        if self.stays_with(number) {
+            return Ok(());
+        }
+        self.file.replace(bytes)?;
+        self.held = number;
+        Ok(())
+    }
+
+    fn faults(&self) -> u64 {
+        self.file.faults()
+    }
+}

@@ -1,0 +1,174 @@
+ghost use Rattle.std.specs.Prelude.{◌≡◌, ◌<◌, ◌≤◌, IfErr, IfOk, IsSome, None, OnOk};
+ghost use Rattle.uug_session.specs.Engine.{HasFailed};
+ghost use Rattle.uug_failure.specs.Failures.{NotesFault};
+ghost use Rattle.uug_failure.specs.Faults.{IsFolderFault};
+
+use crate::atomic_file::{replace_appended, replace_file};
+use crate::part_path::PartPath;
+use crate::send_folder::read_text_at;
+use std::alloc::{AllocError, Allocator};
+use std::fs;
+use std::fs::File;
+use std::io::ErrorKind;
+use std::rt::Files;
+use uug_failure::{Cause, EndDir, EndText, Faults, Resource, RunFault, SystemFailure};
+use uug_folder::{FolderFailed, TextFile};
+use uug_stream::ToolFault;
+
+/// A file in the folder of an end, whose text is replaced as a whole. Where its name there is a link, it is the file at the end of
+/// that, and the link stays.
+#[derive(Drop)]
+pub struct SystemText<'a, R: Files, A: Allocator> {
+    rt: &'a R,
+    dir: EndDir<'a>,
+    which: EndText,
+    /// Where the text is written before it is whole.
+    part: PartPath<A>,
+    path: String<A>,
+    /// The folder in which the file is.
+    folder: String<A>,
+    /// How many bytes were read of it last, if it was read.
+    read_len: Option<u64>,
+    faults: Faults,
+}
+
+impl<'a, R: Files, A: Allocator + Copy> SystemText<'a, R, A> {
+    /// This file of an end. All memory for its writing is taken here.
+    pub fn new(alloc: A, rt: &'a R, dir: EndDir<'a>, which: EndText) -> Result<Self, AllocError>
+        ensures { IfOk result (λ file. file.faults.count ≡ 0) }
+    {
+        let front = dir.path;
+        let name = which.name();
+        let path = end_of_links(alloc, rt, format!(in alloc; "{front}/{name}")?)?;
+        let folder = String::from_str(alloc, folder_of(path.as_str()))?;
+        Ok(SystemText {
+            rt,
+            dir,
+            which,
+            part: PartPath::new(alloc, rt, folder.as_str())?,
+            path,
+            folder,
+            read_len: None,
+            faults: Faults::none(),
+        })
+    }
+}
+
+impl<'a, R: Files, A: Allocator> SystemText<'a, R, A> {
+    /// The text that is in the file now, or an empty one where there is no file.
+    pub(crate) fn read_now<B: Allocator + Copy>(&mut self, alloc: B) -> Result<Vec<u8, B>, RunFault>
+        ensures stands { OnOk result (self.new.faults ≡ self.old.faults) }
+        ensures fault { IfErr result (λ fault.
+            NotesFault fault self.old.faults.count self.new.faults.count) }
+        ensures no_other { IfErr result IsFolderFault }
+    {
+        let text = text_or_none(alloc, self.rt, self.dir, self.which, self.path.as_str());
+        match &text {
+            Ok(text) => self.read_len = Some(text.len() as u64),
+            Err(fault) => self.faults.note_fault(*fault),
+        }
+        text
+    }
+
+    /// The folder in which it is.
+    pub(crate) fn dir(&self) -> EndDir<'a> {
+        self.dir
+    }
+
+    /// The system on which it is.
+    pub(crate) fn runtime(&self) -> &'a R {
+        self.rt
+    }
+
+    /// Counts that a call of the system failed.
+    pub(crate) fn note(&mut self, resource: Resource, cause: Cause)
+        ensures counted { HasFailed u64.MAX self.old.faults.count self.new.faults.count }
+        ensures grows { self.old.faults.count ≤ self.new.faults.count }
+    {
+        self.faults.note(self.dir.failure(resource, cause));
+    }
+
+    /// Why a call of the system on the file failed first, if one did.
+    pub fn failure(&self) -> Option<SystemFailure>
+        ensures told { 0 < self.now.faults.count → IsSome result }
+    {
+        self.faults.first()
+    }
+}
+
+impl<R: Files<File = File>, A: Allocator> TextFile for SystemText<'_, R, A> {
+    ghost text = { λ _. None };
+
+    ghost fault_count = { λ file. file.faults.count };
+
+    fn read<B: Allocator + Copy>(&mut self, alloc: B) -> Result<Vec<u8, B>, ToolFault> {
+        match self.read_now(alloc) {
+            Ok(text) => Ok(text),
+            Err(RunFault::System(_)) => Err(ToolFault::Device),
+            Err(RunFault::Tool(fault)) => Err(fault),
+        }
+    }
+
+    /// What was appended to the file since it was read stays behind the new text.
+    fn replace(&mut self, bytes: &[u8]) -> Result<(), FolderFailed> {
+        let path = self.path.as_str();
+        let dir = self.folder.as_str();
+        let replaced = match self.read_len {
+            Some(len) => replace_appended(self.rt, &mut self.part, dir, path, bytes, len),
+            None => replace_file(self.rt, &mut self.part, dir, path, bytes),
+        };
+        match replaced {
+            Ok(()) => Ok(()),
+            Err(error) => {
+                self.note(Resource::Text(self.which), Cause::of(&error));
+                Err(FolderFailed)
+            }
+        }
+    }
+
+    fn faults(&self) -> u64 {
+        self.faults.count()
+    }
+}
+
+/// Where the file at a path is: at the end of the links, where the path is one.
+fn end_of_links<A: Allocator + Copy, R: Files>(
+    alloc: A,
+    rt: &R,
+    path: String<A>,
+) -> Result<String<A>, AllocError> {
+    match fs::symlink_metadata(rt, path.as_str()) {
+        Ok(metadata) if metadata.is_symlink() => (),
+        _ => return Ok(path),
+    }
+    match rt.canonicalize(alloc, path.as_str()) {
+        Ok(end) => Ok(end.into_string()),
+        Err(error) if error.kind() == ErrorKind::OutOfMemory => Err(AllocError),
+        Err(_) => Ok(path),
+    }
+}
+
+/// The folder of the file at a path.
+fn folder_of(path: &str) -> &str {
+    match path.rsplit_once('/') {
+        Some(("", _)) => "/",
+        Some((folder, _)) => folder,
+        None => ".",
+    }
+}
+
+/// The text of this file in the folder of an end, which is at this path, or an empty one where there is none.
+fn text_or_none<B: Allocator + Copy, R: Files>(
+    alloc: B,
+    rt: &R,
+    dir: EndDir<'_>,
+    which: EndText,
+    path: &str,
+) -> Result<Vec<u8, B>, RunFault>
+    ensures { IfErr result IsFolderFault }
+{
+    match read_text_at(alloc, rt, dir, which, path)? {
+        Some(text) => Ok(text),
+        None => Ok(Vec::new(alloc)),
+    }
+}

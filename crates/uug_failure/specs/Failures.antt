@@ -1,0 +1,37 @@
+-- Why a run over the system gave up, and which call of the system failed first (this project's profile).
+use Rattle.std.specs.Prelude.{◌≡◌, ℕ, Option, Some, None, ⊤}
+use Rattle.std.specs.declared.io.ErrorKind.TheVariants.{Interrupted, WouldBlock}
+use Rattle.uug_session.specs.Engine.{HasFailed, faults_max}
+use Rattle.uug_stream.specs.declared.fault.ToolFault.{ToolFault}
+use Rattle.uug_stream.specs.declared.fault.ToolFault.TheVariants.{Device}
+use Rattle.uug_failure.specs.declared.failure.Cause.{Cause}
+use Rattle.uug_failure.specs.declared.failure.Cause.TheVariants.{Refused}
+use Rattle.uug_failure.specs.declared.failure.SystemFailure.{SystemFailure}
+use Rattle.uug_failure.specs.declared.run_fault.RunFault.{RunFault}
+use Rattle.uug_failure.specs.declared.run_fault.RunFault.TheVariants.{System, Tool}
+
+-- the first failure of a device, once this one came too
+abbrev pub first_of : Option SystemFailure → SystemFailure → Option SystemFailure
+first_of (Some first) failure = Some first
+first_of None failure = Some failure
+
+-- the call would have waited for longer than it may, or a signal came meanwhile
+abbrev pub IsSilence : Cause → Type 0
+IsSilence (Refused WouldBlock number) = ⊤
+IsSilence (Refused Interrupted number) = ⊤
+IsSilence _ = ⊥
+
+-- what the program answers
+abbrev pub fault_of_run : RunFault → ToolFault
+fault_of_run (System failure) = Device
+fault_of_run (Tool fault) = fault
+
+-- which call of the system failed, as far as it is known then
+abbrev pub told_by : RunFault → Option SystemFailure → Option SystemFailure
+told_by (System failure) why = Some failure
+told_by (Tool fault) why = why
+
+-- how a count of faults goes: it rises, up to the greatest number, where a call of the system failed, and only there
+abbrev pub NotesFault : RunFault → (count count_after : ℕ) → Type 0
+NotesFault (System failure) count count_after = HasFailed faults_max count count_after
+NotesFault (Tool fault) count count_after = count_after ≡ count

@@ -1,0 +1,13 @@
+//! What a call of the system that fails leaves behind: which one it was, on what and why; how often a device has failed; and why
+//! a run gave up. Beside it, reads and writes that a signal does not end.
+#![tactic(auto)]
+
+mod failure;
+mod faults;
+mod run_fault;
+mod signals;
+
+pub use failure::{Cause, EndDir, EndText, Resource, SystemFailure};
+pub use faults::Faults;
+pub use run_fault::{LISTINGS_MAX, RunFault, was_interrupted};
+pub use signals::{read_again, write_again};

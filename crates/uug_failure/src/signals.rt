@@ -1,0 +1,45 @@
+//! Reads and writes that a signal does not end.
+ghost use Rattle.std.specs.Prelude.{◌≡◌, ◌<◌, length, take, IfOk, OnErr};
+ghost use Rattle.std.specs.Io.{ReadsAtMost, WritesAtMost};
+ghost use Rattle.std.specs.Io.KnownBytes.{Appends, Consumes, IsAtEnd, Keeps};
+
+use std::io;
+use std::io::{ErrorKind, Read, Write};
+
+/// So many signals in a row end a call before it counts as one that nothing came of.
+const SIGNALS_MAX: u32 = 1024;
+
+/// Writes once. A write that a signal has ended is begun anew.
+pub fn write_again<T: Write>(stream: &mut T, piece: &[u8]) -> io::Result<usize>
+    ensures bound { WritesAtMost result piece.now }
+    ensures bytes { IfOk result (λ n.
+        Appends (T.contents stream.old) (T.contents stream.new) (take n piece.now)) }
+    ensures kept { OnErr result (Keeps (T.contents stream.old) (T.contents stream.new)) }
+{
+    for _ in 0..SIGNALS_MAX {
+        match stream.write(piece) {
+            Err(error) if error.kind() == ErrorKind::Interrupted => (),
+            written => return written,
+        }
+    }
+    Err(io::Error::from(ErrorKind::Interrupted))
+}
+
+/// Reads once. A read that a signal has ended is begun anew, and so waits for the whole time.
+pub fn read_again<T: Read>(stream: &mut T, buffer: &mut [u8]) -> io::Result<usize>
+    ensures bound { ReadsAtMost result buffer.new }
+    ensures size { length buffer.new ≡ length buffer.old }
+    ensures bytes { IfOk result (λ n.
+        Consumes (T.remaining stream.old) (T.remaining stream.new) (take n buffer.new)) }
+    ensures end { IfOk result (λ n.
+        n ≡ 0 → 0 < length buffer.old → IsAtEnd (T.remaining stream.new)) }
+    ensures kept { OnErr result (Keeps (T.remaining stream.old) (T.remaining stream.new)) }
+{
+    for _ in 0..SIGNALS_MAX {
+        match stream.read(buffer) {
+            Err(error) if error.kind() == ErrorKind::Interrupted => (),
+            read => return read,
+        }
+    }
+    Err(io::Error::from(ErrorKind::Interrupted))
+}

@@ -1,0 +1,2 @@
+mod TimerFacts
+pub mod TimerLemmas

@@ -1,0 +1,36 @@
+//! The lines of an end on a system: sockets that call and that listen, devices, the socket between two ends, and how long each of
+//! them waits. Beside them, the standard streams of a program.
+#![tactic(auto)]
+
+mod deadline;
+mod device_line;
+pub mod laws;
+mod listening;
+mod session_line;
+mod silent_line;
+mod sockets;
+mod stream_line;
+mod system_input;
+mod system_line;
+mod system_output;
+mod timed_line;
+mod timed_stream;
+mod timer;
+mod wire_line;
+mod wire_socket;
+
+pub use deadline::Deadline;
+pub use device_line::DeviceLine;
+pub use listening::{Listener, Listening};
+pub use session_line::{Pace, SessionLine};
+pub use silent_line::SilentLine;
+pub use sockets::{call_tcp, call_unix, listen_tcp, listen_unix};
+pub use stream_line::StreamLine;
+pub use system_input::SystemInput;
+pub use system_line::SystemLine;
+pub use system_output::SystemOutput;
+pub use timed_line::TimedLine;
+pub use timed_stream::TimedStream;
+pub use timer::{SPEED_MAX, SPEED_MIN, packets};
+pub use wire_line::WireLine;
+pub use wire_socket::open_wire;

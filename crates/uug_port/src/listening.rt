@@ -1,0 +1,130 @@
+//! A socket at which an end is called.
+
+use crate::deadline::Deadline;
+use crate::timed_stream::TimedStream;
+use mio::unix::SourceFd;
+use mio::{Events, Interest, Poll, Token};
+use std::alloc::Allocator;
+use std::io::ErrorKind;
+use std::net::{Net, TcpListener, TcpStream};
+use std::os::fd::AsRawFd;
+use std::os::unix::net::{UnixListener, UnixStream};
+use std::rt::Files;
+use std::time::Clock;
+use std::{fs, io};
+
+/// The socket is the one thing that is waited for.
+const SOCKET: Token = Token(0);
+
+/// So often a wait for a caller is begun anew at most.
+const WAITS_MAX: u32 = u32::MAX;
+
+/// A socket that listens, and does not wait itself.
+pub trait Listener: AsRawFd {
+    type Stream: TimedStream + Drop;
+
+    /// The next that has connected. Its calls wait.
+    fn take(&self) -> io::Result<Self::Stream>;
+}
+
+impl Listener for UnixListener {
+    type Stream = UnixStream;
+
+    fn take(&self) -> io::Result<UnixStream> {
+        Ok(self.accept()?.0)
+    }
+}
+
+impl Listener for TcpListener {
+    type Stream = TcpStream;
+
+    fn take(&self) -> io::Result<TcpStream> {
+        let (stream, _) = self.accept()?;
+        stream.set_nodelay(true)?;
+        Ok(stream)
+    }
+}
+
+/// A socket that listens until a caller has been let in.
+#[derive(Drop)]
+pub struct Listening<'a, 'p, T, R, A: Allocator> {
+    rt: &'a R,
+    /// The path of its file, where it has one.
+    path: Option<&'p str>,
+    /// The socket, as long as it listens.
+    listener: Option<T>,
+    poll: Poll,
+    events: Events<A>,
+}
+
+impl<'a, 'p, T, R, A> Listening<'a, 'p, T, R, A>
+where
+    T: Listener + Drop,
+    R: Files + Net + Clock,
+    A: Allocator + Copy,
+{
+    /// The socket, which does not wait, and whose file has this path.
+    pub fn new(alloc: A, rt: &'a R, path: Option<&'p str>, listener: T) -> io::Result<Self> {
+        let poll = Poll::new(rt)?;
+        let events = Events::with_capacity(alloc, 1)?;
+        let fd = listener.as_raw_fd();
+        poll.registry()
+            .register(&mut SourceFd(&fd), SOCKET, Interest::READABLE)?;
+        Ok(Listening {
+            rt,
+            path,
+            listener: Some(listener),
+            poll,
+            events,
+        })
+    }
+
+    /// The next caller, or none where the time is over, or the socket listens no more. A signal ends no wait, and neither
+    /// does a caller who is gone again.
+    pub fn next_caller(&mut self, deadline: &Deadline) -> io::Result<Option<T::Stream>> {
+        let Some(listener) = &self.listener else {
+            return Ok(None);
+        };
+        for _ in 0..WAITS_MAX {
+            match listener.take() {
+                Ok(stream) => return Ok(Some(stream)),
+                Err(error) if is_none_yet(&error) => (),
+                Err(error) => return Err(error),
+            }
+            let Some(left) = deadline.left(self.rt)? else {
+                return Ok(None);
+            };
+            self.poll.poll(&mut self.events, Some(left))?;
+        }
+        Ok(None)
+    }
+}
+
+impl<T: Drop, R: Files, A: Allocator> Listening<'_, '_, T, R, A> {
+    /// It listens no more, and its file is removed.
+    pub fn close(&mut self) {
+        if let Some(listener) = self.listener.take() {
+            drop(listener);
+            self.remove_file();
+        }
+    }
+
+    fn remove_file(&self) {
+        if let Some(path) = self.path {
+            let _ = fs::remove_file(self.rt, path);
+        }
+    }
+
+    /// Whether it listens still.
+    pub fn is_open(&self) -> bool {
+        self.listener.is_some()
+    }
+}
+
+/// Whether an error says that nobody has connected, or is there any more.
+fn is_none_yet(error: &io::Error) -> bool {
+    matches!(
+        error.kind(),
+        ErrorKind::WouldBlock | ErrorKind::ConnectionAborted | ErrorKind::Interrupted
+    )
+}

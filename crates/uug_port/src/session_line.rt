@@ -1,0 +1,164 @@
+//! The line of an end in a session: it waits for as long as what is on the way takes.
+ghost use Rattle.std.specs.Prelude.{◌≡◌, ◌≤◌, IfSome};
+ghost use Rattle.std.proofs.Props.{props};
+ghost use Rattle.uug_port.specs.Timers.{IsSpeed};
+
+use crate::system_line::SystemLine;
+use crate::timer::{packets, timer};
+use std::time::Duration;
+use uug_failure::SystemFailure;
+use uug_link::WINDOW_MAX;
+use uug_packet::{CONTROL_K, FIELD_CODE_MAX, HEADER_SIZE, field_size};
+use uug_talk::MESSAGE_MAX;
+use uug_transfer::{EndLine, LineFailed, ReadOutcome, SessionStatus};
+
+/// The byte with which each packet begins.
+const START: u8 = 0x10;
+
+/// What the timer of an end goes by.
+#[derive(Clone, Copy)]
+pub struct Pace {
+    /// The seconds of the timeout.
+    pub timeout: u32,
+    /// The bits a second of the line, where they are told.
+    pub speed: Option<u32>,
+    /// So many bytes the other end may have on the way.
+    pub theirs: u32,
+    ghost of_speed: { IfSome speed IsSpeed } by { Prim.hlevel props },
+}
+
+impl Pace {
+    ghost use Rattle.std.specs.Prelude.{◌≡◌, ◌+◌, ◌*◌, ◌≤◌, IfSome};
+    ghost use Rattle.std.specs.Duration.{as_nanos};
+    ghost use Rattle.uug_link.specs.declared.limits.TheConstants.{WINDOW_MAX};
+    ghost use Rattle.uug_talk.specs.declared.chunks.TheConstants.{MESSAGE_MAX};
+    ghost use Rattle.uug_port.specs.Timers.{IsSpeed, packets_of, timer};
+
+    /// How long the line waits while so many bytes of its own end are not acknowledged.
+    pub fn time(&self, ours: u32) -> Duration
+        ensures { as_nanos result ≡ timer self.now.timeout self.now.speed (ours + self.now.theirs) * 1000000000 }
+    {
+        Duration::from_secs(timer(self.timeout, self.speed, ours, self.theirs))
+    }
+
+    /// The seconds for which the line waits at most: where as much as may be is on the way.
+    pub fn longest(&self) -> u32
+        ensures { timer self.now.timeout self.now.speed
+            (packets_of WINDOW_MAX MESSAGE_MAX + self.now.theirs) ≤ u32.MAX
+            → result ≡ timer self.now.timeout self.now.speed
+            (packets_of WINDOW_MAX MESSAGE_MAX + self.now.theirs) }
+    {
+        let ours = packets(WINDOW_MAX as u8, MESSAGE_MAX as u16);
+        u32::try_from(timer(self.timeout, self.speed, ours, self.theirs)).unwrap_or(u32::MAX)
+    }
+}
+
+/// A line that waits, each time anew, for as long as its pace says.
+#[derive(Drop)]
+pub struct SessionLine<L> {
+    line: L,
+    pace: Pace,
+    /// The greatest field of the data packets that were written.
+    largest: u16,
+    /// Whether what is written next begins with a packet.
+    at_packet: bool,
+    /// How long the line waits now.
+    time: Duration,
+}
+
+impl<L: SystemLine> SessionLine<L> {
+    /// The line of a session that begins, which waits already for as long as this pace says where nothing is on the way.
+    pub fn new(line: L, pace: Pace) -> Self
+        ensures { result.line ≡ line }
+    {
+        SessionLine {
+            line,
+            pace,
+            largest: 0,
+            at_packet: true,
+            time: pace.time(0),
+        }
+    }
+}
+
+impl<L: SystemLine> EndLine for SessionLine<L> {
+    ghost fault_count = { λ paced. L.fault_count paced.line };
+
+    ghost received = { λ paced. L.received paced.line };
+
+    ghost taken = { λ paced. L.taken paced.line };
+
+    ghost writes = { λ paced. L.writes paced.line };
+
+    fn write(&mut self, piece: &[u8]) -> Result<usize, LineFailed> {
+        if self.at_packet {
+            self.largest = self.largest.max(largest_field(piece));
+        }
+        let count = self.line.write(piece)?;
+        // What was not taken is seen again, at the same packet.
+        self.at_packet = count == 0 && self.at_packet || count == piece.len();
+        Ok(count)
+    }
+
+    fn read(&mut self, buffer: &mut [u8]) -> Result<ReadOutcome, LineFailed> {
+        self.line.read(buffer)
+    }
+
+    fn note(&mut self, status: SessionStatus) {
+        self.line.note(status);
+        let unacked = u8::try_from(status.unacked).unwrap_or(u8::MAX);
+        let time = self.pace.time(packets(unacked, self.largest));
+        if time != self.time {
+            self.line.set_time(time);
+            self.time = time;
+        }
+    }
+
+    fn seconds(&self) -> u64 {
+        self.line.seconds()
+    }
+
+    fn faults(&self) -> u64 {
+        self.line.faults()
+    }
+}
+
+impl<L: SystemLine> SystemLine for SessionLine<L> {
+    fn failure(&self) -> Option<SystemFailure> {
+        self.line.failure()
+    }
+
+    fn set_time(&mut self, time: Duration) {
+        self.line.set_time(time);
+    }
+}
+
+/// The greatest field of the data packets in these bytes, which begin with a packet or a text.
+fn largest_field(bytes: &[u8]) -> u16 {
+    let mut largest = 0;
+    let mut rest = bytes;
+    while rest.len() > 1 {
+        let (field, length) = match field_behind(rest[0], rest[1]) {
+            Some(field) => (field, HEADER_SIZE + field),
+            None => (0, 1),
+        };
+        largest = largest.max(field);
+        rest = &rest[length.min(rest.len())..];
+    }
+    u16::try_from(largest).unwrap_or(u16::MAX)
+}
+
+/// The size of the field of the packet that begins with these bytes, if one does; a control packet has none.
+fn field_behind(start: u8, code: u8) -> Option<usize>
+    ensures { IfSome result (λ field. field ≤ 4096) }
+{
+    if start != START {
+        None
+    } else if code == CONTROL_K {
+        Some(0)
+    } else if 0 < code && code <= FIELD_CODE_MAX {
+        Some(field_size(code))
+    } else {
+        None
+    }
+}

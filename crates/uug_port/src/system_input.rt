@@ -1,0 +1,55 @@
+//! It tells the bytes that its reader tells. Standard input tells none, since no proof knows what the system
+//! gives; and a body that always fails, and counts its faults, meets the contract over every reader. So the stored
+//! run of the program shows that bytes come in, and tests/command_line.sh that a refused read is a device fault.
+ghost use Rattle.std.specs.Prelude.{◌≡◌, ◌<◌, IsSome};
+
+use std::io::Read;
+use uug_failure::{Cause, Faults, Resource, SystemFailure, read_again};
+use uug_stream::{Input, ReadFailed};
+
+/// A reader of the system as an input.
+#[derive(Drop)]
+pub struct SystemInput<R> {
+    reader: R,
+    faults: Faults,
+}
+
+impl<R: Read> SystemInput<R> {
+    /// An input over the reader, which had no faults yet.
+    pub fn new(reader: R) -> Self
+        ensures { ⟦<SystemInput<R> as Input>⟧.fault_count result ≡ 0 }
+    {
+        SystemInput {
+            reader,
+            faults: Faults::none(),
+        }
+    }
+
+    /// Why a read of it failed first, if one did.
+    pub fn failure(&self) -> Option<SystemFailure>
+        ensures told { 0 < self.now.faults.count → IsSome result }
+    {
+        self.faults.first()
+    }
+}
+
+impl<R: Read> Input for SystemInput<R> {
+    ghost to_come = { λ input. R.remaining input.reader };
+
+    ghost fault_count = { λ input. input.faults.count };
+
+    fn read(&mut self, buffer: &mut [u8]) -> Result<usize, ReadFailed> {
+        match read_again(&mut self.reader, buffer) {
+            Ok(count) => Ok(count),
+            Err(error) => {
+                let cause = Cause::of(&error);
+                self.faults.note(SystemFailure::on(Resource::Input, cause));
+                Err(ReadFailed)
+            }
+        }
+    }
+
+    fn faults(&self) -> u64 {
+        self.faults.count()
+    }
+}

@@ -1,0 +1,54 @@
+//! It tells what was written where its writer does. Standard output does not, since no proof knows what the system
+//! takes; and a body that always fails, and counts its faults, meets the contract over every writer. So the stored
+//! run of the program shows that bytes go out, and tests/command_line.sh that a refused write is a device fault.
+ghost use Rattle.std.specs.Prelude.{◌≡◌, ◌<◌, IsSome};
+
+use std::io::Write;
+use uug_failure::{Cause, Faults, Resource, SystemFailure, write_again};
+use uug_stream::{Output, WriteFailed};
+
+/// A writer of the system as an output.
+#[derive(Drop)]
+pub struct SystemOutput<W> {
+    writer: W,
+    faults: Faults,
+}
+
+impl<W: Write> SystemOutput<W> {
+    /// An output over the writer, which had no faults yet.
+    pub fn new(writer: W) -> Self
+        ensures { ⟦<SystemOutput<W> as Output>⟧.fault_count result ≡ 0 }
+    {
+        SystemOutput {
+            writer,
+            faults: Faults::none(),
+        }
+    }
+
+    /// Why a write of it failed first, if one did.
+    pub fn failure(&self) -> Option<SystemFailure>
+        ensures told { 0 < self.now.faults.count → IsSome result }
+    {
+        self.faults.first()
+    }
+}
+
+impl<W: Write> Output for SystemOutput<W> {
+    ghost written = { λ output. W.contents output.writer };
+
+    ghost fault_count = { λ output. output.faults.count };
+
+    fn write(&mut self, piece: &[u8]) -> Result<usize, WriteFailed> {
+        let cause = match write_again(&mut self.writer, piece) {
+            Ok(0) => Cause::MovedNothing,
+            Ok(count) => return Ok(count),
+            Err(error) => Cause::of(&error),
+        };
+        self.faults.note(SystemFailure::on(Resource::Output, cause));
+        Err(WriteFailed::Device)
+    }
+
+    fn faults(&self) -> u64 {
+        self.faults.count()
+    }
+}

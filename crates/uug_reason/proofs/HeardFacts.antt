@@ -1,0 +1,18 @@
+-- What is said of what was heard, so that a wrong definition does not check.
+use Rattle.std.proofs.Common.{◌≡◌, [], ◌∷◌, ◌++◌, codes, refl}
+use Rattle.std.specs.Fmt.{digits}
+use Rattle.uug_conversation.specs.declared.side.Side.TheVariants.{Caller, Called}
+use Rattle.uug_session.specs.declared.end.End.TheVariants.{Done, Refused, WrongName, GaveUp}
+use Rattle.uug_reason.specs.HeardWords.{heard_remark, nothing, noise, text}
+
+record AreSaid : Type 0 where
+  other : heard_remark Caller WrongName (codes "ther") (text (codes "Shere=there")) ≡ codes "uucpair: heard \"Shere=there\", expected \"ther\"" ++ 10 ∷ []
+  busy : heard_remark Caller Refused (codes "b") (text (codes "RLCK")) ≡ codes "uucpair: the other end refused: \"RLCK\" (it is busy: call later)" ++ 10 ∷ []
+  stranger : heard_remark Called Refused (codes "a") (text (codes "Sc")) ≡ codes "uucpair: heard \"Sc\", expected \"a\"" ++ 10 ∷ []
+  getty : heard_remark Caller GaveUp (codes "b") (noise 7 (codes "login:" ++ 13 ∷ [])) ≡ codes "uucpair: heard 7 bytes and no text: \"login:\\x0d\"" ++ 10 ∷ []
+  mute : heard_remark Caller GaveUp (codes "b") nothing ≡ codes "uucpair: heard nothing" ++ 10 ∷ []
+  done : heard_remark Caller Done (codes "b") (text (codes "Pg")) ≡ []
+
+said : AreSaid
+unfolding digits
+said = record { other = refl; busy = refl; stranger = refl; getty = refl; mute = refl; done = refl }

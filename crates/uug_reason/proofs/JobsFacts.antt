@@ -1,0 +1,16 @@
+-- What is said of lines of jobs, so that a wrong definition does not check.
+use Rattle.std.proofs.Common.{◌≡◌, [], ◌∷◌, ◌++◌, codes, Some, None, refl}
+use Rattle.std.specs.Fmt.{digits}
+use Rattle.uug_reason.specs.JobsWords.{jobs_remark}
+
+record AreSaid : Type 0 where
+  order : jobs_remark (codes "a") (codes "# mine" ++ (10 ∷ codes "put x y")) 2 ≡ codes "uucpair: a/jobs: line 2: \"put\" is neither send nor request" ++ 10 ∷ []
+  few : jobs_remark (codes "a") (codes "send x") 1 ≡ codes "uucpair: a/jobs: line 1: TARGET and USER are missing" ++ 10 ∷ []
+  many : jobs_remark (codes "a") (codes "send my file y me") 1 ≡ codes "uucpair: a/jobs: line 1: \"me\" is one word too many: a name has no space in it" ++ 10 ∷ []
+  name : jobs_remark (codes "a") (codes "send x " ++ (7 ∷ codes " me")) 1 ≡ codes "uucpair: a/jobs: line 1: \"\\x07\" is no name: 1 to 200 printing characters" ++ 10 ∷ []
+  other : jobs_remark (codes "a") (codes "put x y") 2 ≡ []
+  good : jobs_remark (codes "a") (codes "send x y me") 1 ≡ []
+
+said : AreSaid
+unfolding digits
+said = record { order = refl; few = refl; many = refl; name = refl; other = refl; good = refl }

@@ -1,0 +1,3 @@
+pub mod ReasonFacts
+pub mod JobsFacts
+pub mod HeardFacts

@@ -1,0 +1,34 @@
+-- What is said of calls that failed, so that a wrong definition does not check.
+use Rattle.std.proofs.Common.{◌≡◌, [], ◌∷◌, ◌++◌, codes, Some, None, refl, pos}
+use Rattle.std.specs.Fmt.{digits}
+use Rattle.std.specs.declared.io.ErrorKind.TheVariants as kinds
+use Rattle.uug_failure.specs.declared.failure.Cause.{Cause}
+use Rattle.uug_failure.specs.declared.failure.Cause.TheVariants as causes
+use Rattle.uug_failure.specs.declared.failure.EndText.TheVariants.{Jobs, Number}
+use Rattle.uug_failure.specs.declared.failure.Resource.{Resource}
+use Rattle.uug_failure.specs.declared.failure.Resource.TheVariants as on
+use Rattle.uug_failure.specs.declared.failure.SystemFailure.{SystemFailure}
+use Rattle.uug_reason.specs.Reasons.{Places, places, reason_line}
+
+-- two ends over a socket
+abbrev pair_places : Places
+pair_places = places [] (codes "s") (codes "a") (codes "b")
+
+-- one end, of which a control byte stands in the folder's name
+abbrev end_places : Places
+end_places = places [] (codes "tcp:127.0.0.1:5999") (27 ∷ codes "a") (27 ∷ codes "a")
+
+record AreSaid : Type 0 where
+  line : reason_line end_places (record { end = 0; resource = on.Line; cause = causes.Refused kinds.ConnectionRefused (Some (pos 111)) }) ≡ codes "uucpair: tcp:127.0.0.1:5999: connection refused" ++ 10 ∷ []
+  host : reason_line end_places (record { end = 0; resource = on.Line; cause = causes.Refused kinds.Uncategorized None }) ≡ codes "uucpair: tcp:127.0.0.1:5999: unknown host" ++ 10 ∷ []
+  numbered : reason_line end_places (record { end = 0; resource = on.Line; cause = causes.Refused kinds.Uncategorized (Some (pos 5)) }) ≡ codes "uucpair: tcp:127.0.0.1:5999: error 5" ++ 10 ∷ []
+  escaped : reason_line end_places (record { end = 0; resource = on.Text Jobs; cause = causes.Refused kinds.PermissionDenied (Some (pos 13)) }) ≡ codes "uucpair: \\x1ba/jobs: permission denied" ++ 10 ∷ []
+  given : reason_line pair_places (record { end = 0; resource = on.Given (codes "x"); cause = causes.Refused kinds.IsADirectory (Some (pos 21)) }) ≡ codes "uucpair: a/send/x: is a directory" ++ 10 ∷ []
+  got : reason_line pair_places (record { end = 1; resource = on.Got (codes "y"); cause = causes.Refused kinds.StorageFull (Some (pos 28)) }) ≡ codes "uucpair: b/got/y: no space left" ++ 10 ∷ []
+  files : reason_line pair_places (record { end = 1; resource = on.Send; cause = causes.TooMuch }) ≡ codes "uucpair: b/send: more than 256 files" ++ 10 ∷ []
+  socket : reason_line pair_places (record { end = 0; resource = on.Line; cause = causes.Refused kinds.AddrInUse (Some (pos 98)) }) ≡ codes "uucpair: s: address in use" ++ 10 ∷ []
+  output : reason_line pair_places (record { end = 0; resource = on.Output; cause = causes.MovedNothing }) ≡ codes "uucpair: standard output: it takes no byte" ++ 10 ∷ []
+
+said : AreSaid
+unfolding digits
+said = record { line = refl; host = refl; numbered = refl; escaped = refl; given = refl; got = refl; files = refl; socket = refl; output = refl }

@@ -1,0 +1,71 @@
+-- What was heard of the other end where a session ended badly, in words (this project's profile).
+use Rattle.std.specs.Fmt.{decimal}
+use Rattle.std.specs.Prelude.{◌||◌, ℕ, List, [], ◌∷◌, ◌++◌, codes, if◌then◌else◌}
+use Rattle.std.specs.Str.{bytes_eq}
+use Rattle.uug_conversation.specs.declared.side.Side.{Side}
+use Rattle.uug_conversation.specs.declared.side.Side.TheVariants.{Caller, Called}
+use Rattle.uug_session.specs.declared.end.End.{End}
+use Rattle.uug_session.specs.declared.end.End.TheVariants.{Refused, WrongName, NoProtocol, GaveUp, HungUp}
+use Rattle.uug_talk.specs.Lines.{ended}
+use Rattle.uug_reason.specs.JobsWords.{quoted}
+use Rattle.uug_reason.specs.declared.heard.Heard.{Heard}
+use Rattle.uug_reason.specs.declared.heard.Heard.TheVariants as sounds
+
+-- what was heard, as data: nothing, so many bytes that begin so and have no text in them, or a last text
+pub data HeardShown : Type 0 where
+  nothing : HeardShown
+  noise : (count : ℕ) (bytes : List ℕ) → HeardShown
+  text : (said : List ℕ) → HeardShown
+
+abbrev pub shown : Heard → HeardShown
+shown sounds.Nothing = nothing
+shown (sounds.Noise count bytes) = noise count bytes.now
+shown (sounds.Text said) = text said.now
+
+-- another end was heard than the one that was expected
+abbrev pub other_words : (said peer : List ℕ) → List ℕ
+other_words said peer = codes "heard " ++ (quoted said ++ (codes ", expected " ++ quoted peer))
+
+-- what a refusal means that is known
+abbrev pub hint_words : (said : List ℕ) → List ℕ
+hint_words said =
+    if bytes_eq said (codes "RLCK") then codes " (it is busy: call later)" else
+    (if bytes_eq said (codes "RLOGIN") || bytes_eq said (codes "RYou are unknown to me")
+    then codes " (it does not know the name of this end)" else
+    (if bytes_eq said (codes "RCB") then codes " (it will call back)" else []))
+
+abbrev pub refusal_words : (said hint : List ℕ) → List ℕ
+refusal_words said hint = codes "the other end refused: " ++ (quoted said ++ hint)
+
+-- the other end has refused the call, or this end did
+abbrev pub refused_words : Side → (said peer : List ℕ) → List ℕ
+refused_words Caller said peer = refusal_words said (hint_words said)
+refused_words Called said peer = other_words said peer
+
+abbrev pub noise_words : (count : ℕ) → (bytes : List ℕ) → List ℕ
+noise_words count bytes = codes "heard " ++ (decimal count ++ (codes " bytes and no text: " ++ quoted bytes))
+
+abbrev pub nothing_words : List ℕ
+nothing_words = codes "heard nothing"
+
+-- none of these protocols of the other end is g
+abbrev pub protocols_words : (said : List ℕ) → List ℕ
+protocols_words said = codes "no protocol g: heard " ++ quoted said
+
+-- by how the session ended, where what was heard says why
+abbrev pub end_words : Side → End → (peer : List ℕ) → HeardShown → List ℕ
+end_words side WrongName peer (text said) = other_words said peer
+end_words side Refused peer (text said) = refused_words side said peer
+end_words side NoProtocol peer (text said) = protocols_words said
+end_words side GaveUp peer (noise count bytes) = noise_words count bytes
+end_words side HungUp peer (noise count bytes) = noise_words count bytes
+end_words side GaveUp peer nothing = nothing_words
+end_words side end peer heard = []
+
+-- as a line, unless nothing is to be said
+abbrev pub line_with : List ℕ → List ℕ
+line_with [] = []
+line_with (c ∷ words) = codes "uucpair: " ++ ended (c ∷ words)
+
+abbrev pub heard_remark : Side → End → (peer : List ℕ) → HeardShown → List ℕ
+heard_remark side end peer heard = line_with (end_words side end peer heard)

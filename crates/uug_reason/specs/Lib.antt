@@ -1,0 +1,4 @@
+pub mod KindWords
+pub mod Reasons
+pub mod JobsWords
+pub mod HeardWords

@@ -1,0 +1,84 @@
+-- Which call of the system failed, in words (this project's profile): on what, and why.
+use Rattle.std.specs.Fmt.{signed_decimal}
+use Rattle.std.specs.Prelude.{ℕ, ℤ, ◌==◌, List, [], ◌++◌, codes, Option, Some, None, if◌then◌else◌}
+use Rattle.std.specs.declared.io.ErrorKind.{ErrorKind}
+use Rattle.uug_failure.specs.declared.failure.Cause.{Cause}
+use Rattle.uug_failure.specs.declared.failure.Cause.TheVariants.{Refused, MovedNothing, TooMuch, NotAFile, InUse}
+use Rattle.uug_failure.specs.declared.failure.EndText.{EndText}
+use Rattle.uug_failure.specs.declared.failure.EndText.TheVariants.{Jobs, Number, Failed}
+use Rattle.uug_failure.specs.declared.failure.Resource.{Resource}
+use Rattle.uug_failure.specs.declared.failure.Resource.TheVariants.{Input, Output, Line, Dir, Text, Send, Given, GotFolder, Got}
+use Rattle.uug_failure.specs.declared.failure.SystemFailure.{SystemFailure}
+use Rattle.uug_reason.specs.KindWords.{kind_words}
+use Rattle.uug_scan.specs.Detailed.{escaped}
+use Rattle.uug_talk.specs.Lines.{ended}
+
+-- ---- on what
+
+-- What the things are called that a call may be made on: what is read, the line or the socket, and the folders of the ends. One
+-- end has the same folder twice.
+pub record Places : Type 0 where
+  pub input : List ℕ
+  pub line : List ℕ
+  pub first : List ℕ
+  pub second : List ℕ
+
+abbrev pub places : (input line first second : List ℕ) → Places
+places input line first second = record { input = input; line = line; first = first; second = second }
+
+abbrev pub text_words : EndText → List ℕ
+text_words Jobs = codes "jobs"
+text_words Number = codes "number"
+text_words Failed = codes "failed"
+
+-- the folder of the end of this number
+abbrev pub dir_of : (first second : List ℕ) → (end : ℕ) → List ℕ
+dir_of first second end = if end == 0 then first else second
+
+-- what stands behind the path of that folder
+abbrev pub below_words : Resource → List ℕ
+below_words (Text which) = codes "/" ++ text_words which
+below_words Send = codes "/send"
+below_words (Given name) = codes "/send/" ++ name
+below_words GotFolder = codes "/got"
+below_words (Got name) = codes "/got/" ++ name
+below_words resource = []
+
+-- what a call of this end was made on; what can't be seen of a path is escaped
+abbrev pub place_words : Places → (end : ℕ) → Resource → List ℕ
+place_words p end Input = escaped p.input
+place_words p end Output = codes "standard output"
+place_words p end Line = escaped p.line
+place_words p end resource = escaped (dir_of p.first p.second end) ++ below_words resource
+
+-- ---- why
+
+-- An error that has no name has a number. One without both is that of a host whose address can't be found out, where a line has
+-- it.
+abbrev pub number_words : Resource → Option ℤ → List ℕ
+number_words resource (Some number) = codes "error " ++ signed_decimal number
+number_words Line None = codes "unknown host"
+number_words resource None = codes "unknown error"
+
+abbrev pub named_or_numbered : Resource → (name : Option (List ℕ)) → (number : Option ℤ) → List ℕ
+named_or_numbered resource (Some name) number = name
+named_or_numbered resource None number = number_words resource number
+
+-- of what there is more than the program takes
+abbrev pub much_words : Resource → List ℕ
+much_words Input = codes "over 1048576 bytes"
+much_words (Text which) = codes "over 16777216 bytes"
+much_words Send = codes "more than 256 files"
+much_words resource = codes "too much"
+
+abbrev pub cause_words : Resource → Cause → List ℕ
+cause_words resource (Refused kind number) = named_or_numbered resource (kind_words kind) number
+cause_words resource MovedNothing = codes "it takes no byte"
+cause_words resource TooMuch = much_words resource
+cause_words resource NotAFile = codes "not a regular file"
+cause_words resource InUse = codes "in use"
+
+-- ---- both, as a line
+abbrev pub reason_line : Places → SystemFailure → List ℕ
+reason_line p failure = codes "uucpair: "
+    ++ (place_words p failure.end failure.resource ++ (codes ": " ++ ended (cause_words failure.resource failure.cause)))

@@ -1,0 +1,71 @@
+//! Why a call of the system failed.
+ghost use Rattle.std.specs.Prelude.{◌≡◌, ◌++◌, OnOk, string_bytes};
+ghost use Rattle.uug_reason.specs.KindWords.{kind_words as words_of_kind};
+ghost use Rattle.uug_reason.specs.Reasons.{cause_words, much_words, named_or_numbered, number_words};
+
+use crate::kind::kind_words;
+use std::alloc::{AllocError, Allocator};
+use std::io::ErrorKind;
+use uug_failure::{Cause, Resource};
+
+/// Appends why a call on this failed.
+pub(crate) fn add_cause<A: Allocator>(
+    text: &mut String<A>,
+    resource: Resource,
+    cause: Cause,
+) -> Result<(), AllocError>
+    ensures { OnOk result
+        (string_bytes text.new ≡ string_bytes text.old ++ cause_words resource cause) }
+{
+    match cause {
+        Cause::Refused(kind, number) => add_refusal(text, resource, kind, number),
+        Cause::MovedNothing => text.push_str("it takes no byte"),
+        Cause::TooMuch => text.push_str(much_words(resource)),
+        Cause::NotAFile => text.push_str("not a regular file"),
+        Cause::InUse => text.push_str("in use"),
+    }
+}
+
+/// Of what there is more than the program takes.
+fn much_words(resource: Resource) -> &'static str
+    ensures { result.now ≡ much_words resource }
+{
+    match resource {
+        Resource::Input => "over 1048576 bytes",
+        Resource::Text(_) => "over 16777216 bytes",
+        Resource::Send => "more than 256 files",
+        _ => "too much",
+    }
+}
+
+/// Appends what an error of this kind is called, or its number.
+fn add_refusal<A: Allocator>(
+    text: &mut String<A>,
+    resource: Resource,
+    kind: ErrorKind,
+    number: Option<i32>,
+) -> Result<(), AllocError>
+    ensures { OnOk result (string_bytes text.new
+        ≡ string_bytes text.old ++ named_or_numbered resource (words_of_kind kind) number) }
+{
+    match kind_words(kind) {
+        Some(words) => text.push_str(words),
+        None => add_number(text, resource, number),
+    }
+}
+
+/// Appends the number of an error that has no name.
+fn add_number<A: Allocator>(
+    text: &mut String<A>,
+    resource: Resource,
+    number: Option<i32>,
+) -> Result<(), AllocError>
+    ensures { OnOk result
+        (string_bytes text.new ≡ string_bytes text.old ++ number_words resource number) }
+{
+    match (number, resource) {
+        (Some(number), _) => write!(text, "error {number}"),
+        (None, Resource::Line) => text.push_str("unknown host"),
+        (None, _) => text.push_str("unknown error"),
+    }
+}

@@ -1,0 +1,149 @@
+//! What was heard of the other end where a session ended badly.
+ghost use Rattle.std.specs.Prelude.{◌≡◌, ◌++◌, IfOk, OnOk, string_bytes};
+ghost use Rattle.uug_reason.specs.HeardWords.{end_words, heard_remark, hint_words, line_with, noise_words, nothing_words, other_words, protocols_words, refusal_words, refused_words, shown};
+
+use crate::jobs::add_quoted;
+use std::alloc::{AllocError, Allocator};
+use uug_session::{End, Side};
+
+/// What was heard.
+#[derive(Clone, Copy, Debug, PartialEq, Eq)]
+pub enum Heard<'a> {
+    /// No byte.
+    Nothing,
+    /// So many bytes, of which these are the first, and no text.
+    Noise(u64, &'a [u8]),
+    /// This was the last text.
+    Text(&'a [u8]),
+}
+
+/// What was heard where the session of this end ended so, as a line for standard error. It called the end `peer`, or waited for
+/// its call. The line is empty where what was heard says nothing of how the session ended.
+pub fn heard_remark<A: Allocator + Copy>(
+    alloc: A,
+    side: Side,
+    end: End,
+    peer: &str,
+    heard: Heard<'_>,
+) -> Result<String<A>, AllocError>
+    ensures { IfOk result (λ remark.
+        string_bytes remark ≡ heard_remark side end peer.now (shown heard.entry)) }
+{
+    let mut words = String::new(alloc);
+    add_end(&mut words, side, end, peer, heard)?;
+    line_with(alloc, words)
+}
+
+/// The line with these words, or none.
+fn line_with<A: Allocator>(alloc: A, words: String<A>) -> Result<String<A>, AllocError>
+    ensures { IfOk result (λ line. string_bytes line ≡ line_with (string_bytes words)) }
+{
+    if words.is_empty() {
+        return Ok(words);
+    }
+    let words = words.as_str();
+    format!(in alloc; "uucpair: {words}\n")
+}
+
+/// Appends what was heard.
+fn add_end<A: Allocator>(
+    text: &mut String<A>,
+    side: Side,
+    end: End,
+    peer: &str,
+    heard: Heard<'_>,
+) -> Result<(), AllocError>
+    ensures { OnOk result (string_bytes text.new
+        ≡ string_bytes text.old ++ end_words side end peer.now (shown heard.entry)) }
+{
+    match (end, heard) {
+        (End::WrongName, Heard::Text(said)) => add_other(text, said, peer),
+        (End::Refused, Heard::Text(said)) => add_refused(text, side, said, peer),
+        (End::NoProtocol, Heard::Text(said)) => add_protocols(text, said),
+        (End::GaveUp, Heard::Noise(count, bytes)) => add_noise(text, count, bytes),
+        (End::HungUp, Heard::Noise(count, bytes)) => add_noise(text, count, bytes),
+        (End::GaveUp, Heard::Nothing) => add_nothing(text),
+        _ => Ok(()),
+    }
+}
+
+/// Appends that this was heard of another end than `peer`.
+fn add_other<A: Allocator>(text: &mut String<A>, said: &[u8], peer: &str) -> Result<(), AllocError>
+    ensures { OnOk result
+        (string_bytes text.new ≡ string_bytes text.old ++ other_words said.now peer.now) }
+{
+    text.push_str("heard ")?;
+    add_quoted(text, said)?;
+    text.push_str(", expected ")?;
+    add_quoted(text, peer.as_bytes())
+}
+
+/// Appends how the other end has refused the call, or whom this end has refused.
+fn add_refused<A: Allocator>(
+    text: &mut String<A>,
+    side: Side,
+    said: &[u8],
+    peer: &str,
+) -> Result<(), AllocError>
+    ensures { OnOk result (string_bytes text.new
+        ≡ string_bytes text.old ++ refused_words side said.now peer.now) }
+{
+    match side {
+        Side::Caller => add_refusal(text, said, hint_words(said)),
+        Side::Called => add_other(text, said, peer),
+    }
+}
+
+/// Appends how the other end has refused the call, and what that means.
+fn add_refusal<A: Allocator>(
+    text: &mut String<A>,
+    said: &[u8],
+    hint: &str,
+) -> Result<(), AllocError>
+    ensures { OnOk result
+        (string_bytes text.new ≡ string_bytes text.old ++ refusal_words said.now hint.now) }
+{
+    text.push_str("the other end refused: ")?;
+    add_quoted(text, said)?;
+    text.push_str(hint)
+}
+
+/// Appends that these protocols of the other end are none of this one's.
+fn add_protocols<A: Allocator>(text: &mut String<A>, said: &[u8]) -> Result<(), AllocError>
+    ensures { OnOk result
+        (string_bytes text.new ≡ string_bytes text.old ++ protocols_words said.now) }
+{
+    text.push_str("no protocol g: heard ")?;
+    add_quoted(text, said)
+}
+
+/// Appends that no byte was heard.
+fn add_nothing<A: Allocator>(text: &mut String<A>) -> Result<(), AllocError>
+    ensures { OnOk result (string_bytes text.new ≡ string_bytes text.old ++ nothing_words) }
+{
+    text.push_str("heard nothing")
+}
+
+/// What a known refusal means.
+fn hint_words(said: &[u8]) -> &'static str
+    ensures { result.now ≡ hint_words said.now }
+{
+    if said == b"RLCK".as_slice() {
+        " (it is busy: call later)"
+    } else if said == b"RLOGIN".as_slice() || said == b"RYou are unknown to me".as_slice() {
+        " (it does not know the name of this end)"
+    } else if said == b"RCB".as_slice() {
+        " (it will call back)"
+    } else {
+        ""
+    }
+}
+
+/// Appends that bytes were heard which are no text.
+fn add_noise<A: Allocator>(text: &mut String<A>, count: u64, bytes: &[u8]) -> Result<(), AllocError>
+    ensures { OnOk result
+        (string_bytes text.new ≡ string_bytes text.old ++ noise_words count bytes.now) }
+{
+    write!(text, "heard {count} bytes and no text: ")?;
+    add_quoted(text, bytes)
+}

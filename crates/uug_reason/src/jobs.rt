@@ -1,0 +1,183 @@
+//! What is wrong with a line of jobs.
+ghost use Rattle.std.specs.Prelude.{◌≡◌, ◌++◌, IfOk, OnOk, Some, string_bytes, take};
+ghost use Rattle.std.specs.Option.{option_copied};
+ghost use Rattle.uug_reason.specs.JobsWords.{behind_words, jobs_line, jobs_remark, lack_words, line_at, names_words, no_name, place_words, quoted};
+ghost use Rattle.uug_talk.specs.Lines.{lines};
+ghost use Rattle.uug_talk.specs.Name.{is_name};
+ghost use Rattle.uug_talk.specs.Words.{words};
+
+use crate::escape::add_escaped;
+use std::alloc::{AllocError, Allocator};
+use uug_folder::{JobsFault, read_jobs};
+use uug_talk::{LINE_MAX, Name, split_line, split_word};
+
+/// So many bytes of a word are told at most.
+const WORD_MAX: usize = 60;
+
+/// What is wrong with the line of this number in the text of the jobs of a folder, as a line for standard error. It is empty
+/// where another line is the first bad one, or none is.
+pub fn jobs_remark<A: Allocator + Copy>(
+    alloc: A,
+    dir: &str,
+    text: &[u8],
+    number: usize,
+) -> Result<String<A>, AllocError>
+    ensures { IfOk result (λ remark. string_bytes remark ≡ jobs_remark dir.now text.now number) }
+{
+    match read_jobs(alloc, text) {
+        Err(JobsFault::Bad(bad)) if bad == number => jobs_line(alloc, dir, text, number),
+        Err(JobsFault::Memory) => Err(AllocError),
+        _ => Ok(String::new(alloc)),
+    }
+}
+
+/// What is wrong with the line of this number in a text of jobs, if it has so many.
+fn jobs_line<A: Allocator>(
+    alloc: A,
+    dir: &str,
+    text: &[u8],
+    number: usize,
+) -> Result<String<A>, AllocError>
+    ensures { IfOk result (λ remark. string_bytes remark
+        ≡ jobs_line dir.now number (line_at (lines text.now) number)) }
+{
+    match line_at(text, number) {
+        Some(line) => line_remark(alloc, dir, number, line),
+        None => Ok(String::new(alloc)),
+    }
+}
+
+/// What is wrong with this line, which has this number in the jobs of a folder.
+fn line_remark<A: Allocator>(
+    alloc: A,
+    dir: &str,
+    number: usize,
+    line: &[u8],
+) -> Result<String<A>, AllocError>
+    ensures { IfOk result (λ remark.
+        string_bytes remark ≡ jobs_line dir.now number (Some line.now)) }
+{
+    let mut remark = String::from_str(alloc, "uucpair: ")?;
+    add_place(&mut remark, dir, number)?;
+    add_lack(&mut remark, line)?;
+    remark.push_str("\n")?;
+    Ok(remark)
+}
+
+/// Appends which line it is of the jobs of which folder.
+fn add_place<A: Allocator>(text: &mut String<A>, dir: &str, number: usize) -> Result<(), AllocError>
+    ensures { OnOk result
+        (string_bytes text.new ≡ string_bytes text.old ++ place_words dir.now number) }
+{
+    add_escaped(text, dir.as_bytes())?;
+    write!(text, "/jobs: line {number}: ")
+}
+
+/// The line of this number, counted from 1.
+fn line_at(text: &[u8], number: usize) -> Option<&[u8]>
+    ensures { option_copied result ≡ line_at (lines text.now) number }
+{
+    let mut rest = text;
+    let mut left = number;
+    while let Some((line, behind)) = split_line(rest) {
+        if left <= 1 {
+            return Some(line);
+        }
+        left -= 1;
+        rest = behind;
+    }
+    None
+}
+
+/// Appends what is wrong with a line.
+fn add_lack<A: Allocator>(text: &mut String<A>, line: &[u8]) -> Result<(), AllocError>
+    ensures { OnOk result
+        (string_bytes text.new ≡ string_bytes text.old ++ lack_words line.now) }
+{
+    if line.len() > LINE_MAX {
+        return text.push_str("it is over 65536 bytes");
+    }
+    let Some((first, rest)) = split_word(line) else {
+        return Ok(());
+    };
+    if first != b"send".as_slice() && first != b"request".as_slice() {
+        add_quoted(text, first)?;
+        return text.push_str(" is neither send nor request");
+    }
+    add_behind(text, rest)
+}
+
+/// Appends what is wrong behind the first word.
+fn add_behind<A: Allocator>(text: &mut String<A>, rest: &[u8]) -> Result<(), AllocError>
+    ensures { OnOk result
+        (string_bytes text.new ≡ string_bytes text.old ++ behind_words (words rest.now)) }
+{
+    let Some((source, rest)) = split_word(rest) else {
+        return text.push_str("SOURCE, TARGET and USER are missing");
+    };
+    let Some((target, rest)) = split_word(rest) else {
+        return text.push_str("TARGET and USER are missing");
+    };
+    let Some((user, rest)) = split_word(rest) else {
+        return text.push_str("USER is missing");
+    };
+    match split_word(rest) {
+        Some((more, _)) => {
+            add_quoted(text, more)?;
+            text.push_str(" is one word too many: a name has no space in it")
+        }
+        None => add_names(text, source, target, user),
+    }
+}
+
+/// Appends which of these is no name.
+fn add_names<A: Allocator>(
+    text: &mut String<A>,
+    source: &[u8],
+    target: &[u8],
+    user: &[u8],
+) -> Result<(), AllocError>
+    ensures { OnOk result (string_bytes text.new
+        ≡ string_bytes text.old ++ names_words source.now target.now user.now) }
+{
+    if !is_name(source) {
+        add_no_name(text, source)
+    } else if !is_name(target) {
+        add_no_name(text, target)
+    } else if !is_name(user) {
+        add_no_name(text, user)
+    } else {
+        text.push_str("there are more than 1024 jobs")
+    }
+}
+
+/// Whether a word is a name.
+fn is_name(word: &[u8]) -> bool
+    ensures { result ≡ is_name word.now }
+{
+    Name::new(word).is_ok()
+}
+
+/// Appends that a word is no name.
+fn add_no_name<A: Allocator>(text: &mut String<A>, word: &[u8]) -> Result<(), AllocError>
+    ensures { OnOk result (string_bytes text.new ≡ string_bytes text.old ++ no_name word.now) }
+{
+    add_quoted(text, word)?;
+    text.push_str(" is no name: 1 to 200 printing characters")
+}
+
+/// Appends a word in quotes, or its first bytes. What can't be seen of it is escaped.
+pub(crate) fn add_quoted<A: Allocator>(text: &mut String<A>, word: &[u8]) -> Result<(), AllocError>
+    ensures { OnOk result (string_bytes text.new ≡ string_bytes text.old ++ quoted word.now) }
+{
+    text.push_str("\"")?;
+    add_escaped(text, front_of(word))?;
+    text.push_str("\"")
+}
+
+/// A word, or its first bytes.
+fn front_of(word: &[u8]) -> &[u8]
+    ensures { result.now ≡ take 60 word.now }
+{
+    &word[..WORD_MAX.min(word.len())]
+}

@@ -1,0 +1,14 @@
+//! What is said where something went wrong: on what a call of the system failed, and why; what is wrong with a line of jobs; and what was heard.
+#![tactic(auto)]
+
+mod cause;
+mod escape;
+mod heard;
+mod jobs;
+mod kind;
+mod reason;
+
+pub use escape::add_escaped;
+pub use heard::{Heard, heard_remark};
+pub use jobs::jobs_remark;
+pub use reason::reason_line;

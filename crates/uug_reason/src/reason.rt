@@ -1,0 +1,119 @@
+//! On what a call of the system failed, and why, as a line.
+ghost use Rattle.std.specs.Prelude.{◌≡◌, ◌++◌, IfOk, OnOk, string_bytes};
+ghost use Rattle.uug_reason.specs.Reasons.{below_words, dir_of, place_words, places, reason_line, text_words};
+ghost use Rattle.uug_scan.specs.Detailed.{escaped};
+
+use crate::cause::add_cause;
+use crate::escape::add_escaped;
+use std::alloc::{AllocError, Allocator};
+use uug_failure::{EndText, Resource, SystemFailure};
+
+/// The line that says on what a call of the system failed, and why, for standard error. What is read is called `input`, the line
+/// or the socket `line`, and the folders of the ends `first` and `second`.
+pub fn reason_line<A: Allocator>(
+    alloc: A,
+    input: &str,
+    line: &str,
+    first: &str,
+    second: &str,
+    failure: SystemFailure,
+) -> Result<String<A>, AllocError>
+    ensures { IfOk result (λ text. string_bytes text
+        ≡ reason_line (places input.now line.now first.now second.now) failure) }
+{
+    let mut text = String::from_str(alloc, "uucpair: ")?;
+    add_place(
+        &mut text,
+        input,
+        line,
+        first,
+        second,
+        failure.end,
+        failure.resource,
+    )?;
+    text.push_str(": ")?;
+    add_cause(&mut text, failure.resource, failure.cause)?;
+    text.push_str("\n")?;
+    Ok(text)
+}
+
+/// What the file of this text is called.
+fn text_words(which: EndText) -> &'static str
+    ensures { result.now ≡ text_words which }
+{
+    match which {
+        EndText::Jobs => "jobs",
+        EndText::Number => "number",
+        EndText::Failed => "failed",
+    }
+}
+
+/// Appends what a call of this end was made on.
+fn add_place<A: Allocator>(
+    text: &mut String<A>,
+    input: &str,
+    line: &str,
+    first: &str,
+    second: &str,
+    end: usize,
+    resource: Resource,
+) -> Result<(), AllocError>
+    ensures { OnOk result (string_bytes text.new ≡ string_bytes text.old
+        ++ place_words (places input.now line.now first.now second.now) end resource) }
+{
+    match resource {
+        Resource::Input => add_escaped(text, input.as_bytes()),
+        Resource::Output => text.push_str("standard output"),
+        Resource::Line => add_escaped(text, line.as_bytes()),
+        Resource::Dir
+        | Resource::Text(_)
+        | Resource::Send
+        | Resource::Given(_)
+        | Resource::GotFolder
+        | Resource::Got(_) => {
+            add_dir(text, first, second, end)?;
+            add_below(text, resource)
+        }
+    }
+}
+
+/// Appends the path of the folder of this end.
+fn add_dir<A: Allocator>(
+    text: &mut String<A>,
+    first: &str,
+    second: &str,
+    end: usize,
+) -> Result<(), AllocError>
+    ensures { OnOk result (string_bytes text.new ≡ string_bytes text.old
+        ++ escaped (dir_of first.now second.now end)) }
+{
+    if end == 0 {
+        add_escaped(text, first.as_bytes())
+    } else {
+        add_escaped(text, second.as_bytes())
+    }
+}
+
+/// Appends what is below the folder of an end.
+fn add_below<A: Allocator>(text: &mut String<A>, resource: Resource) -> Result<(), AllocError>
+    ensures { OnOk result
+        (string_bytes text.new ≡ string_bytes text.old ++ below_words resource) }
+{
+    match resource {
+        Resource::Text(which) => {
+            text.push_str("/")?;
+            text.push_str(text_words(which))
+        }
+        Resource::Send => text.push_str("/send"),
+        Resource::Given(name) => {
+            text.push_str("/send/")?;
+            text.push_str(name.as_str())
+        }
+        Resource::GotFolder => text.push_str("/got"),
+        Resource::Got(name) => {
+            text.push_str("/got/")?;
+            text.push_str(name.as_str())
+        }
+        _ => Ok(()),
+    }
+}

@@ -1,0 +1,65 @@
+//! What is done on the disk before it is answered that a file has come.
+ghost use Rattle.std.specs.Prelude.{◌≡◌, OnOk, OnErr};
+ghost use Rattle.uug_spool.specs.DiskOrder.{finished_ops, stored_ops};
+ghost use Rattle.uug_spool.specs.Operations.{FrontDone, HasFault, also_all};
+
+use crate::disk::{Disk, DiskFailed};
+use crate::spool_names::{Room, Spot};
+use uug_talk::Name;
+
+/// Puts a file that came into its place. It is renamed only where its bytes, and a marker of its name with this text, were
+/// seen on the device; and then its place is. A file of this name that was left over goes first.
+pub fn store<D: Disk>(
+    disk: &mut D,
+    temp: &Name,
+    target: &Spot,
+    text: &[u8],
+    bytes: &[u8],
+) -> Result<(), DiskFailed>
+    ensures ok { OnOk result (D.done disk.new
+        ≡ also_all (stored_ops temp.now target.now text.now bytes.now) (D.done disk.old)) }
+    ensures err { OnErr result (FrontDone (stored_ops temp.now target.now text.now bytes.now)
+        (D.done disk.old) (D.done disk.new)) }
+    ensures calm { OnOk result (D.fault_count disk.new ≡ D.fault_count disk.old) }
+    ensures fault { OnErr result
+        (HasFault u64.MAX (D.fault_count disk.old) (D.fault_count disk.new)) }
+{
+    let held = Spot {
+        room: Room::Temporary,
+        name: *temp,
+    };
+    let marker = Spot {
+        room: Room::Marked,
+        name: *temp,
+    };
+    disk.unlink(&held)?;
+    disk.make(&held, bytes)?;
+    disk.sync(&held)?;
+    disk.make(&marker, text)?;
+    disk.sync(&marker)?;
+    disk.sync_folder(Room::Marked)?;
+    disk.rename(&held, target)?;
+    disk.sync_folder(target.room)?;
+    disk.sync_folder(Room::Temporary)?;
+    Ok(())
+}
+
+/// Puts a file into its place that stood whole beside its marker when this end was stopped.
+pub fn finish<D: Disk>(disk: &mut D, temp: &Name, target: &Spot) -> Result<(), DiskFailed>
+    ensures ok { OnOk result (D.done disk.new
+        ≡ also_all (finished_ops temp.now target.now) (D.done disk.old)) }
+    ensures err { OnErr result (FrontDone (finished_ops temp.now target.now)
+        (D.done disk.old) (D.done disk.new)) }
+    ensures calm { OnOk result (D.fault_count disk.new ≡ D.fault_count disk.old) }
+    ensures fault { OnErr result
+        (HasFault u64.MAX (D.fault_count disk.old) (D.fault_count disk.new)) }
+{
+    let held = Spot {
+        room: Room::Temporary,
+        name: *temp,
+    };
+    disk.rename(&held, target)?;
+    disk.sync_folder(target.room)?;
+    disk.sync_folder(Room::Temporary)?;
+    Ok(())
+}

@@ -1,0 +1,173 @@
+//! What is done on the disk, and in which order, where each operation fails in turn. The clauses say what is done until then;
+//! these rows say it of folders whose names are known.
+
+use crate::assertions::{assert_same_at, assert_so_at, name};
+use std::alloc::Global;
+use std::process::Abort;
+use uug_spool::{MemoryDisk, OpenLine, Operation, Outcome, Room, Spot, finish, settle, store};
+
+/// What is done to the folders.
+#[derive(Clone, Copy)]
+enum Step {
+    Make(Room, &'static str, &'static str),
+    Sync(Room, &'static str),
+    Rename(Room, &'static str, Room, &'static str),
+    Unlink(Room, &'static str),
+    SyncFolder(Room),
+}
+
+fn is_at(spot: &Spot, room: Room, name: &str) -> bool {
+    spot.room == room && spot.name.as_bytes() == name.as_bytes()
+}
+
+fn is_step(operation: &Operation<Global>, step: Step) -> bool {
+    match (operation, step) {
+        (Operation::Made(spot, bytes), Step::Make(room, name, text)) => {
+            is_at(spot, room, name) && bytes.as_slice() == text.as_bytes()
+        }
+        (Operation::Synced(spot), Step::Sync(room, name)) => is_at(spot, room, name),
+        (Operation::Renamed(from, to), Step::Rename(room, name, to_room, to_name)) => {
+            is_at(from, room, name) && is_at(to, to_room, to_name)
+        }
+        (Operation::Unlinked(spot), Step::Unlink(room, name)) => is_at(spot, room, name),
+        (Operation::FolderSynced(folder), Step::SyncFolder(room)) => *folder == room,
+        _ => false,
+    }
+}
+
+/// Just the first so many of these steps were done.
+fn assert_steps(rt: &impl Abort, disk: &MemoryDisk<Global>, steps: &[Step], count: usize) {
+    assert_same_at(rt, disk.operations().len(), count, count);
+    for (operation, step) in disk.operations().iter().zip(steps.iter()) {
+        assert_so_at(rt, is_step(operation, *step), count);
+    }
+}
+
+fn spot(rt: &impl Abort, room: Room, text: &str) -> Spot {
+    let name = name(rt, text);
+    Spot { room, name }
+}
+
+/// A mail that came as D.0001 is put in its place.
+const STORED: [Step; 9] = [
+    Step::Unlink(Room::Temporary, "D.0001"),
+    Step::Make(Room::Temporary, "D.0001", "a mail\n"),
+    Step::Sync(Room::Temporary, "D.0001"),
+    Step::Make(Room::Marked, "D.0001", "D.alphaN0001"),
+    Step::Sync(Room::Marked, "D.0001"),
+    Step::SyncFolder(Room::Marked),
+    Step::Rename(Room::Temporary, "D.0001", Room::Data, "D.alphaN0001"),
+    Step::SyncFolder(Room::Data),
+    Step::SyncFolder(Room::Temporary),
+];
+
+/// The steps of a mail that was whole on the disk, with its marker.
+const FINISHED: [Step; 3] = [
+    Step::Rename(Room::Temporary, "D.0001", Room::Data, "D.alphaN0001"),
+    Step::SyncFolder(Room::Data),
+    Step::SyncFolder(Room::Temporary),
+];
+
+/// Stores the mail, where this step fails.
+fn assert_stored(rt: &impl Abort, alloc: Global, failing: u64, count: usize) {
+    let mut disk = MemoryDisk::new(alloc, failing);
+    let target = spot(rt, Room::Data, "D.alphaN0001");
+    let temp = name(rt, "D.0001");
+    let stored = store(&mut disk, &temp, &target, b"D.alphaN0001", b"a mail\n");
+    assert_same_at(rt, stored.is_ok(), count == STORED.len(), count);
+    assert_steps(rt, &disk, &STORED, count);
+}
+
+fn assert_finished(rt: &impl Abort, alloc: Global, failing: u64, count: usize) {
+    let mut disk = MemoryDisk::new(alloc, failing);
+    let target = spot(rt, Room::Data, "D.alphaN0001");
+    let finished = finish(&mut disk, &name(rt, "D.0001"), &target);
+    assert_same_at(rt, finished.is_ok(), count == FINISHED.len(), count);
+    assert_steps(rt, &disk, &FINISHED, count);
+}
+
+#[test]
+fn marks_before_it_renames(rt: HostRuntime) {
+    for count in 0..=STORED.len() {
+        assert_stored(&rt, rt.alloc(), count as u64, count);
+    }
+    for count in 0..=FINISHED.len() {
+        assert_finished(&rt, rt.alloc(), count as u64, count);
+    }
+}
+
+/// Whether a job has a copy, how it is over, in which file another one stands that is not, and the steps.
+type Row = (bool, Outcome, &'static str, &'static [Step]);
+
+const ROWS: [Row; 5] = [
+    (
+        true,
+        Outcome::Done,
+        "C.Nother",
+        &[
+            Step::Unlink(Room::Data, "D.0001"),
+            Step::SyncFolder(Room::Data),
+            Step::Unlink(Room::Commands, "C.N0001"),
+        ],
+    ),
+    // another line of the file is not over
+    (
+        true,
+        Outcome::Done,
+        "C.N0001",
+        &[
+            Step::Unlink(Room::Data, "D.0001"),
+            Step::SyncFolder(Room::Data),
+        ],
+    ),
+    (
+        true,
+        Outcome::Failed,
+        "C.Nother",
+        &[
+            Step::Rename(Room::Data, "D.0001", Room::Preserved, "D.0001"),
+            Step::SyncFolder(Room::Preserved),
+            Step::SyncFolder(Room::Data),
+            Step::Unlink(Room::Commands, "C.N0001"),
+        ],
+    ),
+    // a job without a copy
+    (
+        false,
+        Outcome::Failed,
+        "C.Nother",
+        &[Step::Unlink(Room::Commands, "C.N0001")],
+    ),
+    (false, Outcome::Done, "C.N0001", &[]),
+];
+
+fn open_line(rt: &impl Abort, file: &str, has_copy: bool) -> OpenLine {
+    let copy = if has_copy {
+        Some(spot(rt, Room::Data, "D.0001"))
+    } else {
+        None
+    };
+    let file = name(rt, file);
+    OpenLine { file, copy }
+}
+
+/// Settles the job of a row, where the step behind so many fails.
+fn assert_settled(rt: &impl Abort, alloc: Global, row: Row, count: usize) {
+    let (has_copy, outcome, other, steps) = row;
+    let mut disk = MemoryDisk::new(alloc, count as u64);
+    let line = open_line(rt, "C.N0001", has_copy);
+    let left = [open_line(rt, other, false)];
+    let settled = settle(&mut disk, &line, &left, outcome);
+    assert_same_at(rt, settled.is_ok(), count == steps.len(), other);
+    assert_steps(rt, &disk, steps, count);
+}
+
+#[test]
+fn takes_copies_away_before_files(rt: HostRuntime) {
+    for row in ROWS {
+        let (_, _, _, steps) = row;
+        for count in 0..=steps.len() {
+            assert_settled(&rt, rt.alloc(), row, count);
+        }
+    }
+}

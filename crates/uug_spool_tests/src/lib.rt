@@ -1,0 +1,19 @@
+//! Tests of the calls of `uug_spool`, with texts and names as they were found in a spool of Taylor UUCP.
+#![tactic(auto)]
+
+#[cfg(test)]
+mod assertions;
+#[cfg(test)]
+mod commands;
+#[cfg(test)]
+mod disks;
+#[cfg(test)]
+mod executions;
+#[cfg(test)]
+mod logs;
+#[cfg(test)]
+mod memory;
+#[cfg(test)]
+mod names;
+#[cfg(test)]
+mod statuses;

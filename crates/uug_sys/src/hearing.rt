@@ -1,0 +1,75 @@
+//! What an end hears of the other one, as far as a person is told of it.
+
+use uug_reason::Heard;
+
+/// So many bytes of a text are kept.
+const KEPT_MAX: usize = 60;
+
+/// In front of each text.
+const TEXT_START: u8 = 0x10;
+
+/// The last text that came, or the first bytes where none did.
+#[derive(Clone, Copy)]
+pub(crate) struct Hearing {
+    bytes: [u8; KEPT_MAX],
+    len: usize,
+    /// How many bytes came, up to the greatest number.
+    count: u64,
+    /// Whether a text came.
+    has_text: bool,
+    /// Whether more of it may come.
+    is_open: bool,
+    /// Whether a text may begin with the next byte.
+    may_begin: bool,
+}
+
+impl Hearing {
+    /// Nothing came so far.
+    pub(crate) fn nothing() -> Self {
+        Hearing {
+            bytes: [0; KEPT_MAX],
+            len: 0,
+            count: 0,
+            has_text: false,
+            is_open: true,
+            may_begin: false,
+        }
+    }
+
+    /// These bytes came.
+    pub(crate) fn hear(&mut self, piece: &[u8]) {
+        for byte in piece {
+            self.hear_byte(*byte);
+        }
+    }
+
+    /// A byte came. A packet begins as a text does, and with another byte behind that.
+    fn hear_byte(&mut self, byte: u8) {
+        self.count = self.count.saturating_add(1);
+        if self.may_begin && byte >= b' ' {
+            self.len = 0;
+            self.has_text = true;
+            self.is_open = true;
+        }
+        self.may_begin = byte == TEXT_START;
+        if self.has_text && matches!(byte, 0 | b'\r' | b'\n' | TEXT_START) {
+            self.is_open = false;
+        }
+        if self.is_open && self.len < KEPT_MAX {
+            self.bytes[self.len] = byte;
+            self.len += 1;
+        }
+    }
+
+    /// What was heard.
+    pub(crate) fn heard(&self) -> Heard<'_> {
+        let bytes = &self.bytes[..self.len.min(KEPT_MAX)];
+        if self.has_text {
+            Heard::Text(bytes)
+        } else if self.count == 0 {
+            Heard::Nothing
+        } else {
+            Heard::Noise(self.count, bytes)
+        }
+    }
+}

@@ -1,0 +1,107 @@
+//! The numbers of an end's conversations as its session begins.
+ghost use Rattle.std.specs.Prelude.{◌≡◌, None, Ok, IfErr, MatchOption, MatchResult};
+ghost use Rattle.uug_failure.specs.Faults.{IsStartFault};
+ghost use Rattle.uug_folder.specs.NumberText.{begins_with, number_in};
+ghost use Rattle.uug_stream.specs.declared.fault.ToolFault.TheVariants.{Number as bad_number};
+
+use crate::end_parts::make_node;
+use crate::task::{CallTask, Station};
+use std::alloc::{AllocError, Allocator};
+use std::rt::Files;
+use uug_disk::{DirLock, read_text};
+use uug_failure::{EndText, RunFault};
+use uug_folder::{number_at_start, number_beside, read_number_text};
+use uug_session::{MemorySpool, Place, Queue, Side};
+use uug_transfer::{BufferedNode, EndLine, FaultInjector, GreetedLine};
+
+/// The numbers of an end's conversations as its session begins.
+#[derive(Clone, Copy)]
+pub(crate) struct Numbers {
+    /// The one with which it begins, if it keeps one.
+    pub(crate) begins: Option<u32>,
+    /// The one that its file has, if there is a file.
+    pub(crate) held: Option<u32>,
+    /// The one that the other end has told already, if it has told one.
+    pub(crate) heard: Option<u32>,
+}
+
+/// The number that the end keeps, and that its file has.
+pub(crate) fn read_numbers<A: Allocator + Copy, R: Files>(
+    alloc: A,
+    rt: &R,
+    task: &CallTask<'_>,
+    lock: &DirLock<A>,
+) -> Result<Numbers, RunFault>
+    ensures { IfErr result IsStartFault }
+{
+    let Some(text) = read_text(alloc, rt, lock.dir(), EndText::Number)? else {
+        return numbers_of(None, task.is_numbered);
+    };
+    numbers_of(Some(text.as_slice()), task.is_numbered)
+}
+
+/// The number that an end keeps whose file has this text, if there is a file, and the one that the file has.
+fn numbers_of(text: Option<&[u8]>, is_told: bool) -> Result<Numbers, RunFault>
+    ensures numbers { MatchResult result
+        (λ numbers. MatchOption text.entry
+        ((numbers.held ≡ None) × (begins_with is_told ≡ Ok numbers.begins))
+        (λ text. (numbers.held ≡ number_in text.now) × (numbers.begins ≡ numbers.held)))
+        (λ fault. fault ≡ RunFault.Tool bad_number) }
+{
+    let held = match text {
+        Some(text) => read_number_text(text),
+        None => None,
+    };
+    match number_at_start(text, is_told) {
+        Ok(begins) => Ok(Numbers {
+            begins,
+            held,
+            heard: None,
+        }),
+        Err(fault) => Err(RunFault::Tool(fault)),
+    }
+}
+
+/// The numbers with which the end begins. A called end that keeps one says its first words before, and hears its caller: where
+/// that is one behind, it begins with the caller's.
+pub(crate) fn meet<A: Allocator + Copy, R: Files, L: EndLine>(
+    alloc: A,
+    rt: &R,
+    task: &CallTask<'_>,
+    lock: &DirLock<A>,
+    station: Station,
+    line: &mut GreetedLine<L, A>,
+) -> Result<Numbers, RunFault>
+    ensures { IfErr result IsStartFault }
+{
+    let numbers = read_numbers(alloc, rt, task, lock)?;
+    if task.side == Side::Caller || numbers.begins.is_none() {
+        return Ok(numbers);
+    }
+    let said = meet_caller(alloc, &station.place, line, station.limits().greeting)?;
+    Ok(Numbers {
+        begins: number_beside(numbers.begins, said),
+        held: numbers.held,
+        heard: said,
+    })
+}
+
+/// Lets a called end say its first words, and hear its caller's number, for so many seconds.
+fn meet_caller<A: Allocator + Copy, L: EndLine>(
+    alloc: A,
+    place: &Place,
+    line: &mut GreetedLine<L, A>,
+    seconds: u64,
+) -> Result<Option<u32>, AllocError> {
+    let node = make_node(
+        alloc,
+        Side::Called,
+        *place,
+        Queue::new(alloc),
+        MemorySpool::new(alloc),
+    )?;
+    let buffered = BufferedNode::new(alloc, node, FaultInjector::none())?;
+    let said = line.meet(buffered.outgoing(), seconds);
+    drop(buffered);
+    said
+}

@@ -1,0 +1,134 @@
+//! What an end over a folder of the system is made of.
+ghost use Rattle.std.specs.Prelude.{◌≡◌, ◌<◌, IfErr, IfOk, IsSome, length};
+ghost use Rattle.uug_conversation.specs.Jobs.{pending};
+ghost use Rattle.uug_failure.specs.Faults.{IsStartFault};
+ghost use Rattle.uug_folder.specs.JobsText.{IsFrontOf};
+
+use crate::end_parts::EndParts;
+use crate::numbers::Numbers;
+use crate::task::CallTask;
+use std::alloc::{AllocError, Allocator};
+use std::rt::Files;
+use uug_disk::{
+    DirLock, Given, OpenJobs, SystemFolder, SystemJobs, SystemNumber, SystemText, open_jobs,
+    read_given,
+};
+use uug_failure::{EndText, RunFault, SystemFailure};
+use uug_folder::{FolderSpool, JobsFile, LocalNames, first_jobs};
+use uug_session::{Place, Spool, Stored};
+use uug_transfer::TransferEnd;
+
+/// The files of an end in a folder of the system.
+type SystemSpool<'a, R, A> = LocalNames<SystemFolder<'a, R, A>, A>;
+
+/// An end over a folder of the system.
+pub(crate) type SystemEnd<'a, R, A> = TransferEnd<
+    SystemSpool<'a, R, A>,
+    SystemJobs<'a, R, A>,
+    SystemNumber<'a, R, A>,
+    A,
+>;
+
+/// What such an end is made of.
+pub(crate) type SystemParts<'a, R, A> = EndParts<
+    SystemSpool<'a, R, A>,
+    SystemJobs<'a, R, A>,
+    SystemNumber<'a, R, A>,
+    A,
+>;
+
+/// Which call of the system on the folder of an end failed first: in `got`, else on its jobs or its number.
+pub(crate) fn failure_of<R: Files, A: Allocator + Copy>(
+    end: &SystemEnd<'_, R, A>,
+) -> Option<SystemFailure>
+    ensures jobs { 0 < end.now.jobs.file.file.faults.count → IsSome result }
+    ensures number { 0 < end.now.number.file.faults.count → IsSome result }
+{
+    let got = end.buffered.node().spool().files().folder();
+    got.failure()
+        .or(end.jobs.file.failure())
+        .or(end.number.failure())
+}
+
+/// What an end over the folder of the task is made of, as that stands.
+pub(crate) fn read_parts<'a, A: Allocator + Copy, R: Files + Eprint + Alloc + Clone + Drop>(
+    alloc: A,
+    rt: &'a R,
+    task: &CallTask<'a>,
+    lock: &DirLock<A>,
+    mut place: Place,
+    numbers: Numbers,
+) -> Result<SystemParts<'a, R, A>, RunFault>
+    ensures jobs_calm { IfOk result (λ parts. parts.jobs.file.file.faults.count ≡ 0) }
+    ensures number_calm { IfOk result (λ parts. parts.number.file.faults.count ≡ 0) }
+    ensures place { IfOk result (λ parts.
+        parts.place ≡ record place { number = numbers.begins }) }
+    ensures jobs { IfOk result (λ parts. IsFrontOf parts.jobs.before.items parts.queue) }
+    ensures no_other { IfErr result IsStartFault }
+{
+    place.number = numbers.begins;
+    let jobs = open_jobs(alloc, rt, lock, task.end_dir())?;
+    let most = u64::from(task.most);
+    let given = match read_given(alloc, rt, lock, jobs.queue.pending(), most) {
+        Ok(given) => given,
+        Err(fault) => {
+            drop(jobs);
+            return Err(fault);
+        }
+    };
+    Ok(make_parts(alloc, rt, task, place, numbers.held, jobs, given)?)
+}
+
+/// What an end over the folder of the task is made of, with these files to give, and the first of these jobs to offer.
+#[tactic(auto, using(crate::proofs::FrontLemmas::first_are_front))]
+fn make_parts<'a, A: Allocator + Copy, R: Files + Alloc + Clone + Drop>(
+    alloc: A,
+    rt: &'a R,
+    task: &CallTask<'a>,
+    place: Place,
+    held: Option<u32>,
+    jobs: OpenJobs<'a, R, A>,
+    given: Given<A>,
+) -> Result<SystemParts<'a, R, A>, AllocError>
+    requires some { given.offered ≡ 0 → length (pending jobs.queue) ≡ 0 }
+    ensures place { IfOk result (λ parts. parts.place ≡ place) }
+    ensures jobs { IfOk result (λ parts. parts.jobs.file.file ≡ jobs.entry.file.file) }
+    ensures queue { IfOk result (λ parts. IsFrontOf parts.jobs.before.items parts.queue) }
+    ensures lenient { IfOk result (λ parts. parts.spool.lenient ≡ task.now.is_lenient) }
+    ensures files { IfOk result (λ parts. parts.spool.files.files ≡ given.files.items) }
+    ensures number { IfOk result (λ parts. parts.number.file.faults.count ≡ 0) }
+{
+    let OpenJobs { file, queue: all } = jobs;
+    let Given { files, offered } = given;
+    let queue = first_jobs(alloc, all.pending(), offered)?;
+    let number = SystemText::new(alloc, rt, task.end_dir(), EndText::Number)?;
+    let spool = make_spool(alloc, rt, task, files)?;
+    let JobsFile { file, before } = file;
+    Ok(EndParts {
+        place,
+        queue,
+        spool,
+        jobs: JobsFile {
+            file: SystemJobs::new(alloc, file)?,
+            before,
+        },
+        number: SystemNumber::new(number, held),
+    })
+}
+
+/// The spool over the folder of the task, with these files to give.
+fn make_spool<'a, A: Allocator + Copy, R: Files + Alloc + Clone + Drop>(
+    alloc: A,
+    rt: &'a R,
+    task: &CallTask<'a>,
+    files: Vec<Stored<A>, A>,
+) -> Result<SystemSpool<'a, R, A>, AllocError>
+    ensures lenient { IfOk result (λ spool. spool.lenient ≡ task.now.is_lenient) }
+    ensures files { IfOk result (λ spool. spool.files.files ≡ files.items) }
+{
+    let folder = SystemFolder::looking(alloc, rt, task.end_dir())?;
+    let files = FolderSpool::new(alloc, files, folder);
+    let mut spool = LocalNames::new(alloc, files);
+    spool.set_lenient(task.is_lenient);
+    Ok(spool)
+}

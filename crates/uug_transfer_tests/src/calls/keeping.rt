@@ -1,0 +1,219 @@
+//! A call that asks for a file, and is stopped at each operation of its line, of its files of jobs and of its folder in turn,
+//! and then made again over a good line: no job is gone whose file is not in the folder, and none is done again.
+ghost use Rattle.std.specs.Prelude.{None, false};
+
+use super::memory_jobs::MemoryJobs;
+use super::memory_text::MemoryText;
+use super::scenes::{AMPLE, CLEAN, LIMITS, NEVER};
+use super::scripted_line::ScriptedLine;
+use super::{Manner, buffered, place, spool};
+use crate::calls::assertions::{assert_same, assert_so};
+use std::alloc::Global;
+use std::process::Abort;
+use uug_folder::{Folder, FolderFailed, FolderSpool, JobsFile, read_jobs};
+use uug_session::{Node, Queue};
+use uug_talk::Name;
+use uug_transfer::{BufferedNode, EndLine, FaultInjector, run_session};
+
+/// The first operation of each that fails, counted from 0, with all behind it.
+#[derive(Clone, Copy)]
+struct Stop {
+    line: usize,
+    jobs: usize,
+    folder: usize,
+}
+
+const JOBS: &[u8] = b"# mine\nrequest x y u\n";
+
+/// What is left of the jobs when all are over.
+const LEFT: &[u8] = b"# mine\n";
+
+/// A folder that tells whether the file is in it.
+#[derive(Drop)]
+struct OneFolder {
+    holds: bool,
+    puts: usize,
+    fails_at: usize,
+    faults: u64,
+}
+
+impl Folder for OneFolder {
+    ghost placed = { λ _. None };
+
+    ghost fault_count = { λ folder. folder.faults };
+
+    ghost barred = { λ _ _. false };
+
+    fn put(&mut self, name: &Name, bytes: &[u8]) -> Result<(), FolderFailed> {
+        if self.puts >= self.fails_at {
+            self.faults = self.faults.saturating_add(1);
+            return Err(FolderFailed);
+        }
+        self.puts = self.puts.saturating_add(1);
+        self.holds = name.as_bytes() == b"y".as_slice() && bytes == b"hi".as_slice();
+        Ok(())
+    }
+
+    fn is_barred(&self, _name: &Name) -> bool {
+        false
+    }
+
+    fn faults(&self) -> u64 {
+        self.faults
+    }
+}
+
+type AskingEnd = BufferedNode<FolderSpool<OneFolder, Global>, Global>;
+
+type MemoryStore = JobsFile<MemoryJobs, Global>;
+
+/// What came of a session: whether the file is in the folder then, how many files were put there, and whether an operation has
+/// failed.
+#[derive(Clone, Copy)]
+struct Came {
+    holds: bool,
+    puts: usize,
+    failed: bool,
+}
+
+fn asking(
+    rt: &impl Abort,
+    alloc: Global,
+    jobs: Queue<Global>,
+    holds: bool,
+    fails_at: usize,
+) -> AskingEnd {
+    let folder = OneFolder {
+        holds,
+        puts: 0,
+        fails_at,
+        faults: 0,
+    };
+    let files = FolderSpool::new(alloc, Vec::new(alloc), folder);
+    let node = Node::caller(alloc, place(rt, b"a", b"b", None), jobs, files);
+    let buffered = BufferedNode::new(alloc, node.expect(rt, "an end"), FaultInjector::none());
+    buffered.expect(rt, "memory for a buffer")
+}
+
+/// A line to an end that has the file.
+fn line_to_giver(rt: &impl Abort, alloc: Global, manner: Manner) -> ScriptedLine {
+    let giver = Node::called(
+        alloc,
+        place(rt, b"b", b"a", None),
+        Queue::new(alloc),
+        spool(rt, alloc, b"hi"),
+    );
+    ScriptedLine::new(buffered(rt, alloc, giver.expect(rt, "an end")), manner)
+}
+
+/// The session itself, at a line that is the end's own.
+fn talk(
+    rt: &impl Abort,
+    alloc: Global,
+    end: &mut AskingEnd,
+    jobs: &mut MemoryStore,
+    line: &mut ScriptedLine,
+) -> Came {
+    let mut number = MemoryText::new(b"", false);
+    let answer = run_session(alloc, end, jobs, &mut number, line, AMPLE, LIMITS);
+    let broken = jobs.file.has_failed() || line.faults() > 0;
+    assert_same(rt, answer.is_err(), broken);
+    let folder = end.node().spool().folder();
+    Came {
+        holds: folder.holds,
+        puts: folder.puts,
+        failed: broken || folder.faults > 0,
+    }
+}
+
+// Each end is made in a function of its own, and lent.
+fn talk_at(
+    rt: &impl Abort,
+    alloc: Global,
+    end: &mut AskingEnd,
+    jobs: &mut MemoryStore,
+    fails_at: usize,
+) -> Came {
+    let mut line = line_to_giver(rt, alloc, Manner { fails_at, ..CLEAN });
+    let came = talk(rt, alloc, end, jobs, &mut line);
+    drop(line);
+    came
+}
+
+/// A session with the jobs that wait then.
+fn session(
+    rt: &impl Abort,
+    alloc: Global,
+    jobs: &mut MemoryStore,
+    holds: bool,
+    stop: Stop,
+) -> Came {
+    let queue = read_jobs(alloc, jobs.file.text()).expect(rt, "jobs");
+    let mut end = asking(rt, alloc, queue, holds, stop.folder);
+    let came = talk_at(rt, alloc, &mut end, jobs, stop.line);
+    drop(end);
+    came
+}
+
+/// A session that is stopped, and one that goes on. Whether the first one was stopped at all.
+fn go_on(rt: &impl Abort, alloc: Global, jobs: &mut MemoryStore, stop: Stop) -> bool {
+    let first = session(rt, alloc, jobs, false, stop);
+    let gone = jobs.file.text() == LEFT;
+    assert_so(rt, !gone || first.holds);
+    jobs.file.mend();
+    let good = Stop {
+        line: NEVER,
+        jobs: NEVER,
+        folder: NEVER,
+    };
+    let second = session(rt, alloc, jobs, first.holds, good);
+    assert_so(rt, second.holds);
+    assert_same(rt, second.puts, if gone { 0 } else { 1 });
+    assert_same(rt, jobs.file.text(), LEFT);
+    first.failed
+}
+
+fn call_twice(rt: &impl Abort, alloc: Global, stop: Stop) -> bool {
+    let mut jobs = JobsFile {
+        file: MemoryJobs::new(JOBS, stop.jobs),
+        before: Vec::new(alloc),
+    };
+    let stopped = go_on(rt, alloc, &mut jobs, stop);
+    drop(jobs);
+    stopped
+}
+
+/// How many operations of the line there are.
+fn stop_at_line(rt: &impl Abort, alloc: Global) -> usize {
+    for line in 0..1000 {
+        let stop = Stop {
+            line,
+            jobs: NEVER,
+            folder: NEVER,
+        };
+        if !call_twice(rt, alloc, stop) {
+            return line;
+        }
+    }
+    panic!(rt; "no end of the operations");
+}
+
+// a job that leaves before its file is in the folder; a file that is asked for again when it was put there, and its job taken out
+#[test]
+fn keeps_what_it_asked_for_wherever_it_is_stopped(rt: HostRuntime) {
+    let alloc = rt.alloc();
+    // a write and a read at least for its text, the start-up, the command, what it says of the file, H and HY
+    assert_so(&rt, stop_at_line(&rt, alloc) >= 12);
+    let at_jobs = Stop {
+        line: NEVER,
+        jobs: 0,
+        folder: NEVER,
+    };
+    assert_so(&rt, call_twice(&rt, alloc, at_jobs));
+    let at_folder = Stop {
+        line: NEVER,
+        jobs: NEVER,
+        folder: 0,
+    };
+    assert_so(&rt, call_twice(&rt, alloc, at_folder));
+}

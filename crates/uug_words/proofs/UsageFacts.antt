@@ -1,0 +1,20 @@
+-- What is said of bad usage, so that a wrong definition does not check.
+use Rattle.std.proofs.Common.{◌≡◌, [], ◌∷◌, ◌++◌, codes, Some, None, refl}
+use Rattle.std.specs.Fmt.{digits}
+use Rattle.std.specs.Path.{rsplit_once}
+use Rattle.uug_words.specs.UsageWords.{line_words, name_words, pair_words, range_words}
+
+record AreSaid : Type 0 where
+  range : range_words (codes "window") (Some 8) (codes "1 to 7") ≡ codes "window 8 is not 1 to 7"
+  name : name_words (codes "Foo bar") ≡ codes "\"Foo bar\" is no name of a system: 1 to 200 printing characters without a space"
+  port : line_words (codes "tcp:h:x") ≡ codes "tcp:h:x has no port of 0 to 65535"
+  alone : line_words (codes "tcp:h") ≡ codes "tcp:h has no port of 0 to 65535"
+  host : line_words (codes "tcp::5") ≡ codes "tcp::5 has no host"
+  path : line_words (codes "unix:") ≡ codes "unix: has no path"
+  empty : line_words [] ≡ codes "the line has no name"
+  lost : pair_words (Some 1) (Some 1) ≡ codes "drop-every 1 is not 2 to 1000000"
+  changed : pair_words None (Some 1) ≡ codes "flip-every 1 is not 2 to 1000000"
+
+said : AreSaid
+unfolding digits rsplit_once
+said = record { range = refl; name = refl; port = refl; alone = refl; host = refl; path = refl; empty = refl; lost = refl; changed = refl }

@@ -1,0 +1,64 @@
+-- What is wrong with the usage, in words (this project's profile).
+use Rattle.std.specs.Fmt.{decimal}
+use Rattle.std.specs.Prelude.{◌≡◌, ◌==◌, ℕ, Bool, true, false, List, [], ◌∷◌, ◌++◌, codes, is_some, length, nat_eq, Option, Some, None, MatchOption, if◌then◌else◌}
+use Rattle.std.specs.List.{starts_with}
+use Rattle.std.specs.Option.{option_map}
+use Rattle.std.specs.Path.{rsplit_once}
+use Rattle.uug_words.specs.Parts.{IsFirstWrong}
+use Rattle.uug_words.specs.declared.part.Part.{Part}
+use Rattle.uug_words.specs.declared.part.Part.TheVariants.{Seconds, Speed, Wait, Window, Size, Most, Line, Me, Peer}
+use Rattle.uug_scan.specs.Detailed.{escaped}
+use Rattle.uug_sys.specs.Tasks.{IsTask}
+use Rattle.uug_sys.specs.declared.task.CallTask.{CallTask}
+use Rattle.uug_transfer.specs.FaultInjection.{is_in_range}
+use Rattle.uug_transfer.specs.LineNames.{colon, port_of}
+
+-- the number of this option is not in its range
+abbrev pub range_words : (option : List ℕ) → (number : Option ℕ) → (range : List ℕ) → List ℕ
+range_words option (Some number) range = option ++ (codes " " ++ (decimal number ++ (codes " is not " ++ range)))
+range_words option None range = []
+
+abbrev pub name_words : List ℕ → List ℕ
+name_words name = codes "\"" ++ (escaped name ++ codes "\" is no name of a system: 1 to 200 printing characters without a space")
+
+-- what stands behind the last colon is a port
+abbrev pub is_port_behind : Option (List ℕ × List ℕ) → Bool
+is_port_behind (Some parts) = is_some (port_of parts.1)
+is_port_behind None = false
+
+abbrev pub is_port : List ℕ → Bool
+is_port line = is_port_behind (rsplit_once colon line)
+
+-- what a line lacks that is no device
+abbrev pub lack_words : List ℕ → List ℕ
+lack_words line =
+    if starts_with nat_eq line (codes "unix:") then codes " has no path" else
+    (if is_port line then codes " has no host" else codes " has no port of 0 to 65535")
+
+abbrev pub line_words : List ℕ → List ℕ
+line_words line = if length line == 0 then codes "the line has no name" else (escaped line ++ lack_words line)
+
+-- this part is wrong
+abbrev pub part_words : CallTask → Part → List ℕ
+part_words task Seconds = range_words (codes "timeout") (Some task.seconds) (codes "1 to 600")
+part_words task Speed = range_words (codes "speed") task.speed (codes "300 to 10000000")
+part_words task Wait = range_words (codes "wait") task.wait (codes "1 to 1000000000")
+part_words task Window = range_words (codes "window") (Some task.window) (codes "1 to 7")
+part_words task Size = range_words (codes "size") (Some task.size) (codes "32, 64, 128, 256, 512, 1024, 2048 or 4096")
+part_words task Most = range_words (codes "most") (Some task.most) (codes "1048576 or more")
+part_words task Line = line_words task.line.now
+part_words task Me = name_words task.me.now
+part_words task Peer = name_words task.peer.now
+
+-- nothing is said of a task that may be run, and of another what is wrong first
+pub record IsUsageOf (task : CallTask) (remark : List ℕ) : Type 0 where
+  pub wrong : Option Part
+  pub found : MatchOption wrong (IsTask task) (IsFirstWrong task)
+  pub words : MatchOption wrong (remark ≡ []) (λ part. remark ≡ part_words task part)
+
+-- of the N of every Nth packet that is lost, and of that which is changed, the first that is not in its range
+abbrev pub pair_words : (drop_every flip_every : Option ℕ) → List ℕ
+pair_words drop_every flip_every =
+    if is_in_range drop_every
+    then (if is_in_range flip_every then [] else range_words (codes "flip-every") flip_every (codes "2 to 1000000"))
+    else range_words (codes "drop-every") drop_every (codes "2 to 1000000")

@@ -1,0 +1,105 @@
+//! The first part of a task that is wrong, for which it may not be run.
+ghost use Rattle.std.specs.Prelude.{◌≡◌, ◌≤◌, ◌↔◌, IfSome, IsTrue, MatchOption, true};
+ghost use Rattle.uug_link.specs.Terms.{IsSize};
+ghost use Rattle.uug_sys.specs.Tasks.{IsTask};
+ghost use Rattle.uug_words.specs.Parts.{IsFirstWrong, IsRight};
+
+use uug_link::{Announce, WINDOW_MAX};
+use uug_port::{SPEED_MAX, SPEED_MIN};
+use uug_sys::{CallTask, SECONDS_MAX, WAIT_MAX};
+use uug_talk::{FILE_MAX, Name};
+use uug_transfer::read_line_name;
+
+/// So many bytes of files an end offers in a session at least, if it has as many: each file that may go fits.
+const MOST_MIN: u32 = FILE_MAX as u32;
+
+/// A part of the task of one end.
+#[derive(Clone, Copy, Debug, PartialEq, Eq)]
+pub enum Part {
+    /// For so many seconds the line waits.
+    Seconds,
+    /// The bits a second of its line.
+    Speed,
+    /// For so many seconds it waits to be called.
+    Wait,
+    /// The window.
+    Window,
+    /// The packet size.
+    Size,
+    /// The bytes of the files that it offers.
+    Most,
+    /// What its line is called.
+    Line,
+    /// Its name.
+    Me,
+    /// The other end's name.
+    Peer,
+}
+
+/// The first part of a task that is wrong, if one is.
+pub fn wrong_part(task: &CallTask<'_>) -> Option<Part>
+    ensures { MatchOption result (IsTask task.now) (IsFirstWrong task.now) }
+{
+    if !is_right(task, Part::Seconds) {
+        return Some(Part::Seconds);
+    }
+    if !is_right(task, Part::Speed) {
+        return Some(Part::Speed);
+    }
+    if !is_right(task, Part::Wait) {
+        return Some(Part::Wait);
+    }
+    if !is_right(task, Part::Window) {
+        return Some(Part::Window);
+    }
+    if !is_right(task, Part::Size) {
+        return Some(Part::Size);
+    }
+    if !is_right(task, Part::Most) {
+        return Some(Part::Most);
+    }
+    if !is_right(task, Part::Line) {
+        return Some(Part::Line);
+    }
+    if !is_right(task, Part::Me) {
+        return Some(Part::Me);
+    }
+    if !is_right(task, Part::Peer) {
+        return Some(Part::Peer);
+    }
+    None
+}
+
+/// Whether this part of a task is right.
+fn is_right(task: &CallTask<'_>, part: Part) -> bool
+    ensures { IsTrue result ↔ IsRight task.now part }
+{
+    match part {
+        Part::Seconds => is_within(Some(task.seconds), 1, SECONDS_MAX),
+        Part::Speed => is_within(task.speed, SPEED_MIN, SPEED_MAX),
+        Part::Wait => is_within(task.wait, 1, WAIT_MAX),
+        Part::Window => is_within(Some(task.window), 1, u32::from(WINDOW_MAX)),
+        Part::Size => is_size(task.size),
+        Part::Most => task.most >= MOST_MIN,
+        Part::Line => read_line_name(task.line).is_some(),
+        Part::Me => Name::new(task.me.as_bytes()).is_ok(),
+        Part::Peer => Name::new(task.peer.as_bytes()).is_ok(),
+    }
+}
+
+/// Whether a number is in its range, where there is one.
+fn is_within(number: Option<u32>, least: u32, most: u32) -> bool
+    ensures { IsTrue result ↔ IfSome number (λ n. (least ≤ n) × (n ≤ most)) }
+{
+    match number {
+        Some(number) => least <= number && number <= most,
+        None => true,
+    }
+}
+
+/// Whether packets may have this size.
+fn is_size(size: u32) -> bool
+    ensures { IsTrue result ↔ IsSize size }
+{
+    Announce::new(1, size as usize).is_ok()
+}

@@ -1,0 +1,161 @@
+//! What is wrong with the usage, in words.
+ghost use Rattle.std.specs.Prelude.{◌≡◌, ◌++◌, IfOk, OnOk, is_some, string_bytes};
+ghost use Rattle.uug_words.specs.UsageWords.{IsUsageOf, is_port, lack_words, line_words, name_words, pair_words, part_words, range_words};
+ghost use Rattle.uug_transfer.specs.FaultInjection.{is_in_range};
+ghost use Rattle.uug_transfer.specs.LineNames.{port_of};
+
+use crate::part::{Part, wrong_part};
+use std::alloc::{AllocError, Allocator};
+use uug_reason::add_escaped;
+use uug_sys::CallTask;
+use uug_transfer::{EVERY_MAX, EVERY_MIN};
+
+/// What is wrong with the task of one end that may not be run.
+pub fn usage_remark<A: Allocator>(alloc: A, task: &CallTask<'_>) -> Result<String<A>, AllocError>
+    ensures { IfOk result (λ remark. IsUsageOf task.now (string_bytes remark)) }
+{
+    match wrong_part(task) {
+        Some(part) => {
+            let mut remark = String::new(alloc);
+            add_part(&mut remark, task, part)?;
+            Ok(remark)
+        }
+        None => Ok(String::new(alloc)),
+    }
+}
+
+/// What is wrong with the N of every Nth packet that is lost, or is changed.
+pub fn pair_remark<A: Allocator>(
+    alloc: A,
+    drop_every: Option<u32>,
+    flip_every: Option<u32>,
+) -> Result<String<A>, AllocError>
+    ensures { IfOk result (λ remark. string_bytes remark ≡ pair_words drop_every flip_every) }
+{
+    let mut remark = String::new(alloc);
+    add_every(&mut remark, drop_every, flip_every)?;
+    Ok(remark)
+}
+
+/// Appends what is wrong with the first of the two.
+fn add_every<A: Allocator>(
+    text: &mut String<A>,
+    drop_every: Option<u32>,
+    flip_every: Option<u32>,
+) -> Result<(), AllocError>
+    ensures { OnOk result (string_bytes text.new
+        ≡ string_bytes text.old ++ pair_words drop_every flip_every) }
+{
+    if !is_in_range(drop_every) {
+        add_range(text, "drop-every", drop_every, "2 to 1000000")
+    } else if !is_in_range(flip_every) {
+        add_range(text, "flip-every", flip_every, "2 to 1000000")
+    } else {
+        Ok(())
+    }
+}
+
+/// Whether every Nth packet may be meant, for this N, if there is one.
+fn is_in_range(every: Option<u32>) -> bool
+    ensures { result ≡ is_in_range every }
+{
+    match every {
+        Some(n) => n >= EVERY_MIN && n <= EVERY_MAX,
+        None => true,
+    }
+}
+
+/// Appends what is wrong with this part of a task.
+fn add_part<A: Allocator>(
+    text: &mut String<A>,
+    task: &CallTask<'_>,
+    part: Part,
+) -> Result<(), AllocError>
+    ensures { OnOk result
+        (string_bytes text.new ≡ string_bytes text.old ++ part_words task.now part) }
+{
+    match part {
+        Part::Seconds => add_range(text, "timeout", Some(task.seconds), "1 to 600"),
+        Part::Speed => add_range(text, "speed", task.speed, "300 to 10000000"),
+        Part::Wait => add_range(text, "wait", task.wait, "1 to 1000000000"),
+        Part::Window => add_range(text, "window", Some(task.window), "1 to 7"),
+        Part::Size => add_range(
+            text,
+            "size",
+            Some(task.size),
+            "32, 64, 128, 256, 512, 1024, 2048 or 4096",
+        ),
+        Part::Most => add_range(text, "most", Some(task.most), "1048576 or more"),
+        Part::Line => add_line(text, task.line),
+        Part::Me => add_name(text, task.me),
+        Part::Peer => add_name(text, task.peer),
+    }
+}
+
+/// Appends that the number of this option is not in its range.
+fn add_range<A: Allocator>(
+    text: &mut String<A>,
+    option: &str,
+    number: Option<u32>,
+    range: &str,
+) -> Result<(), AllocError>
+    ensures { OnOk result (string_bytes text.new
+        ≡ string_bytes text.old ++ range_words option.now number range.now) }
+{
+    match number {
+        Some(number) => write!(text, "{option} {number} is not {range}"),
+        None => Ok(()),
+    }
+}
+
+/// Appends that this is no name of a system.
+fn add_name<A: Allocator>(text: &mut String<A>, name: &str) -> Result<(), AllocError>
+    ensures { OnOk result
+        (string_bytes text.new ≡ string_bytes text.old ++ name_words name.now) }
+{
+    text.push_str("\"")?;
+    add_escaped(text, name.as_bytes())?;
+    text.push_str("\" is no name of a system: 1 to 200 printing characters without a space")
+}
+
+/// Appends what this lacks to be a line.
+fn add_line<A: Allocator>(text: &mut String<A>, line: &str) -> Result<(), AllocError>
+    ensures { OnOk result
+        (string_bytes text.new ≡ string_bytes text.old ++ line_words line.now) }
+{
+    if line.is_empty() {
+        return text.push_str("the line has no name");
+    }
+    add_escaped(text, line.as_bytes())?;
+    text.push_str(lack_words(line))
+}
+
+/// What a line lacks that is no device.
+fn lack_words(line: &str) -> &'static str
+    ensures { result.now ≡ lack_words line.now }
+{
+    if line.as_bytes().starts_with(b"unix:") {
+        " has no path"
+    } else if is_port(line) {
+        " has no host"
+    } else {
+        " has no port of 0 to 65535"
+    }
+}
+
+/// Whether what stands behind the last colon is a port.
+fn is_port(line: &str) -> bool
+    ensures { result ≡ is_port line.now }
+{
+    match line.rsplit_once(':') {
+        Some(parts) => is_port_text(parts.1),
+        None => false,
+    }
+}
+
+/// Whether a text is a port.
+fn is_port_text(text: &str) -> bool
+    ensures { result ≡ is_some (port_of text.now) }
+{
+    text.parse::<u16>().is_ok()
+}

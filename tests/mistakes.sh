@@ -1,0 +1,271 @@
+#!/usr/bin/env bash
+# Mistakes that a new operator makes, each made for real: what the program says of it on standard error, to the last byte, and
+# its status.
+#
+#   tests/mistakes.sh [PROGRAM]
+#
+# It prints a line for each mistake that is answered otherwise, and how many were answered as they ought to be. The status is 1
+# where one was not.
+. "$(dirname "$(readlink -f "$0")")/common.sh"
+find_program "${1:-}"
+new_work
+trap 'rm -rf "$work"' EXIT
+passed=0
+failed=0
+
+# Whoever may not read what root may.
+as_user=()
+[ "$(id -u)" -ne 0 ] || as_user=(setpriv --reuid 65534 --regid 65534 --clear-groups)
+
+# folders [LINE..]: those of the ends a and b, of which a has these jobs and an empty file to give.
+folders() {
+    chmod -R u+rwX "$work"
+    rm -rf "${work:?}"/*
+    mkdir -p "$work"/{a,b}/{send,got}
+    : >"$work/a/send/x"
+    [ $# -eq 0 ] || printf '%s\n' "$@" >"$work/a/jobs"
+    : >"$work/said"
+    [ ${#as_user[@]} -eq 0 ] || chown -R 65534:65534 "$work"
+}
+
+# mistake NAME STATUS SAID WORD..: runs the program with the words in the folder of this run. SAID are the lines that it says,
+# each without its `uucpair: `.
+mistake() {
+    local name=$1 status=$2 said=$3 ended=0 want
+    shift 3
+    want="uucpair: ${said//$'\n'/$'\n'uucpair: }"
+    (cd "$work" && "${as_user[@]}" timeout 60 "$program" "$@") >"$work/printed" 2>"$work/said" </dev/null || ended=$?
+    if [ "$ended" -eq "$status" ] && [ "$(cat "$work/said")" = "$want" ] && [ ! -s "$work/printed" ]; then
+        passed=$((passed + 1))
+    else
+        failed=$((failed + 1))
+        echo "$name: ended with $ended, said $(cat "$work/said") and printed $(cat "$work/printed")"
+    fi
+}
+
+# call_of LINE [WORD..]: the words of a call over this line.
+call_of() {
+    call=(call "$@" --me alpha --peer beta --timeout 2 --locks .)
+}
+
+fault="device fault"$'\n'
+usage="bad usage"$'\n'
+
+# ---- the line
+
+folders
+call_of unix:none a
+mistake "no socket" 3 "${fault}unix:none: no such file or directory" "${call[@]}"
+call_of tcp:127.0.0.1:1 a
+mistake "nobody listens at a port" 3 "${fault}tcp:127.0.0.1:1: connection refused" "${call[@]}"
+call_of tcp:nobody.invalid:540 a
+mistake "no such host" 3 "${fault}tcp:nobody.invalid:540: unknown host" "${call[@]}"
+call_of /dev/ttyNONE a
+mistake "no such device" 3 "${fault}/dev/ttyNONE: no such file or directory" "${call[@]}"
+call_of a unix:line
+mistake "line and folder exchanged" 3 "${fault}unix:line: no such file or directory" "${call[@]}"
+: >"$work/taken"
+mistake "a place of a socket that is taken" 3 "${fault}unix:taken: address in use" answer unix:taken a --me alpha --peer beta
+mistake "the same of a pair" 3 "${fault}taken: address in use" pair taken a b
+python3 -c 'import socket, sys
+socket.socket(socket.AF_UNIX).bind(sys.argv[1])' "$work/old"
+chmod 777 "$work/old"
+call_of unix:old a
+mistake "a socket at which nobody listens" 3 "${fault}unix:old: connection refused" "${call[@]}"
+mistake "a socket in a folder that is not there" 3 "${fault}none/s: no such file or directory" pair none/s a b
+mistake "what can't be seen in the name of a socket" 3 "${fault}none\\x1b[31m/s: no such file or directory" pair $'none\e[31m/s' a b
+: >"$work/device"
+chmod 0 "$work/device"
+call_of ./device a
+mistake "no right to a device" 3 "${fault}./device: permission denied" "${call[@]}"
+
+# ---- the folder
+
+folders "send x y me"
+mistake "no folder" 3 "${fault}none: no such file or directory" answer unix:s none --me alpha --peer beta
+mistake "a file for a folder" 3 "${fault}a/jobs: not a directory" answer unix:s a/jobs --me alpha --peer beta
+rmdir "$work/a/got"
+call_of unix:none a
+mistake "no folder for what comes" 3 "${fault}a/got: no such file or directory" "${call[@]}"
+mkdir "$work/a/got"
+chmod 0 "$work/a/jobs"
+mistake "no right to the jobs" 3 "${fault}a/jobs: permission denied" "${call[@]}"
+rm -f "$work/a/jobs"
+mkdir "$work/a/jobs"
+chmod 777 "$work/a/jobs"
+mistake "a folder for the jobs" 3 "${fault}a/jobs: not a regular file" "${call[@]}"
+folders "send x y me"
+for ((i = 1; i < 257; i++)); do
+    : >"$work/a/send/$i"
+done
+chmod -R a+rX "$work/a/send"
+mistake "too many files" 3 "${fault}a/send: more than 256 files" pair s a b
+
+# ---- jobs
+
+jobs="bad jobs at line"
+call_of unix:none a
+folders "# mine" "put x y"
+mistake "a word that is no order" 2 "$jobs 2"$'\n''a/jobs: line 2: "put" is neither send nor request' "${call[@]}"
+folders "send x ~/y me" "send x"
+mistake "too few words" 2 "$jobs 2"$'\n'"a/jobs: line 2: TARGET and USER are missing" "${call[@]}"
+folders "send my file ~/y me"
+mistake "a blank in the name of a file" 2 "$jobs 1"$'\n''a/jobs: line 1: "me" is one word too many: a name has no space in it' \
+    "${call[@]}"
+folders $'send x ~/\a me'
+mistake "a target that is no name" 2 "$jobs 1"$'\n''a/jobs: line 1: "~/\x07" is no name: 1 to 200 printing characters' "${call[@]}"
+folders "send x ~/y me"
+echo "get x y me" >"$work/b/jobs"
+mistake "the same of the called end of a pair" 2 "$jobs 1"$'\n''b/jobs: line 1: "get" is neither send nor request' pair s a b
+
+# ---- jobs that fail
+
+# failing NAME SAID JOB: the job of a call fails, and SAID is what the caller says of it.
+failing() {
+    local name=$1 ended=0 answerer report
+    folders "$3"
+    head -c 1048577 /dev/zero >"$work/a/send/large"
+    chmod a+r "$work/a/send/large"
+    (cd "$work" && "${as_user[@]}" timeout 60 "$program" answer unix:line b --me beta --peer alpha >/dev/null 2>&1 </dev/null) &
+    answerer=$!
+    wait_for_socket "$work/line" || true
+    call_of unix:line a
+    (cd "$work" && "${as_user[@]}" timeout 60 "$program" "${call[@]}") >"$work/printed" 2>"$work/said" </dev/null || ended=$?
+    wait "$answerer" || true
+    report="caller done pending 0 struck 0 failed 1"$'\n'"caller failed $3"
+    if [ "$ended" -eq 0 ] && [ "$(cat "$work/said")" = "uucpair: $3: $2" ] && [ "$(cat "$work/printed")" = "$report" ]; then
+        passed=$((passed + 1))
+    else
+        failed=$((failed + 1))
+        echo "$name: ended with $ended, said $(cat "$work/said") and printed $(cat "$work/printed")"
+    fi
+}
+
+failing "no such file" "no such file in send, or it is over 1048576 bytes" "send none ~/y me"
+failing "a file that is too large" "no such file in send, or it is over 1048576 bytes" "send large ~/y me"
+failing "a target below a folder" "refused by the other end" "send x ~/dir/y me"
+failing "a target here that is hidden" "no file of this name is taken here" "request y .y me"
+failing "no such file at the other end" "not given by the other end, or not to be put in its place here" "request none ~/y me"
+
+# ---- what was heard
+
+# speaker TEXT..: an end at the socket `line` that says one of the texts when it is called, and the next behind each read.
+speaker() {
+    python3 - "$work/line" "$@" 2>/dev/null <<'END' &
+import os, socket, sys
+listener = socket.socket(socket.AF_UNIX)
+listener.bind(sys.argv[1])
+os.chmod(sys.argv[1], 0o777)
+listener.listen()
+stream = listener.accept()[0]
+for text in sys.argv[2:]:
+    stream.sendall(text.encode().decode("unicode_escape").encode("latin-1"))
+    stream.recv(4096)
+while stream.recv(4096):
+    pass
+END
+    answerer=$!
+    wait_for_socket "$work/line" || true
+}
+
+# unhappy NAME PHASE SAID WORD..: a call that ends so, of which the caller says this.
+unhappy() {
+    local name=$1 ended=0 report
+    report="caller $2 pending 1 struck 0 failed 0"
+    (cd "$work" && "${as_user[@]}" timeout 60 "$program" call unix:line a --timeout 1 "${@:4}") \
+        >"$work/printed" 2>"$work/said" </dev/null || ended=$?
+    wait "$answerer" || true
+    if [ "$ended" -eq 1 ] && [ "$(cat "$work/said")" = "uucpair: $3" ] && [ "$(cat "$work/printed")" = "$report" ]; then
+        passed=$((passed + 1))
+    else
+        failed=$((failed + 1))
+        echo "$name: ended with $ended, said $(cat "$work/said") and printed $(cat "$work/printed")"
+    fi
+}
+
+# refusing NAME SAID WORD..: an end that is called for two seconds says this of its caller.
+refusing() {
+    local name=$1 said=$2
+    (cd "$work" && "${as_user[@]}" timeout 60 "$program" answer unix:line b --me beta --peer alpha --wait 2 \
+        >"$work/answered" 2>"$work/heard" </dev/null) &
+    answerer=$!
+    wait_for_socket "$work/line" || true
+    "${@:3}"
+    if [ "$(head -n 1 "$work/heard")" = "uucpair: $said" ]; then
+        passed=$((passed + 1))
+    else
+        failed=$((failed + 1))
+        echo "$name: the end that was called said $(cat "$work/heard")"
+    fi
+}
+
+alpha=(--me alpha --peer beta)
+folders "send x ~/y me"
+speaker '\x10Shere=other\0'
+unhappy "another end" wrongname 'heard "Shere=other", expected "beta"' "${alpha[@]}"
+folders "send x ~/y me"
+speaker '\x10Shere=beta\0' '\x10RLCK\0'
+unhappy "an end that is busy" refused 'the other end refused: "RLCK" (it is busy: call later)' "${alpha[@]}"
+folders "send x ~/y me"
+speaker '\x10Shere=beta\0' '\x10RLOGIN\0'
+unhappy "an end that does not know us" refused \
+    'the other end refused: "RLOGIN" (it does not know the name of this end)' "${alpha[@]}"
+folders "send x ~/y me"
+speaker '\x10Shere=beta\0' '\x10ROK\0\x10Pxyz\0'
+unhappy "an end without the protocol" noprotocol 'no protocol g: heard "Pxyz"' "${alpha[@]}"
+folders "send x ~/y me"
+speaker '\r\nlogin: '
+unhappy "a getty" gaveup 'heard 9 bytes and no text: "\x0d\x0alogin: "' "${alpha[@]}"
+folders "send x ~/y me"
+speaker ''
+unhappy "nobody who says anything" gaveup 'heard nothing' "${alpha[@]}"
+folders "send x ~/y me"
+refusing "a stranger who calls" 'heard "Sgamma", expected "alpha"' \
+    unhappy "a name that the other end does not know" refused \
+    'the other end refused: "RYou are unknown to me" (it does not know the name of this end)' --me gamma --peer beta
+
+# ---- what is read
+
+folders
+mistake "no file to list" 3 "${fault}can't read none"$'\n'"none: no such file or directory" scan none
+mistake "a folder to play" 3 "${fault}can't read a"$'\n'"a: is a directory" play a
+mistake "nothing to queue in" 3 "${fault}none: no such file or directory" queue none
+mistake "no file to queue" 3 "${fault}can't read none"$'\n'"none: no such file or directory" queue a send none
+head -c 1048577 /dev/zero >"$work/large"
+chmod 644 "$work/large"
+mistake "a file to queue that is too large" 3 "${fault}can't read large"$'\n'"large: over 1048576 bytes" queue a send large
+
+# ---- the words of the command line
+
+folders
+call_of unix:s a --window 8
+mistake "a window of 8" 2 "${usage}window 8 is not 1 to 7" "${call[@]}"
+call_of unix:s a --size 65
+mistake "a size of 65" 2 "${usage}size 65 is not 32, 64, 128, 256, 512, 1024, 2048 or 4096" "${call[@]}"
+mistake "a timeout of 0" 2 "${usage}timeout 0 is not 1 to 600" call unix:s a --me alpha --peer beta --timeout 0
+call_of unix:s a --speed 299
+mistake "a line that is too slow" 2 "${usage}speed 299 is not 300 to 10000000" "${call[@]}"
+call_of unix:s a --most 1048575
+mistake "no room for the largest file" 2 "${usage}most 1048575 is not 1048576 or more" "${call[@]}"
+mistake "no time to be called" 2 "${usage}wait 0 is not 1 to 1000000000" answer unix:s a --me alpha --peer beta --wait 0
+call_of tcp:127.0.0.1 a
+mistake "no port" 2 "${usage}tcp:127.0.0.1 has no port of 0 to 65535" "${call[@]}"
+call_of tcp:h:70000 a
+mistake "a port that is too great" 2 "${usage}tcp:h:70000 has no port of 0 to 65535" "${call[@]}"
+call_of tcp::540 a
+mistake "no host" 2 "${usage}tcp::540 has no host" "${call[@]}"
+call_of unix: a
+mistake "no path of a socket" 2 "${usage}unix: has no path" "${call[@]}"
+call_of "" a
+mistake "no line" 2 "${usage}the line has no name" "${call[@]}"
+no_name="is no name of a system: 1 to 200 printing characters without a space"
+mistake "a name with a blank" 2 "${usage}\"Foo bar\" $no_name" call unix:s a --me "Foo bar" --peer beta
+mistake "an empty name" 2 "${usage}\"\" $no_name" call unix:s a --me alpha --peer ""
+mistake "a name with a control character" 2 "${usage}\"b\\x07\" $no_name" call unix:s a --me alpha --peer $'b\a'
+mistake "two mistakes, of which the first is told" 2 "${usage}timeout 601 is not 1 to 600" \
+    call tcp:x a --me "Foo bar" --peer beta --timeout 601
+mistake "each packet lost" 2 "${usage}drop-every 1 is not 2 to 1000000" pair s a b --drop-every 1
+mistake "each packet changed" 2 "${usage}flip-every 1 is not 2 to 1000000" pair s a b --drop-every 2 --flip-every 1
+
+echo "$passed mistakes are answered as they ought to be, $failed are not"
+[ "$failed" -eq 0 ]
