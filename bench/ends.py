@@ -4,10 +4,18 @@ Taylor UUCP (Debian's package `uucp`, with `socat`; root is needed, since uucico
 A load is what the caller sends: `file` is one file of 20,000 bytes; `mails` is five times a file of 1,500 bytes and one of 80
 that says what to do with it, so ten S commands, which is what five mails are to an end that knows no other command.
 """
+import contextlib
 import os
 import random
 import shutil
 import subprocess
+import sys
+import tempfile
+import threading
+
+sys.path.insert(0, os.path.join(os.path.dirname(os.path.abspath(__file__)), "../tests"))
+
+from two_sockets import connected, listening
 
 UUCICO = "/usr/sbin/uucico"
 FILE_SIZE = 20_000
@@ -214,3 +222,46 @@ def fresh(work):
     os.makedirs(work)
     os.chmod(work, 0o755)
     return work
+
+
+@contextlib.contextmanager
+def over_sockets(work, caller, called):
+    """Starts both, each over a socket of its own. It gives the two processes, and a stream to each, which are closed behind
+    the block. Where the caller does not connect in twenty seconds both are ended, and that is raised."""
+    near, far = os.path.join(work, "near"), os.path.join(work, "far")
+    with listening(near) as door:
+        door.settimeout(20)
+        answering = called.answer(f"unix:{far}")
+        other = connected(far)
+        calling = caller.call(f"unix:{near}")
+        try:
+            one, _ = door.accept()
+        except OSError:
+            stop(calling, answering)
+            raise
+    with one, other:
+        yield calling, answering, one, other
+
+
+def side_by_side(run, cells, most=1_000):
+    """Calls `run` for each cell with a folder of its own and what is in the cell, at most so many at a time. The answer is what
+    came of each, in their order."""
+    came, room = [None] * len(cells), threading.Semaphore(most)
+
+    def measure(place, cell):
+        with room, tempfile.TemporaryDirectory() as work:
+            os.chmod(work, 0o755)
+            came[place] = run(fresh(f"{work}/w"), *cell)
+
+    threads = [threading.Thread(target=measure, args=entry) for entry in enumerate(cells)]
+    for thread in threads:
+        thread.start()
+    for thread in threads:
+        thread.join()
+    return came
+
+
+def program_named():
+    """The program that the first argument names, or the one that was built here."""
+    root = os.path.dirname(os.path.dirname(os.path.abspath(__file__)))
+    return os.path.abspath(sys.argv[1]) if len(sys.argv) > 1 else f"{root}/crates/uucpair/out/uucpair"

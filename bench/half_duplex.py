@@ -17,20 +17,14 @@ medians, in seconds.
 bytes there. Ends with status 1 where `--speed` leaves something undone, the mails take longer than Taylor's, or the file
 longer than 1.05 times.
 """
-import os
 import select
 import statistics
 import sys
-import tempfile
-import threading
 import time
 
 sys.dont_write_bytecode = True
-sys.path.insert(0, os.path.join(os.path.dirname(os.path.abspath(__file__)), "../tests"))
 
-from two_sockets import connected, listening
-
-from ends import Ours, Taylor, all_came, fresh, load_files, stop
+from ends import Ours, Taylor, all_came, load_files, over_sockets, program_named, side_by_side, stop
 
 SCALE = int(sys.argv[3]) if len(sys.argv) > 3 else 10
 BYTES_A_SECOND = 150 * SCALE
@@ -107,7 +101,7 @@ def channel(one, other, until):
     return came
 
 
-def ends(kind, program, work, window, size):
+def ends(work, program, kind, window, size):
     if kind == "Taylor":
         return [Taylor(work, me, peer, size, window, 300 // SCALE) for me, peer in (("a", "b"), ("b", "a"))]
     options = ["--window", str(window), "--size", str(size)]
@@ -118,26 +112,18 @@ def ends(kind, program, work, window, size):
     return [Ours(program, work, me, peer, options) for me, peer in (("a", "b"), ("b", "a"))]
 
 
-def run(kind, program, work, window, size, load):
+def run(work, program, kind, window, size, load):
     """The seconds of a call, SCALE times as many as were measured, or None, and what the ends said then."""
-    caller, called = ends(kind, program, work, window, size)
+    caller, called = ends(work, program, kind, window, size)
     files = load_files(load)
     caller.queue(files)
-    near, far = os.path.join(work, "near"), os.path.join(work, "far")
-    with listening(near) as door:
-        door.settimeout(20)
-        answering = called.answer(f"unix:{far}")
-        other = connected(far)
-        calling = caller.call(f"unix:{near}")
-        try:
-            one, _ = door.accept()
-        except OSError:
-            stop(calling, answering)
-            return None, caller.said()
-    began = time.monotonic()
-    until = began + MOST
-    with one, other:
-        came = channel(one, other, until)
+    try:
+        with over_sockets(work, caller, called) as (calling, answering, one, other):
+            began = time.monotonic()
+            until = began + MOST
+            came = channel(one, other, until)
+    except OSError:
+        return None, caller.said()
     stop(calling, answering)
     if all_came(called, files) and came < until - 1:
         return (came - began) * SCALE, ""
@@ -145,27 +131,16 @@ def run(kind, program, work, window, size, load):
 
 
 def main():
-    root = os.path.dirname(os.path.dirname(os.path.abspath(__file__)))
-    program = os.path.abspath(sys.argv[1]) if len(sys.argv) > 1 else f"{root}/crates/uucpair/out/uucpair"
+    program = program_named()
     rounds = int(sys.argv[2]) if len(sys.argv) > 2 else 3
-    taken = {}
-
-    def measure(*cell):
-        with tempfile.TemporaryDirectory() as work:
-            os.chmod(work, 0o755)
-            seconds, why = run(cell[0], program, fresh(f"{work}/w"), *cell[1:])
-        taken.setdefault(cell, []).append(seconds)
-        if seconds is None and why:
-            print(f"  {cell}: {why}", file=sys.stderr)
-
     cells = [(kind, *cell, load) for kind in KINDS for cell in CELLS for load in LOADS]
     cells = [cell for cell in cells if cell[:3] != ("Taylor", 7, 4096)]
+    taken = {}
     for _ in range(rounds):
-        threads = [threading.Thread(target=measure, args=cell) for cell in cells]
-        for thread in threads:
-            thread.start()
-        for thread in threads:
-            thread.join()
+        for cell, (seconds, why) in zip(cells, side_by_side(run, [(program, *cell) for cell in cells])):
+            taken.setdefault(cell, []).append(seconds)
+            if seconds is None and why:
+                print(f"  {cell}: {why}", file=sys.stderr)
     sys.exit(report(taken))
 
 

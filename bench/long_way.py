@@ -9,20 +9,14 @@ greatest window comes and is answered. All times are divided by SCALE (10). Prin
 measured, with the bytes that the caller wrote, or how the ends ended where the file did not come. Ends with status 1 where it
 did not come with 30 seconds and the speed, or with 340 seconds, or an end did not end by itself.
 """
-import os
 import select
 import sys
-import tempfile
-import threading
 import time
 from collections import deque
 
 sys.dont_write_bytecode = True
-sys.path.insert(0, os.path.join(os.path.dirname(os.path.abspath(__file__)), "../tests"))
 
-from two_sockets import connected, listening
-
-from ends import Ours, all_came, fresh, load_files, stop
+from ends import Ours, all_came, load_files, over_sockets, program_named, side_by_side, stop
 
 SCALE = int(sys.argv[2]) if len(sys.argv) > 2 else 10
 SPEED = 960
@@ -81,7 +75,7 @@ def relay(one, other, until):
     return came, ways[0].taken
 
 
-def run(program, work, window, size, timeout, with_speed):
+def run(work, program, window, size, timeout, with_speed):
     """What a cell says, and whether all was done and whether both ends ended by themselves."""
     options = ["--window", str(window), "--size", str(size), "--timeout", str(timeout // SCALE)]
     if with_speed:
@@ -89,15 +83,8 @@ def run(program, work, window, size, timeout, with_speed):
     caller, called = (Ours(program, work, me, peer, options) for me, peer in (("a", "b"), ("b", "a")))
     files = load_files("file")
     caller.queue(files)
-    near, far = os.path.join(work, "near"), os.path.join(work, "far")
-    with listening(near) as door:
-        door.settimeout(20)
-        answering = called.answer(f"unix:{far}")
-        other = connected(far)
-        calling = caller.call(f"unix:{near}")
-        one, _ = door.accept()
-    began = time.monotonic()
-    with one, other:
+    with over_sockets(work, caller, called) as (calling, answering, one, other):
+        began = time.monotonic()
         came, written = relay(one, other, began + MOST)
     ended = all(has_ended(process) for process in (calling, answering))
     stop(calling, answering)
@@ -116,26 +103,14 @@ def has_ended(process):
 
 
 def main():
-    root = os.path.dirname(os.path.dirname(os.path.abspath(__file__)))
-    program = os.path.abspath(sys.argv[1]) if len(sys.argv) > 1 else f"{root}/crates/uucpair/out/uucpair"
-    said = {}
-
-    def measure(*cell):
-        with tempfile.TemporaryDirectory() as work:
-            os.chmod(work, 0o755)
-            said[cell] = run(program, fresh(f"{work}/w"), *cell)
-
-    threads = [threading.Thread(target=measure, args=(*cell, *option)) for cell in CELLS for option in OPTIONS]
-    for thread in threads:
-        thread.start()
-    for thread in threads:
-        thread.join()
+    program = program_named()
+    all_of = [(*cell, *option) for cell in CELLS for option in OPTIONS]
+    said = dict(zip(all_of, side_by_side(run, [(program, *cell) for cell in all_of])))
     print("| `--timeout` | `--speed` | " + " | ".join(f"{window} x {size:,}" for window, size in CELLS) + " |")
     print("|" + "---|" * (len(CELLS) + 2))
     for timeout, with_speed in OPTIONS:
         row = [said[(*cell, timeout, with_speed)][0] for cell in CELLS]
         print(f"| {timeout} | {SPEED if with_speed else '-'} | " + " | ".join(row) + " |")
-    all_of = [(*cell, *option) for cell in CELLS for option in OPTIONS]
     well = all(said[cell][2] and (said[cell][1] or cell[2:] not in WELL) for cell in all_of)
     sys.exit(not well)
 

@@ -1,5 +1,5 @@
 #!/usr/bin/env python3
-"""Whether a call is done over a line on which bytes are lost at random, with one acknowledgement for what came at once.
+"""Whether a call is done over a line on which bytes are lost at random, with two acknowledgements for what came at once.
 
     losses.py [PROGRAM [SEEDS [TAYLOR_SEEDS]]]
 
@@ -7,30 +7,24 @@ The caller sends a file of 20,000 bytes, in packets of 64 under a window of 7, o
 with the probability of the row, from the 65th byte each way on: what comes before, the greeting and the start of the link,
 has no checksum or is not what is tried. What is lost follows from the seed, 0 to SEEDS (40) - 1. A row each for
 
-    ours               as it is: an acknowledgement is left out where a later one waits right behind it
+    ours               as it is: an acknowledgement is left out where those right behind it say as much
     ours, --every-ack  each data packet is acknowledged
     Taylor             Taylor UUCP sends, with TAYLOR_SEEDS (20), and `uucpair` as it is takes
 
 with how many sessions were done at both ends, how many gave up, how many of the files came whole, how many came wrong (no
 checksum of 'g' finds all), and of those that were done the medians of the seconds, and of the bytes that the caller and the
-called end wrote. Taylor's own limits of errors and noise are lifted. Timers are a second. Ends with status 1 where with one
-acknowledgement more sessions gave up, all rows together, than with each, or an end did not end by itself.
+called end wrote. Taylor's own limits of errors and noise are lifted. Timers are a second. Ends with status 1 where as it is
+more sessions gave up, all rows together, than with each, or an end did not end by itself.
 """
-import os
 import random
 import select
 import statistics
 import sys
-import tempfile
-import threading
 import time
 
 sys.dont_write_bytecode = True
-sys.path.insert(0, os.path.join(os.path.dirname(os.path.abspath(__file__)), "../tests"))
 
-from two_sockets import connected, listening
-
-from ends import Ours, Taylor, fresh, load_files, stop
+from ends import Ours, Taylor, load_files, over_sockets, program_named, side_by_side, stop
 
 ONE_IN = [1_000, 300, 100, 70]
 KINDS = ["ours", "ours, --every-ack", "Taylor"]
@@ -72,7 +66,7 @@ def relay(one, other, one_in, seed, until):
     return [way.taken for way in ways.values()]
 
 
-def run(kind, program, work, one_in, seed):
+def run(work, program, kind, one_in, seed):
     """What became of a call: the two words, what is told of the file, and the seconds and bytes."""
     options = ["--timeout", "1", "--size", "64", "--window", "7"] + kind.split(", ")[1:]
     called = Ours(program, work, "b", "a", options)
@@ -83,15 +77,8 @@ def run(kind, program, work, one_in, seed):
         caller = Ours(program, work, "a", "b", options)
     files = load_files("file")
     caller.queue(files)
-    near, far = os.path.join(work, "near"), os.path.join(work, "far")
-    with listening(near) as door:
-        answering = called.answer(f"unix:{far}")
-        other = connected(far)
-        calling = caller.call(f"unix:{near}")
-        door.settimeout(20)
-        one, _ = door.accept()
-    began = time.monotonic()
-    with one, other:
+    with over_sockets(work, caller, called) as (calling, answering, one, other):
+        began = time.monotonic()
         written = relay(one, other, one_in, seed, began + MOST)
     seconds = time.monotonic() - began
     ended = all(is_over(process, 60) for process in (calling, answering))
@@ -117,27 +104,18 @@ def words(kind, caller, called):
 
 
 def main():
-    root = os.path.dirname(os.path.dirname(os.path.abspath(__file__)))
-    program = os.path.abspath(sys.argv[1]) if len(sys.argv) > 1 else f"{root}/crates/uucpair/out/uucpair"
+    program = program_named()
     seeds = int(sys.argv[2]) if len(sys.argv) > 2 else 40
     taylors = int(sys.argv[3]) if len(sys.argv) > 3 else 20
-    outcomes, room = {}, threading.Semaphore(SIDE_BY_SIDE)
-
-    def measure(kind, one_in, seed):
-        with room, tempfile.TemporaryDirectory() as work:
-            os.chmod(work, 0o755)
-            outcomes.setdefault((kind, one_in), []).append(run(kind, program, fresh(f"{work}/w"), one_in, seed))
-
-    threads = [
-        threading.Thread(target=measure, args=(kind, one_in, seed))
+    cells = [
+        (program, kind, one_in, seed)
         for one_in in ONE_IN
         for kind in KINDS
         for seed in range(taylors if kind == "Taylor" else seeds)
     ]
-    for thread in threads:
-        thread.start()
-    for thread in threads:
-        thread.join()
+    outcomes = {}
+    for (_, kind, one_in, _), outcome in zip(cells, side_by_side(run, cells, SIDE_BY_SIDE)):
+        outcomes.setdefault((kind, one_in), []).append(outcome)
     sys.exit(report(outcomes))
 
 

@@ -47,12 +47,6 @@ run_pair() {
     [ ! -s "$work/a/jobs" ] || fail "jobs are left"
 }
 
-# median COLUMNS FILE: that of the sums, and in brackets the least and the greatest.
-median() {
-    awk -v columns="$1" '{ print columns == "cpu" ? $2 + $3 : $1 }' "$2" | sort -n |
-        awk '{ all[NR] = $1 } END { printf "%.3f (%.3f-%.3f)", all[int((NR + 1) / 2)], all[1], all[NR] }'
-}
-
 # row NAME FILES IS_BESIDE OPTION..: measures and prints a line.
 row() {
     local name=$1 files=$2 is_beside=$3 theirs_cpu=- theirs_wall=-
@@ -63,11 +57,11 @@ row() {
         [ "$is_beside" = no ] || run_uucico 64 "$files"
     done
     if [ "$is_beside" = yes ]; then
-        theirs_cpu=$(median cpu "$work/uucico.times")
-        theirs_wall=$(median wall "$work/uucico.times")
+        theirs_cpu=$(median_of cpu "$work/uucico.times")
+        theirs_wall=$(median_of wall "$work/uucico.times")
     fi
     printf '%-24s %9d  %-22s %-22s  %-22s %-22s\n' "$name" $((files * mb)) \
-        "$(median cpu "$work/pair.times")" "$(median wall "$work/pair.times")" "$theirs_cpu" "$theirs_wall"
+        "$(median_of cpu "$work/pair.times")" "$(median_of wall "$work/pair.times")" "$theirs_cpu" "$theirs_wall"
 }
 
 chmod a+rx "$work"

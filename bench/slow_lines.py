@@ -14,13 +14,11 @@ import os
 import pty
 import select
 import sys
-import tempfile
 import termios
-import threading
 import time
 import tty
 
-from ends import Ours, Taylor, all_came, fresh, load_files, stop
+from ends import Ours, Taylor, all_came, load_files, program_named, side_by_side, stop
 
 SCALE = int(sys.argv[2]) if len(sys.argv) > 2 else 10
 TICK = 0.01
@@ -89,7 +87,7 @@ def end(kind, program, work, names, window, size, speed):
     return Ours(program, work, *names, options + ["--locks", work])
 
 
-def run(pair, program, work, window, size, speed):
+def run(work, program, pair, window, size, speed):
     """The seconds that the file takes, SCALE times as many as were measured, or None, and what the ends said then."""
     caller = end(pair[0], program, work, ("a", "b"), window, size, speed)
     called = end(pair[1], program, work, ("b", "a"), window, size, speed)
@@ -120,24 +118,14 @@ def run(pair, program, work, window, size, speed):
 
 
 def main():
-    root = os.path.dirname(os.path.dirname(os.path.abspath(__file__)))
-    program = os.path.abspath(sys.argv[1]) if len(sys.argv) > 1 else f"{root}/crates/uucpair/out/uucpair"
-    taken, room = {}, threading.Semaphore(SIDE_BY_SIDE)
-
-    def measure(*cell):
-        with room, tempfile.TemporaryDirectory() as work:
-            os.chmod(work, 0o755)
-            taken[cell], why = run(cell[0], program, fresh(f"{work}/w"), *cell[1:])
-        if why:
-            print(f"  {cell}: {why}", file=sys.stderr)
-
+    program = program_named()
     cells = [(pair, window, size, speed) for pair in PAIRS for speed in SPEEDS for size in SIZES for window in WINDOWS]
     cells = [cell for cell in cells if (cell[0][1], *cell[1:3]) != ("Taylor", 7, 4_096)]
-    threads = [threading.Thread(target=measure, args=cell) for cell in cells]
-    for thread in threads:
-        thread.start()
-    for thread in threads:
-        thread.join()
+    taken = {}
+    for cell, (seconds, why) in zip(cells, side_by_side(run, [(program, *cell) for cell in cells], SIDE_BY_SIDE)):
+        taken[cell] = seconds
+        if why:
+            print(f"  {cell}: {why}", file=sys.stderr)
     columns = [(window, size) for size in SIZES for window in WINDOWS]
     print("| bit/s | caller, called | " + " | ".join(f"{window} x {size:,}" for window, size in columns) + " |")
     print("|" + "---|" * (len(columns) + 2))

@@ -64,3 +64,9 @@ check_files() {
         cmp "$work/file$i" "$2/file$i" || fail "file$i is another"
     done
 }
+
+# median_of COLUMNS FILE: that of the sums, and in brackets the least and the greatest.
+median_of() {
+    awk -v columns="$1" '{ print columns == "cpu" ? $2 + $3 : $1 }' "$2" | sort -n |
+        awk '{ all[NR] = $1 } END { printf "%.3f (%.3f-%.3f)", all[int((NR + 1) / 2)], all[1], all[NR] }'
+}

@@ -56,6 +56,53 @@ end_helpers() {
     helpers=()
 }
 
+well=0
+all=0
+
+# tell NAME FUNCTION [WORD..]: runs a scene, which make_scene of the script makes in `$work/scene`, and says whether all of it
+# was so. The folders of one that went wrong stay.
+tell() {
+    local name=$1
+    shift
+    all=$((all + 1))
+    make_scene
+    if "$@"; then
+        well=$((well + 1))
+        echo "$name: well"
+    else
+        echo "$name: WRONG"
+        cp -a "$work/scene" "$work/wrong.$all"
+    fi
+    end_helpers
+}
+
+# taylor_node FOLDER NAME SYSTEM PORT: the configuration of a node of Taylor UUCP of this name, which lies in this folder and
+# knows a system that may be called, and calls, at any time, at this port.
+taylor_node() {
+    cat >"$1/config" <<CONFIG
+nodename $2
+spool $1/spool
+pubdir $1/public
+lockdir $1
+logfile $1/log
+statfile $1/stats
+debugfile $1/debug
+sysfile $1/sys
+portfile $1/port
+CONFIG
+    cat >"$1/sys" <<SYS
+system $3
+time any
+port $4
+chat ""
+protocol g
+remote-send ~
+remote-receive ~
+local-send ~
+local-receive ~
+SYS
+}
+
 # pause SECONDS: starts no process.
 pause() {
     read -rt "$1" -u "$never" || true

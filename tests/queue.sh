@@ -59,9 +59,9 @@ forms() {
     row "the longest file" 0 "queued send most most me" "" "$d" send "$work/most" --user me
     row "a file that is too long" 3 "" "can't read $work/more"$'\n'"uucpair: $work/more: over 1048576 bytes" "$d" send "$work/more"
     row "no file" 3 "" "can't read $work/none"$'\n'"uucpair: $work/none: no such file or directory" "$d" send "$work/none"
-    row "a folder" 3 "" "can't read $work/files"$'\n'"uucpair: $work/files: invalid argument" "$d" send "$work/files"
+    row "a folder" 3 "" "can't read $work/files"$'\n'"uucpair: $work/files: not a regular file" "$d" send "$work/files"
     mkfifo "$work/pipe"
-    row "a pipe" 3 "" "can't read $work/pipe"$'\n'"uucpair: $work/pipe: invalid argument" "$d" send "$work/pipe"
+    row "a pipe" 3 "" "can't read $work/pipe"$'\n'"uucpair: $work/pipe: not a regular file" "$d" send "$work/pipe"
     row "a hidden file" 2 "" "without a space or a dot in front" "$d" send "$work/.hidden"
     row "a file with a space" 2 "" "without a space or a dot in front" "$d" send "$work/a b"
     row "no file is named" 2 "" "without a space or a dot in front" "$d" send

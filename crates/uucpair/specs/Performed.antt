@@ -12,7 +12,7 @@ use Rattle.uug_play.specs.Played.{AppendsReport, AppendsVerbosely, BeforeReport,
 use Rattle.uug_play.specs.Settled.{AppendsSettled}
 use Rattle.uug_ladder.specs.declared.play.Drawn.{Drawn}
 use Rattle.uug_ladder.specs.Played.{AppendsShown, BeforeWriting, IsDrawingFault, IsTooMuch}
-use Rattle.uug_remark.specs.Remarks.{remark_text, wrong_at}
+use Rattle.uug_script.specs.Remarks.{remark_at}
 use Rattle.clap.specs.Words.{kind_of, takes}
 use Rattle.clap.specs.declared.error.Error.{Error}
 use Rattle.clap.specs.declared.error.kind.ErrorKind.TheVariants.{OutOfMemory}
@@ -105,7 +105,7 @@ pub record PlaysVerbosely (s : Streams) (remark : List ℕ) (answer : Result ℕ
   pub plays : Plays s answer
   pub reasons : IfOk answer (λ status. IfSome s.to_come
       (λ script. AppendsVerbosely script remark status s.before s.after))
-  pub remarks : (line : ℕ) → answer ≡ Err (faults.Script line) → IfSome s.to_come (λ script. remark ≡ remark_text (wrong_at line script))
+  pub remarks : (line : ℕ) → answer ≡ Err (faults.Script line) → IfSome s.to_come (λ script. remark ≡ remark_at line script)
 
 -- `play --settle`: the same, and what the run settles to was written too, or which condition of that fails
 pub record PlaysSettled (s : Streams) (answer : Result ℕ ToolFault) : Type 0 where

@@ -9,7 +9,7 @@ use Rattle.uug_failure.specs.declared.failure.Cause.TheVariants as causes
 use Rattle.uug_failure.specs.declared.failure.SystemFailure.{SystemFailure}
 use Rattle.uug_reason.specs.Reasons.{Places, places, reason_line}
 use Rattle.uug_words.specs.UsageWords.{IsUsageOf, pair_words}
-use Rattle.uug_sys.specs.declared.task.CallTask.{CallTask}
+use Rattle.uug_task.specs.declared.task.CallTask.{CallTask}
 use Rattle.uug_words.specs.declared.command_line.PairTask.{PairTask}
 use Rattle.uug_words.specs.declared.command_line.Task.{Task}
 use Rattle.uug_words.specs.declared.command_line.Task.TheVariants.{Scan, ScanVerbose, Play, PlayVerbose, PlaySettled, PlayDrawn, Pair, Call, Queue}
@@ -123,9 +123,9 @@ StopsOnFolders line first second why (InUse folder) stop = NamesFolder (if folde
 StopsOnFolders line first second (Some failure) Device stop = SaysReason (reason_line (places [] line first second) failure) stop
 StopsOnFolders line first second why fault stop = stop ≡ Fault fault
 
-abbrev pub StopsOnCause : (line dir : List ℕ) → SystemFailure → Cause → Stop → Type 0
-StopsOnCause line dir failure causes.InUse stop = NamesFolder line stop
-StopsOnCause line dir failure cause stop = SaysReason (reason_line (places [] line dir dir) failure) stop
+abbrev pub StopsOnCause : (report line dir : List ℕ) → SystemFailure → Cause → Stop → Type 0
+StopsOnCause report line dir failure causes.InUse stop = NamesFolder line stop
+StopsOnCause report line dir failure cause stop = SaysReason (reason_line (places report line dir dir) failure) stop
 
 -- it is said what is wrong with the usage, which this holds of, unless there was no memory for that
 abbrev pub SaysUsage : (List ℕ → Type 0) → Stop → Type 0
@@ -146,7 +146,7 @@ StopsOnPair pair why fault remark stop = StopsOnFolders pair.socket.now pair.dir
 abbrev pub StopsOnEnd : CallTask → (why : Option SystemFailure) → ToolFault → (remark : List ℕ) → Stop → Type 0
 StopsOnEnd call why Usage remark stop = SaysUsage (IsUsageOf call) stop
 StopsOnEnd call why (Jobs line) remark stop = HasLine (Jobs line) remark stop
-StopsOnEnd call (Some failure) Device remark stop = StopsOnCause call.line.now call.dir.now failure failure.cause stop
+StopsOnEnd call (Some failure) Device remark stop = StopsOnCause (word_or_empty call.report) call.line.now call.dir.now failure failure.cause stop
 StopsOnEnd call why fault remark stop = StopsOnFolders call.line.now call.dir.now call.dir.now why fault stop
 
 -- Of what was to be queued the file is named that can't be copied, and it is said what is wrong with the order, and on what a call
@@ -178,11 +178,14 @@ EndsSo task (Err fault) remark why ends = IsErrAnd ends (StopsAs task fault rema
 
 -- ---- of standard input and output
 
-abbrev pub streams_places : Places
-streams_places = places (codes "standard input") [] [] []
+abbrev pub input_places : Places
+input_places = places (codes "standard input") [] [] []
+
+abbrev pub output_places : Places
+output_places = places (codes "standard output") [] [] []
 
 -- Where standard input refused a read, or standard output a write, the line says why, if it is known; else the end stays.
 abbrev pub SaysStream : (stop : Stop) → (input output : Option SystemFailure) → (ends : Stop) → Type 0
-SaysStream (Fault Read) (Some failure) output ends = SaysReason (reason_line streams_places failure) ends
-SaysStream (Fault Write) input (Some failure) ends = SaysReason (reason_line streams_places failure) ends
+SaysStream (Fault Read) (Some failure) output ends = SaysReason (reason_line input_places failure) ends
+SaysStream (Fault Write) input (Some failure) ends = SaysReason (reason_line output_places failure) ends
 SaysStream stop input output ends = ends ≡ stop

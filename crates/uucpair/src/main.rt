@@ -8,6 +8,7 @@ mod stop;
 use program::Terminals;
 use std::io::IsTerminal;
 use std::process::ExitCode;
+use uug_port::{StandardStreams, hold_descriptors};
 
 fn terminals(rt: &HostRuntime) -> Terminals {
     Terminals {
@@ -17,6 +18,14 @@ fn terminals(rt: &HostRuntime) -> Terminals {
 }
 
 fn main(rt: HostRuntime) -> ExitCode {
+    let held = hold_descriptors(&rt);
     let terminals = terminals(&rt);
-    ExitCode::from(program::end(&rt, program::run(&rt, terminals)))
+    let standard = StandardStreams {
+        input: rt.stdin(),
+        output: rt.stdout(),
+        errors: rt.stderr(),
+    };
+    let status = program::end(&rt, program::run(&rt, terminals, standard));
+    drop(held);
+    ExitCode::from(status)
 }

@@ -1,10 +1,11 @@
 //! What the program does, from its command line to its status.
-ghost use Rattle.std.specs.Prelude.{◌≡◌, ◌≤◌, IfErr, IfOk, IsErrAnd, IsSome, MatchResult, OnOk, map, string_bytes};
+ghost use Rattle.std.specs.Prelude.{◌≡◌, ◌≤◌, IfErr, IfOk, IsErrAnd, IsSome, MatchResult, OnOk, [], map, string_bytes};
+ghost use Rattle.uug_reason.specs.Reasons.{places, reason_line};
 ghost use Rattle.uug_scan.specs.Scan.{IsScanFault};
-ghost use Rattle.uug_stream.specs.Streams.{Appends};
+ghost use Rattle.uug_stream.specs.Streams.{Appends, CountsFault};
 ghost use Rattle.uug_disk.specs.Queued.{word_or_empty};
 ghost use Rattle.uucpair.specs.Performed.{Does, DoesOn, DoesOver, IsFaultOf, Performs, Scans, ScansVerbose, streams, version_line};
-ghost use Rattle.uucpair.specs.Stop.{EndsSo, NamesFile, NamesFileFor, NamesFolder, SaysStream, SaysTooMuch, StopsAs, StopsOnDrawing, StopsOnCause, StopsOnDrawingFile, StopsOnEnd, StopsOnFile, StopsOnFolders, StopsOnPair, StopsOnQueue, StopsOnScript, StopsOnScriptFile, status_of_stop, why_not_read};
+ghost use Rattle.uucpair.specs.Stop.{EndsSo, NamesFile, NamesFileFor, NamesFolder, SaysReason, SaysStream, SaysTooMuch, StopsAs, StopsOnDrawing, StopsOnCause, StopsOnDrawingFile, StopsOnEnd, StopsOnFile, StopsOnFolders, StopsOnPair, StopsOnQueue, StopsOnScript, StopsOnScriptFile, status_of_stop, why_not_read};
 
 use crate::input_task::InputTask;
 use crate::stop::Stop;
@@ -19,13 +20,13 @@ use uug_disk::queue_run;
 use uug_failure::{Cause, Resource, SystemFailure};
 use uug_ladder::play_ladder;
 use uug_pair::pair_run;
-use uug_play::{play_settled, play_stream};
-use uug_port::{SystemInput, SystemOutput};
+use uug_play::{play_remarked, play_settled, play_stream};
+use uug_port::{ReportFile, StandardStreams, SystemInput, SystemOutput};
 use uug_reason::{jobs_remark, reason_line};
-use uug_remark::play_remarked;
 use uug_scan::{READ_LIMIT, scan_detailed, scan_stream};
 use uug_stream::{Output, ToolFault, write_all};
-use uug_sys::{CallTask, SystemObserver, call_run};
+use uug_sys::{SystemObserver, call_run};
+use uug_task::{CallTask, ReportPlace};
 use uug_words::{PairTask, Task, VERSION, pair_remark, task_of, usage_remark};
 
 /// What is remarked of a script that is too much for a ladder.
@@ -328,18 +329,32 @@ fn stop_of_end(
     match (fault, why) {
         (ToolFault::Usage, _) => says_usage(usage_remark(alloc, call)),
         (ToolFault::Jobs(_), _) => Stop::Told(fault, remark),
-        (ToolFault::Device, Some(failure)) => stop_of_cause(alloc, call.line, call.dir, failure),
+        (ToolFault::Device, Some(failure)) => stop_of_cause(
+            alloc,
+            call.report,
+            call.line,
+            call.dir,
+            failure,
+        ),
         (fault, why) => stop_of_folders(alloc, call.line, call.dir, call.dir, fault, why),
     }
 }
 
 /// Why one end gave up for which a call of the system failed.
-fn stop_of_cause(alloc: Global, line: &str, dir: &str, failure: SystemFailure) -> Stop
-    ensures { StopsOnCause line.now dir.now failure failure.cause result }
+fn stop_of_cause(
+    alloc: Global,
+    report: Option<&str>,
+    line: &str,
+    dir: &str,
+    failure: SystemFailure,
+) -> Stop
+    ensures { StopsOnCause (word_or_empty report.entry) line.now dir.now failure
+        failure.cause result }
 {
+    let report = report.unwrap_or("");
     match failure.cause {
         Cause::InUse => names_folder(alloc, line),
-        _ => says_reason(reason_line(alloc, "", line, dir, dir, failure)),
+        _ => says_reason(reason_line(alloc, report, line, dir, dir, failure)),
     }
 }
 
@@ -460,11 +475,13 @@ fn read_remark<R: Files + AllocGlobal>(rt: &R, dir: &str, line: usize) -> io::Re
     Ok(jobs_remark(rt.alloc(), dir, text.as_slice(), line)?)
 }
 
-/// Runs one end, and says on standard error how it stands where that is asked for.
+/// Runs one end, and says on standard error how it stands where that is asked for. Its report goes to the file that is named,
+/// else to the output, or where the standard streams are its line to standard error.
 fn do_call<R, O>(
     rt: &R,
     call: &CallTask<'_>,
     terminals: Terminals,
+    standard: StandardStreams,
     output: &mut O,
     remark: &mut String,
     why: &mut Option<SystemFailure>,
@@ -481,8 +498,91 @@ where
     ensures status { IfOk result (λ status. status ≤ 1) }
     ensures named { result ≡ Err ToolFault.Device → IsSome why.new }
 {
+    match call.report_place() {
+        ReportPlace::File(path) => {
+            do_call_reporting(rt, call, terminals, standard, path, remark, why)
+        }
+        ReportPlace::Errors => {
+            let mut report = SystemOutput::new(standard.errors);
+            do_call_over(rt, call, terminals, standard, &mut report, remark, why)
+        }
+        ReportPlace::Output => do_call_over(rt, call, terminals, standard, output, remark, why),
+    }
+}
+
+/// The same, where the report goes to the file of this path.
+fn do_call_reporting<R>(
+    rt: &R,
+    call: &CallTask<'_>,
+    terminals: Terminals,
+    standard: StandardStreams,
+    path: &str,
+    remark: &mut String,
+    why: &mut Option<SystemFailure>,
+) -> Result<u8, ToolFault>
+where
+    R: Files<File = File>
+        + Net<Stream = TcpStream, Listener = TcpListener>
+        + AllocGlobal
+        + Eprint
+        + Clock
+        + Clone
+        + Drop,
+    ensures status { IfOk result (λ status. status ≤ 1) }
+    ensures named { result ≡ Err ToolFault.Device → IsSome why.new }
+{
+    let file = match ReportFile::open(rt, path) {
+        Ok(file) => file,
+        Err(error) => {
+            *why = Some(SystemFailure::on(Resource::Output, Cause::of(&error)));
+            return Err(ToolFault::Device);
+        }
+    };
+    let mut report = SystemOutput::new(file);
+    match do_call_over(rt, call, terminals, standard, &mut report, remark, why) {
+        Err(ToolFault::Write) => {
+            *why = report.failure();
+            Err(ToolFault::Device)
+        }
+        answer => answer,
+    }
+}
+
+/// The same, where the report goes to this output.
+fn do_call_over<R, O>(
+    rt: &R,
+    call: &CallTask<'_>,
+    terminals: Terminals,
+    standard: StandardStreams,
+    output: &mut O,
+    remark: &mut String,
+    why: &mut Option<SystemFailure>,
+) -> Result<u8, ToolFault>
+where
+    R: Files<File = File>
+        + Net<Stream = TcpStream, Listener = TcpListener>
+        + AllocGlobal
+        + Eprint
+        + Clock
+        + Clone
+        + Drop,
+    O: Output,
+    ensures status { IfOk result (λ status. status ≤ 1) }
+    ensures write { result ≡ Err ToolFault.Write
+        → CountsFault (O.fault_count output.old) (O.fault_count output.new) }
+    ensures named { result ≡ Err ToolFault.Device → IsSome why.new }
+{
     let observer = SystemObserver::new(rt.alloc(), rt, call, terminals.errors)?;
-    let answer = call_run(rt.alloc(), rt, call, observer, output, remark, why);
+    let answer = call_run(
+        rt.alloc(),
+        rt,
+        call,
+        standard,
+        observer,
+        output,
+        remark,
+        why,
+    );
     remark_jobs(rt, call.dir, answer, remark);
     answer
 }
@@ -492,6 +592,7 @@ fn do_task<R, I, O>(
     rt: &R,
     task: Task<'_>,
     terminals: Terminals,
+    standard: StandardStreams,
     input: &mut I,
     output: &mut O,
     remark: &mut String,
@@ -520,7 +621,7 @@ where
         Task::PlayDrawn(how, file) => (InputTask::PlayDrawn(how), file),
         Task::Version => return show_version(rt.alloc(), output),
         Task::Pair(pair) => return do_pair(rt, &pair, output, remark, why),
-        Task::Call(call) => return do_call(rt, &call, terminals, output, remark, why),
+        Task::Call(call) => return do_call(rt, &call, terminals, standard, output, remark, why),
         Task::Queue(queue) => return queue_run(rt.alloc(), rt, &queue, output, remark, why),
     };
     do_on(rt, over, file, input, output, remark, why)
@@ -555,6 +656,7 @@ pub fn perform<R, S, I, O>(
     rt: &R,
     words: &[S],
     terminals: Terminals,
+    standard: StandardStreams,
     input: &mut I,
     output: &mut O,
 ) -> Result<u8, Stop>
@@ -577,13 +679,22 @@ where
     greet(rt, task, terminals);
     let mut remark = String::new(rt.alloc());
     let mut why = None;
-    let answer = do_task(rt, task, terminals, input, output, &mut remark, &mut why);
+    let answer = do_task(
+        rt,
+        task,
+        terminals,
+        standard,
+        input,
+        output,
+        &mut remark,
+        &mut why,
+    );
     tell(rt, answer, remark.as_str());
     end_of(rt.alloc(), task, answer, remark, why)
 }
 
 /// Does what the program's own command line asks for, on standard input and output.
-pub fn run<R>(rt: &R, terminals: Terminals) -> Result<u8, Stop>
+pub fn run<R>(rt: &R, terminals: Terminals, standard: StandardStreams) -> Result<u8, Stop>
 where
     R: Env
         + Input
@@ -604,8 +715,15 @@ where
         .collect(rt.alloc())?;
     let mut input = SystemInput::new(rt.reader());
     let mut output = SystemOutput::new(io::writer(rt));
-    let ended = perform(rt, &words, terminals, &mut input, &mut output);
+    let ended = perform(rt, &words, terminals, standard, &mut input, &mut output);
     with_reason(rt.alloc(), ended, input.failure(), output.failure())
+}
+
+/// That a call of the system failed on the standard stream of this name, and why, where there was memory for it.
+fn says_stream(alloc: Global, name: &str, failure: SystemFailure) -> Stop
+    ensures { SaysReason (reason_line (places name.now [] [] []) failure) result }
+{
+    says_reason(reason_line(alloc, name, "", "", "", failure))
 }
 
 /// The same end, with the call of the system that failed on standard input or output, where it is known.
@@ -621,15 +739,12 @@ fn with_reason(
     ensures said { IfErr ended (λ stop. IsErrAnd result (SaysStream stop input output)) }
 {
     match (ended, input, output) {
-        (Err(Stop::Fault(ToolFault::Read)), Some(failure), _)
-        | (Err(Stop::Fault(ToolFault::Write)), _, Some(failure)) => Err(says_reason(reason_line(
-            alloc,
-            "standard input",
-            "",
-            "",
-            "",
-            failure,
-        ))),
+        (Err(Stop::Fault(ToolFault::Read)), Some(failure), _) => {
+            Err(says_stream(alloc, "standard input", failure))
+        }
+        (Err(Stop::Fault(ToolFault::Write)), _, Some(failure)) => {
+            Err(says_stream(alloc, "standard output", failure))
+        }
         (ended, _, _) => ended,
     }
 }

@@ -1,3 +1,1 @@
-mod DeviceLockFacts
-pub mod LockTextLemmas
 pub mod NameLemmas

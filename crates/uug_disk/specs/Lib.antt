@@ -1,3 +1,2 @@
 pub mod Barred
-pub mod DeviceLocks
 pub mod Queued

@@ -2,7 +2,6 @@
 ghost use Rattle.std.specs.Prelude.{◌≤◌, IfErr, IfOk};
 ghost use Rattle.uug_failure.specs.Faults.{IsFolderFault};
 
-use crate::lock_text::{Holder, holder_of, is_held, lock_path, lock_text};
 use crate::part_path::{PartPath, process_text};
 use std::alloc::{AllocError, Allocator};
 use std::fs::{File, Permissions};
@@ -11,6 +10,7 @@ use std::os::unix::fs::PermissionsExt;
 use std::rt::Files;
 use std::{fs, io};
 use uug_failure::{Cause, Resource, RunFault, SystemFailure};
+use uug_locks::{Holder, holder_of, is_held, lock_path, lock_text};
 use uug_talk::{NUMBER_MAX, read_number};
 
 /// So many bytes of a lock file are read.

@@ -1,17 +1,16 @@
 //! The folder of an end for one run alone.
-ghost use Rattle.std.specs.Prelude.{◌≡◌, IfErr, IsOk, OnOk};
+ghost use Rattle.std.specs.Prelude.{◌≡◌, IfErr};
 ghost use Rattle.uug_failure.specs.Faults.{IsFolderFault, IsLockFault};
 
 use crate::part_path::PART_FRONT;
 use std::alloc::{AllocError, Allocator};
-use std::fs::{File, TryLockError};
+use std::fs::File;
 use std::io::ErrorKind;
 use std::rt::Files;
 use std::{fs, io};
-use uug_failure::{EndDir, Resource, RunFault};
+use uug_failure::{EndDir, Resource, RunFault, grant_lock};
 use uug_folder::sends_any;
 use uug_session::Job;
-use uug_stream::ToolFault;
 
 /// The lock on the folder of an end. The system gives it back when this is dropped, and when the process dies. What reads the
 /// jobs, the number or the files of an end asks for it, so that none of them is read before.
@@ -48,25 +47,13 @@ pub fn lock_dir<A: Allocator + Copy, R: Files<File = File> + Alloc + Clone + Dro
         Ok(file) => file,
         Err(error) => return Err(RunFault::of(&error, dir, Resource::Dir)),
     };
-    grant(file.try_lock(), dir)?;
+    grant_lock(file.try_lock(), dir)?;
     clear_dir(alloc, rt, dir.path)?;
     Ok(DirLock {
         _file: file,
         path,
         number: dir.number,
     })
-}
-
-/// What a run does that was answered so when it asked for the lock of a folder: it goes on only where it has got it.
-fn grant(answer: Result<(), TryLockError>, dir: EndDir<'_>) -> Result<(), RunFault>
-    ensures granted { OnOk result (IsOk answer) }
-    ensures no_other { IfErr result IsLockFault }
-{
-    match answer {
-        Ok(()) => Ok(()),
-        Err(TryLockError::WouldBlock) => Err(RunFault::Tool(ToolFault::InUse(dir.number))),
-        Err(TryLockError::Error(error)) => Err(RunFault::of(&error, dir, Resource::Dir)),
-    }
 }
 
 /// Sees that there is a folder of an end.

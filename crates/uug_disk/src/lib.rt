@@ -7,7 +7,6 @@ mod device_lock;
 mod dir_lock;
 mod given_files;
 pub mod laws;
-mod lock_text;
 mod no_file;
 mod opened_jobs;
 mod part_path;

@@ -40,10 +40,16 @@ pub(crate) fn read_copied<A: Allocator + Copy, R: Files>(
         Ok(Some(bytes)) => return Ok(bytes),
         Ok(None) => Cause::TooMuch,
         Err(error) if error.kind() == ErrorKind::OutOfMemory => return Err(ToolFault::Memory),
+        Err(error) if is_no_file(&error) => Cause::NotAFile,
         Err(error) => Cause::of(&error),
     };
     *why = Some(SystemFailure::on(Resource::Input, cause));
     Err(ToolFault::Read)
+}
+
+/// Whether an error is not the system's, but says that there is no regular file.
+fn is_no_file(error: &io::Error) -> bool {
+    error.kind() == ErrorKind::InvalidInput && error.raw_os_error().is_none()
 }
 
 /// The bytes of a regular file, unless they are too many. Nothing else is opened: a pipe would wait for a writer.

@@ -9,5 +9,5 @@ mod signals;
 
 pub use failure::{Cause, EndDir, EndText, Resource, SystemFailure};
 pub use faults::Faults;
-pub use run_fault::{LISTINGS_MAX, RunFault, was_interrupted};
+pub use run_fault::{LISTINGS_MAX, RunFault, grant_lock, was_interrupted};
 pub use signals::{read_again, write_again};

@@ -1,5 +1,5 @@
 -- What is left in a store of jobs where some are over.
-use Rattle.std.proofs.Common.{◌≡◌, ◌==◌, ℕ, suc, ◌+◌, ◌-◌, ◌≤◌, ◌⊎◌, inl, inr, Bool, length, Ok, true, false, List, [], ◌∷◌, ◌++◌, Option, Some, None, All, refl, sym, ap, subst, ◌∙◌, arith, cond, append_assoc, if◌then◌else◌, ◌&&◌}
+use Rattle.std.proofs.Common.{◌≡◌, ◌==◌, ℕ, suc, ◌+◌, ◌-◌, inl, inr, Bool, length, Ok, true, false, List, [], ◌∷◌, ◌++◌, Option, Some, None, refl, sym, ap, subst, ◌∙◌, arith, cond, append_assoc, if◌then◌else◌, ◌&&◌}
 use Rattle.std.proofs.lemmas.List.{append-nil}
 use Rattle.std.proofs.lemmas.List.Elements.{All-nil, All-cons}
 use Rattle.std.proofs.lemmas.Slice.Eq.{bytes_eq-Decides}
@@ -11,9 +11,9 @@ use Rattle.uug_conversation.specs.declared.job.Job.{Job}
 use Rattle.uug_conversation.specs.declared.job.Job.TheVariants.{Send, Request}
 use Rattle.uug_conversation.specs.declared.queue.TheConstants.{JOBS_MAX}
 use Rattle.uug_talk.specs.Chained.{◌>>=◌}
-use Rattle.uug_talk.specs.Lines.{ended, is_line_feed, lines, without_empty_last}
-use Rattle.uug_folder.specs.JobsAfter.{in_front, is_job, line_left, lines_left, without_first, without_said}
-use Rattle.uug_folder.specs.JobsText.{IsQueueOf, LineSays, job_said, jobs_from, jobs_of, no_job, one_job, or_bad, says_of, with_line}
+use Rattle.uug_talk.specs.Lines.{is_line_feed, lines, without_empty_last}
+use Rattle.uug_folder.specs.JobsAfter.{in_front, is_copy, is_job, line_left, lines_left, without_first, without_said}
+use Rattle.uug_folder.specs.JobsText.{IsQueueOf, LineSays, job_said, jobs_from, no_job, one_job, or_bad, says_of, with_line}
 use Rattle.uug_folder.specs.Notices.{TellsSome, also_told}
 use Rattle.uug_folder.specs.OpenJobs.{IsSettledOrNot, IsTextSettledOrNot, Holds, HoldsAtLeast, job_left, jobs_in, jobs_left, one_more_if, open_in, settled_in, text_left, times, with_said}
 use Rattle.uug_folder.specs.TextFiles.{holding}
@@ -106,7 +106,7 @@ one_more : (b : Bool) (n : ℕ) → one_more_if b n ≡ one_more_if b 0 + n
 one_more true n = omega arith
 one_more false n = omega arith
 
--- ---- jobs with the same words
+-- ---- jobs with the same words and the same copy
 
 abbrev three : (p q r a b c : List ℕ) → Bool
 three p q r a b c = bytes_eq p a && (bytes_eq q b && bytes_eq r c)
@@ -138,8 +138,17 @@ three_left : (p q r a b c d e f : List ℕ) → AreWords a b c d e f → three a
 three_left p q r a b c d e f h =
     ap (λ x. three x b c p q r) h.first ∙ ap (λ x. three d x c p q r) h.second ∙ ap (λ x. three d e x p q r) h.third
 
+equal_copies : (temp copy : Option (List ℕ)) → is_copy temp copy ≡ true → temp ≡ copy
+equal_copies None None h = refl
+equal_copies None (Some copy) h = absurd (cc h)
+equal_copies (Some temp) None h = absurd (cc h)
+equal_copies (Some temp) (Some copy) h = ap Some (equal_words temp copy h)
+
 alike_right : (job other x : Job) → is_job job other ≡ true → is_job x job ≡ is_job x other
-alike_right (Send a b c t) (Send d e f u) (Send p q r v) h = three_right p q r a b c d e f (words_of_three a b c d e f h)
+alike_right (Send a b c t) (Send d e f u) (Send p q r v) h =
+    let both = both_true (three a b c d e f) (is_copy t u) h in
+    ap (λ same. same && is_copy v t) (three_right p q r a b c d e f (words_of_three a b c d e f both.0))
+    ∙ ap (λ copy. three p q r d e f && is_copy v copy) (equal_copies t u both.1)
 alike_right (Send a b c t) (Send d e f u) (Request p q r) h = refl
 alike_right (Send a b c t) (Request d e f) x h = absurd (cc h)
 alike_right (Request a b c) (Send d e f u) x h = absurd (cc h)
@@ -147,7 +156,10 @@ alike_right (Request a b c) (Request d e f) (Send p q r v) h = refl
 alike_right (Request a b c) (Request d e f) (Request p q r) h = three_right p q r a b c d e f (words_of_three a b c d e f h)
 
 alike_left : (job other x : Job) → is_job job other ≡ true → is_job job x ≡ is_job other x
-alike_left (Send a b c t) (Send d e f u) (Send p q r v) h = three_left p q r a b c d e f (words_of_three a b c d e f h)
+alike_left (Send a b c t) (Send d e f u) (Send p q r v) h =
+    let both = both_true (three a b c d e f) (is_copy t u) h in
+    ap (λ same. same && is_copy t v) (three_left p q r a b c d e f (words_of_three a b c d e f both.0))
+    ∙ ap (λ copy. three d e f p q r && is_copy copy v) (equal_copies t u both.1)
 alike_left (Send a b c t) (Send d e f u) (Request p q r) h = refl
 alike_left (Send a b c t) (Request d e f) x h = absurd (cc h)
 alike_left (Request a b c) (Send d e f u) x h = absurd (cc h)

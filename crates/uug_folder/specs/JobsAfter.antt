@@ -15,9 +15,16 @@ behind first text = if bytes_eq (take (length first) text) first then Some (drop
 
 -- ---- a text that was changed otherwise
 
--- two jobs whose lines have the same words
+-- two copies of one name, or none
+abbrev pub is_copy : (temp copy : Option (List ℕ)) → Bool
+is_copy None None = true
+is_copy None (Some copy) = false
+is_copy (Some temp) None = false
+is_copy (Some temp) (Some copy) = bytes_eq temp copy
+
+-- two jobs with the same words, and with the same copy
 abbrev pub is_job : Job → Job → Bool
-is_job (Send a b c temp) (Send d e f copy) = bytes_eq a d && (bytes_eq b e && bytes_eq c f)
+is_job (Send a b c temp) (Send d e f copy) = (bytes_eq a d && (bytes_eq b e && bytes_eq c f)) && is_copy temp copy
 is_job (Send a b c temp) (Request d e f) = false
 is_job (Request a b c) (Send d e f copy) = false
 is_job (Request a b c) (Request d e f) = bytes_eq a d && (bytes_eq b e && bytes_eq c f)

@@ -1,5 +1,5 @@
 -- The jobs that stand in a store of jobs, and what is left of them where some are over (this project's profile). Jobs with the
--- same words are one to a store, as often as they stand in it.
+-- same words and the same copy are one to a store, as often as they stand in it.
 use Rattle.std.specs.Prelude.{◌≡◌, ◌≤◌, ◌⊎◌, ℕ, suc, Bool, true, false, List, [], ◌∷◌, Option, Some, None, ⊤}
 use Rattle.uug_conversation.specs.declared.job.Job.{Job}
 use Rattle.uug_talk.specs.Lines.{lines}

@@ -29,7 +29,7 @@ pub use jobs_file::{JobsFile, settle_text};
 pub use jobs_plan::JobsPlan;
 pub use jobs_text::{JobsFault, read_jobs, write_jobs};
 pub use local_names::{LocalNames, local_source};
-pub use meanwhile::jobs_after;
+pub use meanwhile::{jobs_after, take_first};
 pub use notices::{WhyFailed, why_failed, write_notices};
 pub use number_text::{
     NUMBER_LINE_MAX, number_at_start, number_beside, number_line, read_number_text,

@@ -4,7 +4,7 @@ ghost use Rattle.std.specs.Prelude.{◌≡◌, ◌&&◌, ◌++◌, ◌<◌, IfOk
 ghost use Rattle.uug_conversation.specs.Jobs.{pending};
 ghost use Rattle.uug_talk.specs.Lines.{lines};
 ghost use Rattle.uug_folder.specs.JobsText.{job_said, jobs_text, says_of};
-ghost use Rattle.uug_folder.specs.JobsAfter.{IsLeft, IsTaken, behind, is_job, jobs_after, lines_left, without_first, without_said};
+ghost use Rattle.uug_folder.specs.JobsAfter.{IsLeft, IsTaken, behind, is_copy, is_job, jobs_after, lines_left, without_first, without_said};
 
 use crate::jobs_text::{job_in, write_jobs};
 use std::alloc::{AllocError, Allocator};
@@ -109,8 +109,8 @@ fn takes_out<A: Allocator>(jobs: &mut Vec<Job, A>, line: &[u8]) -> bool
     }
 }
 
-/// Takes the first job that is this one out of these. The answer is whether there was one.
-fn take_first<A: Allocator>(jobs: &mut Vec<Job, A>, job: &Job) -> bool
+/// Takes the first job that is this one, with the same copy, out of these. The answer is whether there was one.
+pub fn take_first<A: Allocator>(jobs: &mut Vec<Job, A>, job: &Job) -> bool
     ensures { IsTaken result (without_first job.now jobs.old.items)
         jobs.old.items jobs.new.items }
 {
@@ -137,7 +137,7 @@ fn place_of(jobs: &[Job], job: &Job) -> Option<usize>
     None
 }
 
-/// Whether two jobs have the same words.
+/// Whether two jobs have the same words, and the same copy.
 pub(crate) fn is_job(job: &Job, other: &Job) -> bool
     ensures { result ≡ is_job job.now other.now }
 {
@@ -147,16 +147,19 @@ pub(crate) fn is_job(job: &Job, other: &Job) -> bool
                 source,
                 target,
                 user,
-                ..
+                temp,
             },
             Job::Send {
                 source: source_there,
                 target: target_there,
                 user: user_there,
-                ..
+                temp: temp_there,
             },
-        )
-        | (
+        ) => {
+            has_words(source, target, user, source_there, target_there, user_there)
+                && is_copy(temp, temp_there)
+        }
+        (
             Job::Request {
                 source,
                 target,
@@ -168,6 +171,17 @@ pub(crate) fn is_job(job: &Job, other: &Job) -> bool
                 user: user_there,
             },
         ) => has_words(source, target, user, source_there, target_there, user_there),
+        _ => false,
+    }
+}
+
+/// Whether two copies have one name, or there is none.
+fn is_copy(temp: &Option<Name>, copy: &Option<Name>) -> bool
+    ensures { result ≡ is_copy temp.now copy.now }
+{
+    match (temp, copy) {
+        (Some(temp), Some(copy)) => is_name(temp, copy),
+        (None, None) => true,
         _ => false,
     }
 }

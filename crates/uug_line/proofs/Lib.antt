@@ -28,6 +28,7 @@ mod VerdictLemmas
 mod RunLemmas
 pub mod SideLemmas
 mod SightingLemmas
+mod SimulatorLemmas
 mod SpokenLemmas
 mod SpeakingLemmas
 mod TakenLemmas

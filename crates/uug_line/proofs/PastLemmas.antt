@@ -34,7 +34,7 @@ module _ {C : Type 0} (k : RunKeeper C) (setup : SetupValue) where
   when_clean number event events run clean =
       ap (λ (v : LineVerdict). unless_fooled v (λ before. goes_through k setup (suc number) events (after_event k setup number event before)) run) clean
 
-  when_fooled : (number at_number : ℕ) (side : Side) (events : List Event) (run : Run C) → run.verdict ≡ Fooled at_number side →
+  pub when_fooled : (number at_number : ℕ) (side : Side) (events : List Event) (run : Run C) → run.verdict ≡ Fooled at_number side →
       goes_through k setup number events run ≡ run
   when_fooled number at_number side [] run fooled = refl
   when_fooled number at_number side (event ∷ events) run fooled =

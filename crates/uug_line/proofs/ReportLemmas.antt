@@ -1,13 +1,11 @@
 -- What a report shows of the program's run, and the run that goes on from a report.
-use Rattle.std.proofs.Common.{◌≡◌, ℕ, ◌<◌, List, [], ◌∷◌, ◌++◌, All, length, length-append, map, take, drop, get_or, refl, ap, ap₂, sym, subst, ◌∙◌, arith}
+use Rattle.std.proofs.Common.{◌≡◌, ℕ, List, [], ◌∷◌, ◌++◌, All, length, length-append, map, take, drop, get_or, refl, ap, ap₂, sym, subst, ◌∙◌, arith}
 use Rattle.std.proofs.lemmas.List.{map-append}
 use Rattle.std.proofs.lemmas.List.Elements.{All-append, All-cons, All-nil}
 use Rattle.std.proofs.Math.Seq.{drop-append_seam, take-append_seam}
-use Rattle.uug_reader.specs.declared.reader.TheConstants.{READER_SIZE}
 use Rattle.uug_session.specs.Arriving.{Buffered}
 use Rattle.uug_conversation.specs.Count.{Count}
 use Rattle.uug_conversation.specs.MemoryHoldings.{held_by}
-use Rattle.uug_session.specs.Node.{held_bytes}
 use Rattle.uug_conversation.specs.DialogueState.{DialogueState}
 use Rattle.uug_line.specs.declared.event.Event.{Event}
 use Rattle.uug_line.specs.declared.event.Event.TheVariants.{Pass, Timeout}
@@ -24,7 +22,7 @@ use Rattle.uug_line.specs.OfBytes.{AreOfTypes, IsOfBytes}
 use Rattle.uug_line.specs.OfSomeRun.{IsRunOf}
 use Rattle.uug_line.specs.Report.{end_now}
 use Rattle.uug_line.specs.Run.{Run, end_at}
-use Rattle.uug_line.specs.RunValue.{EndsAs, RunValue, StandsAs, held_parts}
+use Rattle.uug_line.specs.RunValue.{EndsAs, IsSteady, RunValue, StandsAs, held_parts}
 use Rattle.uug_line.specs.Settle.{EndMaySettle, MaySettle, Round, events_of, late, line_from, passing}
 use Rattle.uug_line.specs.Settled.{AreDone, CanSettle, EndCanSettle, SettlesInto}
 use Rattle.uug_line.specs.Code.Settling.{IsFinished, MayFinish}
@@ -49,8 +47,8 @@ lines_are setup events verdict r ends is_world Called =
     sym (ap (λ (e : LineEndState DialogueState). e.line) (ends.ends Called).end_is) ∙ ap (λ (run : Run Count). line_from Called run) is_world
 
 pub is_run_of : (setup : SetupValue) (events : List Event) (verdict : LineVerdict) (r : RunValue) → AreOfTypes setup events →
-    EndsAs setup (run_of_ends setup events) verdict r → IsRunOf setup events (whole_report r verdict)
-is_run_of setup events verdict r types ends =
+    EndsAs setup (run_of_ends setup events) verdict r → (verdict ≡ Clean → IsSteady r) → IsRunOf setup events (whole_report r verdict)
+is_run_of setup events verdict r types ends steady =
     let is_world = (run_goes setup types.sound events).counted_is in
     record {
       types = types;
@@ -59,7 +57,7 @@ is_run_of setup events verdict r types ends =
       held = subst (λ (w : Run Count). HoldWhatIsLeft w (held_parts r)) is_world
           (held_counted (run_of_ends setup events) (held_parts r) ends.held);
       lines = lines_are setup events verdict r ends is_world;
-      left = record { parts = r; shown = refl; ends = ends };
+      left = record { parts = r; shown = refl; ends = ends; steady = steady };
     }
 
 -- ---- the run that goes on from it
@@ -161,15 +159,11 @@ can_settle setup events report is may =
 
 -- ---- a run that goes on to its end
 
-has_room : (held : List ℕ) → held ≡ [] → length held < READER_SIZE
-has_room held none = subst (λ (bytes : List ℕ). length bytes < READER_SIZE) (sym none) (omega arith)
-
-stands_again : (setup : SetupValue) (events : List Event) (report : WholeReport) (r : RunValue) →
-    whole_report r report.told.verdict ≡ report → CanSettle report →
-    EndsAs setup (run_of_ends setup events) report.told.verdict r → StandsAs setup (run_of_ends setup events) r
-stands_again setup events report r shown can ends =
-    let run = run_of_ends setup events in
-    let clean : run.verdict ≡ Clean = ends.verdict_is ∙ can.clean in
+-- the run of a report that is clean, as it stands
+pub stands_again : (setup : SetupValue) (events : List Event) (verdict : LineVerdict) (r : RunValue) → verdict ≡ Clean →
+    EndsAs setup (run_of_ends setup events) verdict r → IsSteady r → StandsAs setup (run_of_ends setup events) r
+stands_again setup events verdict r is_clean ends steady =
+    let clean : (run_of_ends setup events).verdict ≡ Clean = ends.verdict_is ∙ is_clean in
     let hearer : List ℕ → LineEndState DialogueState → Buffered (LineEndState DialogueState) = λ held end. record { held = held; end = end } in
     record {
       past = ends.past;
@@ -177,18 +171,7 @@ stands_again setup events report r shown can ends =
         hearer = ap₂ hearer (sym (ends.held.all clean side) ∙ held_at r side) (ends.ends side).end_is;
         standing = (ends.ends side).standing;
       };
-      steady = record {
-        at_caller = record {
-          ordered = (ends.ends Caller).ordered;
-          room = has_room (held_bytes r.ends.at_caller.node)
-              (ap (λ (w : WholeReport). w.held.at_caller) shown ∙ can.caller.holds_none);
-        };
-        at_called = record {
-          ordered = (ends.ends Called).ordered;
-          room = has_room (held_bytes r.ends.at_called.node)
-              (ap (λ (w : WholeReport). w.held.at_called) shown ∙ can.called.holds_none);
-        };
-      };
+      steady = steady;
       clean = clean;
     }
 
@@ -198,7 +181,7 @@ pub may_finish : (setup : SetupValue) (events : List Event) (report : WholeRepor
 may_finish setup events report r is can same = record {
   types = is.types;
   stands = subst (λ (parts : RunValue). StandsAs setup (run_of_ends setup events) parts) (sym same)
-      (stands_again setup events report is.left.parts is.left.shown can is.left.ends);
+      (stands_again setup events report.told.verdict is.left.parts can.clean is.left.ends (is.left.steady can.clean));
   settles = may_settle setup events report is can;
 }
 
@@ -228,7 +211,7 @@ settles_into setup events r types finished =
     record {
       settles = finished.settles;
       is = is_run_of setup more Clean r (types_behind setup events rounds types)
-          (ends_clean (run_of_ends setup more) setup r finished.stands);
+          (ends_clean (run_of_ends setup more) setup r finished.stands) (λ clean. finished.stands.steady);
     }
 
 pub settled_are_done : (setup : SetupValue) (events : List Event) (report : WholeReport) → SettlesInto setup events report →

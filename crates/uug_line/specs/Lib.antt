@@ -29,3 +29,4 @@ pub mod WereSent
 pub mod WholeReport
 pub mod World
 pub mod Code
+pub mod Simulator

@@ -4,7 +4,8 @@ use Rattle.uug_line.specs.declared.event.Event.{Event}
 use Rattle.uug_conversation.specs.declared.side.Side.{Side}
 use Rattle.uug_line.specs.Belongings.{SetupValue}
 use Rattle.uug_line.specs.OfBytes.{AreOfTypes}
-use Rattle.uug_line.specs.RunValue.{EndsAs, RunValue}
+use Rattle.uug_line.specs.declared.verdict.LineVerdict.TheVariants.{Clean}
+use Rattle.uug_line.specs.RunValue.{EndsAs, IsSteady, RunValue}
 use Rattle.uug_line.specs.Settle.{line_from}
 use Rattle.uug_conversation.specs.Sides.{at}
 use Rattle.uug_line.specs.Spelled.{GiveAsSetUp, spelled}
@@ -17,6 +18,8 @@ pub record IsLeftBy (setup : SetupValue) (events : List Event) (report : WholeRe
   pub parts : RunValue
   pub shown : whole_report parts report.told.verdict ≡ report
   pub ends : EndsAs setup (run_of_ends setup events) report.told.verdict parts
+  -- where it is clean, another event may happen
+  pub steady : report.told.verdict ≡ Clean → IsSteady parts
 
 -- of these two ends and these events the world tells this report; the spools stand in it as the ends were set up, the ends
 -- hold what is left of the bytes that came, and what is on the lines is what the world has there

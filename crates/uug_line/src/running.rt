@@ -135,10 +135,11 @@ impl<A: Allocator + Copy> RunSoFar<A> {
     /// The events, one after the other, up to one at which a packet is found that was not sent.
     fn go_through(&mut self, alloc: A, events: &[Event]) -> Result<LineVerdict, AllocError>
         requires { IsSteady (run_value self.old) }
-        ensures { IfOk result (λ verdict. (setup : SetupValue) (run : Run DialogueState)
+        ensures ends { IfOk result (λ verdict. (setup : SetupValue) (run : Run DialogueState)
             → StandsAs setup run (run_value self.old)
             → EndsAs setup (goes_through by_themselves setup 0 events.now run) verdict
             (run_value self.new)) }
+        ensures steady { IfOk result (λ verdict. verdict ≡ Clean → IsSteady (run_value self.new)) }
     {
         for (number, event) in events.iter().enumerate() {
             if !self.happens(alloc, *event)? {
@@ -152,7 +153,7 @@ impl<A: Allocator + Copy> RunSoFar<A> {
     }
 
     /// The event happens. The answer is false where an end has found a packet that was not sent.
-    fn happens(&mut self, alloc: A, event: Event) -> Result<bool, AllocError>
+    pub(crate) fn happens(&mut self, alloc: A, event: Event) -> Result<bool, AllocError>
         requires { IsSteady (run_value self.old) }
         ensures { IfOk result (λ all_sent.
             Happens event all_sent (run_value self.old) (run_value self.new)) }
@@ -289,7 +290,7 @@ impl<A: Allocator + Copy> RunSoFar<A> {
 }
 
 /// The side that hears, where one does in the event.
-fn hearing_side(event: Event) -> Side
+pub(crate) fn hearing_side(event: Event) -> Side
     ensures { result ≡ hearing_side event }
 {
     match event {

@@ -48,7 +48,7 @@ pub fn settle<A: Allocator + Copy>(alloc: A, report: Report<A>) -> Result<Report
 
 impl<A: Allocator + Copy> Report<A> {
     /// The run whose report it is, as it stands.
-    fn into_run(self) -> RunSoFar<A>
+    pub(crate) fn into_run(self) -> RunSoFar<A>
         ensures of_a_run { IsOfSomeRun self }
         ensures same { (parts : RunValue) → whole_report parts self.told.verdict ≡ self
             → run_value result ≡ parts }

@@ -15,8 +15,8 @@ fn look_at_end<A: Allocator + Copy>(end: &EndSetup<A>)
     end.queue.pending();
 }
 
-// Only where an event is matched does a proof know that the numbers in it are bytes.
-fn look_at_event(event: Event)
+/// Only where an event is matched does a proof know that the numbers in it are bytes.
+pub(crate) fn look_at_event(event: Event)
     ensures { IsOfBytes event }
 {
     match event {

@@ -5,7 +5,7 @@ use Rattle.uug_conversation.specs.Turns.{other}
 use Rattle.uug_conversation.specs.declared.side.Side.{Side}
 use Rattle.uug_conversation.specs.declared.side.Side.TheVariants.{Caller, Called}
 use Rattle.uug_session.specs.declared.place.Place.{Place}
-use Rattle.uug_sys.specs.Tasks.{Announces}
+use Rattle.uug_task.specs.Tasks.{Announces}
 use Rattle.uug_pair.specs.declared.pair.TheConstants.{SIZE, WINDOW}
 
 -- the name of each end of a pair

@@ -9,7 +9,7 @@ ghost use Rattle.uug_transfer.specs.FaultInjection.{is_in_range};
 ghost use Rattle.uug_failure.specs.Faults.{IsReadingFault, IsRunFault};
 ghost use Rattle.uug_pair.specs.GoneJobs.{GoneJobsWereDone, beginnings_of, kept_by, nodes_of};
 ghost use Rattle.uug_pair.specs.Places.{IsPlaceInPair};
-ghost use Rattle.uug_sys.specs.Tasks.{beginning_of};
+ghost use Rattle.uug_task.specs.Tasks.{beginning_of};
 ghost use Rattle.uug_transfer.specs.BufferedNodes.{IsLed, node_in, spool_in};
 
 use std::alloc::{AllocError, Allocator};
@@ -27,8 +27,8 @@ use uug_link::Announce;
 use uug_port::open_wire;
 use uug_session::{Place, Side, Spool, Stored};
 use uug_stream::{Output, ToolFault};
-use uug_sys::EndParts;
 use uug_talk::Name;
+use uug_task::EndParts;
 use uug_transfer::{FaultInjector, TransferEnd, pair_over};
 
 /// The most turns that two ends take.

@@ -4,6 +4,7 @@ use Rattle.uug_line.specs.declared.event.Event.{Event}
 use Rattle.uug_conversation.specs.declared.side.Side.{Side}
 use Rattle.uug_conversation.specs.declared.side.Side.TheVariants.{Caller, Called}
 use Rattle.uug_line.specs.declared.verdict.LineVerdict.TheVariants.{Clean}
+use Rattle.uug_line.specs.declared.verdict.LineVerdict.TheVariants as verdicts
 use Rattle.uug_line.specs.Belongings.{SetupValue}
 use Rattle.uug_line.specs.OfSomeRun.{IsRunOf}
 use Rattle.uug_line.specs.Settled.{CanSettle, SettlesInto}
@@ -15,16 +16,17 @@ use Rattle.uug_line.specs.World.{world}
 use Rattle.uug_script.specs.ReportText.{report_text}
 use Rattle.uug_stream.specs.Streams.{AppendsFront}
 use Rattle.uug_play.specs.declared.unsettled.Unsettled.{Unsettled}
+use Rattle.uug_play.specs.declared.unsettled.Unsettled.TheVariants.{Fooled}
 use Rattle.uug_play.specs.Numbers.{result_of, status_of_result}
 use Rattle.uug_play.specs.Settled.{BeginsSettled, GoesOnFrom, IsBehind, IsRunOfScript, IsSettled, RunsOutSettling}
-use Rattle.uug_play.specs.Unsettled.{Fails, IsQuietEnd, unsettled_line}
+use Rattle.uug_play.specs.Unsettled.{EndFails, Fails, IsQuietEnd, fooled, unsettled_line}
 use Rattle.uug_play.specs.Whole.{BringsAll}
 
 -- where the verdict and both ends are right, but the report may not settle, something is on the line
-pub on_line : (report : WholeReport) → report.told.verdict ≡ Clean →
+pub not_empty : (report : WholeReport) → report.told.verdict ≡ Clean →
     IsQuietEnd report.told.ends.at_caller report.held.at_caller → IsQuietEnd report.told.ends.at_called report.held.at_called →
     (CanSettle report → ⊥) → ((side : Side) → (at side report.left).line ≡ []) → ⊥
-on_line report clean caller called cannot empty = cannot (record {
+not_empty report clean caller called cannot empty = cannot (record {
   clean = clean;
   caller = record {
     on_link = caller.on_link;
@@ -47,6 +49,14 @@ on_line report clean caller called cannot empty = cannot (record {
 pub quiet_as : (before now : EndNow) (bytes held : List ℕ) → before ≡ now → bytes ≡ held → IsQuietEnd before bytes → IsQuietEnd now held
 quiet_as before now bytes held same kept quiet =
     subst (λ (x : EndNow). IsQuietEnd x held) same (subst (λ (y : List ℕ). IsQuietEnd before y) kept quiet)
+
+pub fails_as : (side : Side) (before now : EndNow) (bytes held : List ℕ) (why : Unsettled) → before ≡ now → bytes ≡ held
+    → EndFails side before bytes why → EndFails side now held why
+fails_as side before now bytes held why same kept fails =
+    subst (λ (x : EndNow). EndFails side x held why) same (subst (λ (y : List ℕ). EndFails side before y why) kept fails)
+
+pub is_fooled : (report : WholeReport) (event : ℕ) (side : Side) → report.told.verdict ≡ verdicts.Fooled event side → Fails Fooled report
+is_fooled report event side is = fooled (λ clean. absurd (let never : verdicts.Fooled event side ≡ Clean = sym is ∙ clean in cc))
 
 -- what the report settles to is told behind it
 pub is_behind : (setup : SetupValue) (events : List Event) (text : List ℕ) (status : ℕ) (report : WholeReport) →

@@ -16,29 +16,39 @@ use Rattle.uug_play.specs.declared.unsettled.Unsettled.TheVariants.{Fooled, Sile
 abbrev pub Talks : EndNow → Type 0
 Talks now = phase_at now.stage now.link.phase ≡ Talking
 
--- the condition does not hold of the report
-abbrev pub Fails : Unsettled → WholeReport → Type 0
-Fails Fooled report = report.told.verdict ≡ Clean → ⊥
-Fails (Silent side) report = Talks (at side report.told.ends) → ⊥
-Fails (Quiet side) report = (at side report.told.ends).link.own.quiet ≡ false → ⊥
-Fails (Late side) report = (at side report.told.ends).link.timeouts ≤ 6 → ⊥
-Fails (Holds side) report = at side report.held ≡ [] → ⊥
-Fails OnLine report = ((side : Side) → (at side report.left).line ≡ []) → ⊥
-
 -- ---- of one end
 
 -- the end may settle where nothing is on the line from it
 abbrev pub IsQuietEnd : (now : EndNow) (held : List ℕ) → Type 0
 IsQuietEnd now held = EndCanSettle now held []
 
--- the condition is one of the end on this side, and does not hold of it
+-- the condition is one of the end on this side, and the first of these that does not hold of it: that it talks, is not quiet on
+-- repeats, has not timed out too often, and holds nothing
 abbrev pub EndFails : (side : Side) (now : EndNow) (held : List ℕ) → Unsettled → Type 0
 EndFails side now held Fooled = ⊥
 EndFails side now held (Silent s) = (s ≡ side) × (Talks now → ⊥)
-EndFails side now held (Quiet s) = (s ≡ side) × (now.link.own.quiet ≡ false → ⊥)
-EndFails side now held (Late s) = (s ≡ side) × (now.link.timeouts ≤ 6 → ⊥)
-EndFails side now held (Holds s) = (s ≡ side) × (held ≡ [] → ⊥)
+EndFails side now held (Quiet s) = (s ≡ side) × Talks now × (now.link.own.quiet ≡ false → ⊥)
+EndFails side now held (Late s) = (s ≡ side) × Talks now × (now.link.own.quiet ≡ false) × (now.link.timeouts ≤ 6 → ⊥)
+EndFails side now held (Holds s) =
+    (s ≡ side) × Talks now × (now.link.own.quiet ≡ false) × (now.link.timeouts ≤ 6) × (held ≡ [] → ⊥)
 EndFails side now held OnLine = ⊥
+
+-- ---- of a report
+
+abbrev pub IsQuietAt : Side → WholeReport → Type 0
+IsQuietAt side report = IsQuietEnd (at side report.told.ends) (at side report.held)
+
+abbrev pub FailsAt : Side → Unsettled → WholeReport → Type 0
+FailsAt side why report = EndFails side (at side report.told.ends) (at side report.held) why
+
+-- The condition is the first that does not hold of the report: of the verdict, of the caller, of the called end, of the line.
+pub data Fails : Unsettled → WholeReport → Type 0 where
+  fooled : {report : WholeReport} → (report.told.verdict ≡ Clean → ⊥) → Fails Fooled report
+  caller_fails : {why : Unsettled} {report : WholeReport} → report.told.verdict ≡ Clean → FailsAt Caller why report → Fails why report
+  called_fails : {why : Unsettled} {report : WholeReport} → report.told.verdict ≡ Clean → IsQuietAt Caller report → FailsAt Called why report
+      → Fails why report
+  on_line : {report : WholeReport} → report.told.verdict ≡ Clean → IsQuietAt Caller report → IsQuietAt Called report
+      → (((side : Side) → (at side report.left).line ≡ []) → ⊥) → Fails OnLine report
 
 -- ---- as it is written
 

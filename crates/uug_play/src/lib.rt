@@ -4,6 +4,7 @@
 mod play;
 mod played;
 mod reasons;
+mod remarked;
 mod settled;
 mod unsettled;
 mod whole;
@@ -11,6 +12,7 @@ mod whole;
 pub use play::{play_stream, play_within};
 pub use played::{Played, PlayedVerbosely, play_script, play_script_verbosely};
 pub use reasons::{Reason, add_reasons};
+pub use remarked::play_remarked;
 pub use settled::{play_settled, settle_script};
 pub use unsettled::{Unsettled, why_unsettled};
 pub use whole::read_whole;

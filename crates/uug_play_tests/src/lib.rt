@@ -1,4 +1,4 @@
-//! Tests of the calls of `uug_stream`, `uug_scan`, `uug_script`, `uug_play`, `uug_ladder` and `uug_remark`, and of runs over noisy lines,
+//! Tests of the calls of `uug_stream`, `uug_scan`, `uug_script`, `uug_play` and `uug_ladder`, and of runs over noisy lines,
 //! all in one crate: a crate with tests of its own is proved once more for them.
 #![tactic(auto)]
 

@@ -5,7 +5,7 @@ use crate::assertions::{assert_same, assert_so};
 use std::alloc::Global;
 use std::process::Abort;
 use std::test::Fail;
-use uug_remark::play_remarked;
+use uug_play::play_remarked;
 use uug_stream::{MemoryInput, MemoryOutput, ToolFault};
 
 /// Third lines behind two that set up the ends, and what is wrong with them.

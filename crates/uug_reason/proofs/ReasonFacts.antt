@@ -18,6 +18,10 @@ pair_places = places [] (codes "s") (codes "a") (codes "b")
 abbrev end_places : Places
 end_places = places [] (codes "tcp:127.0.0.1:5999") (27 ∷ codes "a") (27 ∷ codes "a")
 
+-- what is written is called so
+abbrev output_places : Places
+output_places = places (codes "standard output") [] [] []
+
 record AreSaid : Type 0 where
   line : reason_line end_places (record { end = 0; resource = on.Line; cause = causes.Refused kinds.ConnectionRefused (Some (pos 111)) }) ≡ codes "uucpair: tcp:127.0.0.1:5999: connection refused" ++ 10 ∷ []
   host : reason_line end_places (record { end = 0; resource = on.Line; cause = causes.Refused kinds.Uncategorized None }) ≡ codes "uucpair: tcp:127.0.0.1:5999: unknown host" ++ 10 ∷ []
@@ -27,7 +31,7 @@ record AreSaid : Type 0 where
   got : reason_line pair_places (record { end = 1; resource = on.Got (codes "y"); cause = causes.Refused kinds.StorageFull (Some (pos 28)) }) ≡ codes "uucpair: b/got/y: no space left" ++ 10 ∷ []
   files : reason_line pair_places (record { end = 1; resource = on.Send; cause = causes.TooMuch }) ≡ codes "uucpair: b/send: more than 256 files" ++ 10 ∷ []
   socket : reason_line pair_places (record { end = 0; resource = on.Line; cause = causes.Refused kinds.AddrInUse (Some (pos 98)) }) ≡ codes "uucpair: s: address in use" ++ 10 ∷ []
-  output : reason_line pair_places (record { end = 0; resource = on.Output; cause = causes.MovedNothing }) ≡ codes "uucpair: standard output: it takes no byte" ++ 10 ∷ []
+  output : reason_line output_places (record { end = 0; resource = on.Output; cause = causes.MovedNothing }) ≡ codes "uucpair: standard output: it takes no byte" ++ 10 ∷ []
 
 said : AreSaid
 unfolding digits

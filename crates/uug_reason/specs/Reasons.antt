@@ -15,16 +15,16 @@ use Rattle.uug_talk.specs.Lines.{ended}
 
 -- ---- on what
 
--- What the things are called that a call may be made on: what is read, the line or the socket, and the folders of the ends. One
+-- What the things are called that a call may be made on: what is read or written, the line or the socket, and the folders of the ends. One
 -- end has the same folder twice.
 pub record Places : Type 0 where
-  pub input : List ℕ
+  pub stream : List ℕ
   pub line : List ℕ
   pub first : List ℕ
   pub second : List ℕ
 
-abbrev pub places : (input line first second : List ℕ) → Places
-places input line first second = record { input = input; line = line; first = first; second = second }
+abbrev pub places : (stream line first second : List ℕ) → Places
+places stream line first second = record { stream = stream; line = line; first = first; second = second }
 
 abbrev pub text_words : EndText → List ℕ
 text_words Jobs = codes "jobs"
@@ -46,8 +46,8 @@ below_words resource = []
 
 -- what a call of this end was made on; what can't be seen of a path is escaped
 abbrev pub place_words : Places → (end : ℕ) → Resource → List ℕ
-place_words p end Input = escaped p.input
-place_words p end Output = codes "standard output"
+place_words p end Input = escaped p.stream
+place_words p end Output = escaped p.stream
 place_words p end Line = escaped p.line
 place_words p end resource = escaped (dir_of p.first p.second end) ++ below_words resource
 

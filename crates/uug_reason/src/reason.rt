@@ -8,23 +8,23 @@ use crate::escape::add_escaped;
 use std::alloc::{AllocError, Allocator};
 use uug_failure::{EndText, Resource, SystemFailure};
 
-/// The line that says on what a call of the system failed, and why, for standard error. What is read is called `input`, the line
-/// or the socket `line`, and the folders of the ends `first` and `second`.
+/// The line that says on what a call of the system failed, and why, for standard error. What is read or written is called `stream`,
+/// the line or the socket `line`, and the folders of the ends `first` and `second`.
 pub fn reason_line<A: Allocator>(
     alloc: A,
-    input: &str,
+    stream: &str,
     line: &str,
     first: &str,
     second: &str,
     failure: SystemFailure,
 ) -> Result<String<A>, AllocError>
     ensures { IfOk result (λ text. string_bytes text
-        ≡ reason_line (places input.now line.now first.now second.now) failure) }
+        ≡ reason_line (places stream.now line.now first.now second.now) failure) }
 {
     let mut text = String::from_str(alloc, "uucpair: ")?;
     add_place(
         &mut text,
-        input,
+        stream,
         line,
         first,
         second,
@@ -51,7 +51,7 @@ fn text_words(which: EndText) -> &'static str
 /// Appends what a call of this end was made on.
 fn add_place<A: Allocator>(
     text: &mut String<A>,
-    input: &str,
+    stream: &str,
     line: &str,
     first: &str,
     second: &str,
@@ -59,11 +59,10 @@ fn add_place<A: Allocator>(
     resource: Resource,
 ) -> Result<(), AllocError>
     ensures { OnOk result (string_bytes text.new ≡ string_bytes text.old
-        ++ place_words (places input.now line.now first.now second.now) end resource) }
+        ++ place_words (places stream.now line.now first.now second.now) end resource) }
 {
     match resource {
-        Resource::Input => add_escaped(text, input.as_bytes()),
-        Resource::Output => text.push_str("standard output"),
+        Resource::Input | Resource::Output => add_escaped(text, stream.as_bytes()),
         Resource::Line => add_escaped(text, line.as_bytes()),
         Resource::Dir
         | Resource::Text(_)

@@ -1,5 +1,5 @@
 -- What single words say.
-use Rattle.std.proofs.Common.{◌≡◌, ◌==◌, ◌⊎◌, inl, inr, ◌↔◌, ℕ, zero, suc, ◌<◌, ◌≤◌, Bool, true, false, if◌then◌else◌, List, nat_le, Option, Some, None, Result, Ok, Err, IfOk, lit<, refl, sym, ap, subst, ◌∙◌, arith}
+use Rattle.std.proofs.Common.{◌≡◌, ◌==◌, ◌&&◌, ◌⊎◌, inl, inr, ◌↔◌, ℕ, zero, suc, ◌<◌, Bool, true, false, if◌then◌else◌, nat_le, Option, Some, None, Result, Ok, Err, IfOk, lit<, refl, sym, ap, subst, ◌∙◌, arith}
 use Rattle.std.proofs.lemmas.Bool.Decides.{nat_tests}
 use Rattle.std.specs.Prelude.{IsErrOf}
 use Rattle.std.specs.Result.{result_ok}
@@ -8,10 +8,9 @@ use Rattle.uug_link.specs.Terms.{IsSize, IsWindow, size_of_code}
 use Rattle.uug_link.specs.declared.announce.Announce.{Announce}
 use Rattle.uug_link.specs.declared.announce.BadAnnounce.{BadAnnounce}
 use Rattle.uug_link.specs.declared.announce.BadAnnounce.TheVariants as bad
-use Rattle.uug_link.specs.declared.limits.TheConstants.{MESSAGE_MAX, SIZE_CODES, WINDOW_MAX}
-use Rattle.uug_talk.specs.Number.{number_of}
+use Rattle.uug_link.specs.declared.limits.TheConstants.{SIZE_CODES, WINDOW_MAX}
 use Rattle.uug_talk.specs.Chained.{◌>>=◌}
-use Rattle.uug_script.specs.Fields.{code_of_size, announcement, announcement_of}
+use Rattle.uug_script.specs.Fields.{code_of_size, is_window, announcement}
 use Rattle.uug_script.specs.Meaning.{announced_by}
 
 -- ---- announcements
@@ -57,36 +56,46 @@ no_code size (Some y) e other = absurd (let s = size_of_its_code size y e in oth
 abbrev pub announced_as : ℕ → ℕ → Announced
 announced_as window code = record { window = window; size_code = code; quiet = false; short = false }
 
+outside_window : (window : ℕ) → is_window window ≡ false → (window < 1) ⊎ (WINDOW_MAX < window)
+outside_window window e = by_low (nat_le 1 window) refl e where
+  by_high : (b : Bool) → nat_le window WINDOW_MAX ≡ b → b ≡ false → (window < 1) ⊎ (WINDOW_MAX < window)
+  by_high true t f = absurd cc
+  by_high false t f = inr (grind (arith, nat_tests))
+
+  by_low : (b : Bool) → nat_le 1 window ≡ b → (b && nat_le window WINDOW_MAX) ≡ false → (window < 1) ⊎ (WINDOW_MAX < window)
+  by_low true t f = by_high (nat_le window WINDOW_MAX) refl f
+  by_low false t f = inl (grind (arith, nat_tests))
+
+no_window : (window : ℕ) → (window < 1) ⊎ (WINDOW_MAX < window) → is_window window ≡ false
+no_window window (inl low) = let none : nat_le 1 window ≡ false = grind (arith, nat_tests) in rw none refl
+no_window window (inr high) = by_low (nat_le 1 window) where
+  by_low : (b : Bool) → (b && nat_le window WINDOW_MAX) ≡ false
+  by_low true = grind (arith, nat_tests)
+  by_low false = refl
+
 -- an announcement is made exactly of a window and a size
-pub announcement_made : (window size : ℕ) (r : Result Announce BadAnnounce) → window ≤ WINDOW_MAX
+pub announcement_made : (window size : ℕ) (r : Result Announce BadAnnounce)
     → IfOk r (λ a. (announced a).window ≡ window) → IfOk r (λ a. size_of_code (announced a).size_code ≡ size)
     → IfOk r (λ a. (announced a).quiet ≡ false) → IfOk r (λ a. (announced a).short ≡ false)
     → (IsErrOf r bad.BadWindow ↔ ((window < 1) ⊎ (WINDOW_MAX < window)))
     → (IsErrOf r bad.BadSize ↔ (IsWindow window × (IsSize size → ⊥)))
     → announced_by (result_ok r) ≡ announcement window size
-announcement_made window size (Ok a) small window_is size_is plain filled bad_window bad_size =
-    let some : nat_le 1 window ≡ true = window_some (nat_le 1 window) refl in
+announcement_made window size (Ok a) window_is size_is plain filled bad_window bad_size =
+    let some : is_window window ≡ true = window_passes (is_window window) refl in
     let code : code_of_size size ≡ Some (announced a).size_code = ap code_of_size (sym size_is) ∙ code_of_its_size (announced a).size_code a.size_code.below in
     rw (some, code) (ap (λ (s : Bool). Some (short_as s (announced a))) filled ∙ ap (λ (q : Bool). Some (short_as false (quiet_as q (announced a)))) plain ∙ ap (λ w. Some (announced_as w (announced a).size_code)) window_is) where
-      window_some : (b : Bool) → nat_le 1 window ≡ b → b ≡ true
-      window_some true t = refl
-      window_some false t =
-          let low : window < 1 = grind (arith, nat_tests) in
-          let e = bad_window.1 (inl low) in
+      window_passes : (b : Bool) → is_window window ≡ b → b ≡ true
+      window_passes true t = refl
+      window_passes false t =
+          let outside : (window < 1) ⊎ (WINDOW_MAX < window) = outside_window window t in
+          let e = bad_window.1 outside in
           absurd cc
-announcement_made window size (Err bad.BadWindow) small window_is size_is plain filled bad_window bad_size =
-    let none : nat_le 1 window ≡ false = elim (bad_window.0 refl) [ inl low ↦ grind (arith, nat_tests) | inr high ↦ absurd (omega arith) ] in
+announcement_made window size (Err bad.BadWindow) window_is size_is plain filled bad_window bad_size =
+    let none : is_window window ≡ false = no_window window (bad_window.0 refl) in
     rw none refl
-announcement_made window size (Err bad.BadSize) small window_is size_is plain filled bad_window bad_size =
+announcement_made window size (Err bad.BadSize) window_is size_is plain filled bad_window bad_size =
     let none : code_of_size size ≡ None = no_code size (code_of_size size) refl (bad_size.0 refl).1 in
-    no_size (nat_le 1 window) none where
+    no_size (is_window window) none where
       no_size : (b : Bool) → code_of_size size ≡ None → None ≡ (if b then code_of_size size >>= (λ code. Some (announced_as window code)) else None)
       no_size true e = rw e refl
       no_size false e = refl
-
--- the words of a window and of a size, read as numbers
-pub announcement_read : (most window size : ℕ) (window_word size_word : List ℕ) → most ≡ WINDOW_MAX → Some window ≡ number_of most window_word
-    → Some size ≡ number_of MESSAGE_MAX size_word → announcement window size ≡ announcement_of window_word size_word
-announcement_read most window size window_word size_word m e f =
-    ap (λ o. o >>= (λ s. announcement window s)) f
-    ∙ ap (λ o. o >>= (λ w. number_of MESSAGE_MAX size_word >>= (λ s. announcement w s))) (e ∙ ap (λ k. number_of k window_word) m)

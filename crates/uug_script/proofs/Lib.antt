@@ -1,6 +1,8 @@
 pub mod AfreshLemmas
 pub mod FieldLemmas
+pub mod HexWordLemmas
 pub mod JobLemmas
+pub mod RemarkLemmas
 pub mod ReportLemmas
 pub mod ScriptFacts
 pub mod ScriptLemmas

@@ -13,6 +13,8 @@ use Rattle.uug_script.specs.declared.report.EndNumbers.{EndNumbers}
 use Rattle.uug_conversation.specs.declared.side.Side.TheVariants.{Caller, Called}
 use Rattle.uug_line.specs.declared.verdict.LineVerdict.TheVariants.{Clean, Fooled}
 use Rattle.uug_talk.specs.Lines.{lines, ended}
+use Rattle.uug_script.specs.declared.field.Field.TheVariants as fields
+use Rattle.uug_script.specs.Complaints.{missing, too_many, unknown, wrong}
 use Rattle.uug_script.specs.Meaning.{event, lenient, number, of_end, quiet, short}
 use Rattle.uug_script.specs.ReadLine.{line_of}
 use Rattle.uug_script.specs.ReportText.{RunResult, report_text, stored_line, verdict_line}
@@ -57,57 +59,61 @@ one_digit : script_of (both_ends ++ ended (codes "flip caller 1") ++ codes "othe
 unfolding hex_on_literals
 one_digit = refl
 
-two_digits : line_of (codes "flip caller fF") ≡ Some (event (Flip Caller 255))
+two_digits : line_of (codes "flip caller fF") ≡ Ok (event (Flip Caller 255))
 unfolding hex_on_literals
 two_digits = refl
 
-five_digits : line_of (codes "file caller x 06444 -") ≡ None
+five_digits : line_of (codes "file caller x 06444 -") ≡ Err (wrong fields.Mode (codes "06444"))
 five_digits = refl
 
-a_number : line_of (codes "number called 4294967295") ≡ Some (of_end Called (number 4294967295))
+a_number : line_of (codes "number called 4294967295") ≡ Ok (of_end Called (number 4294967295))
 a_number = refl
 
-too_great_a_number : line_of (codes "number called 4294967296") ≡ None
+too_great_a_number : line_of (codes "number called 4294967296") ≡ Err (wrong fields.Number (codes "4294967296"))
 too_great_a_number = refl
 
 -- a number is said once of each end
 two_numbers : script_of (both_ends ++ ended (codes "number caller 7") ++ ended (codes "number called 9") ++ codes "number caller 7") ≡ Err 5
 two_numbers = refl
 
-a_quiet_end : line_of (codes "quiet called") ≡ Some (of_end Called quiet)
+a_quiet_end : line_of (codes "quiet called") ≡ Ok (of_end Called quiet)
 a_quiet_end = refl
 
 -- that an end is quiet on repeats is said once of each end
 twice_quiet : script_of (both_ends ++ ended (codes "quiet caller") ++ ended (codes "quiet called") ++ codes "quiet caller") ≡ Err 5
 twice_quiet = refl
 
-a_short_end : line_of (codes "short called") ≡ Some (of_end Called short)
+a_short_end : line_of (codes "short called") ≡ Ok (of_end Called short)
 a_short_end = refl
 
-short_of_no_side : line_of (codes "short") ≡ None
+short_of_no_side : line_of (codes "short") ≡ Err (missing fields.Side)
 short_of_no_side = refl
 
-short_and_more : line_of (codes "short caller 1") ≡ None
+short_and_more : line_of (codes "short caller 1") ≡ Err (too_many (codes "1"))
 short_and_more = refl
 
 -- that an end's commands are short is said once of each end
 twice_short : script_of (both_ends ++ ended (codes "short caller") ++ ended (codes "short called") ++ codes "short caller") ≡ Err 5
 twice_short = refl
 
-a_lenient_end : line_of (codes "lenient called") ≡ Some (of_end Called lenient)
+a_lenient_end : line_of (codes "lenient called") ≡ Ok (of_end Called lenient)
 a_lenient_end = refl
 
-lenient_of_no_side : line_of (codes "lenient") ≡ None
+lenient_of_no_side : line_of (codes "lenient") ≡ Err (missing fields.Side)
 lenient_of_no_side = refl
 
 -- that an end is lenient is said once of each end
 twice_lenient : script_of (both_ends ++ ended (codes "lenient caller") ++ ended (codes "lenient called") ++ codes "lenient caller") ≡ Err 5
 twice_lenient = refl
 
-a_tab : line_of (9 ∷ codes "call") ≡ None
+a_tab : line_of (9 ∷ codes "call") ≡ Err (unknown (9 ∷ codes "call"))
 a_tab = refl
 
-spaces : line_of (codes "  call  ") ≡ Some (event Call)
+-- of several things that are wrong the first is complained of
+first_of_two : line_of (codes "caller a 8 33 x") ≡ Err (wrong fields.Window (codes "8"))
+first_of_two = refl
+
+spaces : line_of (codes "  call  ") ≡ Ok (event Call)
 spaces = refl
 
 last_line : lines (codes "a" ++ 10 ∷ 10 ∷ codes "b") ≡ codes "a" ∷ [] ∷ codes "b" ∷ []

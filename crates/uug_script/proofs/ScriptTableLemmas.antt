@@ -1,6 +1,9 @@
 -- The function that reads a script, and what a script is, agree.
 use Rattle.std.proofs.Common.{◌≡◌, ℕ, suc, ◌+◌, List, [], ◌∷◌, ◌++◌, length, Option, Some, None, Result, Ok, Err, IfOk, IfErr, ok_or, refl, sym, ap, ◌∙◌, arith}
 use Rattle.std.proofs.lemmas.List.{append-nil}
+use Rattle.std.specs.Result.{result_ok}
+use Rattle.uug_script.specs.Complaints.{Wrong}
+use Rattle.uug_script.specs.Meaning.{LineMeaning}
 use Rattle.uug_script.specs.declared.fault.ScriptFault.{ScriptFault}
 use Rattle.uug_script.specs.declared.fault.ScriptFault.TheVariants as fault
 use Rattle.uug_script.specs.declared.script.Script.{Script}
@@ -17,10 +20,14 @@ use Rattle.uug_script.proofs.WordTableLemmas.{bind_some}
 line_is_added : (line : List ℕ) (before after : Said) → LineAdds line before after → text_added line before ≡ Some after
 line_is_added line before after h = rw (text_says_read line h.meaning h.says) h.adds
 
+ok_when_some : (r : Result LineMeaning Wrong) (m : LineMeaning) → result_ok r ≡ Some m → r ≡ Ok m
+ok_when_some (Ok x) m e = let same : x ≡ m = cc in ap Ok same
+ok_when_some (Err w) m e = absurd cc
+
 line_adds : (line : List ℕ) (before after : Said) → text_added line before ≡ Some after → LineAdds line before after
 line_adds line before after e =
-    let m = bind_some (line_of line) (λ m. added m before) after e in
-    record { meaning = m.0; says = read_text_says line m.0 m.1; adds = m.2 }
+    let m = bind_some (result_ok (line_of line)) (λ m. added m before) after e in
+    record { meaning = m.0; says = read_text_says line m.0 (ok_when_some (line_of line) m.0 m.1); adds = m.2 }
 
 -- ---- the lines
 

@@ -25,7 +25,7 @@ use Rattle.uug_talk.specs.declared.name.TheConstants.{NAME_MAX}
 use Rattle.uug_script.specs.declared.fields.TheConstants.{MODE_DIGITS}
 use Rattle.uug_talk.specs.Number.{is_numeral, number_of}
 use Rattle.uug_talk.specs.Chained.{◌>>=◌}
-use Rattle.uug_script.specs.Fields.{mode_of_word, hex_bytes, first_byte, byte_of, code_of_size, announcement, announcement_of}
+use Rattle.uug_script.specs.Fields.{mode_of_word, hex_bytes, first_byte, byte_of, code_of_size, is_window, window_in, window_of, announcement, announcement_of}
 use Rattle.uug_script.specs.LineSays.{WritesNumber, Announces, WritesMode, WritesBytes, dash, pairs}
 use Rattle.uug_talk.proofs.NumberLemmas.{numeral_parses}
 use Rattle.uug_script.proofs.FieldLemmas.{announced_as, code_of_its_size, size_of_its_code}
@@ -110,8 +110,16 @@ writes_number most word n e =
 
 -- ---- announcements
 
-window_fits : (window : ℕ) → (1 ≤ window) × (window ≤ WINDOW_MAX) → nat_le 1 window ≡ true
-window_fits window h = grind (arith, nat_tests, h.0)
+window_passes : (window : ℕ) → (1 ≤ window) × (window ≤ WINDOW_MAX) → is_window window ≡ true
+window_passes window h =
+    let some : nat_le 1 window ≡ true = grind (arith, nat_tests, h.0) in
+    let small : nat_le window WINDOW_MAX ≡ true = grind (arith, nat_tests, h.1) in
+    rw (some, small) refl
+
+window_from_pass : (window : ℕ) → is_window window ≡ true → (1 ≤ window) × (window ≤ WINDOW_MAX)
+window_from_pass window e =
+    let parts = and_parts (nat_le 1 window) (nat_le window WINDOW_MAX) e in
+    (grind (arith, nat_tests, parts.0), grind (arith, nat_tests, parts.1))
 
 size_fits : (code : ℕ) → code < SIZE_CODES → size_of_code code ≤ MESSAGE_MAX
 size_fits zero h = lit≤ tt
@@ -124,46 +132,63 @@ size_fits (suc (suc (suc (suc (suc (suc zero)))))) h = lit≤ tt
 size_fits (suc (suc (suc (suc (suc (suc (suc zero))))))) h = lit≤ tt
 size_fits (suc (suc (suc (suc (suc (suc (suc (suc n)))))))) h = absurd (omega arith)
 
-pub announcement_written : (window size : List ℕ) (a : Announced) → Announces window size a → announcement_of window size ≡ Some a
+pub window_written : (window size : List ℕ) (a : Announced) → Announces window size a → window_of window ≡ Some a.window
+window_written window size a h =
+    rw (number_written WINDOW_MAX window a.window (h.digits.0, sym h.window_is, h.is_window.1), window_passes a.window h.is_window) refl
+
+pub announcement_written : (window size : List ℕ) (a : Announced) → Announces window size a → announcement_of a.window size ≡ Some a
 announcement_written window size a h =
-    let w = number_written WINDOW_MAX window a.window (h.digits.0, sym h.window_is, h.is_window.1) in
     let s = number_written MESSAGE_MAX size (size_of_code a.size_code) (h.digits.1, sym h.size_is, size_fits a.size_code h.is_code) in
-    rw (w, s, window_fits a.window h.is_window, code_of_its_size a.size_code h.is_code)
+    rw (s, window_passes a.window h.is_window, code_of_its_size a.size_code h.is_code)
     (ap (λ (q : Bool). Some (short_as false (quiet_as q a))) (sym h.plain.0) ∙ ap (λ (s : Bool). Some (short_as s a)) (sym h.plain.1))
 
 announcement_parts : (w s : ℕ) (a : Announced) → announcement w s ≡ Some a
-    → (1 ≤ w) × (w ≡ a.window) × (a.size_code < SIZE_CODES) × (s ≡ size_of_code a.size_code) × (a.quiet ≡ false) × (a.short ≡ false)
-announcement_parts w s a e = by_window (nat_le 1 w) refl e where
-  by_window : (b : Bool) → nat_le 1 w ≡ b → (if b then code_of_size s >>= (λ code. Some (announced_as w code)) else None) ≡ Some a
-      → (1 ≤ w) × (w ≡ a.window) × (a.size_code < SIZE_CODES) × (s ≡ size_of_code a.size_code) × (a.quiet ≡ false) × (a.short ≡ false)
-  by_window true t f =
+    → (w ≡ a.window) × (a.size_code < SIZE_CODES) × (s ≡ size_of_code a.size_code) × (a.quiet ≡ false) × (a.short ≡ false)
+announcement_parts w s a e = by_window (is_window w) e where
+  by_window : (b : Bool) → (if b then code_of_size s >>= (λ code. Some (announced_as w code)) else None) ≡ Some a
+      → (w ≡ a.window) × (a.size_code < SIZE_CODES) × (s ≡ size_of_code a.size_code) × (a.quiet ≡ false) × (a.short ≡ false)
+  by_window true f =
       let c = bind_some (code_of_size s) (λ code. Some (announced_as w code)) a f in
       let k = size_of_its_code s c.0 c.1 in
       let found = c.2 in
       let same : announced_as w c.0 ≡ a = cc in (
-        grind (arith, nat_tests),
         ap (λ (x : Announced). x.window) same,
         subst (λ (x : Announced). x.size_code < SIZE_CODES) same k.0,
         k.1 ∙ ap (λ (x : Announced). size_of_code x.size_code) same,
         sym (ap (λ (x : Announced). x.quiet) same),
         sym (ap (λ (x : Announced). x.short) same),
       )
-  by_window false t f = absurd cc
+  by_window false f = absurd cc
 
-pub announces : (window size : List ℕ) (a : Announced) → announcement_of window size ≡ Some a → Announces window size a
-announces window size a e =
-    let w = bind_some (number_of WINDOW_MAX window) (λ w. number_of MESSAGE_MAX size >>= (λ s. announcement w s)) a e in
-    let s = bind_some (number_of MESSAGE_MAX size) (λ s. announcement w.0 s) a w.2 in
-    let window_is = writes_number WINDOW_MAX window w.0 w.1 in
+record WritesWindow (word : List ℕ) (window : ℕ) : Type 0 where
+  is_window : (1 ≤ window) × (window ≤ WINDOW_MAX)
+  written : WritesNumber WINDOW_MAX word window
+
+writes_window : (word : List ℕ) (window : ℕ) → window_of word ≡ Some window → WritesWindow word window
+writes_window word window e = by_number (number_of WINDOW_MAX word) refl e where
+  by_test : (n : ℕ) → number_of WINDOW_MAX word ≡ Some n → (b : Bool) → is_window n ≡ b → (if b then Some n else None) ≡ Some window → WritesWindow word window
+  by_test n t true u f =
+      let same : n ≡ window = cc in
+      subst (WritesWindow word) same (record { is_window = window_from_pass n u; written = writes_number WINDOW_MAX word n t })
+  by_test n t false u f = absurd cc
+
+  by_number : (o : Option ℕ) → number_of WINDOW_MAX word ≡ o → window_in o ≡ Some window → WritesWindow word window
+  by_number None t f = absurd cc
+  by_number (Some n) t f = by_test n t (is_window n) refl f
+
+pub announces : (window size : List ℕ) (w : ℕ) (a : Announced) → window_of window ≡ Some w → announcement_of w size ≡ Some a → Announces window size a
+announces window size w a e f =
+    let is = writes_window window w e in
+    let s = bind_some (number_of MESSAGE_MAX size) (λ s. announcement w s) a f in
     let size_is = writes_number MESSAGE_MAX size s.0 s.1 in
-    let parts = announcement_parts w.0 s.0 a s.2 in
+    let parts = announcement_parts w s.0 a s.2 in
     record {
-      digits = (window_is.0, size_is.0);
-      is_window = (subst (λ z. 1 ≤ z) parts.1 parts.0, subst (λ z. z ≤ WINDOW_MAX) parts.1 window_is.2);
-      is_code = parts.2;
-      window_is = sym window_is.1 ∙ parts.1;
-      size_is = sym size_is.1 ∙ parts.3;
-      plain = (parts.4, parts.5);
+      digits = (is.written.0, size_is.0);
+      is_window = (subst (λ z. 1 ≤ z) parts.0 is.is_window.0, subst (λ z. z ≤ WINDOW_MAX) parts.0 is.is_window.1);
+      is_code = parts.1;
+      window_is = sym is.written.1 ∙ parts.0;
+      size_is = sym size_is.1 ∙ parts.2;
+      plain = (parts.3, parts.4);
     }
 
 -- ---- modes

@@ -1,5 +1,5 @@
 -- What single words of a script's line say (this project's profile), as functions.
-use Rattle.std.specs.Prelude.{◌==◌, ℕ, List, [], length, codes, nat_le, slice_index, Option, Some, None, Result, Ok, Err, if◌then◌else◌, false}
+use Rattle.std.specs.Prelude.{◌==◌, ◌&&◌, ℕ, Bool, List, [], length, codes, nat_le, slice_index, Option, Some, None, Result, Ok, Err, if◌then◌else◌, false}
 use Rattle.std.specs.Result.{result_ok}
 use Rattle.std.specs.Str.{bytes_eq}
 use Rattle.hex.specs.Hex.{decode_of, decode_sized}
@@ -26,6 +26,14 @@ mode_of_word word = if nat_le (length word) MODE_DIGITS then result_ok (mode_rea
 abbrev pub hex_bytes : List ℕ → Option (List ℕ)
 hex_bytes word = if bytes_eq word (codes "-") then Some [] else result_ok (decode_of word)
 
+abbrev pub or_none : Option (List ℕ) → List ℕ
+or_none None = []
+or_none (Some bytes) = bytes
+
+-- the bytes of a word that writes some
+abbrev pub bytes_of : List ℕ → List ℕ
+bytes_of word = or_none (hex_bytes word)
+
 -- the byte that two hexadecimal digits write
 abbrev pub first_byte : Result (List ℕ) FromHexError → Option ℕ
 first_byte (Ok bytes) = Some (slice_index bytes 0)
@@ -46,11 +54,21 @@ code_of_size size =
     (if size == 2048 then Some 6 else
     (if size == 4096 then Some 7 else None)))))))
 
+abbrev pub is_window : ℕ → Bool
+is_window window = nat_le 1 window && nat_le window WINDOW_MAX
+
+abbrev pub window_in : Option ℕ → Option ℕ
+window_in None = None
+window_in (Some window) = if is_window window then Some window else None
+
+abbrev pub window_of : List ℕ → Option ℕ
+window_of word = window_in (number_of WINDOW_MAX word)
+
 -- the announcement of this window and size, by an end that is not quiet on repeats and whose commands are not short
 abbrev pub announcement : ℕ → ℕ → Option Announced
 announcement window size =
-    if nat_le 1 window then code_of_size size >>= (λ code. Some (record { window = window; size_code = code; quiet = false; short = false })) else None
+    if is_window window then code_of_size size >>= (λ code. Some (record { window = window; size_code = code; quiet = false; short = false })) else None
 
-abbrev pub announcement_of : List ℕ → List ℕ → Option Announced
-announcement_of window size =
-    number_of WINDOW_MAX window >>= (λ w. number_of MESSAGE_MAX size >>= (λ s. announcement w s))
+-- the announcement of this window and of the size that the word writes
+abbrev pub announcement_of : ℕ → List ℕ → Option Announced
+announcement_of window word = number_of MESSAGE_MAX word >>= (λ size. announcement window size)

@@ -1,10 +1,12 @@
 pub mod Code
+pub mod Complaints
 pub mod Fields
 pub mod IsScript
 pub mod JobWords
 pub mod LineSays
 pub mod Meaning
 pub mod ReadLine
+pub mod Remarks
 pub mod ReportShown
 pub mod ReportText
 pub mod Script

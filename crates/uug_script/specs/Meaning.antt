@@ -1,9 +1,11 @@
 -- What a line of a script can say (this project's profile).
-use Rattle.std.specs.Prelude.{ℕ, List, Option, Some, None}
+use Rattle.std.specs.Prelude.{ℕ, List, Option, Some, None, Result, Ok, Err}
 use Rattle.uug_link.specs.Announced.{Announced, announced}
 use Rattle.uug_link.specs.declared.announce.Announce.{Announce}
 use Rattle.uug_conversation.specs.Holdings.{Kept, kept_file}
 use Rattle.uug_conversation.specs.declared.job.Job.{Job}
+use Rattle.uug_script.specs.Complaints.{Wrong, shown}
+use Rattle.uug_script.specs.declared.complaint.Complaint.{Complaint}
 use Rattle.uug_script.specs.Fields.{hex_bytes}
 use Rattle.uug_line.specs.declared.event.Event.{Event}
 use Rattle.uug_script.specs.declared.line.EndStatement.{EndStatement}
@@ -77,6 +79,20 @@ line_meaning (line.End side e) = of_side side (end_meaning e)
 line_meaning (line.Event e) = Some (event e)
 line_meaning (line.Flow n) = Some (flow n)
 
-abbrev pub meaning_of : Option Statement → Option LineMeaning
-meaning_of None = None
-meaning_of (Some l) = line_meaning l
+-- what was read of a line: what it says, and what is wrong with it
+abbrev pub meaning_of : Result Statement Complaint → Option LineMeaning
+meaning_of (Ok l) = line_meaning l
+meaning_of (Err complaint) = None
+
+abbrev pub complaint_in : Result Statement Complaint → Option Wrong
+complaint_in (Ok l) = None
+complaint_in (Err complaint) = Some (shown complaint)
+
+-- both at once
+abbrev pub read_as : Result Statement Complaint → Result (Option LineMeaning) Wrong
+read_as (Ok l) = Ok (line_meaning l)
+read_as (Err complaint) = Err (shown complaint)
+
+abbrev pub known : Result LineMeaning Wrong → Result (Option LineMeaning) Wrong
+known (Ok m) = Ok (Some m)
+known (Err w) = Err w

@@ -1,6 +1,8 @@
--- What a line of a script says, as a function of its words. What it means is said by the table in `LineSays`.
-use Rattle.std.specs.Prelude.{ℕ, List, [], ◌∷◌, length, codes, nat_le, Option, Some, None, if◌then◌else◌}
+-- What a line of a script says, as a function of its words, or the first thing that is wrong with it: each statement as its
+-- first word and what has to stand behind it. What it means is said by the table in `LineSays`.
+use Rattle.std.specs.Prelude.{⊤, ℕ, List, [], ◌∷◌, length, codes, nat_le, Option, Some, None, Result, Ok, Err, if◌then◌else◌}
 use Rattle.std.specs.Str.{bytes_eq}
+use Rattle.uug_link.specs.Announced.{Announced}
 use Rattle.uug_conversation.specs.declared.job.Job.TheVariants as job_of
 use Rattle.uug_talk.specs.declared.call.TheConstants.{NUMBER_MAX}
 use Rattle.uug_talk.specs.Number.{number_of}
@@ -10,106 +12,144 @@ use Rattle.uug_talk.specs.declared.lines.TheConstants.{LINE_MAX}
 use Rattle.uug_script.specs.declared.line.TheConstants.{BYTES_MAX, TURNS_MAX}
 use Rattle.uug_conversation.specs.declared.side.Side.{Side}
 use Rattle.uug_conversation.specs.declared.side.Side.TheVariants.{Caller, Called}
-use Rattle.uug_talk.specs.Chained.{◌>>=◌}
-use Rattle.uug_script.specs.Fields.{side_of, mode_of_word, hex_bytes, byte_of, announcement_of}
+use Rattle.uug_script.specs.declared.field.Field.{Field}
+use Rattle.uug_script.specs.declared.field.Field.TheVariants as fields
+use Rattle.uug_script.specs.Complaints.{Wrong, too_long, unknown, too_many, field_at, ◌>>=◌}
+use Rattle.uug_script.specs.Fields.{side_of, window_of, announcement_of, mode_of_word, hex_bytes, byte_of}
 use Rattle.uug_talk.specs.Name.{name_of}
 use Rattle.uug_talk.specs.Lines.{is_comment}
-use Rattle.uug_script.specs.Meaning.{LineMeaning, nothing, of_end, event, flow, place, job, deny, later, immovable, number, quiet, short, lenient, file_meaning, of_side}
+use Rattle.uug_script.specs.Meaning.{LineMeaning, nothing, of_end, event, flow, place, file, job, deny, later, immovable, number, quiet, short, lenient}
+use Rattle.uug_conversation.specs.Holdings.{kept_file}
 
--- a line that begins with the word of an end
-abbrev pub place_of : Side → List (List ℕ) → Option LineMeaning
-place_of side (name ∷ window ∷ size ∷ []) =
-    name_of name >>= (λ n. announcement_of window size >>= (λ a. Some (of_end side (place n a))))
-place_of side _ = None
+-- ---- what can stand in front, and the words behind it
 
-abbrev pub file_of : List (List ℕ) → Option LineMeaning
-file_of (side ∷ name ∷ mode ∷ hex ∷ []) =
-    name_of name >>= (λ n. mode_of_word mode >>= (λ m. side_of side >>= (λ s. of_side s (file_meaning n m (hex_bytes hex)))))
-file_of _ = None
+-- of so many words the first was this
+abbrev pub Front : Type 0 → Type 0
+Front A = Result (A × List (List ℕ)) Wrong
 
--- the name of a copy may stand in the last word
-abbrev pub last_name_of : List (List ℕ) → Option (Option (List ℕ))
-last_name_of [] = Some None
-last_name_of (word ∷ []) = name_of word >>= (λ n. Some (Some n))
-last_name_of _ = None
+abbrev pub side_at : List (List ℕ) → Front Side
+side_at ws = field_at fields.Side side_of ws
 
-abbrev pub send_of : List (List ℕ) → Option LineMeaning
-send_of (side ∷ source ∷ target ∷ user ∷ more) =
-    name_of source >>= (λ s. name_of target >>= (λ t. name_of user >>= (λ u. last_name_of more >>= (λ temp.
-    side_of side >>= (λ end. Some (of_end end (job (job_of.Send s t u temp))))))))
-send_of _ = None
+abbrev pub name_at : List (List ℕ) → Front (List ℕ)
+name_at ws = field_at fields.Name name_of ws
 
-abbrev pub request_of : List (List ℕ) → Option LineMeaning
-request_of (side ∷ source ∷ target ∷ user ∷ []) =
-    name_of source >>= (λ s. name_of target >>= (λ t. name_of user >>= (λ u.
-    side_of side >>= (λ end. Some (of_end end (job (job_of.Request s t u)))))))
-request_of _ = None
+abbrev pub window_at : List (List ℕ) → Front ℕ
+window_at ws = field_at fields.Window window_of ws
 
-abbrev pub side_and_name : List (List ℕ) → Option (Side × List ℕ)
-side_and_name (side ∷ name ∷ []) = side_of side >>= (λ s. name_of name >>= (λ n. Some (s, n)))
-side_and_name _ = None
+abbrev pub announcement_at : List (List ℕ) → Front Announced
+announcement_at ws = window_at ws >>= (λ w. field_at fields.Size (announcement_of w.0) w.1)
 
-abbrev pub side_and_number : (most : ℕ) → List (List ℕ) → Option (Side × ℕ)
-side_and_number most (side ∷ word ∷ []) = side_of side >>= (λ s. number_of most word >>= (λ n. Some (s, n)))
-side_and_number most _ = None
+abbrev pub mode_at : List (List ℕ) → Front ℕ
+mode_at ws = field_at fields.Mode mode_of_word ws
 
-abbrev pub side_and_byte : List (List ℕ) → Option (Side × ℕ)
-side_and_byte (side ∷ hex ∷ []) = side_of side >>= (λ s. byte_of hex >>= (λ b. Some (s, b)))
-side_and_byte _ = None
+abbrev pub hex_at : List (List ℕ) → Front (List ℕ)
+hex_at ws = field_at fields.Bytes hex_bytes ws
 
-abbrev pub one_side : List (List ℕ) → Option Side
-one_side (side ∷ []) = side_of side
-one_side _ = None
+abbrev pub number_at : Field → (most : ℕ) → List (List ℕ) → Front ℕ
+number_at field most ws = field_at field (number_of most) ws
 
-abbrev pub call_of : List (List ℕ) → Option LineMeaning
-call_of [] = Some (event Call)
-call_of _ = None
+abbrev pub byte_at : List (List ℕ) → Front ℕ
+byte_at ws = field_at fields.Byte byte_of ws
 
-abbrev pub flow_of : List (List ℕ) → Option LineMeaning
-flow_of (word ∷ []) = number_of TURNS_MAX word >>= (λ n. Some (flow n))
-flow_of _ = None
+-- no more words
+abbrev pub ends : List (List ℕ) → Result ⊤ Wrong
+ends [] = Ok tt
+ends (word ∷ more) = Err (too_many word)
 
-abbrev pub deny_of : List (List ℕ) → Option LineMeaning
-deny_of ws = side_and_name ws >>= (λ p. Some (of_end p.0 (deny p.1)))
+-- the name of a copy, which may be left out, and no more
+abbrev pub copy_of : List (List ℕ) → Result (Option (List ℕ)) Wrong
+copy_of [] = Ok None
+copy_of (word ∷ more) = name_at (word ∷ more) >>= (λ n. ends n.1 >>= (λ _. Ok (Some n.0)))
 
-abbrev pub later_of : List (List ℕ) → Option LineMeaning
-later_of ws = side_and_name ws >>= (λ p. Some (of_end p.0 (later p.1)))
+-- ---- the statements, by the words behind the first
 
-abbrev pub immovable_of : List (List ℕ) → Option LineMeaning
-immovable_of ws = side_and_name ws >>= (λ p. Some (of_end p.0 (immovable p.1)))
+-- NAME WINDOW SIZE, behind the word of an end
+abbrev pub place_of : Side → List (List ℕ) → Result LineMeaning Wrong
+place_of side ws =
+    name_at ws >>= (λ n. announcement_at n.1 >>= (λ a. ends a.1 >>= (λ _. Ok (of_end side (place n.0 a.0)))))
 
-abbrev pub number_line_of : List (List ℕ) → Option LineMeaning
-number_line_of ws = side_and_number NUMBER_MAX ws >>= (λ p. Some (of_end p.0 (number p.1)))
+-- SIDE NAME MODE HEX
+abbrev pub file_of : List (List ℕ) → Result LineMeaning Wrong
+file_of ws =
+    side_at ws >>= (λ s. name_at s.1 >>= (λ n. mode_at n.1 >>= (λ m. hex_at m.1 >>= (λ h. ends h.1 >>= (λ _.
+    Ok (of_end s.0 (file (kept_file n.0 m.0 h.0))))))))
 
-abbrev pub quiet_of : List (List ℕ) → Option LineMeaning
-quiet_of ws = one_side ws >>= (λ s. Some (of_end s quiet))
+-- SIDE SOURCE TARGET USER [TEMP]
+abbrev pub send_of : List (List ℕ) → Result LineMeaning Wrong
+send_of ws =
+    side_at ws >>= (λ s. name_at s.1 >>= (λ source. name_at source.1 >>= (λ target. name_at target.1 >>= (λ user.
+    copy_of user.1 >>= (λ temp. Ok (of_end s.0 (job (job_of.Send source.0 target.0 user.0 temp))))))))
 
-abbrev pub short_of : List (List ℕ) → Option LineMeaning
-short_of ws = one_side ws >>= (λ s. Some (of_end s short))
+-- SIDE SOURCE TARGET USER
+abbrev pub request_of : List (List ℕ) → Result LineMeaning Wrong
+request_of ws =
+    side_at ws >>= (λ s. name_at s.1 >>= (λ source. name_at source.1 >>= (λ target. name_at target.1 >>= (λ user.
+    ends user.1 >>= (λ _. Ok (of_end s.0 (job (job_of.Request source.0 target.0 user.0))))))))
 
-abbrev pub lenient_of : List (List ℕ) → Option LineMeaning
-lenient_of ws = one_side ws >>= (λ s. Some (of_end s lenient))
+-- SIDE NAME
+abbrev pub side_and_name : List (List ℕ) → Result (Side × List ℕ) Wrong
+side_and_name ws = side_at ws >>= (λ s. name_at s.1 >>= (λ n. ends n.1 >>= (λ _. Ok (s.0, n.0))))
 
-abbrev pub pass_of : List (List ℕ) → Option LineMeaning
-pass_of ws = side_and_number BYTES_MAX ws >>= (λ p. Some (event (Pass p.0 p.1)))
+-- SIDE N
+abbrev pub side_and_number : Field → (most : ℕ) → List (List ℕ) → Result (Side × ℕ) Wrong
+side_and_number field most ws = side_at ws >>= (λ s. number_at field most s.1 >>= (λ n. ends n.1 >>= (λ _. Ok (s.0, n.0))))
 
-abbrev pub drop_of : List (List ℕ) → Option LineMeaning
-drop_of ws = side_and_number BYTES_MAX ws >>= (λ p. Some (event (Drop p.0 p.1)))
+-- SIDE HH
+abbrev pub side_and_byte : List (List ℕ) → Result (Side × ℕ) Wrong
+side_and_byte ws = side_at ws >>= (λ s. byte_at s.1 >>= (λ b. ends b.1 >>= (λ _. Ok (s.0, b.0))))
 
-abbrev pub flip_of : List (List ℕ) → Option LineMeaning
-flip_of ws = side_and_byte ws >>= (λ p. Some (event (Flip p.0 p.1)))
+-- SIDE
+abbrev pub one_side : List (List ℕ) → Result Side Wrong
+one_side ws = side_at ws >>= (λ s. ends s.1 >>= (λ _. Ok s.0))
 
-abbrev pub insert_of : List (List ℕ) → Option LineMeaning
-insert_of ws = side_and_byte ws >>= (λ p. Some (event (Insert p.0 p.1)))
+abbrev pub call_of : List (List ℕ) → Result LineMeaning Wrong
+call_of ws = ends ws >>= (λ _. Ok (event Call))
 
-abbrev pub timeout_of : List (List ℕ) → Option LineMeaning
-timeout_of ws = one_side ws >>= (λ s. Some (event (Timeout s)))
+-- N
+abbrev pub flow_of : List (List ℕ) → Result LineMeaning Wrong
+flow_of ws = number_at fields.Turns TURNS_MAX ws >>= (λ n. ends n.1 >>= (λ _. Ok (flow n.0)))
 
-abbrev pub hang_up_of : List (List ℕ) → Option LineMeaning
-hang_up_of ws = one_side ws >>= (λ s. Some (event (HangUp s)))
+abbrev pub deny_of : List (List ℕ) → Result LineMeaning Wrong
+deny_of ws = side_and_name ws >>= (λ p. Ok (of_end p.0 (deny p.1)))
+
+abbrev pub later_of : List (List ℕ) → Result LineMeaning Wrong
+later_of ws = side_and_name ws >>= (λ p. Ok (of_end p.0 (later p.1)))
+
+abbrev pub immovable_of : List (List ℕ) → Result LineMeaning Wrong
+immovable_of ws = side_and_name ws >>= (λ p. Ok (of_end p.0 (immovable p.1)))
+
+abbrev pub number_line_of : List (List ℕ) → Result LineMeaning Wrong
+number_line_of ws = side_and_number fields.Number NUMBER_MAX ws >>= (λ p. Ok (of_end p.0 (number p.1)))
+
+abbrev pub quiet_of : List (List ℕ) → Result LineMeaning Wrong
+quiet_of ws = one_side ws >>= (λ s. Ok (of_end s quiet))
+
+abbrev pub short_of : List (List ℕ) → Result LineMeaning Wrong
+short_of ws = one_side ws >>= (λ s. Ok (of_end s short))
+
+abbrev pub lenient_of : List (List ℕ) → Result LineMeaning Wrong
+lenient_of ws = one_side ws >>= (λ s. Ok (of_end s lenient))
+
+abbrev pub pass_of : List (List ℕ) → Result LineMeaning Wrong
+pass_of ws = side_and_number fields.Count BYTES_MAX ws >>= (λ p. Ok (event (Pass p.0 p.1)))
+
+abbrev pub drop_of : List (List ℕ) → Result LineMeaning Wrong
+drop_of ws = side_and_number fields.Count BYTES_MAX ws >>= (λ p. Ok (event (Drop p.0 p.1)))
+
+abbrev pub flip_of : List (List ℕ) → Result LineMeaning Wrong
+flip_of ws = side_and_byte ws >>= (λ p. Ok (event (Flip p.0 p.1)))
+
+abbrev pub insert_of : List (List ℕ) → Result LineMeaning Wrong
+insert_of ws = side_and_byte ws >>= (λ p. Ok (event (Insert p.0 p.1)))
+
+abbrev pub timeout_of : List (List ℕ) → Result LineMeaning Wrong
+timeout_of ws = one_side ws >>= (λ s. Ok (event (Timeout s)))
+
+abbrev pub hang_up_of : List (List ℕ) → Result LineMeaning Wrong
+hang_up_of ws = one_side ws >>= (λ s. Ok (event (HangUp s)))
 
 -- by the first word, with the words behind it
-abbrev pub event_by : List ℕ → List (List ℕ) → Option LineMeaning
+abbrev pub event_by : List ℕ → List (List ℕ) → Result LineMeaning Wrong
 event_by first ws =
     if bytes_eq first (codes "pass") then pass_of ws else
     (if bytes_eq first (codes "drop") then drop_of ws else
@@ -118,9 +158,9 @@ event_by first ws =
     (if bytes_eq first (codes "timeout") then timeout_of ws else
     (if bytes_eq first (codes "hangup") then hang_up_of ws else
     (if bytes_eq first (codes "call") then call_of ws else
-    (if bytes_eq first (codes "flow") then flow_of ws else None)))))))
+    (if bytes_eq first (codes "flow") then flow_of ws else Err (unknown first))))))))
 
-abbrev pub line_by : List ℕ → List (List ℕ) → Option LineMeaning
+abbrev pub line_by : List ℕ → List (List ℕ) → Result LineMeaning Wrong
 line_by first ws =
     if bytes_eq first (codes "caller") then place_of Caller ws else
     (if bytes_eq first (codes "called") then place_of Called ws else
@@ -136,10 +176,10 @@ line_by first ws =
     (if bytes_eq first (codes "lenient") then lenient_of ws else event_by first ws)))))))))))
 
 -- a line with no word, and a comment, say nothing
-abbrev pub line_of_words : List (List ℕ) → Option LineMeaning
-line_of_words [] = Some nothing
-line_of_words (first ∷ ws) = if is_comment first then Some nothing else line_by first ws
+abbrev pub line_of_words : List (List ℕ) → Result LineMeaning Wrong
+line_of_words [] = Ok nothing
+line_of_words (first ∷ ws) = if is_comment first then Ok nothing else line_by first ws
 
 -- a line that is too long is bad
-abbrev pub line_of : List ℕ → Option LineMeaning
-line_of line = if nat_le (length line) LINE_MAX then line_of_words (words line) else None
+abbrev pub line_of : List ℕ → Result LineMeaning Wrong
+line_of line = if nat_le (length line) LINE_MAX then line_of_words (words line) else Err too_long

@@ -1,5 +1,6 @@
 -- What a text says as a script, as a function, and what the program has read of it.
 use Rattle.std.specs.Prelude.{◌≡◌, ℕ, ⊤, suc, List, [], ◌∷◌, Option, Some, None, Result, Err, ok_or}
+use Rattle.std.specs.Result.{result_ok}
 use Rattle.uug_line.specs.declared.setup.EndSetup.{EndSetup}
 use Rattle.uug_link.specs.Announced.{announced}
 use Rattle.uug_conversation.specs.MemoryHoldings.{held_by}
@@ -20,7 +21,7 @@ use Rattle.uug_script.specs.Script.{Place, EndSaid, Said, nothing_said, end_adde
 
 -- a line more
 abbrev pub text_added : List ℕ → Said → Option Said
-text_added line said = line_of line >>= (λ m. added m said)
+text_added line said = result_ok (line_of line) >>= (λ m. added m said)
 
 -- the next step, or the number of the line at which there is none
 abbrev pub or_bad : ℕ → Option Said → (Said → Result ScriptSays ℕ) → Result ScriptSays ℕ

@@ -272,8 +272,8 @@ impl<A: Allocator + Copy> Draft<A> {
             Refuses fault (text_added line.now (said_by self.old))) }
     {
         match &read_line(line) {
-            Some(line) => self.add(alloc, line),
-            None => Err(LineFault::Bad),
+            Ok(line) => self.add(alloc, line),
+            Err(_) => Err(LineFault::Bad),
         }
     }
 

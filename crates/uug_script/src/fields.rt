@@ -1,7 +1,7 @@
 //! What single words of a line say.
 ghost use Rattle.std.specs.Prelude.{◌≡◌, ◌≤◌, IfSome};
 ghost use Rattle.std.specs.Str.{bytes_eq};
-ghost use Rattle.uug_script.specs.Fields.{side_of, mode_of_word, byte_of, announcement_of};
+ghost use Rattle.uug_script.specs.Fields.{side_of, mode_of_word, byte_of, window_of, announcement_of};
 ghost use Rattle.uug_talk.specs.Name.{name_of};
 ghost use Rattle.uug_script.specs.Meaning.{announced_by, mode_bits};
 
@@ -12,10 +12,10 @@ use uug_link::{Announce, MESSAGE_MAX, WINDOW_MAX};
 use uug_talk::{Name, read_mode, read_number};
 
 /// The most octal digits of a mode in a script.
-pub const MODE_DIGITS: usize = 4;
+pub(crate) const MODE_DIGITS: usize = 4;
 
 /// Whether a word is this one.
-pub fn spells(word: &[u8], text: &[u8]) -> bool
+pub(crate) fn spells(word: &[u8], text: &[u8]) -> bool
     ensures { result ≡ bytes_eq word.now text.now }
 {
     word == text
@@ -60,11 +60,21 @@ pub(crate) fn read_byte(word: &[u8]) -> Option<u8>
     Some(byte)
 }
 
-/// The announcement of a window and a size.
-pub(crate) fn read_announce(window: &[u8], size: &[u8]) -> Option<Announce>
-    ensures { announced_by result ≡ announcement_of window.now size.now }
+/// The window that a word writes, 1 to 7.
+pub(crate) fn read_window(word: &[u8]) -> Option<u8>
+    ensures { result ≡ window_of word.now }
 {
-    let window = read_number(window, u32::from(WINDOW_MAX))?;
+    let window = read_number(word, u32::from(WINDOW_MAX))?;
+    if window == 0 {
+        return None;
+    }
+    Some(window as u8)
+}
+
+/// The announcement of a window and of the packet size that a word writes.
+pub(crate) fn read_announce(window: u8, size: &[u8]) -> Option<Announce>
+    ensures { announced_by result ≡ announcement_of window size.now }
+{
     let size = read_number(size, MESSAGE_MAX as u32)?;
-    Announce::new(window as u8, size as usize).ok()
+    Announce::new(window, size as usize).ok()
 }

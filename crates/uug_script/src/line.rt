@@ -1,18 +1,23 @@
-//! What a line of a script says.
-ghost use Rattle.std.specs.Prelude.{◌≡◌, ◌≤◌, ⊤, MatchOption, [], ◌∷◌, List, IsTrue, ◌↔◌, length};
+//! What a line of a script says, or what is wrong with it.
+ghost use Rattle.std.specs.Prelude.{◌≡◌, MatchResult, Ok, Err};
+ghost use Rattle.std.specs.Result.{result_err, result_ok};
 ghost use Rattle.uug_talk.specs.Words.{words};
-ghost use Rattle.uug_script.specs.Meaning.{meaning_of};
-ghost use Rattle.uug_script.specs.ReadLine.{line_of, place_of, file_of, send_of, request_of, last_name_of, side_and_name, side_and_number, side_and_byte, one_side, call_of, flow_of, deny_of, later_of, immovable_of, number_line_of, quiet_of, short_of, lenient_of, pass_of, drop_of, flip_of, insert_of, timeout_of, hang_up_of, event_by, line_by};
+ghost use Rattle.uug_script.specs.Complaints.{shown};
+ghost use Rattle.uug_script.specs.Meaning.{complaint_in, known, meaning_of, read_as};
+ghost use Rattle.uug_script.specs.ReadLine.{line_of, line_of_words, place_of, file_of, send_of, request_of, side_and_name, side_and_number, side_and_byte, one_side, call_of, flow_of, deny_of, later_of, immovable_of, number_line_of, quiet_of, short_of, lenient_of, pass_of, drop_of, flip_of, insert_of, timeout_of, hang_up_of, event_by, line_by};
 
-use crate::fields::{read_announce, read_byte, read_name, read_short_mode, read_side, spells};
+use crate::complaint::Complaint;
+use crate::field::Field;
+use crate::fields::spells;
 use crate::mode::Mode;
+use crate::taking::{
+    announce_in, mode_in, name_in, read_copy, take_byte, take_end, take_hex, take_number,
+    take_side, take_window, take_word,
+};
 use uug_line::{Event, Side};
 use uug_link::Announce;
 use uug_session::Job;
-use uug_talk::{
-    LINE_MAX, NUMBER_MAX, Name, four_words, one_word, read_number, split_word, three_words,
-    two_words,
-};
+use uug_talk::{LINE_MAX, NUMBER_MAX, Name, split_word};
 
 /// The most bytes that one event passes or drops.
 pub const BYTES_MAX: u32 = 1_000_000_000;
@@ -59,219 +64,241 @@ pub(crate) enum EndStatement<'a> {
 }
 
 /// `caller NAME WINDOW SIZE`, or the same of the called end.
-fn read_place(side: Side, text: &[u8]) -> Option<Statement<'_>>
-    ensures { meaning_of result ≡ place_of side (words text.now) }
+fn read_place(side: Side, text: &[u8]) -> Result<Statement<'_>, Complaint<'_>>
+    ensures { read_as result ≡ known (place_of side (words text.now)) }
 {
-    let (name, window, size) = three_words(text)?;
-    let place = EndStatement::Place(read_name(name)?, read_announce(window, size)?);
-    Some(Statement::End(side, place))
+    let (word, rest) = take_word(Field::Name, text)?;
+    let name = name_in(word)?;
+    let (window, rest) = take_window(rest)?;
+    let (word, rest) = take_word(Field::Size, rest)?;
+    let announce = announce_in(window, word)?;
+    take_end(rest)?;
+    Ok(Statement::End(side, EndStatement::Place(name, announce)))
 }
 
 /// `file SIDE NAME MODE HEX`.
-fn read_file(text: &[u8]) -> Option<Statement<'_>>
-    ensures { meaning_of result ≡ file_of (words text.now) }
+fn read_file(text: &[u8]) -> Result<Statement<'_>, Complaint<'_>>
+    ensures { read_as result ≡ known (file_of (words text.now)) }
 {
-    let (side, name, mode, hex) = four_words(text)?;
-    let file = EndStatement::File(read_name(name)?, read_short_mode(mode)?, hex);
-    Some(Statement::End(read_side(side)?, file))
+    let (side, rest) = take_side(text)?;
+    let (word, rest) = take_word(Field::Name, rest)?;
+    let name = name_in(word)?;
+    let (word, rest) = take_word(Field::Mode, rest)?;
+    let mode = mode_in(word)?;
+    let (hex, rest) = take_hex(rest)?;
+    take_end(rest)?;
+    Ok(Statement::End(side, EndStatement::File(name, mode, hex)))
 }
 
 /// `send SIDE SOURCE TARGET USER [TEMP]`.
-fn read_send(text: &[u8]) -> Option<Statement<'_>>
-    ensures { meaning_of result ≡ send_of (words text.now) }
+fn read_send(text: &[u8]) -> Result<Statement<'_>, Complaint<'_>>
+    ensures { read_as result ≡ known (send_of (words text.now)) }
 {
-    let (side, rest) = split_word(text)?;
-    let (source, rest) = split_word(rest)?;
-    let (target, rest) = split_word(rest)?;
-    let (user, rest) = split_word(rest)?;
+    let (side, rest) = take_side(text)?;
+    let (word, rest) = take_word(Field::Name, rest)?;
+    let source = name_in(word)?;
+    let (word, rest) = take_word(Field::Name, rest)?;
+    let target = name_in(word)?;
+    let (word, rest) = take_word(Field::Name, rest)?;
+    let user = name_in(word)?;
+    let temp = read_copy(rest)?;
     let job = Job::Send {
-        source: read_name(source)?,
-        target: read_name(target)?,
-        user: read_name(user)?,
-        temp: read_last_name(rest)?,
+        source,
+        target,
+        user,
+        temp,
     };
-    Some(Statement::End(read_side(side)?, EndStatement::Job(job)))
-}
-
-/// The name in the last word, if there is a word.
-fn read_last_name(text: &[u8]) -> Option<Option<Name>>
-    ensures { result ≡ last_name_of (words text.now) }
-{
-    if split_word(text).is_none() {
-        return Some(None);
-    }
-    Some(Some(read_name(one_word(text)?)?))
+    Ok(Statement::End(side, EndStatement::Job(job)))
 }
 
 /// `request SIDE SOURCE TARGET USER`.
-fn read_request(text: &[u8]) -> Option<Statement<'_>>
-    ensures { meaning_of result ≡ request_of (words text.now) }
+fn read_request(text: &[u8]) -> Result<Statement<'_>, Complaint<'_>>
+    ensures { read_as result ≡ known (request_of (words text.now)) }
 {
-    let (side, source, target, user) = four_words(text)?;
+    let (side, rest) = take_side(text)?;
+    let (word, rest) = take_word(Field::Name, rest)?;
+    let source = name_in(word)?;
+    let (word, rest) = take_word(Field::Name, rest)?;
+    let target = name_in(word)?;
+    let (word, rest) = take_word(Field::Name, rest)?;
+    let user = name_in(word)?;
+    take_end(rest)?;
     let job = Job::Request {
-        source: read_name(source)?,
-        target: read_name(target)?,
-        user: read_name(user)?,
+        source,
+        target,
+        user,
     };
-    Some(Statement::End(read_side(side)?, EndStatement::Job(job)))
+    Ok(Statement::End(side, EndStatement::Job(job)))
 }
 
 /// A side and a name, and no more.
-fn read_side_and_name(text: &[u8]) -> Option<(Side, Name)>
-    ensures { result ≡ side_and_name (words text.now) }
+fn read_side_and_name(text: &[u8]) -> Result<(Side, Name), Complaint<'_>>
+    ensures { MatchResult result (λ found. side_and_name (words text.now) ≡ Ok found)
+        (λ fault. side_and_name (words text.now) ≡ Err (shown fault)) }
 {
-    let (side, name) = two_words(text)?;
-    Some((read_side(side)?, read_name(name)?))
+    let (side, rest) = take_side(text)?;
+    let (word, rest) = take_word(Field::Name, rest)?;
+    let name = name_in(word)?;
+    take_end(rest)?;
+    Ok((side, name))
 }
 
 /// A side and a number that is at most this one, and no more.
-fn read_side_and_number(text: &[u8], most: u32) -> Option<(Side, u32)>
-    ensures { result ≡ side_and_number most (words text.now) }
+fn read_side_and_number(field: Field, most: u32, text: &[u8]) -> Result<(Side, u32), Complaint<'_>>
+    ensures { MatchResult result (λ found. side_and_number field most (words text.now) ≡ Ok found)
+        (λ fault. side_and_number field most (words text.now) ≡ Err (shown fault)) }
 {
-    let (side, number) = two_words(text)?;
-    Some((read_side(side)?, read_number(number, most)?))
+    let (side, rest) = take_side(text)?;
+    let (number, rest) = take_number(field, most, rest)?;
+    take_end(rest)?;
+    Ok((side, number))
 }
 
 /// A side and a byte, and no more.
-fn read_side_and_byte(text: &[u8]) -> Option<(Side, u8)>
-    ensures { result ≡ side_and_byte (words text.now) }
+fn read_side_and_byte(text: &[u8]) -> Result<(Side, u8), Complaint<'_>>
+    ensures { MatchResult result (λ found. side_and_byte (words text.now) ≡ Ok found)
+        (λ fault. side_and_byte (words text.now) ≡ Err (shown fault)) }
 {
-    let (side, byte) = two_words(text)?;
-    Some((read_side(side)?, read_byte(byte)?))
+    let (side, rest) = take_side(text)?;
+    let (byte, rest) = take_byte(rest)?;
+    take_end(rest)?;
+    Ok((side, byte))
 }
 
 /// A side, and no more.
-fn read_one_side(text: &[u8]) -> Option<Side>
-    ensures { result ≡ one_side (words text.now) }
+fn read_one_side(text: &[u8]) -> Result<Side, Complaint<'_>>
+    ensures { MatchResult result (λ found. one_side (words text.now) ≡ Ok found)
+        (λ fault. one_side (words text.now) ≡ Err (shown fault)) }
 {
-    read_side(one_word(text)?)
+    let (side, rest) = take_side(text)?;
+    take_end(rest)?;
+    Ok(side)
 }
 
 /// `call`.
-fn read_call(text: &[u8]) -> Option<Statement<'_>>
-    ensures { meaning_of result ≡ call_of (words text.now) }
+fn read_call(text: &[u8]) -> Result<Statement<'_>, Complaint<'_>>
+    ensures { read_as result ≡ known (call_of (words text.now)) }
 {
-    if split_word(text).is_some() {
-        return None;
-    }
-    Some(Statement::Event(Event::Call))
+    take_end(text)?;
+    Ok(Statement::Event(Event::Call))
 }
 
 /// `flow N`.
-fn read_flow(text: &[u8]) -> Option<Statement<'_>>
-    ensures { meaning_of result ≡ flow_of (words text.now) }
+fn read_flow(text: &[u8]) -> Result<Statement<'_>, Complaint<'_>>
+    ensures { read_as result ≡ known (flow_of (words text.now)) }
 {
-    let number = one_word(text)?;
-    Some(Statement::Flow(read_number(number, TURNS_MAX)?))
+    let (turns, rest) = take_number(Field::Turns, TURNS_MAX, text)?;
+    take_end(rest)?;
+    Ok(Statement::Flow(turns))
 }
 
 /// `deny SIDE NAME`.
-fn read_deny(text: &[u8]) -> Option<Statement<'_>>
-    ensures { meaning_of result ≡ deny_of (words text.now) }
+fn read_deny(text: &[u8]) -> Result<Statement<'_>, Complaint<'_>>
+    ensures { read_as result ≡ known (deny_of (words text.now)) }
 {
     let (side, name) = read_side_and_name(text)?;
-    Some(Statement::End(side, EndStatement::Deny(name)))
+    Ok(Statement::End(side, EndStatement::Deny(name)))
 }
 
 /// `later SIDE NAME`.
-fn read_later(text: &[u8]) -> Option<Statement<'_>>
-    ensures { meaning_of result ≡ later_of (words text.now) }
+fn read_later(text: &[u8]) -> Result<Statement<'_>, Complaint<'_>>
+    ensures { read_as result ≡ known (later_of (words text.now)) }
 {
     let (side, name) = read_side_and_name(text)?;
-    Some(Statement::End(side, EndStatement::Later(name)))
+    Ok(Statement::End(side, EndStatement::Later(name)))
 }
 
 /// `immovable SIDE NAME`.
-fn read_immovable(text: &[u8]) -> Option<Statement<'_>>
-    ensures { meaning_of result ≡ immovable_of (words text.now) }
+fn read_immovable(text: &[u8]) -> Result<Statement<'_>, Complaint<'_>>
+    ensures { read_as result ≡ known (immovable_of (words text.now)) }
 {
     let (side, name) = read_side_and_name(text)?;
-    Some(Statement::End(side, EndStatement::Immovable(name)))
+    Ok(Statement::End(side, EndStatement::Immovable(name)))
 }
 
 /// `number SIDE N`.
-fn read_number_line(text: &[u8]) -> Option<Statement<'_>>
-    ensures { meaning_of result ≡ number_line_of (words text.now) }
+fn read_number_line(text: &[u8]) -> Result<Statement<'_>, Complaint<'_>>
+    ensures { read_as result ≡ known (number_line_of (words text.now)) }
 {
-    let (side, number) = read_side_and_number(text, NUMBER_MAX)?;
-    Some(Statement::End(side, EndStatement::Number(number)))
+    let (side, number) = read_side_and_number(Field::Number, NUMBER_MAX, text)?;
+    Ok(Statement::End(side, EndStatement::Number(number)))
 }
 
 /// `quiet SIDE`.
-fn read_quiet(text: &[u8]) -> Option<Statement<'_>>
-    ensures { meaning_of result ≡ quiet_of (words text.now) }
+fn read_quiet(text: &[u8]) -> Result<Statement<'_>, Complaint<'_>>
+    ensures { read_as result ≡ known (quiet_of (words text.now)) }
 {
     let side = read_one_side(text)?;
-    Some(Statement::End(side, EndStatement::Quiet))
+    Ok(Statement::End(side, EndStatement::Quiet))
 }
 
 /// `short SIDE`.
-fn read_short(text: &[u8]) -> Option<Statement<'_>>
-    ensures { meaning_of result ≡ short_of (words text.now) }
+fn read_short(text: &[u8]) -> Result<Statement<'_>, Complaint<'_>>
+    ensures { read_as result ≡ known (short_of (words text.now)) }
 {
     let side = read_one_side(text)?;
-    Some(Statement::End(side, EndStatement::Short))
+    Ok(Statement::End(side, EndStatement::Short))
 }
 
 /// `lenient SIDE`.
-fn read_lenient(text: &[u8]) -> Option<Statement<'_>>
-    ensures { meaning_of result ≡ lenient_of (words text.now) }
+fn read_lenient(text: &[u8]) -> Result<Statement<'_>, Complaint<'_>>
+    ensures { read_as result ≡ known (lenient_of (words text.now)) }
 {
     let side = read_one_side(text)?;
-    Some(Statement::End(side, EndStatement::Lenient))
+    Ok(Statement::End(side, EndStatement::Lenient))
 }
 
 /// `pass SIDE N`.
-fn read_pass(text: &[u8]) -> Option<Statement<'_>>
-    ensures { meaning_of result ≡ pass_of (words text.now) }
+fn read_pass(text: &[u8]) -> Result<Statement<'_>, Complaint<'_>>
+    ensures { read_as result ≡ known (pass_of (words text.now)) }
 {
-    let (side, n) = read_side_and_number(text, BYTES_MAX)?;
-    Some(Statement::Event(Event::Pass { side, n }))
+    let (side, n) = read_side_and_number(Field::Count, BYTES_MAX, text)?;
+    Ok(Statement::Event(Event::Pass { side, n }))
 }
 
 /// `drop SIDE N`.
-fn read_drop(text: &[u8]) -> Option<Statement<'_>>
-    ensures { meaning_of result ≡ drop_of (words text.now) }
+fn read_drop(text: &[u8]) -> Result<Statement<'_>, Complaint<'_>>
+    ensures { read_as result ≡ known (drop_of (words text.now)) }
 {
-    let (side, n) = read_side_and_number(text, BYTES_MAX)?;
-    Some(Statement::Event(Event::Drop { side, n }))
+    let (side, n) = read_side_and_number(Field::Count, BYTES_MAX, text)?;
+    Ok(Statement::Event(Event::Drop { side, n }))
 }
 
 /// `flip SIDE HH`.
-fn read_flip(text: &[u8]) -> Option<Statement<'_>>
-    ensures { meaning_of result ≡ flip_of (words text.now) }
+fn read_flip(text: &[u8]) -> Result<Statement<'_>, Complaint<'_>>
+    ensures { read_as result ≡ known (flip_of (words text.now)) }
 {
     let (side, mask) = read_side_and_byte(text)?;
-    Some(Statement::Event(Event::Flip { side, mask }))
+    Ok(Statement::Event(Event::Flip { side, mask }))
 }
 
 /// `insert SIDE HH`.
-fn read_insert(text: &[u8]) -> Option<Statement<'_>>
-    ensures { meaning_of result ≡ insert_of (words text.now) }
+fn read_insert(text: &[u8]) -> Result<Statement<'_>, Complaint<'_>>
+    ensures { read_as result ≡ known (insert_of (words text.now)) }
 {
     let (side, byte) = read_side_and_byte(text)?;
-    Some(Statement::Event(Event::Insert { side, byte }))
+    Ok(Statement::Event(Event::Insert { side, byte }))
 }
 
 /// `timeout SIDE`.
-fn read_timeout(text: &[u8]) -> Option<Statement<'_>>
-    ensures { meaning_of result ≡ timeout_of (words text.now) }
+fn read_timeout(text: &[u8]) -> Result<Statement<'_>, Complaint<'_>>
+    ensures { read_as result ≡ known (timeout_of (words text.now)) }
 {
     let side = read_one_side(text)?;
-    Some(Statement::Event(Event::Timeout { side }))
+    Ok(Statement::Event(Event::Timeout { side }))
 }
 
 /// `hangup SIDE`.
-fn read_hang_up(text: &[u8]) -> Option<Statement<'_>>
-    ensures { meaning_of result ≡ hang_up_of (words text.now) }
+fn read_hang_up(text: &[u8]) -> Result<Statement<'_>, Complaint<'_>>
+    ensures { read_as result ≡ known (hang_up_of (words text.now)) }
 {
     let side = read_one_side(text)?;
-    Some(Statement::Event(Event::HangUp { side }))
+    Ok(Statement::Event(Event::HangUp { side }))
 }
 
 /// A line of an end's set-up, or of an event, by its first word.
-fn read_by<'a>(first: &[u8], rest: &'a [u8]) -> Option<Statement<'a>>
-    ensures { meaning_of result ≡ line_by first.now (words rest.now) }
+fn read_by<'a>(first: &'a [u8], rest: &'a [u8]) -> Result<Statement<'a>, Complaint<'a>>
+    ensures { read_as result ≡ known (line_by first.now (words rest.now)) }
 {
     if spells(first, b"caller") {
         read_place(Side::Caller, rest)
@@ -303,8 +330,8 @@ fn read_by<'a>(first: &[u8], rest: &'a [u8]) -> Option<Statement<'a>>
 }
 
 /// A line of an event, by its first word.
-fn read_event<'a>(first: &[u8], rest: &'a [u8]) -> Option<Statement<'a>>
-    ensures { meaning_of result ≡ event_by first.now (words rest.now) }
+fn read_event<'a>(first: &'a [u8], rest: &'a [u8]) -> Result<Statement<'a>, Complaint<'a>>
+    ensures { read_as result ≡ known (event_by first.now (words rest.now)) }
 {
     if spells(first, b"pass") {
         read_pass(rest)
@@ -323,22 +350,30 @@ fn read_event<'a>(first: &[u8], rest: &'a [u8]) -> Option<Statement<'a>>
     } else if spells(first, b"flow") {
         read_flow(rest)
     } else {
-        None
+        Err(Complaint::Unknown(first))
     }
 }
 
-/// What a line says, or `None` where it is bad. The bytes of a file are not looked at.
-pub(crate) fn read_line(line: &[u8]) -> Option<Statement<'_>>
-    ensures { meaning_of result ≡ line_of line.now }
+/// What a line says, by its words.
+fn read_words(line: &[u8]) -> Result<Statement<'_>, Complaint<'_>>
+    ensures { read_as result ≡ known (line_of_words (words line.now)) }
 {
-    if line.len() > LINE_MAX {
-        return None;
-    }
     let Some((first, rest)) = split_word(line) else {
-        return Some(Statement::Nothing);
+        return Ok(Statement::Nothing);
     };
     if first.starts_with(b"#") {
-        return Some(Statement::Nothing);
+        return Ok(Statement::Nothing);
     }
     read_by(first, rest)
+}
+
+/// What a line says, or the first thing that is wrong with it.
+pub(crate) fn read_line(line: &[u8]) -> Result<Statement<'_>, Complaint<'_>>
+    ensures said { meaning_of result ≡ result_ok (line_of line.now) }
+    ensures wrong { complaint_in result ≡ result_err (line_of line.now) }
+{
+    if line.len() > LINE_MAX {
+        return Err(Complaint::TooLong);
+    }
+    read_words(line)
 }

@@ -6,7 +6,9 @@ pub mod QuotingLemmas
 mod SequenceFacts
 pub mod SpacedLemmas
 mod SpoolNameFacts
+pub mod StandingLemmas
 mod StatusFacts
 pub mod StatusLemmas
+pub mod StoredSafelyLemmas
 mod TextFacts
 pub mod WorkOrderLemmas

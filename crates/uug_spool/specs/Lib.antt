@@ -11,6 +11,8 @@ pub mod Sequence
 pub mod ShownCommands
 pub mod ShownLines
 pub mod SpoolNames
+pub mod Standings
 pub mod StatsLines
 pub mod StatusTexts
+pub mod StoredSafely
 pub mod WorkOrder

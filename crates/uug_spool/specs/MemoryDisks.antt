@@ -1,5 +1,5 @@
 -- What a spool in memory tells of what was done to it.
-use Rattle.std.specs.Prelude.{List, map}
+use Rattle.std.specs.Prelude.{ℕ, List, map}
 use Rattle.uug_spool.specs.Operations.{Op, folder_synced, made, renamed, synced, unlinked}
 use Rattle.uug_spool.specs.declared.memory_disk.MemoryDisk.{MemoryDisk}
 use Rattle.uug_spool.specs.declared.memory_disk.Operation.{Operation}
@@ -14,3 +14,6 @@ op_of (operations.FolderSynced room) = folder_synced room
 
 abbrev pub ops_of : {A : Type 0} → MemoryDisk A → List Op
 ops_of disk = map op_of disk.operations.items
+
+abbrev pub told_of : {A : Type 0} → MemoryDisk A → List ℕ
+told_of disk = disk.told.items

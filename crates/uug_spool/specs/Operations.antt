@@ -25,6 +25,18 @@ abbrev pub FrontDone : List Op → (before after : Option (List Op)) → Type 0
 FrontDone [] before after = after ≡ before
 FrontDone (op ∷ ops) before after = (after ≡ before) ⊎ FrontDone ops (also_done op before) after
 
+-- behind what was told before, where a disk tells it
+abbrev pub also_told : List ℕ → Option (List ℕ) → Option (List ℕ)
+also_told more None = None
+also_told more (Some text) = Some (text ++ more)
+
+-- some first bytes of this are told, or none of it
+pub record TellsSome (more : List ℕ) (told told_after : Option (List ℕ)) : Type 0 where
+  pub front : List ℕ
+  pub rest : List ℕ
+  pub begins : more ≡ front ++ rest
+  pub is : told_after ≡ also_told front told
+
 -- a disk's count of faults has risen, or can't
 abbrev pub HasFault : (most faults faults_after : ℕ) → Type 0
 HasFault most faults faults_after = (faults < faults_after) ⊎ (faults ≡ most)

@@ -64,6 +64,10 @@ abbrev pub is_data_name : List ℕ → Bool
 is_data_name name =
     nat_lt 2 (length name) && (begins_with (codes "D.") name && (not (has_slash name) && not (has_two_dots name)))
 
+-- the place of data for another system
+abbrev pub data_spot : List ℕ → Spot
+data_spot name = if begins_with (codes "D.X") name then spot rooms.Text name else spot rooms.Data name
+
 -- the name of a folder that is none of the spool's own, which begin with a dot
 abbrev pub is_system_name : List ℕ → Bool
 is_system_name name = not (has_slash name) && not (begins_with (codes ".") name)

@@ -1,13 +1,17 @@
 //! Laws of what this crate reads and writes. A call does nothing: its contract is the law.
-ghost use Rattle.std.specs.Prelude.{◌≡◌, ◌<◌, ℕ, List, All, Ok, Some, true};
+ghost use Rattle.std.specs.Prelude.{◌≡◌, ◌<◌, ℕ, List, [], ◌∷◌, All, Ok, Some, true};
 ghost use Rattle.std.specs.Cmp.{IsTotalOrder};
 ghost use Rattle.std.specs.declared.cmp.Ordering.TheVariants.{Equal};
 ghost use Rattle.uug_spool.specs.CommandLines.{Line, command_of};
 ghost use Rattle.uug_spool.specs.CommandTexts.{IsLine, line_of};
 ghost use Rattle.uug_spool.specs.Quoting.{is_well_quoted, quoted, unquoted};
+ghost use Rattle.uug_spool.specs.Operations.{folder_synced, unlinked};
+ghost use Rattle.uug_spool.specs.Standings.{IsGoneThere, Standing, after_all};
 ghost use Rattle.uug_spool.specs.StatusTexts.{IsStatus, status_line, status_of};
+ghost use Rattle.uug_spool.specs.StoredSafely.{StoredSafely, is_place};
 ghost use Rattle.uug_spool.specs.WorkOrder.{work_order};
 ghost use Rattle.uug_spool.specs.declared.status.Status.{Status};
+ghost use Rattle.uug_spool.specs.declared.spool_names.Spot.{Spot};
 ghost use Rattle.uug_spool.specs.declared.spool_names.TheConstants.{FAR_NAME_MAX, OWN_DATA_MAX, OWN_TEXT_MAX};
 
 /// The limits of names are these.
@@ -39,4 +43,17 @@ pub fn written_commands_are_read()
 pub fn written_statuses_are_read()
     ensures { (s : Status) (system : List ℕ) → IsStatus s
         → status_of (status_line s system) ≡ Some s }
+{}
+
+/// Whatever stood in the folders before, and wherever a power cut stops it: the place of a file that came has what it had before
+/// or the whole file, and no new file without its marker; and once all is done the file is there, whole.
+pub fn a_file_that_came_is_whole()
+    ensures { (temp : List ℕ) (target : Spot) (text bytes : List ℕ) (s : Standing) → is_place target.room ≡ true
+        → StoredSafely temp target text bytes s }
+{}
+
+/// A file that was taken away stays away once its folder was seen on the device.
+pub fn a_file_stays_away()
+    ensures { (place : Spot) (s : Standing)
+        → IsGoneThere place (after_all (unlinked place ∷ folder_synced place.room ∷ []) s) }
 {}

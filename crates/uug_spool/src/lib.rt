@@ -16,7 +16,6 @@ mod parts;
 mod quoting;
 mod sent_file;
 mod sequence;
-mod settled;
 mod spool_names;
 mod stats_text;
 mod status;
@@ -33,10 +32,9 @@ pub use moment::Moment;
 pub use quoting::quoted;
 pub use sent_file::SentFile;
 pub use sequence::next_sequence;
-pub use settled::{OpenLine, Outcome, settle};
 pub use spool_names::{
-    Barred, FAR_NAME_MAX, OWN_DATA_MAX, OWN_TEXT_MAX, Room, Spot, far_name, is_data_name,
-    is_system_name, spot_of,
+    Barred, FAR_NAME_MAX, OWN_DATA_MAX, OWN_TEXT_MAX, Room, Spot, data_spot, far_name,
+    is_data_name, is_system_name, spot_of,
 };
 pub use stats_text::{Amount, Course, StatsHead, stats_line};
 pub use status::{CallState, Status, is_due, read_status, status_failed, status_line};

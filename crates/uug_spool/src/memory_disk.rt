@@ -1,6 +1,6 @@
 //! The folders of a spool in memory.
 ghost use Rattle.std.specs.Prelude.{◌≡◌, ◌≤◌, [], ◌∷◌, ◌++◌, Some, map, OnOk, OnErr};
-ghost use Rattle.uug_spool.specs.MemoryDisks.{op_of, ops_of};
+ghost use Rattle.uug_spool.specs.MemoryDisks.{op_of, ops_of, told_of};
 ghost use Rattle.uug_spool.specs.Operations.{HasFault};
 
 use crate::disk::{Disk, DiskFailed};
@@ -22,10 +22,11 @@ pub enum Operation<A: Allocator> {
     FolderSynced(Room),
 }
 
-/// A spool in memory, of which one operation may fail. It keeps what was done, and no files.
+/// A spool in memory, of which one operation may fail. It keeps what was done and told, and no files.
 #[derive(Drop)]
 pub struct MemoryDisk<A: Allocator> {
     operations: Vec<Operation<A>, A>,
+    told: Vec<u8, A>,
     fails_after: u64,
     faults: u64,
     alloc: A,
@@ -34,10 +35,12 @@ pub struct MemoryDisk<A: Allocator> {
 impl<A: Allocator + Copy> MemoryDisk<A> {
     /// A disk of which the operation after so many fails, and those behind it are done again.
     pub fn new(alloc: A, fails_after: u64) -> Self
-        ensures { ops_of result ≡ [] }
+        ensures ops { ops_of result ≡ [] }
+        ensures told { told_of result ≡ [] }
     {
         MemoryDisk {
             operations: Vec::new(alloc),
+            told: Vec::new(alloc),
             fails_after,
             faults: 0,
             alloc,
@@ -51,9 +54,17 @@ impl<A: Allocator + Copy> MemoryDisk<A> {
         self.operations.as_slice()
     }
 
+    /// What was told of jobs that have failed.
+    pub fn told(&self) -> &[u8]
+        ensures { result.now ≡ told_of self.now }
+    {
+        self.told.as_slice()
+    }
+
     /// Counts a fault.
     fn fault(&mut self) -> DiskFailed
         ensures ops { ops_of self.new ≡ ops_of self.old }
+        ensures told { told_of self.new ≡ told_of self.old }
         ensures fault { HasFault u64.MAX self.old.faults self.new.faults }
         ensures grows { self.old.faults ≤ self.new.faults }
     {
@@ -64,6 +75,7 @@ impl<A: Allocator + Copy> MemoryDisk<A> {
     /// Whether the next operation is the one that fails.
     fn is_faulty(&mut self) -> bool
         ensures ops { ops_of self.new ≡ ops_of self.old }
+        ensures told { told_of self.new ≡ told_of self.old }
         ensures faults { self.new.faults ≡ self.old.faults }
     {
         if self.fails_after == 0 && self.faults == 0 {
@@ -77,6 +89,7 @@ impl<A: Allocator + Copy> MemoryDisk<A> {
     fn note(&mut self, operation: Operation<A>) -> Result<(), DiskFailed>
         ensures ok { OnOk result (ops_of self.new ≡ ops_of self.old ++ op_of operation ∷ []) }
         ensures err { OnErr result (ops_of self.new ≡ ops_of self.old) }
+        ensures told { told_of self.new ≡ told_of self.old }
         ensures calm { OnOk result (self.new.faults ≡ self.old.faults) }
         ensures fault { OnErr result (HasFault u64.MAX self.old.faults self.new.faults) }
         ensures grows { self.old.faults ≤ self.new.faults }
@@ -90,6 +103,8 @@ impl<A: Allocator + Copy> MemoryDisk<A> {
 
 impl<A: Allocator + Copy> Disk for MemoryDisk<A> {
     ghost done = { λ disk. Some (ops_of disk) };
+
+    ghost told = { λ disk. Some (told_of disk) };
 
     ghost fault_count = { λ disk. disk.faults };
 
@@ -108,11 +123,22 @@ impl<A: Allocator + Copy> Disk for MemoryDisk<A> {
         self.note(Operation::Renamed(*from, *to))
     }
 
+    fn put_away(&mut self, from: &Spot, to: &Spot) -> Result<(), DiskFailed> {
+        self.note(Operation::Renamed(*from, *to))
+    }
+
     fn unlink(&mut self, spot: &Spot) -> Result<(), DiskFailed> {
         self.note(Operation::Unlinked(*spot))
     }
 
     fn sync_folder(&mut self, room: Room) -> Result<(), DiskFailed> {
         self.note(Operation::FolderSynced(room))
+    }
+
+    fn tell(&mut self, bytes: &[u8]) -> Result<(), DiskFailed> {
+        if self.is_faulty() || self.told.extend_from_slice(bytes).is_err() {
+            return Err(self.fault());
+        }
+        Ok(())
     }
 }

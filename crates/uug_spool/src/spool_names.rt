@@ -1,6 +1,6 @@
 //! The names of the files of a spool: where a file goes that another system sends, and how data is called there.
 ghost use Rattle.std.specs.Prelude.{◌≡◌, ◌+◌, ◌≤◌, ◌++◌, length};
-ghost use Rattle.uug_spool.specs.SpoolNames.{far_name, has_slash, has_two_dots, is_data_name, is_system_name, local_name, public_spot, spool_spot, spot_of};
+ghost use Rattle.uug_spool.specs.SpoolNames.{data_spot, far_name, has_slash, has_two_dots, is_data_name, is_system_name, local_name, public_spot, spool_spot, spot_of};
 ghost use Rattle.uug_spool.specs.declared.spool_names.TheConstants.{FAR_NAME_MAX};
 
 use arrayvec::ArrayVec;
@@ -163,6 +163,18 @@ pub fn is_data_name(name: &[u8]) -> bool
     ensures { result ≡ is_data_name name.now }
 {
     name.len() > 2 && name.starts_with(b"D.") && !has_slash(name) && !has_two_dots(name)
+}
+
+/// The place of data of this name for another system.
+pub fn data_spot(name: &Name) -> Spot
+    ensures { result ≡ data_spot name.now }
+{
+    let room = if name.as_bytes().starts_with(b"D.X") {
+        Room::Text
+    } else {
+        Room::Data
+    };
+    Spot { room, name: *name }
 }
 
 /// Whether the name of a system may be that of its folder in a spool: no slash, and no dot in front.

@@ -1,7 +1,9 @@
 //! What is done on the disk before it is answered that a file has come.
-ghost use Rattle.std.specs.Prelude.{◌≡◌, OnOk, OnErr};
+ghost use Rattle.std.specs.Prelude.{◌≡◌, true, OnOk, OnErr};
 ghost use Rattle.uug_spool.specs.DiskOrder.{finished_ops, stored_ops};
 ghost use Rattle.uug_spool.specs.Operations.{FrontDone, HasFault, also_all};
+ghost use Rattle.uug_spool.specs.Standings.{IsWholeThere, Told};
+ghost use Rattle.uug_spool.specs.StoredSafely.{StaysMarked, StaysSafe, is_place};
 
 use crate::disk::{Disk, DiskFailed};
 use crate::spool_names::{Room, Spot};
@@ -9,7 +11,37 @@ use uug_talk::Name;
 
 /// Puts a file that came into its place. It is renamed only where its bytes, and a marker of its name with this text, were
 /// seen on the device; and then its place is. A file of this name that was left over goes first.
+///
+/// Wherever this is stopped by a power cut, the place has what it had before or the whole file, and no new file without its
+/// marker; and once it is done the file is there, whole.
+#[tactic(auto, using(crate::proofs::StoredSafelyLemmas::stays_safe, crate::proofs::StoredSafelyLemmas::stays_marked, crate::proofs::StoredSafelyLemmas::all_stays_safe, crate::proofs::StoredSafelyLemmas::all_stays_marked, crate::proofs::StoredSafelyLemmas::is_there))]
 pub fn store<D: Disk>(
+    disk: &mut D,
+    temp: &Name,
+    target: &Spot,
+    text: &[u8],
+    bytes: &[u8],
+) -> Result<(), DiskFailed>
+    ensures ok { OnOk result (D.done disk.new
+        ≡ also_all (stored_ops temp.now target.now text.now bytes.now) (D.done disk.old)) }
+    ensures err { OnErr result (FrontDone (stored_ops temp.now target.now text.now bytes.now)
+        (D.done disk.old) (D.done disk.new)) }
+    ensures safe { is_place target.now.room ≡ true
+        → StaysSafe target.now bytes.now (D.done disk.old) (D.done disk.new) }
+    ensures marked { is_place target.now.room ≡ true
+        → StaysMarked temp.now target.now text.now (D.done disk.old) (D.done disk.new) }
+    ensures there { OnOk result (is_place target.now.room ≡ true
+        → Told (IsWholeThere target.now bytes.now) (D.done disk.new)) }
+    ensures calm { OnOk result (D.fault_count disk.new ≡ D.fault_count disk.old) }
+    ensures fault { OnErr result
+        (HasFault u64.MAX (D.fault_count disk.old) (D.fault_count disk.new)) }
+{
+    store_marked(disk, temp, target, text, bytes)?;
+    Ok(())
+}
+
+/// The operations of `store`, in their order.
+fn store_marked<D: Disk>(
     disk: &mut D,
     temp: &Name,
     target: &Spot,

@@ -4,7 +4,8 @@
 use crate::assertions::{assert_same_at, assert_so_at, name};
 use std::alloc::Global;
 use std::process::Abort;
-use uug_spool::{MemoryDisk, OpenLine, Operation, Outcome, Room, Spot, finish, settle, store};
+use uug_mailbox::{OpenLine, Outcome, settle};
+use uug_spool::{MemoryDisk, Operation, Room, Spot, finish, store};
 
 /// What is done to the folders.
 #[derive(Clone, Copy)]
@@ -96,14 +97,16 @@ fn marks_before_it_renames(rt: HostRuntime) {
     }
 }
 
-/// Whether a job has a copy, how it is over, in which file another one stands that is not, and the steps.
-type Row = (bool, Outcome, &'static str, &'static [Step]);
+/// Whether a line has a copy, how its job is over, in which file another line stands that is not, whether that one has the
+/// same copy, and the steps.
+type Row = (bool, Outcome, &'static str, bool, &'static [Step]);
 
-const ROWS: [Row; 5] = [
+const ROWS: [Row; 7] = [
     (
         true,
         Outcome::Done,
         "C.Nother",
+        false,
         &[
             Step::Unlink(Room::Data, "D.0001"),
             Step::SyncFolder(Room::Data),
@@ -115,8 +118,22 @@ const ROWS: [Row; 5] = [
         true,
         Outcome::Done,
         "C.N0001",
+        false,
         &[
             Step::Unlink(Room::Data, "D.0001"),
+            Step::SyncFolder(Room::Data),
+        ],
+    ),
+    // the data of a mail, whose execution file is not there yet
+    (true, Outcome::Done, "C.N0001", true, &[]),
+    (
+        true,
+        Outcome::Failed,
+        "C.N0001",
+        true,
+        &[
+            Step::Rename(Room::Data, "D.0001", Room::Preserved, "D.0001"),
+            Step::SyncFolder(Room::Preserved),
             Step::SyncFolder(Room::Data),
         ],
     ),
@@ -124,6 +141,7 @@ const ROWS: [Row; 5] = [
         true,
         Outcome::Failed,
         "C.Nother",
+        false,
         &[
             Step::Rename(Room::Data, "D.0001", Room::Preserved, "D.0001"),
             Step::SyncFolder(Room::Preserved),
@@ -131,33 +149,38 @@ const ROWS: [Row; 5] = [
             Step::Unlink(Room::Commands, "C.N0001"),
         ],
     ),
-    // a job without a copy
+    // a line without a copy
     (
         false,
         Outcome::Failed,
         "C.Nother",
+        false,
         &[Step::Unlink(Room::Commands, "C.N0001")],
     ),
-    (false, Outcome::Done, "C.N0001", &[]),
+    (false, Outcome::Done, "C.N0001", false, &[]),
 ];
 
 fn open_line(rt: &impl Abort, file: &str, has_copy: bool) -> OpenLine {
     let copy = if has_copy {
-        Some(spot(rt, Room::Data, "D.0001"))
+        Some(name(rt, "D.0001"))
     } else {
         None
     };
     let file = name(rt, file);
-    OpenLine { file, copy }
+    OpenLine {
+        file,
+        copy,
+        job: None,
+    }
 }
 
-/// Settles the job of a row, where the step behind so many fails.
+/// Settles the line of a row, where the step behind so many fails.
 fn assert_settled(rt: &impl Abort, alloc: Global, row: Row, count: usize) {
-    let (has_copy, outcome, other, steps) = row;
+    let (has_copy, outcome, other, has_same_copy, steps) = row;
     let mut disk = MemoryDisk::new(alloc, count as u64);
     let line = open_line(rt, "C.N0001", has_copy);
-    let left = [open_line(rt, other, false)];
-    let settled = settle(&mut disk, &line, &left, outcome);
+    let others = [open_line(rt, other, has_same_copy)];
+    let settled = settle(&mut disk, &line, &others, outcome);
     assert_same_at(rt, settled.is_ok(), count == steps.len(), other);
     assert_steps(rt, &disk, steps, count);
 }
@@ -165,7 +188,7 @@ fn assert_settled(rt: &impl Abort, alloc: Global, row: Row, count: usize) {
 #[test]
 fn takes_copies_away_before_files(rt: HostRuntime) {
     for row in ROWS {
-        let (_, _, _, steps) = row;
+        let (_, _, _, _, steps) = row;
         for count in 0..=steps.len() {
             assert_settled(&rt, rt.alloc(), row, count);
         }

@@ -1,4 +1,4 @@
-//! Tests of the calls of `uug_spool`, with texts and names as they were found in a spool of Taylor UUCP.
+//! Tests of the calls of `uug_spool` and `uug_mailbox`, with texts and names as they were found in a spool of Taylor UUCP.
 #![tactic(auto)]
 
 #[cfg(test)]
@@ -11,6 +11,8 @@ mod disks;
 mod executions;
 #[cfg(test)]
 mod logs;
+#[cfg(test)]
+mod mail;
 #[cfg(test)]
 mod memory;
 #[cfg(test)]

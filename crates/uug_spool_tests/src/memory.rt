@@ -4,10 +4,12 @@ use crate::assertions::{assert_same_at, assert_so_at, name};
 use crate::logs::moment;
 use std::alloc::{AllocError, Global};
 use std::process::Abort;
+use uug_mailbox::{WorkStore, add_file, queue_of};
 use uug_refusal::Refusing;
 use uug_spool::{
-    Amount, CallState, Command, Course, LogEvent, LogHead, StatsHead, Status, add_command_line,
-    execution_text, log_line, name_said, quoted, read_command, stats_line, status_line,
+    Amount, CallState, Command, Course, LogEvent, LogHead, MemoryDisk, StatsHead, Status,
+    add_command_line, execution_text, log_line, name_said, quoted, read_command, stats_line,
+    status_line,
 };
 use uug_talk::Name;
 
@@ -27,6 +29,7 @@ enum Call {
     Log,
     Statistics,
     Status,
+    Mail,
 }
 
 fn write_line(heap: Heap<'_>) -> Result<(), AllocError> {
@@ -82,6 +85,23 @@ fn write_status(heap: Heap<'_>, system: &Name) -> bool {
 }
 
 /// Makes the call. Whether it was done.
+/// Reads the lines of a C. file, and settles their jobs.
+fn settle_mail(heap: Heap<'_>, node: &Name) -> bool {
+    let Ok(data) = Name::new(b"D.0001") else {
+        return true;
+    };
+    let mut lines = Vec::new(heap);
+    if add_file(&mut lines, node, LINE, &[data]).is_err() {
+        return false;
+    }
+    let Ok(queue) = queue_of(heap, lines.as_slice()) else {
+        return false;
+    };
+    let mut mail = WorkStore::new(heap, MemoryDisk::new(heap, 1000), lines);
+    mail.settle_jobs(heap, queue.pending(), &[], b"told")
+        .is_ok()
+}
+
 fn make(heap: Heap<'_>, node: &Name, call: Call) -> bool {
     match call {
         Call::Name => name_said(heap, b"-Cq", LINE).is_ok(),
@@ -91,6 +111,7 @@ fn make(heap: Heap<'_>, node: &Name, call: Call) -> bool {
         Call::Log => write_log(heap),
         Call::Statistics => write_statistics(heap),
         Call::Status => write_status(heap, node),
+        Call::Mail => settle_mail(heap, node),
     }
 }
 
@@ -118,7 +139,7 @@ fn requests(rt: &impl Abort, heap: Heap<'_>, node: &Name, call: Call) -> u64 {
     ENOUGH
 }
 
-const CALLS: [Call; 7] = [
+const CALLS: [Call; 8] = [
     Call::Name,
     Call::Word,
     Call::Line,
@@ -126,6 +147,7 @@ const CALLS: [Call; 7] = [
     Call::Log,
     Call::Statistics,
     Call::Status,
+    Call::Mail,
 ];
 
 fn refuse_calls(rt: &impl Abort, heap: Heap<'_>) {

@@ -1,3 +1,4 @@
 pub mod FailedRemarks
 pub mod NumberRemarks
-pub mod Tasks
+pub mod Callers
+pub mod UnreadRemarks

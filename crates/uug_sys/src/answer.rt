@@ -1,12 +1,11 @@
-//! An end that is called at a socket. It goes on listening until a caller has been let in.
-ghost use Rattle.std.specs.Prelude.{◌≡◌, ◌≢◌, ◌≤◌, Err, IfErr, IfOk, IsSome};
+//! An end that is called at a socket. It goes on listening until the last of its callers has been let in.
+ghost use Rattle.std.specs.Prelude.{◌≡◌, ◌≢◌, ◌≤◌, Err, IfErr, IfOk, IsSome, OnOk, max};
 ghost use Rattle.uug_stream.specs.Streams.{CountsFault};
 ghost use Rattle.uug_failure.specs.Faults.{IsCallFault};
 
 use crate::call::talk_over;
 use crate::doorkeeper::Doorkeeper;
 use crate::held_output::HeldOutput;
-use crate::task::{CallTask, Station};
 use std::alloc::Allocator;
 use std::fs::File;
 use std::io;
@@ -16,6 +15,7 @@ use std::time::Clock;
 use uug_failure::{Cause, Resource, SystemFailure};
 use uug_port::{Deadline, Listener, Listening, SilentLine, StreamLine, SystemLine};
 use uug_stream::{Output, ToolFault, write_all};
+use uug_task::{CallTask, Station};
 use uug_transfer::SessionObserver;
 
 /// So many callers are heard at most.
@@ -29,9 +29,10 @@ struct Served<A: Allocator> {
     report: HeldOutput<A>,
 }
 
-/// The end waits to be called at this socket, and talks with the first caller whom it lets in. Of those before, whose greeting
-/// was refused or broke off, nothing is left but what the observer has said. Where the time to wait is over it has the session
-/// of an end that nobody has called.
+/// The end waits to be called at this socket, and talks with each caller whom it lets in, up to as many as its task says, one
+/// after the other. Of the others, whose greeting was refused or broke off, nothing is left but what the observer has said. Where
+/// nobody has called when the time to wait is over it has the session of an end that nobody has called, and waits for no other.
+/// Its status is the greatest of its sessions; a fault is the last of them.
 pub(crate) fn answer_at<A, R, T, W, O, B>(
     alloc: A,
     rt: &R,
@@ -94,72 +95,93 @@ where
     ensures no_usage { result ≢ Err ToolFault.Usage }
     ensures why { result ≡ Err ToolFault.Device → IsSome why.new }
 {
-    let doorkeeper = Doorkeeper {
-        observer,
-        listening,
-    };
-    let served = first_served(alloc, rt, task, station, doorkeeper, remark, why);
-    give(served, output)
+    let sessions = sessions_of(&station);
+    let mut doorkeeper = Doorkeeper::new(observer, listening, sessions);
+    let mut status = 0;
+    for _ in 0..sessions {
+        tell(rt, remark);
+        *why = None;
+        let (served, keeper) = next_served(alloc, rt, task, station, doorkeeper, remark, why);
+        doorkeeper = keeper;
+        match give(served, output) {
+            Ok(next) => status = greater(status, next),
+            Err(fault) => {
+                doorkeeper.close();
+                drop(doorkeeper);
+                return Err(fault);
+            }
+        }
+        if !doorkeeper.is_open() {
+            break;
+        }
+    }
+    doorkeeper.close();
+    drop(doorkeeper);
+    Ok(status)
 }
 
-/// What came of the first caller who was let in, or of a session with nobody where none came in time.
-fn first_served<A, R, T, W, B>(
+/// So many sessions the end has at most.
+fn sessions_of(station: &Station) -> u32
+    ensures { result ≡ station.now.sessions }
+{
+    station.sessions
+}
+
+/// The greater of two statuses.
+fn greater(first: u8, second: u8) -> u8
+    ensures { result ≡ max first second }
+{
+    first.max(second)
+}
+
+/// What came of the next caller who was let in, or of a session with nobody where none came in time: then the socket is closed.
+/// The doorkeeper is given back.
+fn next_served<'a, 'p, A, R, T, W, B>(
     alloc: A,
     rt: &R,
     task: &CallTask<'_>,
     station: Station,
-    mut doorkeeper: Doorkeeper<'_, '_, W, T, R, A>,
+    mut doorkeeper: Doorkeeper<'a, 'p, W, T, R, A>,
     remark: &mut String<B>,
     why: &mut Option<SystemFailure>,
-) -> Served<A>
+) -> (Served<A>, Doorkeeper<'a, 'p, W, T, R, A>)
 where
     A: Allocator + Copy,
     R: Files<File = File> + Net + Clock + Eprint + Alloc + Clone + Drop,
     T: Listener + Drop,
     W: SessionObserver + Drop,
     B: Allocator,
-    ensures status { IfOk result.answer (λ status. status ≤ 1) }
-    ensures no_other { IfErr result.answer IsCallFault }
-    ensures no_usage { result.answer ≢ Err ToolFault.Usage }
+    ensures status { IfOk result.0.answer (λ status. status ≤ 1) }
+    ensures no_other { IfErr result.0.answer IsCallFault }
+    ensures no_usage { result.0.answer ≢ Err ToolFault.Usage }
     // What is held is in memory, whose faults are no refused writes.
-    ensures no_write { result.answer ≢ Err ToolFault.Write }
-    ensures why { result.answer ≡ Err ToolFault.Device → IsSome why.new }
+    ensures no_write { result.0.answer ≢ Err ToolFault.Write }
+    ensures why { result.0.answer ≡ Err ToolFault.Device → IsSome why.new }
 {
     let deadline = match Deadline::after(rt, station.wait_at_socket()) {
         Ok(deadline) => deadline,
-        Err(error) => {
-            doorkeeper.listening.close();
-            drop(doorkeeper);
-            return broken(alloc, why, &error);
-        }
+        Err(error) => return (broken(alloc, why, &error), doorkeeper),
     };
+    doorkeeper.wait_for_next();
     for _ in 0..CALLERS_MAX {
         let stream = match doorkeeper.next_caller(&deadline, station.time()) {
             Ok(Some(stream)) => stream,
             Ok(None) => break,
-            Err(error) => {
-                doorkeeper.listening.close();
-                drop(doorkeeper);
-                return broken(alloc, why, &error);
-            }
+            Err(error) => return (broken(alloc, why, &error), doorkeeper),
         };
         let line = Ok(StreamLine::new(stream));
         let (served, keeper) = serve(alloc, rt, task, station, line, doorkeeper, remark, why);
         doorkeeper = keeper;
-        if !doorkeeper.listening.is_open() || !is_of_line(served.answer, *why) {
-            doorkeeper.listening.close();
-            drop(doorkeeper);
-            return served;
+        if doorkeeper.has_let_in() || !is_of_line(served.answer, *why) {
+            return (served, doorkeeper);
         }
         drop(served);
         tell(rt, remark);
         *why = None;
     }
-    doorkeeper.listening.close();
+    doorkeeper.close();
     let line = Ok(SilentLine);
-    let (served, doorkeeper) = serve(alloc, rt, task, station, line, doorkeeper, remark, why);
-    drop(doorkeeper);
-    served
+    serve(alloc, rt, task, station, line, doorkeeper, remark, why)
 }
 
 /// The session at a line, whose report is held back. The doorkeeper is given back.
@@ -202,8 +224,11 @@ where
     (Served { answer, report }, doorkeeper)
 }
 
-/// Says at once what is remarked of a caller who was not let in.
+/// Says at once what is remarked of a caller who is gone.
 fn tell<R: Eprint, B: Allocator>(rt: &R, remark: &mut String<B>) {
+    if remark.is_empty() {
+        return;
+    }
     let said = remark.as_str();
     let _ = eprint!(rt; "{said}");
     remark.clear();
@@ -250,6 +275,7 @@ fn give<A: Allocator, O: Output>(served: Served<A>, output: &mut O) -> Result<u8
     ensures no_other { IfErr result IsCallFault }
     ensures no_usage { result ≢ Err ToolFault.Usage }
     ensures device { result ≡ Err ToolFault.Device → served.answer ≡ Err ToolFault.Device }
+    ensures calm { OnOk result (O.fault_count output.new ≡ O.fault_count output.old) }
 {
     let printed = write_all(output, served.report.bytes());
     match (served.answer, printed) {

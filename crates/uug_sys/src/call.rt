@@ -2,15 +2,14 @@
 ghost use Rattle.std.specs.Prelude.{◌≡◌, ◌≢◌, ◌<◌, ◌≤◌, ◌⊎◌, ◌↔◌, IfErr, IfOk, IsSome};
 ghost use Rattle.uug_failure.specs.Faults.{IsCallFault, IsLockFault, IsOpeningFault, IsStartFault};
 ghost use Rattle.uug_stream.specs.Streams.{CountsFault};
-ghost use Rattle.uug_sys.specs.Tasks.{IsTask};
+ghost use Rattle.uug_task.specs.Tasks.{IsTask};
 
 use crate::answer::answer_at;
-use crate::end_parts::FinishedEnd;
 use crate::failed_remark::remark_failed;
 use crate::number_remark::remark_numbers;
 use crate::numbers::{meet, read_numbers};
 use crate::parts::{failure_of, read_parts};
-use crate::task::{CallTask, Station, Terms, read_terms};
+use crate::waking_line::WakingLine;
 use std::alloc::{AllocError, Allocator};
 use std::fs::File;
 use std::io;
@@ -20,11 +19,12 @@ use std::time::{Clock, Duration};
 use uug_disk::{DirLock, lock_device, lock_dir, open_jobs, see_folders};
 use uug_failure::{Cause, Resource, RunFault, SystemFailure};
 use uug_port::{
-    DeviceLine, SessionLine, SilentLine, StreamLine, SystemLine, TimedLine, TimedStream, call_tcp,
-    call_unix, listen_tcp, listen_unix,
+    DeviceLine, SessionLine, SilentLine, StandardLine, StandardStreams, StreamLine, SystemLine,
+    TimedLine, TimedStream, call_tcp, call_unix, listen_tcp, listen_unix,
 };
 use uug_session::Side;
 use uug_stream::{Output, ToolFault};
+use uug_task::{CallTask, FinishedEnd, Station, Terms, read_terms};
 use uug_transfer::{EndLine, GreetedLine, LineMonitor, LineName, SessionObserver};
 
 /// Runs one end over its folder and its line, for one session. What stands in a folder is said in `docs/PROTOCOL.md`. The
@@ -37,6 +37,7 @@ pub fn call_run<A, R, W, O, B>(
     alloc: A,
     rt: &R,
     task: &CallTask<'_>,
+    streams: StandardStreams,
     observer: W,
     output: &mut O,
     remark: &mut String<B>,
@@ -77,7 +78,9 @@ where
             None
         }
     };
-    talk_at(alloc, rt, task, terms, held, observer, output, remark, why)
+    talk_at(
+        alloc, rt, task, terms, streams, held, observer, output, remark, why,
+    )
 }
 
 /// The lock on the end's folder, where its number and its jobs can be read.
@@ -120,6 +123,7 @@ fn talk_at<A, R, W, O, B>(
     rt: &R,
     task: &CallTask<'_>,
     terms: Terms<'_>,
+    streams: StandardStreams,
     held: Option<DirLock<A>>,
     observer: W,
     output: &mut O,
@@ -174,6 +178,15 @@ where
             answer_at(
                 alloc, rt, task, station, opened, observer, output, remark, why,
             )
+        }
+        (LineName::Standard, _) => {
+            let line = StandardLine::new(alloc, rt, streams, station.time());
+            let (answer, observer) = talk_over(
+                alloc, rt, task, station, held, line, observer, output, remark, why,
+            );
+            drop(observer);
+            streams.release();
+            answer
         }
         (LineName::Device(path), _) => talk_at_device(
             alloc, rt, task, station, path, held, observer, output, remark, why,
@@ -240,7 +253,7 @@ where
 }
 
 /// An end that is told how long it waits to be called says nothing before the first byte has come over its device. Where none
-/// comes it has the session of an end that nobody has called.
+/// comes it has the session of an end that nobody has called. One that calls writes bytes that wake such an end.
 fn talk_when_called<A, R, W, O, B>(
     alloc: A,
     rt: &R,
@@ -266,7 +279,7 @@ where
     ensures no_usage { result ≢ Err ToolFault.Usage }
     ensures why { result ≡ Err ToolFault.Device → IsSome why.new }
 {
-    match called(line, task.side, station.wait) {
+    match called(line, station.wait_at_device(task.side)) {
         Ok(Some(line)) => {
             let (answer, observer) = talk_over(
                 alloc,
@@ -274,7 +287,7 @@ where
                 task,
                 station,
                 held,
-                Ok(line),
+                Ok(WakingLine::new(line, task.side)),
                 observer,
                 output,
                 remark,
@@ -308,22 +321,19 @@ where
     }
 }
 
-/// The line over a device, if the end has been called there where it has to be, or why there is none.
+/// The line over a device, if the end has been called there where it waits for that, or why there is none.
 fn called<A: Allocator + Copy>(
     line: Result<DeviceLine<A>, Cause>,
-    side: Side,
     wait: Option<u32>,
 ) -> Result<Option<DeviceLine<A>>, Cause> {
     let mut line = line?;
-    match (side, wait) {
-        (Side::Called, Some(seconds)) => {
-            if line.wait_for_call(Duration::from_secs(u64::from(seconds)))? {
-                Ok(Some(line))
-            } else {
-                Ok(None)
-            }
-        }
-        _ => Ok(Some(line)),
+    let Some(seconds) = wait else {
+        return Ok(Some(line));
+    };
+    if line.wait_for_call(Duration::from_secs(u64::from(seconds)))? {
+        Ok(Some(line))
+    } else {
+        Ok(None)
     }
 }
 

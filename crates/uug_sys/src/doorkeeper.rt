@@ -1,4 +1,6 @@
 //! Who sees that a caller has been let in.
+ghost use Rattle.std.specs.Prelude.{◌≡◌, true, false};
+ghost use Rattle.uug_sys.specs.Callers.{left_behind};
 
 use std::alloc::Allocator;
 use std::io;
@@ -9,12 +11,73 @@ use uug_port::{Deadline, Listener, Listening, TimedStream};
 use uug_session::Phase;
 use uug_transfer::{ReadOutcome, SessionObserver, SessionStatus};
 
-/// Closes the socket at which an end is called, once its session is past the greeting, and shows another observer all that it
-/// is shown.
+/// Sees that a caller has been let in, once its session is past the greeting, and closes the socket at the last of them. It shows
+/// another observer all that it is shown.
 #[derive(Drop)]
 pub(crate) struct Doorkeeper<'a, 'p, W, T, R, A: Allocator> {
-    pub(crate) observer: W,
-    pub(crate) listening: Listening<'a, 'p, T, R, A>,
+    observer: W,
+    listening: Listening<'a, 'p, T, R, A>,
+    /// So many callers may be let in still.
+    left: u32,
+    /// Whether the one at the door has been let in.
+    has_let_in: bool,
+}
+
+impl<'a, 'p, W, T: Drop, R: Files, A: Allocator> Doorkeeper<'a, 'p, W, T, R, A> {
+    /// Who stands at this socket, and lets in so many callers.
+    pub(crate) fn new(observer: W, listening: Listening<'a, 'p, T, R, A>, callers: u32) -> Self
+        ensures left { result.left ≡ callers }
+        ensures has_let_in { result.has_let_in ≡ false }
+    {
+        Doorkeeper {
+            observer,
+            listening,
+            left: callers,
+            has_let_in: false,
+        }
+    }
+
+    /// The next caller is at the door.
+    pub(crate) fn wait_for_next(&mut self)
+        ensures { self.new ≡ record self.old { has_let_in = false } }
+    {
+        self.has_let_in = false;
+    }
+
+    /// Whether the caller at the door has been let in.
+    pub(crate) fn has_let_in(&self) -> bool
+        ensures { result ≡ self.now.has_let_in }
+    {
+        self.has_let_in
+    }
+
+    /// Whether the socket listens still.
+    pub(crate) fn is_open(&self) -> bool {
+        self.listening.is_open()
+    }
+
+    /// The socket is closed.
+    pub(crate) fn close(&mut self)
+        ensures left { self.new.left ≡ self.old.left }
+        ensures has_let_in { self.new.has_let_in ≡ self.old.has_let_in }
+    {
+        self.listening.close();
+    }
+
+    /// The caller at the door is let in, which is counted once. Behind the last one the socket is closed.
+    fn let_in(&mut self)
+        ensures left { self.new.left ≡ left_behind self.old.left self.old.has_let_in }
+        ensures has_let_in { self.new.has_let_in ≡ true }
+    {
+        if self.has_let_in {
+            return;
+        }
+        self.has_let_in = true;
+        self.left = self.left.saturating_sub(1);
+        if self.left == 0 {
+            self.close();
+        }
+    }
 }
 
 impl<W, T: Listener + Drop, R: Files + Net + Clock, A: Allocator + Copy> Doorkeeper<
@@ -56,7 +119,7 @@ where
 
     fn note(&mut self, status: SessionStatus) {
         if let Phase::Starting | Phase::Talking | Phase::Closing = status.phase {
-            self.listening.close();
+            self.let_in();
         }
         self.observer.note(status);
     }

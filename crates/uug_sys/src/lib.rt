@@ -4,19 +4,17 @@
 mod answer;
 mod call;
 mod doorkeeper;
-mod end_parts;
 mod failed_remark;
 mod hearing;
 mod held_output;
-pub mod laws;
+mod last_text;
 mod number_remark;
 mod numbers;
 mod parts;
 mod system_observer;
-mod task;
+mod unread_remark;
 mod voice;
+mod waking_line;
 
 pub use call::call_run;
-pub use end_parts::{EndParts, FinishedEnd};
 pub use system_observer::SystemObserver;
-pub use task::{CallTask, SECONDS_MAX, WAIT_MAX};

@@ -4,14 +4,13 @@ ghost use Rattle.uug_failure.specs.Faults.{IsStartFault};
 ghost use Rattle.uug_folder.specs.NumberText.{begins_with, number_in};
 ghost use Rattle.uug_stream.specs.declared.fault.ToolFault.TheVariants.{Number as bad_number};
 
-use crate::end_parts::make_node;
-use crate::task::{CallTask, Station};
 use std::alloc::{AllocError, Allocator};
 use std::rt::Files;
 use uug_disk::{DirLock, read_text};
 use uug_failure::{EndText, RunFault};
 use uug_folder::{number_at_start, number_beside, read_number_text};
 use uug_session::{MemorySpool, Place, Queue, Side};
+use uug_task::{CallTask, Station, make_node};
 use uug_transfer::{BufferedNode, EndLine, FaultInjector, GreetedLine};
 
 /// The numbers of an end's conversations as its session begins.

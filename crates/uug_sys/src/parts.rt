@@ -4,9 +4,7 @@ ghost use Rattle.uug_conversation.specs.Jobs.{pending};
 ghost use Rattle.uug_failure.specs.Faults.{IsStartFault};
 ghost use Rattle.uug_folder.specs.JobsText.{IsFrontOf};
 
-use crate::end_parts::EndParts;
 use crate::numbers::Numbers;
-use crate::task::CallTask;
 use std::alloc::{AllocError, Allocator};
 use std::rt::Files;
 use uug_disk::{
@@ -16,6 +14,7 @@ use uug_disk::{
 use uug_failure::{EndText, RunFault, SystemFailure};
 use uug_folder::{FolderSpool, JobsFile, LocalNames, first_jobs};
 use uug_session::{Place, Spool, Stored};
+use uug_task::{CallTask, EndParts};
 use uug_transfer::TransferEnd;
 
 /// The files of an end in a folder of the system.

@@ -1,14 +1,16 @@
 //! What a person follows on standard error.
 
 use crate::hearing::Hearing;
-use crate::task::CallTask;
+use crate::last_text::Tail;
+use crate::unread_remark::unread_remark;
 use crate::voice::Voice;
 use std::alloc::{AllocError, Allocator};
 use std::time::Clock;
 use uug_follow::{Observer, Way};
-use uug_reason::heard_remark;
-use uug_session::{Phase, Side};
+use uug_reason::{Heard, heard_remark};
+use uug_session::{End, Phase, Side};
 use uug_talk::Name;
+use uug_task::CallTask;
 use uug_transfer::{ReadOutcome, SessionObserver, SessionStatus};
 
 /// Says on standard error what becomes of each session: its phases, the jobs of both ends, and what was lost.
@@ -21,6 +23,8 @@ pub struct SystemObserver<'a, R, A: Allocator> {
     voice: Voice<'a, R, A>,
     /// What was said of the session last.
     phase: Option<Phase>,
+    /// Whether it came past its greeting.
+    has_met: bool,
     /// How many bytes were written and read, and how often nothing came, up to the greatest numbers.
     written: u64,
     read: u64,
@@ -28,8 +32,9 @@ pub struct SystemObserver<'a, R, A: Allocator> {
     /// Whether the end calls, or is called, and the name of the other end, if it is one.
     side: Side,
     peer: Option<Name>,
-    /// What was heard of it.
+    /// What was heard of it: the texts of its greeting, and the bytes that came last.
     hearing: Hearing,
+    tail: Tail<A>,
 }
 
 impl<'a, R: Eprint + Clock, A: Allocator + Copy> SystemObserver<'a, R, A> {
@@ -52,12 +57,14 @@ impl<'a, R: Eprint + Clock, A: Allocator + Copy> SystemObserver<'a, R, A> {
             observer,
             voice: Voice::new(alloc, rt, at_terminal),
             phase: None,
+            has_met: false,
             written: 0,
             read: 0,
             silences: 0,
             side: task.side,
             peer: Name::new(task.peer.as_bytes()).ok(),
             hearing: Hearing::nothing(),
+            tail: Tail::new(alloc),
         })
     }
 
@@ -67,10 +74,12 @@ impl<'a, R: Eprint + Clock, A: Allocator + Copy> SystemObserver<'a, R, A> {
             self.observer = Observer::new(self.alloc, self.is_lenient).ok();
         }
         self.phase = None;
+        self.has_met = false;
         self.written = 0;
         self.read = 0;
         self.silences = 0;
         self.hearing = Hearing::nothing();
+        self.tail.clear();
     }
 
     /// All that went over the line.
@@ -85,11 +94,27 @@ impl<'a, R: Eprint + Clock, A: Allocator + Copy> SystemObserver<'a, R, A> {
         self.voice.say_silences(self.silences);
     }
 
-    /// What was heard of the other end, where the session ended badly.
-    fn say_heard(&self, phase: Phase) {
-        if let (Phase::Ended(end), Some(peer)) = (phase, &self.peer) {
-            let heard = self.hearing.heard();
-            self.voice.say(heard_remark(self.alloc, self.side, end, peer.as_str(), heard));
+    /// What was heard of the other end, where the session ended badly: a line, or none.
+    fn heard(&self, phase: Phase) -> Result<String<A>, AllocError> {
+        match (phase, &self.peer) {
+            (Phase::Ended(End::BadTalk), _) => self.unread(),
+            (Phase::Ended(end), Some(peer)) => {
+                let heard = self.hearing.heard();
+                heard_remark(self.alloc, self.side, end, peer.as_str(), heard)
+            }
+            _ => Ok(String::new(self.alloc)),
+        }
+    }
+
+    /// What was heard last, where the session ended with it.
+    fn unread(&self) -> Result<String<A>, AllocError> {
+        let last = self.tail.last_text()?;
+        if last.is_whole() {
+            return unread_remark(self.alloc, last.bytes());
+        }
+        match self.hearing.heard() {
+            Heard::Text(text) if !self.has_met => unread_remark(self.alloc, text),
+            _ => Ok(String::new(self.alloc)),
         }
     }
 
@@ -121,16 +146,21 @@ impl<R: Eprint + Clock, A: Allocator + Copy> SessionObserver for SystemObserver<
         if matches!(self.phase, None | Some(Phase::Hail)) {
             self.hearing.hear(piece);
         }
+        self.tail.hear(piece);
         self.see(Way::In, piece);
     }
 
     fn note(&mut self, status: SessionStatus) {
+        self.voice.say_held();
         if self.observer.is_some() && self.phase != Some(status.phase) {
             self.voice.say_status(status);
         }
         self.phase = Some(status.phase);
+        if let Phase::Starting | Phase::Talking | Phase::Closing = status.phase {
+            self.has_met = true;
+        }
         if status.is_over {
-            self.say_heard(status.phase);
+            self.voice.say(self.heard(status.phase));
             self.say_counts();
             self.begin_anew();
         }

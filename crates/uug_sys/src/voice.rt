@@ -9,7 +9,8 @@ use uug_transfer::SessionStatus;
 /// What keeps a line that is to be written over from being seen any longer, at a terminal.
 const WIPE: &str = "\r\u{1b}[K";
 
-/// Speaks to a person on standard error. What can't be said, or for which there is no memory, is left out.
+/// Speaks to a person on standard error. What can't be said, or for which there is no memory, is left out. What becomes of a job is
+/// said when that is on the disk, so that a kill behind it does no job that is said to be done a second time.
 #[derive(Drop)]
 pub(crate) struct Voice<'a, R, A: Allocator> {
     alloc: A,
@@ -22,6 +23,8 @@ pub(crate) struct Voice<'a, R, A: Allocator> {
     begun: u64,
     /// In which second of the session its last line was written over, which is then still seen.
     shown: Option<u64>,
+    /// What is to be said of jobs, once it stands on the disk.
+    held: String<A>,
 }
 
 impl<'a, R: Eprint + Clock, A: Allocator + Copy> Voice<'a, R, A> {
@@ -33,6 +36,7 @@ impl<'a, R: Eprint + Clock, A: Allocator + Copy> Voice<'a, R, A> {
             since: Instant::now(rt).ok(),
             begun: 0,
             shown: None,
+            held: String::new(alloc),
         }
     }
 
@@ -59,6 +63,17 @@ impl<'a, R: Eprint + Clock, A: Allocator + Copy> Voice<'a, R, A> {
         if self.shown.take().is_some() {
             let _ = eprint!(self.rt; "{WIPE}");
         }
+    }
+
+    /// Says what was held back: all that has become of the jobs is on the disk.
+    pub(crate) fn say_held(&mut self) {
+        if self.held.is_empty() {
+            return;
+        }
+        self.wipe();
+        let held = self.held.as_str();
+        let _ = eprint!(self.rt; "{held}");
+        self.held.clear();
     }
 
     /// The end now stands so.
@@ -102,12 +117,13 @@ impl<'a, R: Eprint + Clock, A: Allocator + Copy> Voice<'a, R, A> {
 
 impl<R: Eprint + Clock, A: Allocator + Copy> Journal for Voice<'_, R, A> {
     fn note(&mut self, news: &News) {
-        self.wipe();
         let seconds = self.seconds();
         if let News::Begins(_) = news {
             self.begun = seconds;
         }
         let took = seconds.saturating_sub(self.begun);
-        self.say(news_line(self.alloc, seconds, took, news));
+        if let Ok(line) = news_line(self.alloc, seconds, took, news) {
+            let _ = self.held.push_str(line.as_str());
+        }
     }
 }

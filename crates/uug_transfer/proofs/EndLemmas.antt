@@ -13,7 +13,7 @@ use Rattle.uug_folder.specs.TextFiles.{holding}
 use Rattle.uug_folder.specs.declared.jobs_plan.JobsPlan.{JobsPlan}
 use Rattle.uug_folder.specs.declared.jobs_plan.JobsPlan.TheVariants.{Write, Failed}
 use Rattle.uug_session.specs.Node.{NodeState}
-use Rattle.uug_transfer.specs.EndOver.{FilesState, IsEndFault, IsPlanFault, IsPlanFaultOfBoth, IsPrinted, LeaveBoth, LeavesBehind, fault_behind_line}
+use Rattle.uug_transfer.specs.EndOver.{FilesState, IsEndFault, IsPlanFaultOfBoth, IsPrinted, LeaveBoth, LeavesBehind, fault_behind_line}
 
 -- ---- nothing was printed
 

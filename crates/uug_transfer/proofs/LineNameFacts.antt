@@ -1,9 +1,11 @@
 -- Names of lines whose line is known, so that a wrong definition does not check.
 use Rattle.std.proofs.Common.{◌≡◌, [], codes, Some, None, refl}
 use Rattle.std.specs.Path.{rsplit_once}
-use Rattle.uug_transfer.specs.LineNames.{device, line_of, tcp, unix}
+use Rattle.uug_transfer.specs.LineNames.{device, line_of, standard, tcp, unix}
 
 record AreLines : Type 0 where
+  streams : line_of (codes "-") ≡ Some standard
+  hyphens : line_of (codes "--") ≡ Some (device (codes "--"))
   socket : line_of (codes "unix:/run/line") ≡ Some (unix (codes "/run/line"))
   no_path : line_of (codes "unix:") ≡ None
   host : line_of (codes "tcp:mail.example:540") ≡ Some (tcp (codes "mail.example") 540)
@@ -28,6 +30,8 @@ record AreLines : Type 0 where
 are_lines : AreLines
 unfolding rsplit_once
 are_lines = record {
+  streams = refl;
+  hyphens = refl;
   socket = refl;
   no_path = refl;
   host = refl;

@@ -1,30 +1,27 @@
 -- What becomes of an end, and how its disk follows it.
-use Rattle.std.proofs.Common.{◌≡◌, ◌⊎◌, inl, inr, Bool, ℕ, suc, ◌+◌, ◌≤◌, List, [], ◌∷◌, ◌++◌, Option, Some, None, Result, Ok, Err, append_assoc, drop, length, length-append, refl, sym, ap, subst, ◌∙◌, arith}
+use Rattle.std.proofs.Common.{◌≡◌, ◌⊎◌, inl, inr, Bool, ℕ, ◌+◌, ◌≤◌, List, [], ◌∷◌, ◌++◌, Option, Some, None, Result, Ok, Err, append_assoc, drop, length, length-append, refl, sym, ap, subst, ◌∙◌, arith}
 use Rattle.std.proofs.lemmas.List.{append-nil}
 use Rattle.std.proofs.Math.Seq.{drop-append_seam, drop-length}
 use Rattle.uug_conversation.proofs.MachineMoveLemmas.{after_opening, after_reply, stays, then_moves}
 use Rattle.uug_conversation.specs.DialogueState.{DialogueState, end_keeper, is_empty, opened_with, taking}
 use Rattle.uug_conversation.specs.Holdings.{Holdings, Kept}
 use Rattle.uug_conversation.specs.Jobs.{Lists, pending}
-use Rattle.uug_conversation.specs.Keeper.{Keeper}
 use Rattle.uug_conversation.specs.Machine as machine
 use Rattle.uug_conversation.specs.Sharing.{OnlyMoves}
 use Rattle.uug_conversation.specs.declared.job.Job.{Job}
 use Rattle.uug_conversation.specs.declared.side.Side.{Side}
 use Rattle.uug_events.specs.NodeRuns.{IsLedByEvents, state_after}
-use Rattle.uug_folder.proofs.OpenJobsLemmas.{HasGoneOn, nothing_told, only_moves, settled_holds, settled_least, times_append, unsettled_least}
+use Rattle.uug_folder.proofs.OpenJobsLemmas.{HasGoneOn, nothing_told, only_moves, settled_holds, settled_least, unsettled_least}
 use Rattle.uug_folder.specs.Notices.{also_told, notice, notices}
 use Rattle.uug_folder.specs.NumberText.{HoldsNumber, IsNumberKept, holding_number}
 use Rattle.std.specs.Result.{IsErr, IsErrAnd}
-use Rattle.uug_folder.specs.OpenJobs.{Holds, HoldsAtLeast, IsSettledOrNot, LosesNone, StaysHeld, jobs_left, settled_in, times}
-use Rattle.uug_folder.specs.TextFiles.{holding}
+use Rattle.uug_folder.specs.OpenJobs.{Holds, HoldsAtLeast, IsSettledOrNot, jobs_left, settled_in, times}
 use Rattle.uug_link.specs.State.{State}
 use Rattle.uug_session.proofs.StepKeeps.{hailing_leads, linked_keeps, speaks_so, stage_leads}
 use Rattle.uug_session.specs.EndStep.{EndEffect, EndEvent, EndState, Identity, end_step, is_up, speaks_by}
 use Rattle.uug_session.specs.Engine.{end_of}
 use Rattle.uug_session.specs.Node.{NodeState}
 use Rattle.uug_talk.specs.Chunks.{Measure}
-use Rattle.uug_transfer.specs.BufferedNodes.{IsLed}
 use Rattle.uug_transfer.specs.Ends.{jobs_of_end, number_of_end}
 use Rattle.uug_transfer.specs.SessionFaults.{UnlessUnsettled}
 use Rattle.uug_transfer.specs.Settling.{AreSettled, IsNumberNow, IsOnDisk, IsSomeNumber, LosesNoJob, StaysInStore, TellsFailed, kept_then, unsettled}

@@ -3,6 +3,7 @@ use Rattle.std.specs.Prelude.{ℕ, List, [], ◌∷◌, drop, length, codes, nat
 use Rattle.std.specs.List.{starts_with}
 use Rattle.std.specs.Option.{option_map}
 use Rattle.std.specs.Path.{rsplit_once}
+use Rattle.std.specs.Str.{bytes_eq}
 use Rattle.std.specs.Str.Parse.{without_leading_plus}
 use Rattle.uug_talk.specs.Number.{number_of}
 use Rattle.uug_transfer.specs.declared.line_name.LineName.{LineName}
@@ -10,12 +11,14 @@ use Rattle.uug_transfer.specs.declared.line_name.LineName.TheVariants as lines
 
 -- a line, as data
 pub data LineShown : Type 0 where
+  standard : LineShown
   unix : (path : List ℕ) → LineShown
   tcp : (host : List ℕ) (port : ℕ) → LineShown
   device : (path : List ℕ) → LineShown
 
 -- what a name of a line shows of it
 abbrev pub shown : LineName → LineShown
+shown lines.Standard = standard
 shown (lines.Unix path) = unix path.now
 shown (lines.Tcp host port) = tcp host.now port
 shown (lines.Device path) = device path.now
@@ -60,6 +63,6 @@ abbrev pub line_by : (name : List ℕ) → (path : Option (List ℕ)) → Option
 line_by name (Some path) = option_map unix (not_empty path)
 line_by name None = tcp_or_device name (behind (codes "tcp:") name)
 
--- the line of a name: `unix:PATH`, `tcp:HOST:PORT`, `tcp:PORT`, or else the path of a device
+-- the line of a name: `-`, `unix:PATH`, `tcp:HOST:PORT`, `tcp:PORT`, or else the path of a device
 abbrev pub line_of : (name : List ℕ) → Option LineShown
-line_of name = line_by name (behind (codes "unix:") name)
+line_of name = if bytes_eq name (codes "-") then Some standard else line_by name (behind (codes "unix:") name)

@@ -1,6 +1,6 @@
 -- What an end leaves out of what an event had it emit, before that is written: as if a line had lost it (this project's profile).
 -- In the loop of a session all that was emitted before is written when an event comes, so only what this one had it emit waits.
-use Rattle.std.specs.Prelude.{◌≡◌, ℕ, ◌==◌, nat_lt, Bool, true, false, not, ◌&&◌, ◌||◌, List, [], ◌∷◌, ◌++◌, length, take, drop, slice_get, Option, Some, None, Result, Ok, Err, All, ◌<◌}
+use Rattle.std.specs.Prelude.{◌≡◌, ℕ, ◌==◌, nat_lt, Bool, true, false, not, ◌&&◌, ◌||◌, ◌%◌, List, [], ◌∷◌, ◌++◌, length, drop, slice_index, Result, Ok, Err}
 use Rattle.std.specs.List.{list_any, list_all}
 use Rattle.std.specs.Str.{bytes_eq}
 use Rattle.uug_link.specs.Entries.{EntryValue, text, packet}
@@ -36,36 +36,53 @@ abbrev pub is_packet : List ℕ → EntryValue → Bool
 is_packet bytes (text other) = false
 is_packet bytes (packet other first) = bytes_eq other bytes
 
+-- one that was sent before
+abbrev pub is_sent_again : List ℕ → EntryValue → Bool
+is_sent_again bytes (text other) = false
+is_sent_again bytes (packet other first) = not first && bytes_eq other bytes
+
 -- ---- what is left out
 
--- a data packet that goes out again, where an equal one stands in front
-abbrev pub is_repeat : (before : List EntryValue) → EntryValue → Bool
-is_repeat before (text bytes) = false
-is_repeat before (packet bytes first) = not first && (nat_lt HEADER_SIZE (length bytes) && list_any (is_packet bytes) before)
+-- a data packet, where the same goes out again behind it: so what remains is in the order in which it was sent last
+abbrev pub is_repeated : EntryValue → (behind : List EntryValue) → Bool
+is_repeated (text bytes) behind = false
+is_repeated (packet bytes first) behind = nat_lt HEADER_SIZE (length bytes) && list_any (is_sent_again bytes) behind
 
--- an RR, where another stands right behind it, which says no less
+-- the number that a packet acknowledges is in the low bits of its fifth byte
+abbrev pub acknowledged : List ℕ → ℕ
+acknowledged bytes = slice_index bytes 4 % 8
+
+-- a new data packet that acknowledges the same as this header
+abbrev pub acknowledges : (header : List ℕ) → EntryValue → Bool
+acknowledges header (text bytes) = false
+acknowledges header (packet bytes first) =
+    first && (nat_lt HEADER_SIZE (length bytes) && (acknowledged bytes == acknowledged header))
+
+abbrev pub is_said_by : EntryValue → (carrier : EntryValue) → Bool
+is_said_by (text bytes) carrier = false
+is_said_by (packet bytes first) carrier = (length bytes == HEADER_SIZE) && acknowledges bytes carrier
+
+-- An RR, where those right behind it say as much: a new data packet, which is sent again until it is acknowledged; or two more
+-- RRs, or one and such a packet, of which one may get lost on its way.
 abbrev pub is_covered : EntryValue → (behind : List EntryValue) → Bool
 is_covered entry [] = false
-is_covered entry (next ∷ behind) = is_rr entry && is_rr next
+is_covered entry (next ∷ []) = is_rr entry && is_said_by entry next
+is_covered entry (next ∷ last ∷ behind) =
+    is_rr entry && (is_said_by entry next || (is_rr next && (is_rr last || is_said_by next last)))
 
-abbrev pub is_left_out : Thinning → (before : List EntryValue) → EntryValue → (behind : List EntryValue) → Bool
-is_left_out Nothing before entry behind = false
-is_left_out Repeats before entry behind = is_repeat before entry
-is_left_out RepeatsAndAcks before entry behind = is_repeat before entry || is_covered entry behind
+abbrev pub is_left_out : Thinning → EntryValue → (behind : List EntryValue) → Bool
+is_left_out Nothing entry behind = false
+is_left_out Repeats entry behind = is_repeated entry behind
+is_left_out RepeatsAndAcks entry behind = is_repeated entry behind || is_covered entry behind
 
 abbrev pub unless_left_out : (left_out : Bool) → EntryValue → List EntryValue → List EntryValue
 unless_left_out true entry behind = behind
 unless_left_out false entry behind = entry ∷ behind
 
--- what remains of these entries, where others stand in front of them
-abbrev pub thinned_behind : Thinning → (before entries : List EntryValue) → List EntryValue
-thinned_behind thinning before [] = []
-thinned_behind thinning before (entry ∷ behind) =
-    unless_left_out (is_left_out thinning before entry behind) entry (thinned_behind thinning (before ++ entry ∷ []) behind)
-
 -- what remains of all that an event had an end emit
 abbrev pub thinned : Thinning → List EntryValue → List EntryValue
-thinned thinning entries = thinned_behind thinning [] entries
+thinned thinning [] = []
+thinned thinning (entry ∷ behind) = unless_left_out (is_left_out thinning entry behind) entry (thinned thinning behind)
 
 -- ---- what that comes to
 
@@ -80,7 +97,7 @@ abbrev pub IsLetThrough : (entries remaining : List EntryValue) → Type 0
 IsLetThrough entries remaining = (lost : List Bool) × (let_through lost entries ≡ remaining)
 
 -- the next of these entries that remains is an RR, and only RRs stand in front of it
-pub record RemainsRr (thinning : Thinning) (before entries : List EntryValue) : Type 0 where
+pub record RemainsRr (thinning : Thinning) (entries : List EntryValue) : Type 0 where
   pub passed : List EntryValue
   pub last : EntryValue
   pub behind : List EntryValue
@@ -88,36 +105,35 @@ pub record RemainsRr (thinning : Thinning) (before entries : List EntryValue) : 
   pub parts : entries ≡ passed ++ last ∷ behind
   pub only_rrs : list_all is_rr passed ≡ true
   pub is : is_rr last ≡ true
-  pub remains : thinned_behind thinning before entries ≡ last ∷ remaining
+  pub remains : thinned thinning entries ≡ last ∷ remaining
+
+-- Behind this RR only RRs stand, and then a new data packet that acknowledges the same as the last of them: it remains, or an
+-- equal one behind it.
+pub record RemainsData (thinning : Thinning) (entry : EntryValue) (behind : List EntryValue) : Type 0 where
+  pub passed : List EntryValue
+  pub last : EntryValue
+  pub carrier : EntryValue
+  pub rest : List EntryValue
+  pub parts : entry ∷ behind ≡ passed ++ last ∷ carrier ∷ rest
+  pub only_rrs : list_all is_rr passed ≡ true
+  pub is : is_rr last ≡ true
+  pub says : is_said_by last carrier ≡ true
+  pub remains : (bytes : List ℕ) → is_packet bytes carrier ≡ true → list_any (is_packet bytes) (thinned thinning (carrier ∷ rest)) ≡ true
 
 -- ---- how the program finds it: by the entries from a place on
 
-abbrev pub is_repeat_of : (before entries : List EntryValue) → Bool
-is_repeat_of before [] = false
-is_repeat_of before (entry ∷ behind) = is_repeat before entry
+abbrev pub is_repeated_of : List EntryValue → Bool
+is_repeated_of [] = false
+is_repeated_of (entry ∷ behind) = is_repeated entry behind
 
 abbrev pub is_covered_of : List EntryValue → Bool
 is_covered_of [] = false
 is_covered_of (entry ∷ behind) = is_covered entry behind
 
-abbrev pub is_left_out_of : Thinning → (before entries : List EntryValue) → Bool
-is_left_out_of thinning before [] = false
-is_left_out_of thinning before (entry ∷ behind) = is_left_out thinning before entry behind
+abbrev pub is_left_out_of : Thinning → List EntryValue → Bool
+is_left_out_of thinning [] = false
+is_left_out_of thinning (entry ∷ behind) = is_left_out thinning entry behind
 
 -- whether the entry at a place is left out
 abbrev pub is_left_out_at : Thinning → List EntryValue → ℕ → Bool
-is_left_out_at thinning entries i = is_left_out_of thinning (take i entries) (drop i entries)
-
-abbrev pub is_some_packet : List ℕ → Option EntryValue → Bool
-is_some_packet bytes None = false
-is_some_packet bytes (Some entry) = is_packet bytes entry
-
--- a packet of these bytes stands at that place
-abbrev pub stands_at : List EntryValue → List ℕ → ℕ → Bool
-stands_at entries bytes place = is_some_packet bytes (slice_get entries place)
-
--- Places of data packets that remain: each data packet in front of a place has an equal one there.
-pub record AreWaiting (entries : List EntryValue) (i : ℕ) (places : List ℕ) : Type 0 where
-  pub within : All (λ place. place < length entries) places
-  pub same : (bytes : List ℕ) → nat_lt HEADER_SIZE (length bytes) ≡ true →
-      list_any (stands_at entries bytes) places ≡ list_any (is_packet bytes) (take i entries)
+is_left_out_at thinning entries i = is_left_out_of thinning (drop i entries)

@@ -1,5 +1,5 @@
 -- What the writes of an end's line have come to, and how long an end goes on writing (this project's profile).
-use Rattle.std.specs.Prelude.{◌≡◌, ◌+◌, ◌<◌, ℕ, zero, suc, List, [], ◌∷◌, ◌++◌, Option, Some, None, ⊤}
+use Rattle.std.specs.Prelude.{◌≡◌, ◌<◌, ℕ, zero, suc, List, [], ◌∷◌, ◌++◌, Option, Some, None, ⊤}
 
 -- where a line tells how many bytes each of its writes took, it was so many at the last; none is a silence
 abbrev pub also_wrote : ℕ → Option (List ℕ) → Option (List ℕ)

@@ -1,5 +1,5 @@
 //! Laws of ends at a line. A call does nothing: its contract is the law.
-ghost use Rattle.std.specs.Prelude.{◌≡◌, ℕ, ◌<◌, List, [], ◌∷◌, ◌++◌, length, map, false, true, None};
+ghost use Rattle.std.specs.Prelude.{◌≡◌, ◌⊎◌, ℕ, ◌<◌, List, length, map, false, true, None};
 ghost use Rattle.std.specs.List.{list_any};
 ghost use Rattle.uug_link.specs.Entries.{EntryValue, text};
 ghost use Rattle.uug_packet.specs.declared.header.TheConstants.{HEADER_SIZE};
@@ -7,19 +7,20 @@ ghost use Rattle.uug_session.specs.EndStep.{Emitted};
 ghost use Rattle.uug_session.specs.Engine.{entry_of};
 ghost use Rattle.uug_transfer.specs.Listening.{all_said};
 ghost use Rattle.uug_transfer.specs.Outgoing.{emitted_bytes, outgoing_from};
-ghost use Rattle.uug_transfer.specs.Thinning.{IsLetThrough, RemainsRr, is_left_out, is_packet, is_rr, thinned};
+ghost use Rattle.uug_transfer.specs.Thinning.{IsLetThrough, RemainsData, RemainsRr, is_left_out, is_packet, is_rr, thinned};
 ghost use Rattle.uug_transfer.specs.Writing.{all_thinned};
 ghost use Rattle.uug_transfer.specs.declared.fault_injector.TheConstants.{EVERY_MAX, EVERY_MIN};
 ghost use Rattle.uug_transfer.specs.declared.line.TheConstants.{UNREAD_MAX};
 ghost use Rattle.uug_transfer.specs.declared.patience.TheConstants.{GREETING_SECONDS, GREETING_TIMERS, SESSION_TIMERS};
-ghost use Rattle.uug_transfer.specs.declared.read_budget.TheConstants.{BYTES_MAX, SILENCES_MAX, STALLS_MAX};
+ghost use Rattle.uug_transfer.specs.declared.read_budget.TheConstants.{BYTES_MAX, READ_MAX, SILENCES_MAX, STALLS_MAX};
 ghost use Rattle.uug_transfer.specs.declared.thinning.Thinning.{Thinning};
 
-/// Each limit is this number: of the bytes that are on their way to an end, or that one read brings; of the bytes that a
-/// session reads, and the silences in a row, at reads and at writes, for which it waits; of the seconds of the greeting, and of the reads for as long as
+/// Each limit is this number: of the bytes that are on their way to an end of a pair, or that one read of a call brings; of the
+/// bytes that a session reads, and the silences in a row, at reads and at writes, for which it waits; of the seconds of the greeting, and of the reads for as long as
 /// which a session may be without progress; and of the packets of which one may be lost or changed.
 pub fn limits()
     ensures unread { UNREAD_MAX ≡ 4096 }
+    ensures read { READ_MAX ≡ 8192 }
     ensures bytes { BYTES_MAX ≡ 1099511627776 }
     ensures silences { (SILENCES_MAX ≡ 9) × (STALLS_MAX ≡ 8) }
     ensures greeting { (GREETING_SECONDS ≡ 60) × (GREETING_TIMERS ≡ 6) }
@@ -41,18 +42,22 @@ pub fn all_remains_without_thinning()
 {}
 
 /// What remains of what an event had an end emit: it is what a line lets through that loses the rest. Each data packet is among
-/// it, or an equal one, and each text; and where an RR is left out, the next that remains is an RR, in front of which only
-/// RRs stand.
+/// it, or an equal one, and each text; one that is left out is sent again behind its place; and where an RR is left out, the
+/// next that remains is an RR, in front of which only RRs stand, or behind it only RRs stand and then a new data packet that
+/// acknowledges the same as the last of them, and of which an equal one remains.
 pub fn what_is_left_out_need_not_go()
     ensures lost { (thinning : Thinning) (entries : List EntryValue) →
         IsLetThrough entries (thinned thinning entries) }
     ensures packet_remains { (thinning : Thinning) (entries : List EntryValue) (bytes : List ℕ) →
         HEADER_SIZE < length bytes → list_any (is_packet bytes) entries ≡ true →
         list_any (is_packet bytes) (thinned thinning entries) ≡ true }
-    ensures text_remains { (thinning : Thinning) (before behind : List EntryValue)
-        (bytes : List ℕ) → is_left_out thinning before (text bytes) behind ≡ false }
-    ensures rr_is_covered { (thinning : Thinning) (before : List EntryValue) (entry : EntryValue)
-        (behind : List EntryValue) → is_rr entry ≡ true →
-        is_left_out thinning before entry behind ≡ true →
-        RemainsRr thinning (before ++ entry ∷ []) behind }
+    ensures packet_is_behind { (thinning : Thinning) (bytes : List ℕ) (entry : EntryValue)
+        (behind : List EntryValue) → HEADER_SIZE < length bytes → is_packet bytes entry ≡ true →
+        is_left_out thinning entry behind ≡ true →
+        list_any (is_packet bytes) (thinned thinning behind) ≡ true }
+    ensures text_remains { (thinning : Thinning) (behind : List EntryValue) (bytes : List ℕ) →
+        is_left_out thinning (text bytes) behind ≡ false }
+    ensures rr_is_covered { (thinning : Thinning) (entry : EntryValue) (behind : List EntryValue) →
+        is_rr entry ≡ true → is_left_out thinning entry behind ≡ true →
+        RemainsRr thinning behind ⊎ RemainsData thinning entry behind }
 {}

@@ -41,7 +41,7 @@ pub use monitor::{LineMonitor, SessionObserver};
 pub use packet_fate::PacketFate;
 pub use pair::pair_over;
 pub use patience::{GREETING_SECONDS, GREETING_TIMERS, PatienceLimits, SESSION_TIMERS};
-pub use read_budget::{BYTES_MAX, SILENCES_MAX, STALLS_MAX};
+pub use read_budget::{BYTES_MAX, READ_MAX, SILENCES_MAX, STALLS_MAX};
 pub use read_outcome::ReadOutcome;
 pub use session::run_session;
 pub use session_fault::SessionFault;

@@ -3,12 +3,17 @@ ghost use Rattle.std.specs.Prelude.{◌≡◌, MatchOption, Some, None};
 ghost use Rattle.std.specs.Option.{option_copied};
 ghost use Rattle.uug_transfer.specs.LineNames.{behind, host_and_port, line_of, not_empty, port_of, shown};
 
+/// The name of the standard streams.
+const STANDARD: &str = "-";
+
 /// Where no host is named.
 const LOOPBACK: &str = "127.0.0.1";
 
 /// What a line is, by its name.
 #[derive(Clone, Copy, Debug, PartialEq, Eq)]
 pub enum LineName<'a> {
+    /// `-`: standard input and output.
+    Standard,
     /// `unix:PATH`: a Unix socket.
     Unix(&'a str),
     /// `tcp:HOST:PORT`, or `tcp:PORT`, which is on this machine.
@@ -23,6 +28,9 @@ pub fn read_line_name(name: &str) -> Option<LineName<'_>>
     ensures { MatchOption result (line_of name.now ≡ None)
         (λ line. line_of name.now ≡ Some (shown line)) }
 {
+    if name == STANDARD {
+        return Some(LineName::Standard);
+    }
     if let Some(path) = behind(name, "unix:") {
         return Some(LineName::Unix(not_empty(path)?));
     }

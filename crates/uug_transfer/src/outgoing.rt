@@ -7,13 +7,13 @@ ghost use Rattle.uug_transfer.specs.Thinning.{thinned};
 use crate::fault_injector::FaultInjector;
 use crate::packet_fate::PacketFate;
 use crate::thinning::Thinning;
-use crate::waiting::{is_left_out, note_place};
+use crate::waiting::is_left_out;
 use std::alloc::{AllocError, Allocator};
 use uug_link::{Entry, Outbox};
 
 /// Appends what goes out of all that an outbox holds, but for what its injector's thinning leaves out. Of what goes out
 /// each packet is counted, and no text.
-pub(crate) fn add_outgoing<A: Allocator + Copy>(
+pub(crate) fn add_outgoing<A: Allocator>(
     outgoing: &mut Vec<u8, A>,
     outbox: &Outbox<A>,
     injector: &mut FaultInjector,
@@ -33,9 +33,8 @@ pub(crate) fn add_outgoing<A: Allocator + Copy>(
     }
 }
 
-/// Appends what goes out of the entries that remain. So that an event that sends the same packets again and again takes
-/// no longer for each, an entry is compared with the data packets that remain, and not with all entries in front.
-fn add_thinned<A: Allocator + Copy>(
+/// Appends what goes out of the entries that remain.
+fn add_thinned<A: Allocator>(
     outgoing: &mut Vec<u8, A>,
     outbox: &Outbox<A>,
     injector: &mut FaultInjector,
@@ -49,19 +48,17 @@ fn add_thinned<A: Allocator + Copy>(
     ensures flip_every { injector.new.flip_every ≡ injector.old.flip_every }
     ensures thinning { injector.new.thinning ≡ injector.old.thinning }
 {
-    let mut waiting = Vec::new(*outgoing.allocator());
     for i in 0..outbox.len() {
-        if is_left_out(injector.thinning, outbox, waiting.as_slice(), i) {
+        if is_left_out(injector.thinning, outbox, i) {
             continue;
         }
         add_entry(outgoing, outbox.entry(i), injector)?;
-        note_place(&mut waiting, outbox, i)?;
     }
     Ok(())
 }
 
 /// Appends what goes out of all entries.
-fn add_all<A: Allocator + Copy>(
+fn add_all<A: Allocator>(
     outgoing: &mut Vec<u8, A>,
     outbox: &Outbox<A>,
     injector: &mut FaultInjector,

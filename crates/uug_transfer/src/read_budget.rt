@@ -5,6 +5,9 @@ ghost use Rattle.uug_transfer.specs.declared.read_budget.TheConstants.{SILENCES_
 use crate::read_outcome::ReadOutcome;
 use uug_link::TIMEOUTS_MAX;
 
+/// So many bytes one read brings at most: a window of seven packets of 1,024 bytes at once.
+pub const READ_MAX: usize = 8192;
+
 /// So many bytes are read of a session at most.
 pub const BYTES_MAX: u64 = 1_099_511_627_776;
 

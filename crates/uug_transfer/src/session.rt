@@ -18,9 +18,9 @@ ghost use Rattle.uug_transfer.specs.declared.read_budget.TheConstants.{SILENCES_
 
 use crate::buffered_node::BufferedNode;
 use crate::end_line::EndLine;
-use crate::line::{LineFailed, UNREAD_MAX};
+use crate::line::LineFailed;
 use crate::patience::{Patience, PatienceLimits, Standing};
-use crate::read_budget::{ReadBudget, STALLS_MAX, stalls_left};
+use crate::read_budget::{READ_MAX, ReadBudget, STALLS_MAX, stalls_left};
 use crate::read_outcome::ReadOutcome;
 use crate::session_fault::SessionFault;
 use crate::settled::Settled;
@@ -166,7 +166,7 @@ where
         → HasFailed u64.MAX (L.fault_count line.old) (L.fault_count line.new) }
     ensures grows { L.fault_count line.old ≤ L.fault_count line.new }
 {
-    let mut buffer = [0; UNREAD_MAX];
+    let mut buffer = [0; READ_MAX];
     let mut budget = ReadBudget::new(most);
     let node = buffered.node();
     let mut patience = Patience::new(limits, Standing::of(node), line.seconds());

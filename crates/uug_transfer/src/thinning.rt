@@ -3,8 +3,9 @@
 pub enum Thinning {
     /// Nothing.
     Nothing,
-    /// A data packet that goes out again, where an equal one waits to be written.
+    /// A data packet behind which the same goes out again, so that each goes out once, in the order in which it was sent last.
     Repeats,
-    /// Such packets, and each RR behind which another RR stands.
+    /// Such packets, and each RR right behind which two more stand, or a new data packet that acknowledges the same: so two
+    /// acknowledge what came at once, of which one may get lost, and none where something is said to it.
     RepeatsAndAcks,
 }

@@ -1,79 +1,56 @@
 //! Which of the entries of an outbox are left out before they are written.
-ghost use Rattle.std.specs.Prelude.{◌≡◌, ◌+◌, ◌<◌, All, drop, length, take, OnOk};
+ghost use Rattle.std.specs.Prelude.{◌≡◌, ◌+◌, ◌<◌, ◌&&◌, ◌||◌, drop, length};
 ghost use Rattle.std.specs.List.{list_any};
 ghost use Rattle.uug_link.specs.Entries.{shown_entry};
 ghost use Rattle.uug_packet.specs.Decoded.{decoded};
-ghost use Rattle.uug_transfer.specs.Thinning.{AreWaiting, is_covered_of, is_data, is_left_out_at, is_packet, is_read_as_rr, is_repeat_of, is_rr, stands_at};
+ghost use Rattle.uug_packet.specs.declared.header.TheConstants.{HEADER_SIZE};
+ghost use Rattle.uug_transfer.specs.Thinning.{acknowledges, is_covered_of, is_left_out_at, is_read_as_rr, is_repeated_of, is_rr, is_said_by, is_sent_again};
 
 use crate::thinning::Thinning;
-use std::alloc::{AllocError, Allocator};
+use std::alloc::Allocator;
 use uug_link::{Entry, Outbox};
 use uug_packet::{Control, HEADER_SIZE, Packet, decode};
 
-/// Whether the entry at a place is left out. Of the data packets in front of it that remain, the places wait.
-pub(crate) fn is_left_out<A: Allocator>(
-    thinning: Thinning,
-    outbox: &Outbox<A>,
-    waiting: &[usize],
-    i: usize,
-) -> bool
-    requires place { i < length outbox.now.entries }
-    requires waiting { AreWaiting outbox.now.entries i waiting.now }
+/// Whether the entry at a place is left out.
+pub(crate) fn is_left_out<A: Allocator>(thinning: Thinning, outbox: &Outbox<A>, i: usize) -> bool
+    requires { i < length outbox.now.entries }
     ensures { result ≡ is_left_out_at thinning outbox.now.entries i }
 {
     match thinning {
         Thinning::Nothing => false,
-        Thinning::Repeats => is_repeat(outbox, waiting, i),
-        Thinning::RepeatsAndAcks => is_repeat(outbox, waiting, i) || is_covered(outbox, i),
+        Thinning::Repeats => is_repeated(outbox, i),
+        Thinning::RepeatsAndAcks => is_repeated(outbox, i) || is_covered(outbox, i),
     }
 }
 
-/// Notes the place of an entry that goes out, if it is a data packet.
-pub(crate) fn note_place<A: Allocator>(
-    waiting: &mut Vec<usize, A>,
-    outbox: &Outbox<A>,
-    i: usize,
-) -> Result<(), AllocError>
-    requires place { i < length outbox.now.entries }
-    requires waiting { AreWaiting outbox.now.entries i waiting.old.items }
-    ensures { OnOk result (AreWaiting outbox.now.entries (i + 1) waiting.new.items) }
-{
-    if is_data(outbox.entry(i)) {
-        waiting.push(i)?;
-    }
-    Ok(())
-}
-
-/// Whether the entry at a place is a data packet that goes out again, and waits already.
-fn is_repeat<A: Allocator>(outbox: &Outbox<A>, waiting: &[usize], i: usize) -> bool
-    requires place { i < length outbox.now.entries }
-    requires waiting { AreWaiting outbox.now.entries i waiting.now }
-    ensures { result ≡ is_repeat_of (take i outbox.now.entries) (drop i outbox.now.entries) }
+/// Whether the entry at a place is a data packet behind which the same goes out again.
+fn is_repeated<A: Allocator>(outbox: &Outbox<A>, i: usize) -> bool
+    requires { i < length outbox.now.entries }
+    ensures { result ≡ is_repeated_of (drop i outbox.now.entries) }
 {
     match outbox.entry(i) {
         Entry::Text(_) => false,
-        Entry::Packet { first: true, .. } => false,
-        Entry::Packet {
-            bytes,
-            first: false,
-        } => bytes.len() > HEADER_SIZE && waits(outbox, waiting, bytes),
+        Entry::Packet { bytes, .. } => {
+            bytes.len() > HEADER_SIZE && goes_out_again(outbox, i, bytes)
+        }
     }
 }
 
-/// Whether a packet of these bytes stands at one of these places.
-fn waits<A: Allocator>(outbox: &Outbox<A>, places: &[usize], packet: &[u8]) -> bool
-    requires { All (λ place. place < length outbox.now.entries) places.now }
-    ensures { result ≡ list_any (stands_at outbox.now.entries packet.now) places.now }
+/// Whether a packet of these bytes goes out again behind this place.
+fn goes_out_again<A: Allocator>(outbox: &Outbox<A>, i: usize, packet: &[u8]) -> bool
+    requires { i < length outbox.now.entries }
+    ensures { result ≡ list_any (is_sent_again packet.now) (drop (i + 1) outbox.now.entries) }
 {
-    for place in places {
-        if is_packet(outbox.entry(*place), packet) {
+    let count = outbox.len();
+    for place in i + 1..count {
+        if is_sent_again(outbox.entry(place), packet) {
             return true;
         }
     }
     false
 }
 
-/// Whether the entry at a place is an RR behind which another stands.
+/// Whether the entry at a place is an RR, and those right behind it say as much.
 fn is_covered<A: Allocator>(outbox: &Outbox<A>, i: usize) -> bool
     requires { i < length outbox.now.entries }
     ensures { result ≡ is_covered_of (drop i outbox.now.entries) }
@@ -82,26 +59,61 @@ fn is_covered<A: Allocator>(outbox: &Outbox<A>, i: usize) -> bool
     if count - i < 2 {
         return false;
     }
-    is_rr(outbox.entry(i)) && is_rr(outbox.entry(i + 1))
+    if count - i < 3 {
+        return is_said_by_one(outbox.entry(i), outbox.entry(i + 1));
+    }
+    is_said_by_two(outbox.entry(i), outbox.entry(i + 1), outbox.entry(i + 2))
 }
 
-/// Whether an entry is a data packet.
-fn is_data(entry: Entry<'_>) -> bool
-    ensures { result ≡ is_data (shown_entry entry.entry) }
+/// Whether an entry is an RR, and the next one says as much.
+fn is_said_by_one(entry: Entry<'_>, next: Entry<'_>) -> bool
+    ensures { result ≡ (is_rr (shown_entry entry.entry)
+        && is_said_by (shown_entry entry.entry) (shown_entry next.entry)) }
+{
+    is_rr(entry) && is_said_by(entry, next)
+}
+
+/// Whether an entry is an RR, and the next two say as much.
+fn is_said_by_two(entry: Entry<'_>, next: Entry<'_>, last: Entry<'_>) -> bool
+    ensures { result ≡ (is_rr (shown_entry entry.entry)
+        && (is_said_by (shown_entry entry.entry) (shown_entry next.entry)
+        || (is_rr (shown_entry next.entry) && (is_rr (shown_entry last.entry)
+        || is_said_by (shown_entry next.entry) (shown_entry last.entry))))) }
+{
+    is_rr(entry)
+        && (is_said_by(entry, next) || is_rr(next) && (is_rr(last) || is_said_by(next, last)))
+}
+
+/// Whether an entry is a header alone, and a new data packet acknowledges the same.
+fn is_said_by(entry: Entry<'_>, carrier: Entry<'_>) -> bool
+    ensures { result ≡ is_said_by (shown_entry entry.entry) (shown_entry carrier.entry) }
 {
     match entry {
         Entry::Text(_) => false,
-        Entry::Packet { bytes, .. } => bytes.len() > HEADER_SIZE,
+        Entry::Packet { bytes, .. } => bytes.len() == HEADER_SIZE && acknowledges(carrier, bytes),
     }
 }
 
-/// Whether an entry is a packet of these bytes.
-fn is_packet(entry: Entry<'_>, packet: &[u8]) -> bool
-    ensures { result ≡ is_packet packet.now (shown_entry entry.entry) }
+/// Whether an entry is a new data packet that acknowledges the same as this header.
+fn acknowledges(carrier: Entry<'_>, header: &[u8]) -> bool
+    requires { length header.now ≡ HEADER_SIZE }
+    ensures { result ≡ acknowledges header.now (shown_entry carrier.entry) }
+{
+    match carrier {
+        Entry::Text(_) => false,
+        Entry::Packet { bytes, first } => {
+            first && bytes.len() > HEADER_SIZE && bytes[4] % 8 == header[4] % 8
+        }
+    }
+}
+
+/// Whether an entry is a packet of these bytes that was sent before.
+fn is_sent_again(entry: Entry<'_>, packet: &[u8]) -> bool
+    ensures { result ≡ is_sent_again packet.now (shown_entry entry.entry) }
 {
     match entry {
         Entry::Text(_) => false,
-        Entry::Packet { bytes, .. } => bytes == packet,
+        Entry::Packet { bytes, first } => !first && bytes == packet,
     }
 }
 

@@ -3,7 +3,7 @@ use Rattle.std.proofs.Common.{◌≡◌, true, false, List, [], ◌∷◌, Optio
 use Rattle.std.specs.Option.{option_map, option_map_or}
 use Rattle.clap.specs.Words.{Text, first_of, is_simple, subcommand_of, takes}
 use Rattle.clap.proofs.OnLiterals.{clap_on_literals}
-use Rattle.uug_words.specs.Asked.{Entries, drawn, is_given, manner_in, number_in, number_or_zero, text_in}
+use Rattle.uug_words.specs.Asked.{Entries, drawn, is_given, manner_in, number_in, number_or_one, number_or_zero, text_in}
 use Rattle.uug_words.specs.Tools.{uucpair}
 use Rattle.uug_ladder.specs.declared.play.Drawn.TheVariants.{AsPicture}
 
@@ -92,6 +92,10 @@ answer_is_lenient = refl
 answer_has_wait : number_in (entries_of answer_words) (codes "wait") ≡ Some 60
 unfolding clap_on_literals
 answer_has_wait = refl
+
+answer_has_one_session : number_or_one (entries_of answer_words) (codes "sessions") ≡ 1
+unfolding clap_on_literals
+answer_has_one_session = refl
 
 answer_has_no_speed : number_in (entries_of answer_words) (codes "speed") ≡ None
 unfolding clap_on_literals

@@ -13,7 +13,7 @@ use Rattle.uug_conversation.specs.declared.side.Side.{Side}
 use Rattle.uug_conversation.specs.declared.side.Side.TheVariants.{Caller, Called}
 use Rattle.uug_ladder.specs.declared.play.Drawn.{Drawn}
 use Rattle.uug_ladder.specs.declared.play.Drawn.TheVariants.{AsText, AsPicture}
-use Rattle.uug_sys.specs.declared.task.CallTask.{CallTask}
+use Rattle.uug_task.specs.declared.task.CallTask.{CallTask}
 use Rattle.uug_disk.specs.declared.queue.QueueTask.{QueueTask}
 use Rattle.uug_words.specs.declared.command_line.PairTask.{PairTask}
 use Rattle.uug_words.specs.declared.command_line.Task.{Task}
@@ -51,6 +51,10 @@ number_in entries name = option_and_then number_of (one_of name entries)
 -- the same, and 0 where it has none: an option with a default always has one
 abbrev pub number_or_zero : Entries → (name : Text) → ℕ
 number_or_zero entries name = unwrap_or (number_in entries name) 0
+
+-- The same, and 1 where it has none.
+abbrev pub number_or_one : Entries → (name : Text) → ℕ
+number_or_one entries name = unwrap_or (number_in entries name) 1
 
 -- ---- what the tools are asked for
 
@@ -117,6 +121,7 @@ pub record IsEndIn (entries : Entries) (task : CallTask) : Type 0 where
   pub seconds : task.seconds ≡ number_or_zero entries (codes "timeout")
   pub speed : task.speed ≡ number_in entries (codes "speed")
   pub wait : task.wait ≡ number_in entries (codes "wait")
+  pub sessions : task.sessions ≡ number_or_one entries (codes "sessions")
   pub is_quiet : task.is_quiet ≡ not (is_given entries (codes "no-quiet"))
   pub is_short : task.is_short ≡ not (is_given entries (codes "fill-commands"))
   pub is_lenient : task.is_lenient ≡ not (is_given entries (codes "strict"))
@@ -124,6 +129,7 @@ pub record IsEndIn (entries : Entries) (task : CallTask) : Type 0 where
   pub is_numbered : task.is_numbered ≡ is_given entries (codes "number")
   pub is_loud : task.is_loud ≡ is_given entries (codes "verbose")
   pub locks : task.locks.now ≡ text_in entries (codes "locks")
+  pub report : IsWordIn entries (codes "report") task.report
   pub most : task.most ≡ number_or_zero entries (codes "most")
 
 pub record AsksForPair (tool : Text) (entries : Entries) (task : PairTask) : Type 0 where

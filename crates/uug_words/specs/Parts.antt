@@ -1,28 +1,31 @@
 -- The first part of a task that is wrong (this project's profile).
-use Rattle.std.specs.Prelude.{◌≢◌, ◌<◌, ◌≤◌, None, IfSome, ⊤}
+use Rattle.std.specs.Prelude.{◌≢◌, ◌<◌, ◌≤◌, None, IfSome, IsTrue, ⊤}
 use Rattle.uug_link.specs.Terms.{IsSize, IsWindow}
 use Rattle.uug_port.specs.Timers.{IsSpeed}
-use Rattle.uug_sys.specs.declared.task.CallTask.{CallTask}
-use Rattle.uug_sys.specs.declared.task.TheConstants.{MOST_MIN, SECONDS_MAX, WAIT_MAX}
+use Rattle.uug_task.specs.Tasks.{may_have}
+use Rattle.uug_task.specs.declared.task.CallTask.{CallTask}
+use Rattle.uug_task.specs.declared.task.TheConstants.{MOST_MIN, SECONDS_MAX, SESSIONS_MAX, WAIT_MAX}
 use Rattle.uug_talk.specs.Name.{IsName}
 use Rattle.uug_transfer.specs.LineNames.{line_of}
 use Rattle.uug_words.specs.declared.part.Part.{Part}
-use Rattle.uug_words.specs.declared.part.Part.TheVariants.{Seconds, Speed, Wait, Window, Size, Most, Line, Me, Peer}
+use Rattle.uug_words.specs.declared.part.Part.TheVariants.{Seconds, Speed, Wait, Sessions, Window, Size, Most, Line, Me, Peer, Turns}
 
 -- this part is as a task has to have it that may be run
 abbrev pub IsRight : CallTask → Part → Type 0
 IsRight task Seconds = (0 < task.seconds) × (task.seconds ≤ SECONDS_MAX)
 IsRight task Speed = IfSome task.speed IsSpeed
 IsRight task Wait = IfSome task.wait (λ wait. (0 < wait) × (wait ≤ WAIT_MAX))
+IsRight task Sessions = (0 < task.sessions) × (task.sessions ≤ SESSIONS_MAX)
 IsRight task Window = IsWindow task.window
 IsRight task Size = IsSize task.size
 IsRight task Most = MOST_MIN ≤ task.most
 IsRight task Line = line_of task.line.now ≢ None
 IsRight task Me = IsName task.me.now
 IsRight task Peer = IsName task.peer.now
+IsRight task Turns = IfSome (line_of task.line.now) (λ line. IsTrue (may_have task.sessions task.side line))
 
 abbrev pub RightTimes : CallTask → Type 0
-RightTimes task = IsRight task Seconds × IsRight task Speed × IsRight task Wait
+RightTimes task = IsRight task Seconds × IsRight task Speed × IsRight task Wait × IsRight task Sessions
 
 abbrev pub RightNumbers : CallTask → Type 0
 RightNumbers task = RightTimes task × IsRight task Window × IsRight task Size × IsRight task Most
@@ -32,12 +35,14 @@ abbrev pub RightBefore : CallTask → Part → Type 0
 RightBefore task Seconds = ⊤
 RightBefore task Speed = IsRight task Seconds
 RightBefore task Wait = IsRight task Seconds × IsRight task Speed
+RightBefore task Sessions = IsRight task Seconds × IsRight task Speed × IsRight task Wait
 RightBefore task Window = RightTimes task
 RightBefore task Size = RightTimes task × IsRight task Window
 RightBefore task Most = RightTimes task × IsRight task Window × IsRight task Size
 RightBefore task Line = RightNumbers task
 RightBefore task Me = RightNumbers task × IsRight task Line
 RightBefore task Peer = RightNumbers task × IsRight task Line × IsRight task Me
+RightBefore task Turns = RightNumbers task × IsRight task Line × IsRight task Me × IsRight task Peer
 
 -- of the parts that are wrong it is the first
 pub record IsFirstWrong (task : CallTask) (part : Part) : Type 0 where

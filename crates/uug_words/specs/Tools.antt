@@ -86,7 +86,7 @@ pair_tool = tool (codes "pair")
     (path_rule (codes "SOCKET") ∷ path_rule (codes "DIR_A") ∷ path_rule (codes "DIR_B")
     ∷ every_rule (codes "drop-every") ∷ every_rule (codes "flip-every") ∷ [])
 
--- `call`, and `answer` without the option of its own
+-- `call`, and `answer` without the options of its own
 abbrev pub end_tool : (name : Text) → Shape
 end_tool name = tool name
     (path_rule (codes "LINE") ∷ path_rule (codes "DIR")
@@ -98,12 +98,13 @@ end_tool name = tool name
     ∷ flag_rule (codes "no-quiet") ∷ flag_rule (codes "fill-commands")
     ∷ flag_rule (codes "strict") ∷ flag_rule (codes "every-ack") ∷ flag_rule (codes "number")
     ∷ folder_rule (codes "locks") (codes "/var/lock")
+    ∷ word_rule (codes "report")
     ∷ number_rule (codes "most") (codes "67108864")
     ∷ verbose_rule ∷ [])
 
--- with how long it waits to be called
+-- with how long it waits to be called, and how often
 abbrev pub answer_tool : Shape
-answer_tool = let end = end_tool (codes "answer") in record end { rules = end.rules ++ every_rule (codes "wait") ∷ [] }
+answer_tool = let end = end_tool (codes "answer") in record end { rules = end.rules ++ every_rule (codes "wait") ∷ number_rule (codes "sessions") (codes "1") ∷ [] }
 
 abbrev pub queue_tool : Shape
 queue_tool = tool (codes "queue")

@@ -6,10 +6,10 @@ use Rattle.std.specs.Option.{option_map}
 use Rattle.std.specs.Path.{rsplit_once}
 use Rattle.uug_words.specs.Parts.{IsFirstWrong}
 use Rattle.uug_words.specs.declared.part.Part.{Part}
-use Rattle.uug_words.specs.declared.part.Part.TheVariants.{Seconds, Speed, Wait, Window, Size, Most, Line, Me, Peer}
+use Rattle.uug_words.specs.declared.part.Part.TheVariants.{Seconds, Speed, Wait, Sessions, Window, Size, Most, Line, Me, Peer, Turns}
 use Rattle.uug_scan.specs.Detailed.{escaped}
-use Rattle.uug_sys.specs.Tasks.{IsTask}
-use Rattle.uug_sys.specs.declared.task.CallTask.{CallTask}
+use Rattle.uug_task.specs.Tasks.{IsTask}
+use Rattle.uug_task.specs.declared.task.CallTask.{CallTask}
 use Rattle.uug_transfer.specs.FaultInjection.{is_in_range}
 use Rattle.uug_transfer.specs.LineNames.{colon, port_of}
 
@@ -43,12 +43,14 @@ abbrev pub part_words : CallTask → Part → List ℕ
 part_words task Seconds = range_words (codes "timeout") (Some task.seconds) (codes "1 to 600")
 part_words task Speed = range_words (codes "speed") task.speed (codes "300 to 10000000")
 part_words task Wait = range_words (codes "wait") task.wait (codes "1 to 1000000000")
+part_words task Sessions = range_words (codes "sessions") (Some task.sessions) (codes "1 to 1000000")
 part_words task Window = range_words (codes "window") (Some task.window) (codes "1 to 7")
 part_words task Size = range_words (codes "size") (Some task.size) (codes "32, 64, 128, 256, 512, 1024, 2048 or 4096")
 part_words task Most = range_words (codes "most") (Some task.most) (codes "1048576 or more")
 part_words task Line = line_words task.line.now
 part_words task Me = name_words task.me.now
 part_words task Peer = name_words task.peer.now
+part_words task Turns = range_words (codes "sessions") (Some task.sessions) (codes "1: only at a socket there may be more")
 
 -- nothing is said of a task that may be run, and of another what is wrong first
 pub record IsUsageOf (task : CallTask) (remark : List ℕ) : Type 0 where

@@ -13,7 +13,7 @@ use std::convert::AsStr;
 use uug_conversation::Side;
 use uug_disk::QueueTask;
 use uug_ladder::Drawn;
-use uug_sys::CallTask;
+use uug_task::CallTask;
 
 /// What the command line asks for.
 #[derive(Clone, Copy, Debug, PartialEq, Eq)]
@@ -106,6 +106,7 @@ fn end_task<'a>(side: Side, matches: &ArgMatches<'a>) -> CallTask<'a>
         seconds: number(matches, "timeout").unwrap_or(0),
         speed: number(matches, "speed"),
         wait: number(matches, "wait"),
+        sessions: number(matches, "sessions").unwrap_or(1),
         is_quiet: !is_given(matches, "no-quiet"),
         is_short: !is_given(matches, "fill-commands"),
         is_lenient: !is_given(matches, "strict"),
@@ -113,6 +114,7 @@ fn end_task<'a>(side: Side, matches: &ArgMatches<'a>) -> CallTask<'a>
         is_numbered: is_given(matches, "number"),
         is_loud: is_given(matches, "verbose"),
         locks: text(matches, "locks"),
+        report: word(matches, "report"),
         most: number(matches, "most").unwrap_or(0),
     }
 }

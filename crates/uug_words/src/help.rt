@@ -103,8 +103,9 @@ prints
 and b/got/y is the file.";
 
 pub const END: &str = "LINE is
+  -              standard input and output: a socket, pipes or a terminal
   unix:PATH      a Unix socket: call connects to it, answer makes it, and removes it
-                 when a caller has been let in
+                 when the last of its callers has been let in
   tcp:HOST:PORT  the same over TCP; tcp:PORT is on this machine
   PATH           a terminal device, whose speed and raw mode are set before (stty); it
                  is locked, also by the file LCK..NAME that uucico and cu heed
@@ -140,6 +141,11 @@ prints
 
 pub const USER: &str = "Who queues it; without it USER, LOGNAME or uucp";
 
+pub const LINE: &str = "-, unix:PATH, tcp:HOST:PORT, or the path of a terminal device";
+
+pub const REPORT: &str =
+    "The file to which the report goes; without it standard output, or at LINE - standard error";
+
 pub const WINDOW: &str = "The window that the other end is to use, 1 to 7";
 
 pub const SIZE: &str = "The packet size that the other end is to use, 32 to 4096";
@@ -151,6 +157,9 @@ pub const SPEED: &str =
 
 pub const WAIT: &str =
     "How long it waits to be called, 1 to 1000000000; at a terminal device for the first byte";
+
+pub const SESSIONS: &str =
+    "How many sessions it has at a socket, one after the other, 1 to 1000000";
 
 pub const LOCKS: &str = "The folder of the lock files of terminal devices";
 

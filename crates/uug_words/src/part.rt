@@ -1,13 +1,13 @@
 //! The first part of a task that is wrong, for which it may not be run.
 ghost use Rattle.std.specs.Prelude.{◌≡◌, ◌≤◌, ◌↔◌, IfSome, IsTrue, MatchOption, true};
 ghost use Rattle.uug_link.specs.Terms.{IsSize};
-ghost use Rattle.uug_sys.specs.Tasks.{IsTask};
+ghost use Rattle.uug_task.specs.Tasks.{IsTask};
 ghost use Rattle.uug_words.specs.Parts.{IsFirstWrong, IsRight};
 
 use uug_link::{Announce, WINDOW_MAX};
 use uug_port::{SPEED_MAX, SPEED_MIN};
-use uug_sys::{CallTask, SECONDS_MAX, WAIT_MAX};
 use uug_talk::{FILE_MAX, Name};
+use uug_task::{CallTask, SECONDS_MAX, SESSIONS_MAX, WAIT_MAX, may_have};
 use uug_transfer::read_line_name;
 
 /// So many bytes of files an end offers in a session at least, if it has as many: each file that may go fits.
@@ -22,6 +22,8 @@ pub enum Part {
     Speed,
     /// For so many seconds it waits to be called.
     Wait,
+    /// So many sessions it has at most.
+    Sessions,
     /// The window.
     Window,
     /// The packet size.
@@ -34,6 +36,8 @@ pub enum Part {
     Me,
     /// The other end's name.
     Peer,
+    /// Its sessions, of which there are more than one only at a socket.
+    Turns,
 }
 
 /// The first part of a task that is wrong, if one is.
@@ -48,6 +52,9 @@ pub fn wrong_part(task: &CallTask<'_>) -> Option<Part>
     }
     if !is_right(task, Part::Wait) {
         return Some(Part::Wait);
+    }
+    if !is_right(task, Part::Sessions) {
+        return Some(Part::Sessions);
     }
     if !is_right(task, Part::Window) {
         return Some(Part::Window);
@@ -67,6 +74,9 @@ pub fn wrong_part(task: &CallTask<'_>) -> Option<Part>
     if !is_right(task, Part::Peer) {
         return Some(Part::Peer);
     }
+    if !is_right(task, Part::Turns) {
+        return Some(Part::Turns);
+    }
     None
 }
 
@@ -78,12 +88,14 @@ fn is_right(task: &CallTask<'_>, part: Part) -> bool
         Part::Seconds => is_within(Some(task.seconds), 1, SECONDS_MAX),
         Part::Speed => is_within(task.speed, SPEED_MIN, SPEED_MAX),
         Part::Wait => is_within(task.wait, 1, WAIT_MAX),
+        Part::Sessions => is_within(Some(task.sessions), 1, SESSIONS_MAX),
         Part::Window => is_within(Some(task.window), 1, u32::from(WINDOW_MAX)),
         Part::Size => is_size(task.size),
         Part::Most => task.most >= MOST_MIN,
         Part::Line => read_line_name(task.line).is_some(),
         Part::Me => Name::new(task.me.as_bytes()).is_ok(),
         Part::Peer => Name::new(task.peer.as_bytes()).is_ok(),
+        Part::Turns => has_turns(task),
     }
 }
 
@@ -93,6 +105,16 @@ fn is_within(number: Option<u32>, least: u32, most: u32) -> bool
 {
     match number {
         Some(number) => least <= number && number <= most,
+        None => true,
+    }
+}
+
+/// Whether an end may have so many sessions at its line, where that is one.
+fn has_turns(task: &CallTask<'_>) -> bool
+    ensures { IsTrue result ↔ IsRight task.now Part.Turns }
+{
+    match read_line_name(task.line) {
+        Some(line) => may_have(task.sessions, task.side, line),
         None => true,
     }
 }

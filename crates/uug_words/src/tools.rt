@@ -20,6 +20,9 @@ const SECONDS: &str = "10";
 /// So many bytes of files an end offers in a session that is told nothing else.
 const MOST: &str = "67108864";
 
+/// The sessions of an end that is called, and is told none.
+const SESSIONS: &str = "1";
+
 /// The folder of the lock files of devices, where none is told: that of Debian's programs.
 const LOCKS: &str = "/var/lock";
 
@@ -149,11 +152,7 @@ fn end_command<'a>(alloc: Global, name: &'a str, about: &'a str) -> Result<Comma
     ensures { IfOk result (IsTool (end_tool name.entry.now)) }
 {
     tool(alloc, name, about, help::END)
-        .arg(path(
-            alloc,
-            "LINE",
-            "unix:PATH, tcp:HOST:PORT, or the path of a terminal device",
-        ))?
+        .arg(path(alloc, "LINE", help::LINE))?
         .arg(path(alloc, "DIR", "The folder of this end"))?
         .arg(end_name(alloc, "me", "The name of this end"))?
         .arg(end_name(alloc, "peer", "The name of the other end"))?
@@ -187,6 +186,7 @@ fn end_command<'a>(alloc: Global, name: &'a str, about: &'a str) -> Result<Comma
             "Keeps the number of its conversations in DIR, from 0 on",
         ))?
         .arg(folder(alloc, "locks", help::LOCKS, LOCKS))?
+        .arg(named(alloc, "report", "FILE", help::REPORT))?
         .arg(number(alloc, "most", "BYTES", help::MOST, MOST))?
         .arg(verbose(
             alloc,
@@ -203,7 +203,8 @@ fn answer_command<'a>(alloc: Global) -> Result<Command<'a>, AllocError>
         "answer",
         "Waits for the call of another system over a line, and exchanges files with it",
     )?
-    .arg(whole(alloc, "wait", "SECONDS", help::WAIT))
+    .arg(whole(alloc, "wait", "SECONDS", help::WAIT))?
+    .arg(number(alloc, "sessions", "N", help::SESSIONS, SESSIONS))
 }
 
 /// The tool that queues jobs.

@@ -7,7 +7,7 @@ ghost use Rattle.uug_transfer.specs.LineNames.{port_of};
 use crate::part::{Part, wrong_part};
 use std::alloc::{AllocError, Allocator};
 use uug_reason::add_escaped;
-use uug_sys::CallTask;
+use uug_task::CallTask;
 use uug_transfer::{EVERY_MAX, EVERY_MIN};
 
 /// What is wrong with the task of one end that may not be run.
@@ -78,6 +78,7 @@ fn add_part<A: Allocator>(
         Part::Seconds => add_range(text, "timeout", Some(task.seconds), "1 to 600"),
         Part::Speed => add_range(text, "speed", task.speed, "300 to 10000000"),
         Part::Wait => add_range(text, "wait", task.wait, "1 to 1000000000"),
+        Part::Sessions => add_range(text, "sessions", Some(task.sessions), "1 to 1000000"),
         Part::Window => add_range(text, "window", Some(task.window), "1 to 7"),
         Part::Size => add_range(
             text,
@@ -89,6 +90,12 @@ fn add_part<A: Allocator>(
         Part::Line => add_line(text, task.line),
         Part::Me => add_name(text, task.me),
         Part::Peer => add_name(text, task.peer),
+        Part::Turns => add_range(
+            text,
+            "sessions",
+            Some(task.sessions),
+            "1: only at a socket there may be more",
+        ),
     }
 }
 

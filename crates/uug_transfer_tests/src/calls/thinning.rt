@@ -143,29 +143,132 @@ fn what_is_sent_again_waits_once(rt: HostRuntime) {
     }
 }
 
-/// RR 3, and the data packet 2 with CY: no RR 2 in front.
-const ONE_RR: &[u8] =
-    b"\x10\x09\x87\xaa#\x07\x10\x01\xb6i\x93MCY\0\0\0\0\0\0\0\0\0\0\0\0\0\0\0\0\0\0\0\0\0\0\0\0\0\0\0\0\0\0";
+/// RR 3 and RJ 3: the packet 4 is lost, and the window of the packets 4 to 2 goes out, of which two for the first time.
+const LOST: &[u8] = b"\x10\x09\x87\xaa#\x07\x10\x09\x97\xaa\x13'";
+
+/// The headers of these packets.
+const IN_ORDER: &[&[u8]] = &[
+    b"\x10\x01j\xae\xa1d",
+    b"\x10\x01b\xae\xa9d",
+    b"\x10\x01Z\xae\xb1D",
+    b"\x10\x01R\xae\xb9D",
+    b"\x10\x01J\xae\x81d",
+    b"\x10\x01B\xae\x89d",
+    b"\x10\x01:\xae\x91\x04",
+];
+
+/// The packets with these headers, of fields of 32 bytes.
+fn in_order(rt: &impl Abort, alloc: Global) -> Vec<u8> {
+    let mut bytes = Vec::new(alloc);
+    for header in IN_ORDER {
+        bytes.extend_from_slice(header).expect(rt, "memory");
+        bytes.extend_from_slice(&[97; 32]).expect(rt, "memory");
+    }
+    bytes
+}
 
 #[test]
-fn what_came_at_once_is_acknowledged_at_once(rt: HostRuntime) {
+fn what_is_sent_again_goes_in_the_order_of_its_numbers(rt: HostRuntime) {
+    let alloc = rt.alloc();
+    let file = repeated(&rt, alloc, &[97; 64], 512);
+    let injector = FaultInjector::without_faults(Thinning::Repeats);
+    let mut buffered = caller(&rt, alloc, file.as_slice(), 32, injector);
+    drop(file);
+    hear_all(&rt, &mut buffered, ACCEPTS);
+    hear(&rt, &mut buffered, SMALL);
+    hear_all(&rt, &mut buffered, BEGINS);
+    hear(&rt, &mut buffered, LOST);
+    let expected = in_order(&rt, alloc);
+    assert_same(&rt, buffered.outgoing(), expected.as_slice());
+    drop(expected);
+    drop(buffered);
+}
+
+/// What the caller writes whose file comes in three data packets at once: RR 1, and the packets 2 to 4.
+const THREE: &[u8] =
+    b"\x10\x09\x89\xaa!\x0b\x10\x01\xc0*\xd1:\x1fh\0\0\0\0\0\0\0\0\0\0\0\0\0\0\0\0\0\0\0\0\0\0\0\0\0\0\0\0\0\0\x10\x01@\x14\xd9\x8c\x1fi\0\0\0\0\0\0\0\0\0\0\0\0\0\0\0\0\0\0\0\0\0\0\0\0\0\0\0\0\0\0\x10\x01\x8a\x0e\xe1d \0\0\0\0\0\0\0\0\0\0\0\0\0\0\0\0\0\0\0\0\0\0\0\0\0\0\0\0\0\0\0";
+
+/// RR 2, and the data packet 5 with H.
+const PARTS: &[u8] =
+    b"\x10\x09\x88\xaa\x22\x09\x10\x01\xa0C\xaaHH\0\0\0\0\0\0\0\0\0\0\0\0\0\0\0\0\0\0\0\0\0\0\0\0\0\0\0\0\0\0\0";
+
+/// RR 3, the data packet 6 with HY, and CLOSE.
+const LEAVES: &[u8] =
+    b"\x10\x09\x87\xaa#\x07\x10\x01\xb7'\xb3\x22HY\0\0\0\0\0\0\0\0\0\0\0\0\0\0\0\0\0\0\0\0\0\0\0\0\0\0\0\0\0\0\x10\x09\xa2\xaa\x08\x09";
+
+/// What a called end that acknowledges each packet answers: RR 2, RR 3, RR 4, and the data packet 2 with CY.
+const EACH: &[u8] =
+    b"\x10\x09\x88\xaa\x22\x09\x10\x09\x87\xaa#\x07\x10\x09\x86\xaa$\x01\x10\x01\xb7i\x94KCY\0\0\0\0\0\0\0\0\0\0\0\0\0\0\0\0\0\0\0\0\0\0\0\0\0\0\0\0\0\0";
+
+/// RR 5, and the data packet 3 with HY.
+const AGREES: &[u8] =
+    b"\x10\x09\x85\xaa%\x03\x10\x01\xcd'\x9dvHY\0\0\0\0\0\0\0\0\0\0\0\0\0\0\0\0\0\0\0\0\0\0\0\0\0\0\0\0\0\0";
+
+/// RR 6, CLOSE, and its final text.
+const ENDS: &[u8] = b"\x10\x09\x84\xaa&\x01\x10\x09\xa2\xaa\x08\x09\x10OOOOOOO\0";
+
+#[test]
+fn each_packet_is_acknowledged_unless_acknowledgements_are_left_out(rt: HostRuntime) {
+    let alloc = rt.alloc();
+    let mut buffered = called(&rt, alloc, FaultInjector::without_faults(Thinning::Repeats));
+    let mut brings = CALLER;
+    brings[5] = THREE;
+    brings[6] = PARTS;
+    brings[7] = LEAVES;
+    let mut takes = CALLED;
+    takes[6] = EACH;
+    takes[7] = AGREES;
+    takes[8] = ENDS;
+    assert_session(&rt, alloc, &mut buffered, &brings[..8], &takes);
+    drop(buffered);
+}
+
+/// The data packet 1 with SY, the data packet 2 with CY, and the data packet 3 with HY, each without an RR in front.
+const LETS: &[u8] =
+    b"\x10\x01P8\x89\xe0SY\0\0\0\0\0\0\0\0\0\0\0\0\0\0\0\0\0\0\0\0\0\0\0\0\0\0\0\0\0\0";
+
+const KEEPS: &[u8] =
+    b"\x10\x01\xb7i\x94KCY\0\0\0\0\0\0\0\0\0\0\0\0\0\0\0\0\0\0\0\0\0\0\0\0\0\0\0\0\0\0";
+
+const PARTS_TOO: &[u8] =
+    b"\x10\x01\xcd'\x9dvHY\0\0\0\0\0\0\0\0\0\0\0\0\0\0\0\0\0\0\0\0\0\0\0\0\0\0\0\0\0\0";
+
+#[test]
+fn what_is_said_acknowledges_what_came(rt: HostRuntime) {
     let alloc = rt.alloc();
     let mut buffered = called(
         &rt,
         alloc,
         FaultInjector::without_faults(Thinning::RepeatsAndAcks),
     );
+    let mut brings = CALLER;
+    brings[5] = THREE;
+    brings[6] = PARTS;
+    brings[7] = LEAVES;
     let mut takes = CALLED;
-    takes[6] = ONE_RR;
-    assert_session(&rt, alloc, &mut buffered, &CALLER[..8], &takes);
+    takes[5] = LETS;
+    takes[6] = KEEPS;
+    takes[7] = PARTS_TOO;
+    takes[8] = ENDS;
+    assert_session(&rt, alloc, &mut buffered, &brings[..8], &takes);
     drop(buffered);
 }
 
+/// RR 1, and the data packets 2 to 4, of which none ends the file.
+const MIDDLE: &[u8] =
+    b"\x10\x09\x89\xaa!\x0b\x10\x01\xc0*\xd1:\x1fh\0\0\0\0\0\0\0\0\0\0\0\0\0\0\0\0\0\0\0\0\0\0\0\0\0\0\0\0\0\0\x10\x01@\x14\xd9\x8c\x1fi\0\0\0\0\0\0\0\0\0\0\0\0\0\0\0\0\0\0\0\0\0\0\0\0\0\0\0\0\0\0\x10\x01\xc9\xe3\xe1\xca\x1f!\0\0\0\0\0\0\0\0\0\0\0\0\0\0\0\0\0\0\0\0\0\0\0\0\0\0\0\0\0\0";
+
+/// RR 3 and RR 4, with no RR 2 in front.
+const TWO: &[u8] = b"\x10\x09\x87\xaa#\x07\x10\x09\x86\xaa$\x01";
+
 #[test]
-fn each_packet_is_acknowledged_unless_acknowledgements_are_left_out(rt: HostRuntime) {
+fn two_acknowledgements_are_enough_for_what_came_at_once(rt: HostRuntime) {
     let alloc = rt.alloc();
-    let mut buffered = called(&rt, alloc, FaultInjector::without_faults(Thinning::Repeats));
-    assert_session(&rt, alloc, &mut buffered, &CALLER[..8], &CALLED);
+    let injector = FaultInjector::without_faults(Thinning::RepeatsAndAcks);
+    let mut buffered = called(&rt, alloc, injector);
+    hear_all(&rt, &mut buffered, &CALLER[..5]);
+    hear(&rt, &mut buffered, MIDDLE);
+    assert_same(&rt, buffered.outgoing(), TWO);
     drop(buffered);
 }
 

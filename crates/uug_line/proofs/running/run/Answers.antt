@@ -33,12 +33,12 @@ into_report-requires g c =
     let types = c.look_at_setup.ensures in
     let verdict = c.in-Ok.verdict in
     let parts = run_value c.go_through.new.self in
-    let ended = c.in-Ok.ensures setup (first_run by_themselves setup) c.in_ok-run.ensures in
+    let ended = c.in-Ok.ensures.ends setup (first_run by_themselves setup) c.in_ok-run.ensures in
     record {
       some_run = record {
         setup = setup;
         events = events;
-        is = is_run_of setup events verdict parts types ended;
+        is = is_run_of setup events verdict parts types ended c.in-Ok.ensures.steady;
       };
       said = record { caller = (ended.ends Caller).ordered.cleared; called = (ended.ends Called).ordered.cleared };
     }
@@ -51,7 +51,7 @@ returns g c =
     let sound = types.sound in
     let verdict = c.in-Ok.verdict in
     let parts = run_value c.go_through.new.self in
-    let ended = c.in-Ok.ensures setup (first_run by_themselves setup) c.in_ok-run.ensures in
+    let ended = c.in-Ok.ensures.ends setup (first_run by_themselves setup) c.in_ok-run.ensures in
     let told = ap (λ (report : WholeReport). report.told) c.in_ok-report.ensures in
     let ends = told ∙ told_by_ends setup events verdict parts ended in
     let report = report_of_ends setup events in
@@ -69,7 +69,7 @@ returns g c =
       world = told
           ∙ told_by_world setup events verdict parts ended (report_is setup sound events);
       of = subst (λ (report : WholeReport). IsRunOf setup events report) (sym c.in_ok-report.ensures)
-          (is_run_of setup events verdict parts types ended);
+          (is_run_of setup events verdict parts types ended c.in-Ok.ensures.steady);
       spools = subst (λ (report : WholeReport). GiveAsSetUp setup report.spools) (sym c.in_ok-report.ensures)
           (give_as_set_up setup (run_of_ends setup events) verdict parts ended);
       fooled = subst (λ (verdict : LineVerdict). NamesUnsent setup events verdict)

@@ -1,8 +1,7 @@
 use Rattle.std.proofs.Common.{ℕ, ap}
 use Rattle.uug_session.specs.Node.{NodeState}
-use Rattle.uug_transfer.specs.BufferedNodes.{node_in}
 use Rattle.uug_transfer.specs.Ends.{report_of}
-use Rattle.uug_transfer.proofs.EndLemmas.{Prints, printed_behind_device, printing_stopped}
+use Rattle.uug_transfer.proofs.EndLemmas.{printed_behind_device, printing_stopped}
 use Rattle.uug_transfer.proofs.call.call_over.Goals as goal
 
 pub returns-then-status-gt0-clause-report : goal.returns-then-status-gt0-clause-report

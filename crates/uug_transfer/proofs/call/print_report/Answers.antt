@@ -1,4 +1,3 @@
-use Rattle.std.proofs.Common.{◌≡◌}
 use Rattle.uug_transfer.proofs.EndLemmas.{begins_report}
 use Rattle.uug_transfer.proofs.call.print_report.Goals as goal
 

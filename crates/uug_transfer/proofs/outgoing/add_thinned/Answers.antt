@@ -1,5 +1,5 @@
 use Rattle.std.proofs.Common.{◌∙◌, arith}
-use Rattle.uug_transfer.proofs.WaitingLemmas.{skip_counts, skip_goes, step_counts, step_goes, waiting_gone}
+use Rattle.uug_transfer.proofs.WaitingLemmas.{skip_counts, skip_goes, step_counts, step_goes}
 use Rattle.uug_transfer.proofs.outgoing.add_thinned.Goals as goal
 
 pub loop-i-preserved-then-is_left_out : goal.loop-i-preserved-then-is_left_out
@@ -11,8 +11,6 @@ loop-i-preserved-then-is_left_out g c = record {
   drop_every = c.loop-i.invariant.drop_every;
   flip_every = c.loop-i.invariant.flip_every;
   thinning = c.loop-i.invariant.thinning;
-  waiting = waiting_gone _ c.args.outbox.now.entries c.loop-i.i c.loop-i.waiting.items _
-      (omega (arith, c.loop-i-test.true, c.len-i-end.ensures)) c.is_left_out.ensures c.if-is_left_out.true c.loop-i.invariant.waiting;
 }
 
 pub loop-i-preserved : goal.loop-i-preserved
@@ -25,5 +23,4 @@ loop-i-preserved g c = record {
   drop_every = c.add_entry.ensures.drop_every ∙ c.loop-i.invariant.drop_every;
   flip_every = c.add_entry.ensures.flip_every ∙ c.loop-i.invariant.flip_every;
   thinning = c.add_entry.ensures.thinning ∙ c.loop-i.invariant.thinning;
-  waiting = c.in_ok-note_place.ensures;
 }

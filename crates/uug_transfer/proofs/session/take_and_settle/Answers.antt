@@ -1,6 +1,5 @@
 use Rattle.uug_transfer.specs.BufferedNodes.{node_in}
 use Rattle.uug_transfer.specs.Ends.{jobs_of_end}
-use Rattle.uug_conversation.specs.Jobs.{Lists}
 use Rattle.uug_session.specs.Node.{NodeState}
 use Rattle.std.proofs.Common.{ap, length, subst, sym, ◌≤◌, ◌∙◌}
 use Rattle.uug_transfer.proofs.SettlingLemmas.{either_then, failed_room, led_goes_on, or_not, stays_by, struck_room, tells_by, unless_settled}

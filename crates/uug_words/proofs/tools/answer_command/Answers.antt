@@ -3,4 +3,6 @@ use Rattle.uug_words.proofs.ToolLemmas.{adds}
 use Rattle.uug_words.proofs.tools.answer_command.Goals as goal
 
 pub returns : goal.returns
-returns c = IfOk-weaker c.arg.result _ _ (λ made step. adds c.in_ok-end_command.ensures step c.whole.ensures) c.arg.ensures
+returns c =
+    let wait = adds c.in_ok-end_command.ensures c.in_ok-arg.ensures c.whole.ensures in
+    IfOk-weaker c.arg-2.result _ _ (λ made step. adds wait step c.number.ensures) c.arg-2.ensures

@@ -18,5 +18,6 @@ returns c =
     let every_ack = adds strict c.in_ok-arg-12.ensures c.flag-4.ensures in
     let numbered = adds every_ack c.in_ok-arg-13.ensures c.flag-5.ensures in
     let locks = adds numbered c.in_ok-arg-14.ensures c.folder.ensures in
-    let most = adds locks c.in_ok-arg-15.ensures c.number-4.ensures in
-    IfOk-weaker c.arg-16.result _ _ (λ made step. adds most step c.verbose.ensures) c.arg-16.ensures
+    let report = adds locks c.in_ok-arg-15.ensures c.named.ensures in
+    let most = adds report c.in_ok-arg-16.ensures c.number-4.ensures in
+    IfOk-weaker c.arg-17.result _ _ (λ made step. adds most step c.verbose.ensures) c.arg-17.ensures

@@ -18,13 +18,13 @@ loop-number-preserved g c =
       runs = λ setup run stands. next.1 setup run (c.loop-number.invariant.runs setup run stands);
     }
 
-pub returns : goal.returns
-returns g c = λ setup run stands.
+pub returns-clause-ends : goal.returns-clause-ends
+returns-clause-ends g c = λ setup run stands.
     runs_to_end c.args.events.now c.loop-number.number setup run (run_value c.loop-number.self)
     (none_left c.args.events.now c.loop-number.number c.loop-number-test.false) (c.loop-number.invariant.runs setup run stands)
 
-pub returns-then-not-branch : goal.returns-then-not-branch
-returns-then-not-branch g c = λ setup run stands.
+pub returns-then-not-branch-clause-ends : goal.returns-then-not-branch-clause-ends
+returns-then-not-branch-clause-ends g c = λ setup run stands.
     next_fools c.args.events.now c.loop-number.number _ c.in_ok-happens.field-0 c.hearing_side.result (run_value c.loop-number.self)
     (run_value c.happens.new.self) c.loop-number-test.true c.if-not-branch.true c.hearing_side.ensures c.in_ok-happens.ensures
     setup run (c.loop-number.invariant.runs setup run stands)

@@ -1,0 +1,116 @@
+//! A run, event by event.
+ghost use Rattle.std.specs.Prelude.{◌≡◌, ◌∷◌, [], ◌++◌, List, IfOk};
+ghost use Rattle.uug_line.specs.declared.event.Event.{Event};
+ghost use Rattle.uug_line.specs.Belongings.{SetupValue};
+ghost use Rattle.uug_line.specs.OfSomeRun.{IsRunOf};
+ghost use Rattle.uug_line.specs.Setup.{setup_of};
+ghost use Rattle.uug_line.specs.Simulator.{IsBehind, IsBehindSome, simulator, verdict_behind};
+
+use crate::event::Event;
+use crate::fault::RunFault;
+use crate::report::Report;
+use crate::running::{hearing_side, run};
+use crate::setup::Setup;
+use crate::soundness::look_at_event;
+use crate::verdict::LineVerdict;
+use std::alloc::Allocator;
+use std::marker::Model;
+
+/// A run that stands behind some events, and to which more may happen. Whoever made it, it is that of some two ends under as
+/// many events as it has counted: its type keeps that.
+#[derive(Drop)]
+pub struct Simulator<A: Allocator + Copy> {
+    report: Report<A>,
+    /// How many events have happened.
+    count: usize,
+}
+
+impl<A: Allocator + Copy> Model for Simulator<A> {
+    ghost use Rattle.uug_line.specs.Simulator.{IsBehindSome, SimulatorValue, simulator};
+
+    ghost Value = { SimulatorValue };
+
+    ghost view = { λ s. simulator s.report s.count };
+
+    ghost invariant = { λ s. IsBehindSome (simulator s.report s.count) };
+}
+
+/// The verdict behind the event of this number.
+fn verdict_behind(all_sent: bool, number: usize, event: Event) -> LineVerdict
+    ensures { result ≡ verdict_behind all_sent number event }
+{
+    if all_sent {
+        return LineVerdict::Clean;
+    }
+    LineVerdict::Fooled {
+        event: number,
+        side: hearing_side(event),
+    }
+}
+
+/// The event of this number happens behind those of the report. A run that is fooled has stopped.
+fn go_on<A: Allocator + Copy>(
+    alloc: A,
+    report: Report<A>,
+    number: usize,
+    event: Event,
+) -> Result<Report<A>, RunFault>
+    requires { IsBehindSome (simulator report number) }
+    ensures { IfOk result (λ next. (setup : SetupValue) (events : List Event)
+        → IsBehind setup events (simulator report number)
+        → IsRunOf setup (events ++ event ∷ []) next) }
+{
+    look_at_event(event);
+    if let LineVerdict::Fooled { .. } = report.verdict() {
+        return Ok(report);
+    }
+    let mut run = report.into_run();
+    let Ok(all_sent) = run.happens(alloc, event) else {
+        drop(run);
+        return Err(RunFault::Memory);
+    };
+    let next = run.into_report(verdict_behind(all_sent, number, event))?;
+    Ok(next)
+}
+
+impl<A: Allocator + Copy> Simulator<A> {
+    /// Two ends that are set up so, before the first event.
+    pub fn new(alloc: A, setup: Setup<A>) -> Result<Self, RunFault>
+        ensures { IfOk result (λ first. IsBehind (setup_of setup) [] first) }
+    {
+        let report = run(alloc, setup, &[])?;
+        Ok(Simulator { report, count: 0 })
+    }
+
+    /// The event happens behind the others. So `run` does the same as a step for each event. Out of memory leaves nothing of
+    /// the run, as do more events than can be counted.
+    pub fn step(self, alloc: A, event: Event) -> Result<Self, RunFault>
+        ensures { IfOk result (λ next. (setup : SetupValue) (events : List Event)
+            → IsBehind setup events self → IsBehind setup (events ++ event ∷ []) next) }
+    {
+        let Simulator { report, count } = self;
+        let Some(more) = count.checked_add(1) else {
+            drop(report);
+            return Err(RunFault::Memory);
+        };
+        let report = go_on(alloc, report, count, event)?;
+        Ok(Simulator {
+            report,
+            count: more,
+        })
+    }
+
+    /// What is told of the events so far.
+    pub fn report(&self) -> &Report<A>
+        ensures { result.now ≡ self.now.report }
+    {
+        &self.report
+    }
+
+    /// The report of the events so far, from which `settle` may go on.
+    pub fn into_report(self) -> Report<A>
+        ensures { result ≡ self.report }
+    {
+        self.report
+    }
+}

@@ -1,0 +1,2 @@
+mod DeviceLockFacts
+pub mod LockTextLemmas

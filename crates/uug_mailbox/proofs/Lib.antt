@@ -1,0 +1,7 @@
+pub mod ArrivalLemmas
+mod MailFacts
+pub mod OpenLinesLemmas
+pub mod OverLemmas
+pub mod PartingLemmas
+pub mod StoreLemmas
+pub mod StopLemmas

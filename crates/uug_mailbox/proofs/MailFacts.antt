@@ -1,0 +1,91 @@
+-- A mail, and two copies in one job, as they were found in a spool, so that a wrong definition does not check.
+use Rattle.std.proofs.Common.{◌≡◌, [], ◌∷◌, codes, Some, None, Ok, Err, refl}
+use Rattle.uug_conversation.specs.declared.job.Job.{Job}
+use Rattle.uug_conversation.specs.declared.job.Job.TheVariants as job
+use Rattle.uug_spool.specs.Operations.{folder_synced, renamed, unlinked}
+use Rattle.uug_spool.specs.SpoolNames.{spot}
+use Rattle.uug_spool.specs.declared.spool_names.Room.TheVariants as rooms
+use Rattle.uug_mailbox.specs.Offers.{offer_of}
+use Rattle.uug_mailbox.specs.OpenLines.{file_lines, line_of, lines_left}
+use Rattle.uug_mailbox.specs.OverOrder.{store_ops}
+use Rattle.uug_mailbox.specs.Placing.{place_ops}
+use Rattle.uug_mailbox.specs.declared.offer.NotOffered.TheVariants as why
+use Rattle.uug_mailbox.specs.declared.open_line.OpenLine.{OpenLine}
+
+abbrev data_job : Job
+data_job = job.Send (codes "D.0001") (codes "D.alphaN0001") (codes "uucp") (Some (codes "D.0001"))
+
+abbrev text_job : Job
+text_job = job.Send (codes "D.X0001") (codes "X.alphaN0001") (codes "uucp") (Some (codes "D.X0001"))
+
+abbrev data_line : OpenLine
+data_line = line_of (codes "C.N0001") (Some (codes "D.0001")) (Some data_job)
+
+abbrev text_line : OpenLine
+text_line = line_of (codes "C.N0001") (Some (codes "D.0001")) (Some text_job)
+
+-- a mail is two jobs
+a_mail : offer_of (codes "E D.0001 D.alphaN0001 uucp -CNZR D.0001 0666 sender@here.org 0 rmail rcpt1@there.org rcpt2@there.org")
+    ≡ Ok (record { copy = Some (codes "D.0001"); first = data_job; second = Some text_job })
+a_mail = refl
+
+no_copy : offer_of (codes "S /srv/f1 ~/nocopy uucp -cd D.0002 0644 ")
+    ≡ Ok (record { copy = None; first = job.Send (codes "/srv/f1") (codes "~/nocopy") (codes "uucp") None; second = None })
+no_copy = refl
+
+a_wildcard : offer_of (codes "X ~/glob* alpha!/srv/alpha/pub/ uucp -d") ≡ Err why.Wildcard
+a_wildcard = refl
+
+quoted_names : offer_of (codes "S /srv/a\\040b ~/a\\040b uucp -Cdq D.0004 0644 ") ≡ Err why.Quoted
+quoted_names = refl
+
+-- its lines are over when its data is gone
+is_open : file_lines (codes "D.0001" ∷ []) (codes "C.N0001") (codes "E D.0001 D.alphaN0001 uucp -CN D.0001 0666 \"\" 0 rmail u" ∷ [])
+    ≡ data_line ∷ text_line ∷ []
+is_open = refl
+
+is_over : file_lines [] (codes "C.N0001") (codes "E D.0001 D.alphaN0001 uucp -CN D.0001 0666 \"\" 0 rmail u" ∷ []) ≡ []
+is_over = refl
+
+-- nothing goes with its data, and all with its execution file
+data_is_sent : store_ops (data_job ∷ []) [] (data_line ∷ text_line ∷ []) ≡ []
+data_is_sent = refl
+
+all_is_sent : store_ops (text_job ∷ []) [] (text_line ∷ [])
+    ≡ unlinked (spot rooms.Data (codes "D.0001")) ∷ folder_synced rooms.Data ∷ unlinked (spot rooms.Commands (codes "C.N0001")) ∷ []
+all_is_sent = refl
+
+-- where its data was refused it is preserved
+data_is_refused : store_ops [] (data_job ∷ []) (data_line ∷ text_line ∷ [])
+    ≡ renamed (spot rooms.Data (codes "D.0001")) (spot rooms.Preserved (codes "D.0001"))
+    ∷ folder_synced rooms.Preserved ∷ folder_synced rooms.Data ∷ []
+data_is_refused = refl
+
+-- of two copies of one file with the same words the one goes that was sent
+abbrev first_copy : Job
+first_copy = job.Send (codes "/a") (codes "~/a") (codes "uucp") (Some (codes "D.0002"))
+
+abbrev second_copy : Job
+second_copy = job.Send (codes "/a") (codes "~/a") (codes "uucp") (Some (codes "D.0003"))
+
+abbrev first_line : OpenLine
+first_line = line_of (codes "C.N0002") (Some (codes "D.0002")) (Some first_copy)
+
+abbrev second_line : OpenLine
+second_line = line_of (codes "C.N0002") (Some (codes "D.0003")) (Some second_copy)
+
+the_second_is_sent : lines_left (second_copy ∷ []) (first_line ∷ second_line ∷ []) ≡ first_line ∷ []
+the_second_is_sent = refl
+
+its_copy_goes : store_ops (second_copy ∷ []) [] (first_line ∷ second_line ∷ [])
+    ≡ unlinked (spot rooms.Data (codes "D.0003")) ∷ folder_synced rooms.Data ∷ []
+its_copy_goes = refl
+
+-- a mail that had come is dropped, and the marker of its data goes
+had_come : place_ops (Some (codes "D.alphaN0001")) (codes "X.alphaN0001" ∷ []) (codes "X.alphaN0001") (codes "C rmail u\n")
+    ≡ unlinked (spot rooms.Marked (codes "D.alphaN0001")) ∷ []
+had_come = refl
+
+-- this system's own data is not overwritten
+is_ours : place_ops None [] (codes "D.0001") (codes "x") ≡ []
+is_ours = refl

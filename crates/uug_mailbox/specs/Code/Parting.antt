@@ -1,0 +1,23 @@
+-- Lines in the order in which they go, and those that stay.
+use Rattle.std.specs.Prelude.{◌≡◌, ◌≤◌, ℕ, zero, suc, List, [], ◌∷◌, ◌++◌, length, drop}
+use Rattle.uug_conversation.specs.declared.job.Job.{Job}
+use Rattle.uug_spool.specs.Operations.{Op}
+use Rattle.uug_mailbox.specs.OverOrder.{lines_after, settled_ops, store_ops}
+use Rattle.uug_mailbox.specs.declared.open_line.OpenLine.{OpenLine}
+use Rattle.uug_mailbox.specs.declared.open_line.Outcome.{Outcome}
+use Rattle.uug_mailbox.specs.declared.open_line.Outcome.TheVariants.{Done, Failed}
+use Rattle.uug_mailbox.specs.declared.parted.Parted.{Parted}
+
+-- the first so many of these lines are over so, one after the other
+abbrev pub first_ops : Outcome → ℕ → List OpenLine → List Op
+first_ops outcome zero lines = []
+first_ops outcome (suc n) [] = []
+first_ops outcome (suc n) (line ∷ more) = settled_ops outcome line more ++ first_ops outcome n more
+
+abbrev pub parted_ops : {A B : Type 0} → Parted A B → List Op
+parted_ops p = first_ops Done p.done p.order.items ++ first_ops Failed p.failed (drop p.done p.order.items)
+
+pub record IsParted {A B : Type 0} (struck failed : List Job) (lines : List OpenLine) (p : Parted A B) : Type 0 where
+  pub fits : p.done ≤ length p.order.items
+  pub ops : parted_ops p ≡ store_ops struck failed lines
+  pub left : p.left.items ≡ lines_after struck failed lines

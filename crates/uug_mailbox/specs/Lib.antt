@@ -1,0 +1,6 @@
+pub mod Code
+pub mod Offers
+pub mod OpenLines
+pub mod OverOrder
+pub mod Placing
+pub mod WorkStores

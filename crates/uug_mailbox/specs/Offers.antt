@@ -1,0 +1,68 @@
+-- What a session offers of a line of a C. file (this project's profile; that a command which is run is sent as its data and an
+-- execution file is what Taylor UUCP 1.07 does for an end that knows no E command).
+use Rattle.std.specs.Prelude.{ℕ, List, Option, Some, None, Result, Ok, Err, if◌then◌else◌}
+use Rattle.uug_conversation.specs.declared.job.Job.TheVariants as job
+use Rattle.uug_talk.specs.Name.{name_of}
+use Rattle.uug_spool.specs.CommandLines.{FieldWords, FileWords, Line, command_of, execute, expand, has_option, request, send}
+use Rattle.uug_spool.specs.ExecutionTexts.{execution_target, execution_temp}
+use Rattle.uug_spool.specs.declared.command.CommandFault.{CommandFault}
+use Rattle.uug_mailbox.specs.declared.offer.JobNames.{JobNames}
+use Rattle.uug_mailbox.specs.declared.offer.NotOffered.{NotOffered}
+use Rattle.uug_mailbox.specs.declared.offer.NotOffered.TheVariants as why
+use Rattle.uug_mailbox.specs.declared.offer.Offer.{Offer}
+
+infixl 10 ◌>>=◌
+-- a step, and then one that needs its value
+abbrev pub ◌>>=◌ : {A B : Type 0} → Result A NotOffered → (A → Result B NotOffered) → Result B NotOffered
+(Ok x) >>= f = f x
+(Err e) >>= f = Err e
+
+abbrev pub named_by : Option (List ℕ) → Result (List ℕ) NotOffered
+named_by None = Err why.Name
+named_by (Some name) = Ok name
+
+abbrev pub named : List ℕ → Result (List ℕ) NotOffered
+named word = named_by (name_of word)
+
+-- no command of a session has quoted names
+abbrev pub words_of : FieldWords → Result JobNames NotOffered
+words_of f = if has_option 113 f.options then Err why.Quoted else
+    named f.source >>= (λ source. named f.target >>= (λ target. named f.user >>= (λ user.
+    Ok (record { source = source; target = target; user = user }))))
+
+abbrev pub some_name : Result (List ℕ) NotOffered → Result (Option (List ℕ)) NotOffered
+some_name (Ok name) = Ok (Some name)
+some_name (Err e) = Err e
+
+-- option C says that the data is a copy of this name
+abbrev pub copied : (options temp : List ℕ) → Result (Option (List ℕ)) NotOffered
+copied options temp = if has_option 67 options then some_name (named temp) else Ok None
+
+abbrev pub sending : JobNames → (copy : Option (List ℕ)) → Offer
+sending n copy = record { copy = copy; first = job.Send n.source n.target n.user copy; second = None }
+
+abbrev pub sent : FieldWords → FileWords → Result Offer NotOffered
+sent f w = words_of f >>= (λ n. copied f.options w.temp >>= (λ copy. Ok (sending n copy)))
+
+abbrev pub requested : FieldWords → Result Offer NotOffered
+requested f = words_of f >>= (λ n.
+    Ok (record { copy = None; first = job.Request n.source n.target n.user; second = None }))
+
+-- the data as it stands there, and the execution file, which is made in memory, under the names that it has at each try
+abbrev pub executed : FieldWords → FileWords → Result Offer NotOffered
+executed f w = sent f w >>= (λ offer. named f.user >>= (λ user.
+    named_by (execution_target f.target) >>= (λ target. named_by (execution_temp w.temp) >>= (λ temp.
+    Ok (record { copy = offer.copy; first = offer.first; second = Some (job.Send temp target user (Some temp)) })))))
+
+abbrev pub offer_by : Line → Result Offer NotOffered
+offer_by (send f w) = sent f w
+offer_by (request f) = requested f
+offer_by (expand f) = Err why.Wildcard
+offer_by (execute f w command) = executed f w
+
+abbrev pub offer_read : Result Line CommandFault → Result Offer NotOffered
+offer_read (Ok line) = offer_by line
+offer_read (Err fault) = Err (why.Bad fault)
+
+abbrev pub offer_of : List ℕ → Result Offer NotOffered
+offer_of line = offer_read (command_of line)

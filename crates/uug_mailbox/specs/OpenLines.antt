@@ -1,0 +1,68 @@
+-- The lines of C. files that are not over, and what is left of them where some jobs are (that a line with a copy is over when
+-- the copy is gone is what Taylor UUCP 1.07 does; the rest is this project's profile).
+use Rattle.std.specs.Prelude.{ℕ, List, [], ◌∷◌, ◌++◌, Bool, false, not, Option, Some, None, Result, Ok, Err, if◌then◌else◌}
+use Rattle.std.specs.List.{list_any}
+use Rattle.std.specs.Str.{bytes_eq}
+use Rattle.uug_conversation.specs.declared.job.Job.{Job}
+use Rattle.uug_folder.specs.JobsAfter.{without_said}
+use Rattle.uug_folder.specs.OpenJobs.{with_said}
+use Rattle.uug_mailbox.specs.Offers.{offer_of}
+use Rattle.uug_mailbox.specs.declared.offer.NotOffered.{NotOffered}
+use Rattle.uug_mailbox.specs.declared.offer.Offer.{Offer}
+use Rattle.uug_mailbox.specs.declared.open_line.OpenLine.{OpenLine}
+
+-- ---- those of a C. file
+
+abbrev pub line_of : (file : List ℕ) (copy : Option (List ℕ)) (job : Option Job) → OpenLine
+line_of file copy job = record { file = file; copy = copy; job = job }
+
+abbrev pub has_name : (name : List ℕ) (names : List (List ℕ)) → Bool
+has_name name names = list_any (λ other. bytes_eq other name) names
+
+-- a line with a copy is over when the copy is none of the names that are there
+abbrev pub is_over : (there : List (List ℕ)) (copy : Option (List ℕ)) → Bool
+is_over there None = false
+is_over there (Some copy) = not (has_name copy there)
+
+abbrev pub second_lines : (file : List ℕ) (copy : Option (List ℕ)) (second : Option Job) → List OpenLine
+second_lines file copy None = []
+second_lines file copy (Some job) = line_of file copy (Some job) ∷ []
+
+-- both jobs of a line that has a command run have its copy
+abbrev pub offered : (file : List ℕ) → Offer → List OpenLine
+offered file offer = line_of file offer.copy (Some offer.first) ∷ second_lines file offer.copy offer.second
+
+-- a line that no session offers stays without a job
+abbrev pub open_lines : (there : List (List ℕ)) (file : List ℕ) → Result Offer NotOffered → List OpenLine
+open_lines there file (Err why) = line_of file None None ∷ []
+open_lines there file (Ok offer) = if is_over there offer.copy then [] else offered file offer
+
+abbrev pub file_lines : (there : List (List ℕ)) (file : List ℕ) (texts : List (List ℕ)) → List OpenLine
+file_lines there file [] = []
+file_lines there file (text ∷ more) = open_lines there file (offer_of text) ++ file_lines there file more
+
+-- ---- their jobs
+
+abbrev pub jobs_of : List OpenLine → List Job
+jobs_of [] = []
+jobs_of (line ∷ more) = with_said line.job (jobs_of more)
+
+-- ---- where these jobs are over, each once
+
+abbrev pub line_left : (rest : Option (List Job)) (line : OpenLine) (over : List Job) → (List Job → List OpenLine) → List OpenLine
+line_left None line over next = line ∷ next over
+line_left (Some rest) line over next = next rest
+
+-- the lines that stay
+abbrev pub lines_left : (over : List Job) → List OpenLine → List OpenLine
+lines_left over [] = []
+lines_left over (line ∷ more) = line_left (without_said line.job over) line over (λ rest. lines_left rest more)
+
+abbrev pub line_gone : (rest : Option (List Job)) (line : OpenLine) (over : List Job) → (List Job → List OpenLine) → List OpenLine
+line_gone None line over next = next over
+line_gone (Some rest) line over next = line ∷ next rest
+
+-- the lines that go
+abbrev pub lines_gone : (over : List Job) → List OpenLine → List OpenLine
+lines_gone over [] = []
+lines_gone over (line ∷ more) = line_gone (without_said line.job over) line over (λ rest. lines_gone rest more)

@@ -1,0 +1,12 @@
+-- A store of jobs over the C. files of a system (this project's profile).
+use Rattle.std.specs.Prelude.{◌≡◌, ◌⊎◌, ℕ, List, Option}
+use Rattle.uug_spool.specs.Operations.{Op, also_told}
+use Rattle.uug_mailbox.specs.declared.open_line.OpenLine.{OpenLine}
+use Rattle.uug_mailbox.specs.declared.work_store.WorkStore.{WorkStore}
+
+abbrev pub lines_of : {D A : Type 0} → WorkStore D A → List OpenLine
+lines_of store = store.lines.items
+
+-- nothing was done on the disk, or all of this is told
+abbrev pub IsToldFirst : (notice : List ℕ) (told told_after : Option (List ℕ)) (done done_after : Option (List Op)) → Type 0
+IsToldFirst notice told told_after done done_after = (done_after ≡ done) ⊎ (told_after ≡ also_told notice told)

@@ -1,0 +1,20 @@
+//! The mail of one system in a spool of Taylor UUCP, as the jobs and files of an end: the lines of its C. files, what a session
+//! offers of them, what goes from the disk when a job is over, and where the files of the other system come.
+//! Nothing here calls the system, and no program uses it yet.
+#![tactic(auto)]
+
+mod command_file;
+pub mod laws;
+mod offer;
+mod open_line;
+mod parted;
+mod settled;
+mod spool_folder;
+mod work_store;
+
+pub use command_file::{add_file, queue_of};
+pub use offer::{NotOffered, Offer, read_offer};
+pub use open_line::{OpenLine, Outcome};
+pub use settled::{settle, settle_file};
+pub use spool_folder::{NotPlaced, SpoolFolder};
+pub use work_store::WorkStore;

@@ -1,0 +1,170 @@
+//! What a session offers of a line of a C. file.
+ghost use Rattle.std.specs.Prelude.{◌≡◌};
+ghost use Rattle.uug_talk.specs.Words.{words};
+ghost use Rattle.uug_spool.specs.CommandLines.{command_of};
+ghost use Rattle.uug_spool.specs.ShownCommands.{shown, shown_fields, shown_file};
+ghost use Rattle.uug_mailbox.specs.Offers.{copied, executed, named, named_by, offer_by, offer_of, requested, sending, sent, words_of};
+
+use thiserror::Error;
+use uug_session::Job;
+use uug_spool::{
+    Command, CommandFault, Fields, SentFile, execution_target, execution_temp, has_option,
+    read_command,
+};
+use uug_talk::Name;
+
+/// What a line of a C. file asks for.
+#[derive(Clone, Copy, Debug, PartialEq, Eq)]
+pub struct Offer {
+    /// The name of the data, if it is a copy.
+    pub copy: Option<Name>,
+    /// The job, or that of the data where a command is run with it.
+    pub first: Job,
+    /// The job that sends the execution file of a command that is run.
+    pub second: Option<Job>,
+}
+
+/// Why a session offers nothing of a line of a C. file.
+#[derive(Clone, Copy, Debug, PartialEq, Eq, Error)]
+pub enum NotOffered {
+    /// It is no command.
+    #[error("{0}")]
+    Bad(CommandFault),
+    /// It has a wildcard expanded at the other system.
+    #[error("a wildcard for the other system")]
+    Wildcard,
+    /// Its names are quoted, so that one of them has bytes which no command of a session has.
+    #[error("quoted names")]
+    Quoted,
+    /// One of its names is longer than a name of a session, or has other bytes, or is that of no data.
+    #[error("a name that no session has")]
+    Name,
+}
+
+/// The names that each job has.
+#[derive(Clone, Copy)]
+struct JobNames {
+    source: Name,
+    target: Name,
+    user: Name,
+}
+
+/// The name that a word is.
+fn named(word: &[u8]) -> Result<Name, NotOffered>
+    ensures { result ≡ named word.now }
+{
+    match Name::new(word) {
+        Ok(name) => Ok(name),
+        Err(_) => Err(NotOffered::Name),
+    }
+}
+
+fn named_by(name: Option<Name>) -> Result<Name, NotOffered>
+    ensures { result ≡ named_by name }
+{
+    name.ok_or(NotOffered::Name)
+}
+
+fn words_of(fields: &Fields<'_>) -> Result<JobNames, NotOffered>
+    ensures { result ≡ words_of (shown_fields fields.now) }
+{
+    if has_option(fields.options, b'q') {
+        return Err(NotOffered::Quoted);
+    }
+    Ok(JobNames {
+        source: named(fields.source)?,
+        target: named(fields.target)?,
+        user: named(fields.user)?,
+    })
+}
+
+/// The name of the copy, where the options say that the data is one.
+fn copied(options: &[u8], temp: &[u8]) -> Result<Option<Name>, NotOffered>
+    ensures { result ≡ copied options.now temp.now }
+{
+    if has_option(options, b'C') {
+        Ok(Some(named(temp)?))
+    } else {
+        Ok(None)
+    }
+}
+
+fn sent(fields: &Fields<'_>, file: &SentFile<'_>) -> Result<Offer, NotOffered>
+    ensures { result ≡ sent (shown_fields fields.now) (shown_file file.now) }
+{
+    let names = words_of(fields)?;
+    let copy = copied(fields.options, file.temp)?;
+    Ok(sending(&names, &copy))
+}
+
+/// A job that sends a file, and nothing with it.
+fn sending(names: &JobNames, copy: &Option<Name>) -> Offer
+    ensures { result ≡ sending names.now copy.now }
+{
+    Offer {
+        copy: *copy,
+        first: Job::Send {
+            source: names.source,
+            target: names.target,
+            user: names.user,
+            temp: *copy,
+        },
+        second: None,
+    }
+}
+
+fn requested(fields: &Fields<'_>) -> Result<Offer, NotOffered>
+    ensures { result ≡ requested (shown_fields fields.now) }
+{
+    let names = words_of(fields)?;
+    Ok(Offer {
+        copy: None,
+        first: Job::Request {
+            source: names.source,
+            target: names.target,
+            user: names.user,
+        },
+        second: None,
+    })
+}
+
+fn executed(fields: &Fields<'_>, file: &SentFile<'_>) -> Result<Offer, NotOffered>
+    ensures { result ≡ executed (shown_fields fields.now) (shown_file file.now) }
+{
+    let data = sent(fields, file)?;
+    let user = named(fields.user)?;
+    let target = named_by(execution_target(fields.target))?;
+    let temp = named_by(execution_temp(file.temp))?;
+    Ok(Offer {
+        copy: data.copy,
+        first: data.first,
+        second: Some(Job::Send {
+            source: temp,
+            target,
+            user,
+            temp: Some(temp),
+        }),
+    })
+}
+
+/// What a session offers of a line of a C. file, without its line feed. A line that has a command run is two jobs: its data,
+/// and the execution file, whose names are those of the data with an `X`, the same at each try.
+pub fn read_offer(line: &[u8]) -> Result<Offer, NotOffered>
+    ensures exact { result ≡ offer_of line.now }
+{
+    match read_command(line) {
+        Ok(command) => offer_by(&command),
+        Err(fault) => Err(NotOffered::Bad(fault)),
+    }
+}
+
+fn offer_by(command: &Command<'_>) -> Result<Offer, NotOffered>
+    ensures { result ≡ offer_by (shown command.now) }
+{
+    match command {
+        Command::Send(fields, file) => sent(fields, file),
+        Command::Request(fields) => requested(fields),
+        Command::Expand(_) => Err(NotOffered::Wildcard),
+        Command::Execute(fields, file, _) => executed(fields, file),
+    }
+}

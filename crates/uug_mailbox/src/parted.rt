@@ -1,0 +1,81 @@
+//! The lines of C. files, divided by whether their jobs are over.
+ghost use Rattle.std.specs.Prelude.{◌≡◌, ◌++◌, IfOk, OnOk};
+ghost use Rattle.uug_folder.specs.JobsAfter.{IsTaken, without_said};
+ghost use Rattle.uug_mailbox.specs.OpenLines.{lines_gone, lines_left};
+ghost use Rattle.uug_mailbox.specs.Code.Parting.{IsParted};
+
+use crate::open_line::OpenLine;
+use std::alloc::{AllocError, Allocator};
+use uug_folder::take_first;
+use uug_session::Job;
+
+/// Lines in the order in which they go, and those that stay.
+#[derive(Drop)]
+pub(crate) struct Parted<A: Allocator, B: Allocator> {
+    /// Those whose jobs are done, then those whose jobs have failed, then those that stay.
+    pub(crate) order: Vec<OpenLine, B>,
+    /// So many of them are done.
+    pub(crate) done: usize,
+    /// So many behind those have failed.
+    pub(crate) failed: usize,
+    /// Those that stay.
+    pub(crate) left: Vec<OpenLine, A>,
+}
+
+/// Divides these lines, where these jobs are over, each once: those that were done, and those that have failed.
+pub(crate) fn divided<A: Allocator + Copy, B: Allocator + Copy>(
+    alloc: A,
+    spare: B,
+    lines: &[OpenLine],
+    struck: &[Job],
+    failed: &[Job],
+) -> Result<Parted<A, B>, AllocError>
+    ensures { IfOk result (λ p. IsParted struck.now failed.now lines.now p) }
+{
+    let mut order = Vec::new(spare);
+    let mut others = Vec::new(spare);
+    let mut left = Vec::new(alloc);
+    part(spare, struck, lines, &mut order, &mut others)?;
+    let done = order.len();
+    part(spare, failed, others.as_slice(), &mut order, &mut left)?;
+    let failed = order.len() - done;
+    order.extend_from_slice(left.as_slice())?;
+    Ok(Parted {
+        order,
+        done,
+        failed,
+        left,
+    })
+}
+
+/// Appends each line whose job is one of these, once for each of them, to those that go, and each other one to those that stay.
+fn part<A: Allocator, B: Allocator, C: Allocator>(
+    spare: B,
+    over: &[Job],
+    lines: &[OpenLine],
+    gone: &mut Vec<OpenLine, C>,
+    left: &mut Vec<OpenLine, A>,
+) -> Result<(), AllocError>
+    ensures gone { OnOk result (gone.new.items ≡ gone.old.items ++ lines_gone over.now lines.now) }
+    ensures left { OnOk result (left.new.items ≡ left.old.items ++ lines_left over.now lines.now) }
+{
+    let mut rest = over.to_vec(spare)?;
+    for line in lines {
+        if is_taken(&mut rest, &line.job) {
+            gone.push(*line)?;
+        } else {
+            left.push(*line)?;
+        }
+    }
+    Ok(())
+}
+
+/// Takes this job out of those that are over, if it is among them. The answer is whether it was.
+fn is_taken<A: Allocator>(over: &mut Vec<Job, A>, job: &Option<Job>) -> bool
+    ensures { IsTaken result (without_said job.now over.old.items) over.old.items over.new.items }
+{
+    match job {
+        Some(job) => take_first(over, job),
+        None => false,
+    }
+}

@@ -1,0 +1,134 @@
+//! The jobs of an end over the C. files of a system.
+ghost use Rattle.std.specs.Prelude.{◌≡◌, ◌≤◌, Some, IfErr, OnErr, OnOk, length};
+ghost use Rattle.uug_folder.specs.TextFiles.{IsReadFault};
+ghost use Rattle.uug_spool.specs.Operations.{FrontDone, HasFault, TellsSome, also_all, also_told};
+ghost use Rattle.uug_mailbox.specs.OpenLines.{jobs_of};
+ghost use Rattle.uug_mailbox.specs.OverOrder.{lines_after, store_ops};
+ghost use Rattle.uug_mailbox.specs.Code.Parting.{parted_ops};
+ghost use Rattle.uug_mailbox.specs.WorkStores.{IsToldFirst, lines_of};
+
+use crate::open_line::{OpenLine, Outcome};
+use crate::parted::{Parted, divided};
+use crate::settled::settle_first;
+use std::alloc::Allocator;
+use uug_folder::JobStore;
+use uug_session::Job;
+use uug_spool::{Disk, DiskFailed};
+use uug_stream::ToolFault;
+
+/// The jobs of an end over the C. files of a system: their lines that are not over, and the disk from which one goes that is.
+#[derive(Drop)]
+pub struct WorkStore<D, A: Allocator> {
+    pub disk: D,
+    lines: Vec<OpenLine, A>,
+    alloc: A,
+}
+
+impl<D: Disk, A: Allocator + Copy> WorkStore<D, A> {
+    /// The store of these lines, which were read of this disk.
+    pub fn new(alloc: A, disk: D, lines: Vec<OpenLine, A>) -> Self
+        ensures { lines_of result ≡ lines.items }
+    {
+        WorkStore { disk, lines, alloc }
+    }
+
+    /// The lines that are not over.
+    pub fn lines(&self) -> &[OpenLine]
+        ensures { result.now ≡ lines_of self.now }
+    {
+        self.lines.as_slice()
+    }
+
+    /// Takes these jobs out, each once: those that were done, and those that have failed. Of a line with two jobs the copy goes
+    /// with the second of them. After a fault the lines are as before, and the disk may have lost some that are over.
+    #[tactic(auto, using(crate::proofs::OverLemmas::none_done, crate::proofs::StoreLemmas::tells_none, crate::proofs::StoreLemmas::tells_all))]
+    pub fn settle_jobs<B: Allocator + Copy>(
+        &mut self,
+        alloc: B,
+        struck: &[Job],
+        failed: &[Job],
+        notice: &[u8],
+    ) -> Result<(), ToolFault>
+        ensures lines { OnOk result (lines_of self.new
+            ≡ lines_after struck.now failed.now (lines_of self.old)) }
+        ensures done { OnOk result (D.done self.new.disk
+            ≡ also_all (store_ops struck.now failed.now (lines_of self.old)) (D.done self.old.disk)) }
+        ensures told { OnOk result (D.told self.new.disk ≡ also_told notice.now (D.told self.old.disk)) }
+        ensures same { OnErr result (lines_of self.new ≡ lines_of self.old) }
+        ensures front { OnErr result (FrontDone (store_ops struck.now failed.now (lines_of self.old))
+            (D.done self.old.disk) (D.done self.new.disk)) }
+        ensures told_some { OnErr result (TellsSome notice.now (D.told self.old.disk) (D.told self.new.disk)) }
+        // Nothing goes from the disk before all is told.
+        ensures first { OnErr result (IsToldFirst notice.now (D.told self.old.disk) (D.told self.new.disk)
+            (D.done self.old.disk) (D.done self.new.disk)) }
+        ensures calm { OnOk result (D.fault_count self.new.disk ≡ D.fault_count self.old.disk) }
+        ensures fault { IfErr result (λ fault.
+            IsReadFault fault (D.fault_count self.old.disk) (D.fault_count self.new.disk)) }
+    {
+        let parted = divided(self.alloc, alloc, self.lines.as_slice(), struck, failed)?;
+        if tell_some(&mut self.disk, notice).is_err() {
+            return Err(ToolFault::Device);
+        }
+        match settle_parted(&mut self.disk, &parted) {
+            Ok(()) => (),
+            Err(DiskFailed) => return Err(ToolFault::Device),
+        }
+        self.lines = parted.left;
+        Ok(())
+    }
+}
+
+/// Tells this of the jobs that have failed, if it is anything.
+fn tell_some<D: Disk>(disk: &mut D, notice: &[u8]) -> Result<(), DiskFailed>
+    ensures ok { OnOk result (D.told disk.new ≡ also_told notice.now (D.told disk.old)) }
+    ensures err { OnErr result (TellsSome notice.now (D.told disk.old) (D.told disk.new)) }
+    ensures same { D.done disk.new ≡ D.done disk.old }
+    ensures calm { OnOk result (D.fault_count disk.new ≡ D.fault_count disk.old) }
+    ensures fault { OnErr result
+        (HasFault u64.MAX (D.fault_count disk.old) (D.fault_count disk.new)) }
+{
+    if notice.is_empty() {
+        return Ok(());
+    }
+    disk.tell(notice)
+}
+
+/// Takes the lines off the disk that go.
+#[tactic(auto, using(crate::proofs::OverLemmas::both_done, crate::proofs::OverLemmas::front_of_first, crate::proofs::OverLemmas::front_of_both))]
+fn settle_parted<D: Disk, A: Allocator, B: Allocator>(
+    disk: &mut D,
+    parted: &Parted<A, B>,
+) -> Result<(), DiskFailed>
+    requires { parted.now.done ≤ length parted.now.order.items }
+    ensures ok { OnOk result (D.done disk.new ≡ also_all (parted_ops parted.now) (D.done disk.old)) }
+    ensures err { OnErr result (FrontDone (parted_ops parted.now) (D.done disk.old) (D.done disk.new)) }
+    ensures told { D.told disk.new ≡ D.told disk.old }
+    ensures calm { OnOk result (D.fault_count disk.new ≡ D.fault_count disk.old) }
+    ensures fault { OnErr result
+        (HasFault u64.MAX (D.fault_count disk.old) (D.fault_count disk.new)) }
+{
+    let order = parted.order.as_slice();
+    let (_, behind) = order.split_at(parted.done);
+    settle_first(disk, order, parted.done, Outcome::Done)?;
+    settle_first(disk, behind, parted.failed, Outcome::Failed)?;
+    Ok(())
+}
+
+#[tactic(auto, using(crate::proofs::StoreLemmas::store_is_settled, crate::proofs::StoreLemmas::store_told, crate::proofs::StoreLemmas::store_stays))]
+impl<D: Disk, A: Allocator + Copy> JobStore for WorkStore<D, A> {
+    ghost open_jobs = { λ store. Some (jobs_of (lines_of store)) };
+
+    ghost told = { λ store. D.told store.disk };
+
+    ghost fault_count = { λ store. D.fault_count store.disk };
+
+    fn settle<B: Allocator + Copy>(
+        &mut self,
+        alloc: B,
+        struck: &[Job],
+        failed: &[Job],
+        notice: &[u8],
+    ) -> Result<(), ToolFault> {
+        self.settle_jobs(alloc, struck, failed, notice)
+    }
+}

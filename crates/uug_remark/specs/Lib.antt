@@ -1,4 +1,0 @@
-pub mod Fitting
-pub mod Statements
-pub mod Complaints
-pub mod Remarks

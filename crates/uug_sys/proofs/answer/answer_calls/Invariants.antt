@@ -1,0 +1,6 @@
+use Rattle.std.proofs.Common.{◌≡◌, ◌≤◌}
+use Rattle.uug_sys.proofs.answer.answer_calls.Given as goal
+
+-- no session ended worse than badly, and no write failed
+abbrev pub invariant-loop : goal.invariant-loop
+invariant-loop g l = (l.status ≤ 1) × (g.O.Output.fault_count l.output ≡ g.O.Output.fault_count l.fn.output)

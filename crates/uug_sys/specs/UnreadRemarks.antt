@@ -1,0 +1,18 @@
+-- What is said of a text for which a session has ended (this project's profile).
+use Rattle.std.specs.Prelude.{◌||◌, ℕ, Bool, true, false, List, ◌++◌, codes, is_ok, length, min, take}
+use Rattle.uug_scan.specs.Detailed.{escaped}
+use Rattle.uug_talk.specs.Answer.{answer_of}
+use Rattle.uug_talk.specs.Order.{order_of}
+
+-- whether a text is a command or an answer
+abbrev pub is_read : List ℕ → Bool
+is_read said = is_ok (order_of said) || is_ok (answer_of said)
+
+-- a text that can be read was not its turn
+abbrev pub front_words : (read : Bool) → List ℕ
+front_words true = codes "uucpair: out of turn: heard \""
+front_words false = codes "uucpair: can't read \""
+
+-- Of the text 60 bytes are shown; what can't be seen of it is escaped.
+abbrev pub unread_remark : List ℕ → List ℕ
+unread_remark said = front_words (is_read said) ++ (escaped (take (min (length said) 60) said) ++ codes "\"\n")

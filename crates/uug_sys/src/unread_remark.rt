@@ -1,0 +1,38 @@
+//! What is said of a text for which a session has ended.
+ghost use Rattle.std.specs.Prelude.{◌≡◌, IfOk, string_bytes};
+ghost use Rattle.uug_sys.specs.UnreadRemarks.{front_words, is_read, unread_remark};
+
+use std::alloc::{AllocError, Allocator};
+use uug_reason::add_escaped;
+use uug_talk::{read_answer, read_order};
+
+/// So many bytes of it are shown.
+const SHOWN_MAX: usize = 60;
+
+/// That this text can't be read, or that it was not its turn, as a line for standard error.
+pub(crate) fn unread_remark<A: Allocator>(alloc: A, said: &[u8]) -> Result<String<A>, AllocError>
+    ensures { IfOk result (λ line. string_bytes line ≡ unread_remark said.now) }
+{
+    let mut line = String::from_str(alloc, front_words(is_read(said)))?;
+    add_escaped(&mut line, &said[..said.len().min(SHOWN_MAX)])?;
+    line.push_str("\"\n")?;
+    Ok(line)
+}
+
+/// What is said in front of a text that can be read, or can't.
+fn front_words(is_read: bool) -> &'static str
+    ensures { result.now ≡ front_words is_read }
+{
+    if is_read {
+        "uucpair: out of turn: heard \""
+    } else {
+        "uucpair: can't read \""
+    }
+}
+
+/// Whether a text is a command or an answer.
+fn is_read(said: &[u8]) -> bool
+    ensures { result ≡ is_read said.now }
+{
+    read_order(said).is_ok() || read_answer(said).is_ok()
+}

@@ -1,0 +1,107 @@
+-- What a task of one end says (this project's profile).
+use Rattle.std.specs.Prelude.{◌≡◌, ◌==◌, ◌≢◌, ◌<◌, ◌≤◌, ℕ, Bool, List, [], Option, Some, None, IfSome, IsTrue, true, false}
+use Rattle.uug_link.specs.Announced.{Announced, announced}
+use Rattle.uug_link.specs.Terms.{IsSize, IsWindow, size_of_code}
+use Rattle.uug_talk.specs.Name.{IsName}
+use Rattle.uug_conversation.specs.Holdings.{Holdings, Kept}
+use Rattle.uug_conversation.specs.Jobs.{Lists}
+use Rattle.uug_conversation.specs.declared.side.Side.{Side}
+use Rattle.uug_conversation.specs.declared.side.Side.TheVariants as sides
+use Rattle.uug_events.specs.Beginnings.{EndBeginning}
+use Rattle.uug_session.specs.EndStep.{Identity}
+use Rattle.uug_session.specs.Engine.{BeginsSession, all_ahead}
+use Rattle.uug_session.specs.Node.{NodeState}
+use Rattle.uug_session.specs.Sessions.{HoldsNothing}
+use Rattle.uug_session.specs.declared.place.Place.{Place}
+use Rattle.uug_transfer.specs.BufferedNodes.{IsCleared}
+use Rattle.uug_transfer.specs.LineNames.{LineShown, line_of, shown, tcp, unix}
+use Rattle.uug_transfer.specs.declared.thinning.Thinning.{Thinning}
+use Rattle.uug_transfer.specs.declared.thinning.Thinning.TheVariants.{Repeats, RepeatsAndAcks}
+use Rattle.uug_task.specs.declared.task.CallTask.{CallTask}
+use Rattle.uug_task.specs.declared.task.Terms.{Terms}
+use Rattle.uug_task.specs.declared.end_parts.EndParts.{EndParts}
+use Rattle.uug_port.specs.Timers.{IsSpeed, packets_of}
+use Rattle.uug_task.specs.declared.task.TheConstants.{MOST_MIN, SECONDS_MAX, SESSIONS_MAX, WAIT_MAX}
+
+-- Whether an end may have so many sessions: more than one only where it is called at a socket.
+abbrev pub may_have : (sessions : ℕ) → Side → LineShown → Bool
+may_have sessions sides.Called (unix path) = true
+may_have sessions sides.Called (tcp host port) = true
+may_have sessions side line = sessions == 1
+
+-- a task that may be run: its numbers are in their ranges, so that the largest file may go, its line is one, and its names are
+-- names
+pub record IsTask (task : CallTask) : Type 0 where
+  pub seconds : (0 < task.seconds) × (task.seconds ≤ SECONDS_MAX)
+  pub speed : IfSome task.speed IsSpeed
+  pub wait : IfSome task.wait (λ wait. (0 < wait) × (wait ≤ WAIT_MAX))
+  pub sessions : (0 < task.sessions) × (task.sessions ≤ SESSIONS_MAX)
+  pub window : IsWindow task.window
+  pub size : IsSize task.size
+  pub most : MOST_MIN ≤ task.most
+  pub line : line_of task.line.now ≢ None
+  pub turns : IfSome (line_of task.line.now) (λ line. IsTrue (may_have task.sessions task.side line))
+  pub me : IsName task.me.now
+  pub peer : IsName task.peer.now
+
+-- An end announces this window and packets of so many bytes, and is quiet on repeats or not, with short commands or not.
+pub record Announces (window size : ℕ) (quiet short : Bool) (a : Announced) : Type 0 where
+  pub of_window : a.window ≡ window
+  pub of_size : size_of_code a.size_code ≡ size
+  pub is_quiet : a.quiet ≡ quiet
+  pub is_short : a.short ≡ short
+
+-- The line, the names and what is announced are as the task says, and so is how long is waited. The other end may have on the
+-- way what this one lets it. No number is read yet.
+pub record IsSaidBy (task : CallTask) (terms : Terms) : Type 0 where
+  pub line : line_of task.line.now ≡ Some (shown terms.line)
+  pub me : terms.station.place.me ≡ task.me.now
+  pub peer : terms.station.place.peer ≡ task.peer.now
+  pub announces : Announces task.window task.size task.is_quiet task.is_short (announced terms.station.place.announce)
+  pub number : terms.station.place.number ≡ None
+  pub timeout : terms.station.pace.timeout ≡ task.seconds
+  pub speed : terms.station.pace.speed ≡ task.speed
+  pub theirs : terms.station.pace.theirs ≡ packets_of task.window task.size
+  pub wait : terms.station.wait ≡ task.wait
+  pub sessions : terms.station.sessions ≡ task.sessions
+  pub within : (0 < task.seconds) × (task.seconds ≤ SECONDS_MAX)
+
+-- what an end leaves out of what it emits, by whether it acknowledges each data packet on its own
+abbrev pub thinning_with : (every_ack : Bool) → Thinning
+thinning_with true = Repeats
+thinning_with false = RepeatsAndAcks
+
+-- For so many seconds an end on this side says nothing at a device, and counts no silence, before the first byte has come: an
+-- end that is called, where that is told.
+abbrev pub wait_at_device : Side → (wait : Option ℕ) → Option ℕ
+wait_at_device sides.Called wait = wait
+wait_at_device sides.Caller wait = None
+
+-- which end it is, by its place
+abbrev pub identity_at : Side → Place → Identity
+identity_at side place = record { side = side; me = place.me; peer = place.peer }
+
+-- how an end comes to its session: at this place, with these jobs, all of which are to be offered, and with a spool that gives
+-- and accepts this, and has kept that
+abbrev pub beginning_at : Place → Lists → Holdings → List Kept → EndBeginning
+beginning_at place jobs holdings kept = record {
+  me = place.me;
+  peer = place.peer;
+  own = announced place.announce;
+  holdings = holdings;
+  lists = all_ahead jobs;
+  kept = kept;
+  number = place.number;
+}
+
+-- the same of an end that is made of this
+abbrev pub beginning_of : {S J N A : Type 0} → (holdings : S → Holdings) (kept : S → List Kept) → EndParts S J N A → EndBeginning
+beginning_of holdings kept parts = beginning_at parts.place parts.queue (holdings parts.spool) (kept parts.spool)
+
+-- An end of this side has begun its session, at this place and with these jobs: what it says first is to be written, and
+-- nothing else has become of it.
+pub record HasBegunAt (side : Side) (place : Place) (jobs : Lists) (now : NodeState) : Type 0 where
+  pub first : NodeState
+  pub begins : BeginsSession (identity_at side place) (announced place.announce) place.number (all_ahead jobs) [] first.engine
+  pub held : HoldsNothing first
+  pub cleared : IsCleared first now

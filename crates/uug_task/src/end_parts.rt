@@ -1,0 +1,166 @@
+//! One end from its beginning to the end of its session.
+ghost use Rattle.std.specs.Prelude.{◌≡◌, ◌≤◌, ◌⊎◌, [], All, IfErr, IfOk};
+ghost use Rattle.uug_conversation.specs.Jobs.{pending};
+ghost use Rattle.uug_conversation.specs.Party.{HasNames};
+ghost use Rattle.uug_events.specs.Beginnings.{IsSoundBeginning};
+ghost use Rattle.uug_events.specs.NodeRuns.{HasRun};
+ghost use Rattle.uug_link.specs.Announced.{announced};
+ghost use Rattle.uug_link.specs.Terms.{IsWindow};
+ghost use Rattle.uug_session.specs.Engine.{BeginsSession, HasFailed, all_ahead};
+ghost use Rattle.uug_session.specs.Node.{node_of, spool_of};
+ghost use Rattle.uug_session.specs.Sessions.{HoldsNothing};
+ghost use Rattle.uug_stream.specs.Streams.{CountsFault};
+ghost use Rattle.uug_task.specs.Tasks.{HasBegunAt, beginning_of, identity_at};
+ghost use Rattle.uug_transfer.specs.BufferedNodes.{node_in, spool_in};
+ghost use Rattle.uug_transfer.specs.EndOver.{IsEndFault};
+
+use std::alloc::{AllocError, Allocator};
+use uug_events::laws::{a_node_begins_as_an_end, events_follow_events};
+use uug_folder::{JobTexts, JobsFile, TextFile};
+use uug_session::{Node, Place, Queue, Side, Spool};
+use uug_stream::{Output, ToolFault};
+use uug_transfer::{
+    BYTES_MAX, BufferedNode, EndLine, FaultInjector, PatienceLimits, Thinning, TransferEnd,
+    call_over,
+};
+
+/// What an end is made of: where it stands, its jobs, its files, and the texts in which it stands from one session to the next.
+#[derive(Drop)]
+pub struct EndParts<S: Spool, J, N, A: Allocator> {
+    /// Where it stands.
+    pub place: Place,
+    /// Its jobs, all of which are to be offered.
+    pub queue: Queue<A>,
+    /// Its files.
+    pub spool: S,
+    /// Where its jobs are written.
+    pub jobs: JobsFile<J, A>,
+    /// Where its number is written, if it keeps one.
+    pub number: N,
+}
+
+/// An end whose session is over, and what the program answers.
+#[derive(Drop)]
+pub struct FinishedEnd<S: Spool, J, N, A: Allocator> {
+    /// The end as it is then.
+    pub end: TransferEnd<S, J, N, A>,
+    /// The program's status, or the first fault.
+    pub answer: Result<u8, ToolFault>,
+}
+
+impl<S: Spool + Drop, J: Drop, N: Drop, A: Allocator + Copy> EndParts<S, J, N, A> {
+    /// The end on this side, whose session begins. What it says first is to be written.
+    pub fn begin(
+        self,
+        alloc: A,
+        side: Side,
+        injector: FaultInjector,
+    ) -> Result<TransferEnd<S, J, N, A>, AllocError>
+        ensures begun { IfOk result (λ end.
+            HasBegunAt side self.place self.queue (node_in end.buffered)) }
+        ensures ran { IfOk result (λ end. HasRun side
+            (beginning_of S.holdings S.kept self)
+            (S.kept (spool_in end.buffered)) (node_in end.buffered)) }
+        ensures holdings { IfOk result (λ end.
+            S.holdings (spool_in end.buffered) ≡ S.holdings self.spool) }
+        ensures sound { IfOk result (λ _.
+            IsSoundBeginning (beginning_of S.holdings S.kept self)) }
+        ensures jobs { IfOk result (λ end. end.jobs ≡ self.jobs) }
+        ensures number { IfOk result (λ end. end.number ≡ self.number) }
+    {
+        a_node_begins_as_an_end();
+        events_follow_events();
+        let EndParts {
+            place,
+            queue,
+            spool,
+            jobs,
+            number,
+        } = self;
+        note_types(&place, &queue);
+        let node = make_node(alloc, side, place, queue, spool)?;
+        let buffered = BufferedNode::new(alloc, node, injector)?;
+        Ok(TransferEnd {
+            buffered,
+            jobs,
+            number,
+        })
+    }
+}
+
+impl<S: Spool + Drop, J: JobTexts + Drop, N: TextFile + Drop, A: Allocator + Copy> EndParts<
+    S,
+    J,
+    N,
+    A,
+> {
+    /// The end on this side has a session over its line. It is handed back as it is when that is over: it has run the session
+    /// that so began, up to there.
+    pub fn run<L: EndLine, O: Output>(
+        self,
+        alloc: A,
+        side: Side,
+        thinning: Thinning,
+        line: &mut L,
+        limits: PatienceLimits,
+        output: &mut O,
+    ) -> Result<FinishedEnd<S, J, N, A>, AllocError>
+        ensures ran { IfOk result (λ finished. HasRun side
+            (beginning_of S.holdings S.kept self)
+            (S.kept (spool_in finished.end.buffered)) (node_in finished.end.buffered)) }
+        ensures sound { IfOk result (λ _.
+            IsSoundBeginning (beginning_of S.holdings S.kept self)) }
+        ensures status { IfOk result (λ finished. IfOk finished.answer (λ status. status ≤ 1)) }
+        ensures write { IfOk result (λ finished. finished.answer ≡ Err ToolFault.Write
+            → CountsFault (O.fault_count output.old) (O.fault_count output.new)) }
+        ensures no_other { IfOk result (λ finished. IfErr finished.answer IsEndFault) }
+        ensures line_grows { L.fault_count line.old ≤ L.fault_count line.new }
+        ensures device { IfOk result (λ finished. finished.answer ≡ Err ToolFault.Device
+            → HasFailed u64.MAX (L.fault_count line.old) (L.fault_count line.new)
+            ⊎ (HasFailed u64.MAX (J.fault_count self.jobs.file)
+            (J.fault_count finished.end.jobs.file)
+            ⊎ HasFailed u64.MAX (N.fault_count self.number)
+            (N.fault_count finished.end.number))) }
+    {
+        events_follow_events();
+        let injector = FaultInjector::without_faults(thinning);
+        let mut end = self.begin(alloc, side, injector)?;
+        let answer = call_over(alloc, side, &mut end, line, BYTES_MAX, limits, output);
+        Ok(FinishedEnd { end, answer })
+    }
+}
+
+/// What the types say of where an end stands, and of its jobs.
+fn note_types<A: Allocator>(place: &Place, queue: &Queue<A>)
+    ensures window { IsWindow (announced place.now.announce).window }
+    ensures names { All HasNames (pending queue.now) }
+{
+    let _window = place.announce.window();
+    let _jobs = queue.pending();
+}
+
+/// The end itself, with these jobs.
+pub fn make_node<S: Spool + Drop, A: Allocator + Copy>(
+    alloc: A,
+    side: Side,
+    place: Place,
+    jobs: Queue<A>,
+    spool: S,
+) -> Result<Node<S, A>, AllocError>
+    ensures begins { IfOk result (λ node. BeginsSession (identity_at side place)
+        (announced place.announce) place.number (all_ahead jobs) [] (node_of node).engine) }
+    ensures nothing_held { IfOk result (λ node. HoldsNothing (node_of node)) }
+    ensures spool { IfOk result (λ node. spool_of node ≡ spool) }
+{
+    let made = match side {
+        Side::Caller => Node::caller(alloc, place, jobs, spool),
+        Side::Called => Node::called(alloc, place, jobs, spool),
+    };
+    match made {
+        Ok(node) => Ok(node),
+        Err(refused) => {
+            drop(refused);
+            Err(AllocError)
+        }
+    }
+}

@@ -1,0 +1,12 @@
+//! The task of one end: what its words say, and the end that is made and run for it.
+#![tactic(auto)]
+
+mod end_parts;
+pub mod laws;
+mod task;
+
+pub use end_parts::{EndParts, FinishedEnd, make_node};
+pub use task::{
+    CallTask, MOST_MIN, ReportPlace, SECONDS_MAX, SESSIONS_MAX, Station, Terms, WAIT_MAX, may_have,
+    read_terms,
+};
