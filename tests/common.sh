@@ -31,6 +31,14 @@ new_passing_work() {
     trap 'rm -rf "$work"' EXIT
 }
 
+# new_shared_work: new_work, where anybody may go, with a copy of the program that anybody may run.
+new_shared_work() {
+    new_work
+    chmod 755 "$work"
+    cp "$program" "$work/program"
+    program=$work/program
+}
+
 passed=0
 failed=0
 

@@ -9,10 +9,7 @@
 # stay then. It takes some two minutes, one of which is cron's.
 . "$(dirname "$(readlink -f "$0")")/common.sh"
 find_program "${1:-}"
-new_work
-chmod 755 "$work"
-cp "$program" "$work/program"
-program=$work/program
+new_shared_work
 
 # helper COMMAND..: a process that is ended with the scene.
 helper() {

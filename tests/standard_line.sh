@@ -10,10 +10,7 @@
 # Each scene is a line; the status is 1 where one went wrong, and the folders stay then.
 . "$(dirname "$(readlink -f "$0")")/common.sh"
 find_program "${1:-}"
-new_work
-chmod 755 "$work"
-cp "$program" "$work/program"
-program=$work/program
+new_shared_work
 joined=$root/tests/standard_line.py
 uucico=/usr/sbin/uucico
 
