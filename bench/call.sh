@@ -1,15 +1,17 @@
 #!/usr/bin/env bash
 # Measures `uucpair call` and `answer` together: one end sends the other eight files of 1 MiB over a Unix socket, in packets
 # of 64 and of 1,024 bytes under a window of seven; and beside them, in turns, two `uucico` of Taylor UUCP (Debian's package
-# `uucp`, which is to be installed), joined by two pipes, with the same packets and window. Each file must come as it is.
+# `uucp`, which is to be installed), joined by two pipes, and by a Unix socket, with the same packets and window. Each file must
+# come as it is.
 #
 #   bench/call.sh [ROUNDS [PROGRAM..]]
 #
 # PROGRAM is crates/uucpair/out/uucpair where none is named; others take turns with it. `cpu` is the processor's time in
 # seconds, that of both ends and of the system on their behalf: the median of the rounds (9), and in brackets the least and the
-# greatest. `to uucico` is the quotient of the two medians. `call` and `answer` are how many million instructions each takes,
-# as valgrind's cachegrind counts them, where the machine has it (`apt-get install valgrind`): a build that checks memory as it
-# runs has none. Ends with status 1 where the first program takes more than 0.85 (64) or 0.75 (1,024) of what uucico takes.
+# greatest. `to it` is the quotient of the medians. `call` and `answer` are how many million instructions each takes, as
+# valgrind's cachegrind counts them, where the machine has it (`apt-get install valgrind`): a build that checks memory as it
+# runs has none. Ends with status 1 where the first program takes more than 0.85 (64) or 0.75 (1,024) of what uucico takes over
+# pipes, which are the cheapest that the system has.
 set -eu
 export LC_ALL=C
 rounds=${1:-9}
@@ -72,14 +74,21 @@ instructions() {
     done
 }
 
-# row PROGRAM SIZE NUMBER: prints a line, and leaves in `to_uucico` the quotient.
+# quotient MEDIAN OTHER: of two medians.
+quotient() {
+    awk -v one="${1%% *}" -v other="${2%% *}" 'BEGIN { printf "%.2f", one / other }'
+}
+
+# row PROGRAM SIZE NUMBER: prints a line, and leaves in `to_uucico` the quotient with uucico over pipes.
 row() {
-    local ours theirs counts
+    local ours theirs at_socket counts
     ours=$(median_of cpu "$work/call$3.times")
     theirs=$(median_of cpu "$work/uucico.times")
-    to_uucico=$(awk -v ours="${ours%% *}" -v theirs="${theirs%% *}" 'BEGIN { printf "%.2f", ours / theirs }')
+    at_socket=$(median_of cpu "$work/uucico_at_socket.times")
+    to_uucico=$(quotient "$ours" "$theirs")
     read -ra counts <<<"$(instructions "$1" "$2")"
-    printf '%6s  %-24s %-24s %9s %8s %8s  %s\n' "$2" "$ours" "$theirs" "$to_uucico" "${counts[@]}" "$1"
+    printf '%6s  %-22s %-22s %5s  %-22s %5s %6s %6s  %s\n' "$2" "$ours" "$theirs" "$to_uucico" "$at_socket" \
+        "$(quotient "$ours" "$at_socket")" "${counts[@]}" "$1"
 }
 
 shift "$(($# > 0 ? 1 : 0))"
@@ -92,7 +101,8 @@ for ((i = 0; i < files; i++)); do
 done
 
 missed=0
-printf '%6s  %-24s %-24s %9s %8s %8s  %s\n' size "uucpair, cpu" "two uucico, cpu" "to uucico" call answer program
+printf '%6s  %-22s %-22s %5s  %-22s %5s %6s %6s  %s\n' size "uucpair, cpu" "uucico, pipes" "to it" "uucico, socket" "to it" call \
+    answer program
 for entry in 64:0.85 1024:0.75; do
     size=${entry%:*}
     rm -f "$work"/*.times
@@ -101,6 +111,7 @@ for entry in 64:0.85 1024:0.75; do
             run_call "${programs[i]}" "$size" "$i"
         done
         run_uucico "$size" $files
+        run_uucico_at_socket "$size" $files
     done
     for i in "${!programs[@]}"; do
         row "${programs[i]}" "$size" "$i"

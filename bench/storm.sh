@@ -25,7 +25,7 @@ sent() {
     mkdir -p "$work"/{a,b}/{send,got}
     cp "$work/file" "$work/a/send/x"
     echo 'send x y u' >"$work/a/jobs"
-    "$program" answer "unix:$work/far" "$work/b" --me b --peer a --window "$window" --timeout 1 "${@:3}" >"$work/b.out" 2>&1 &
+    "$program" answer "unix:$work/far" "$work/b" --me b --peer a --size 64 --window "$window" --timeout 1 "${@:3}" >"$work/b.out" 2>&1 &
     answerer=$!
     started+=("$answerer")
     wait_for "$work/far"
@@ -33,7 +33,7 @@ sent() {
     relay=$!
     started+=("$relay")
     wait_for "$work/near"
-    "$program" call "unix:$work/near" "$work/a" --me a --peer b --window "$window" --timeout 1 "${@:3}" >"$work/a.out" 2>&1 || status=1
+    "$program" call "unix:$work/near" "$work/a" --me a --peer b --size 64 --window "$window" --timeout 1 "${@:3}" >"$work/a.out" 2>&1 || status=1
     wait "$answerer" || status=1
     wait "$relay"
     count=$(cat "$work/count")

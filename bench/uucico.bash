@@ -1,5 +1,6 @@
-# Two `uucico` of Taylor UUCP, joined by two pipes, for the scripts that measure beside them (Debian's package `uucp`, which
-# is to be installed). Of the script that reads this: `work`, the folder with the files file0, file1 .. of 1 MiB, and `fail`.
+# Two `uucico` of Taylor UUCP, joined by two pipes or by a Unix socket, for the scripts that measure beside them (Debian's
+# package `uucp`, which is to be installed). Of the script that reads this: `bench`, the folder of this one, `work`, the folder
+# with the files file0, file1 .. of 1 MiB, and `fail`.
 # shellcheck shell=bash disable=SC2154
 
 uucico=$(PATH=$PATH:/usr/sbin:/usr/lib/uucp command -v uucico || true)
@@ -33,19 +34,30 @@ uucico_end() {
     printf 'port line\ntype stdin\n' >"$here/port"
 }
 
-# run_uucico SIZE FILES: one end sends the other so many files, queued before, with packets of this size and a window of
-# seven; the time of both is added to uucico.times. Each file must come as it is.
-run_uucico() {
-    local i there=$work/uucp/there back=$work/uucp/back TIMEFORMAT='%R %U %S'
+# new_uucico SIZE FILES: two ends, of which one has queued so many files for the other; packets of this size, a window of seven.
+new_uucico() {
+    local i
     rm -rf "$work/uucp"
     mkdir -p "$work/uucp"
     uucico_end a b "$1"
     uucico_end b a "$1"
-    mkfifo "$there" "$back"
+    mkfifo "$work/uucp/there" "$work/uucp/back"
     chmod -R a+rwX "$work/uucp"
     for ((i = 0; i < $2; i++)); do
         uucp -I "$work/uucp/a/config" -r -C "$work/file$i" "b!$work/uucp/b/public/" || fail "uucp failed"
     done
+}
+
+# check_uucico SIZE FILES: that is what was negotiated, and each file came as it is.
+check_uucico() {
+    grep -q "packet/window $1/7" "$work/uucp/a/log" || fail "other packets: $(cat "$work/uucp/a/log")"
+    check_files "$2" "$work/uucp/b/public"
+}
+
+# run_uucico SIZE FILES: one end sends the other so many files over two pipes; the time of both is added to uucico.times.
+run_uucico() {
+    local there=$work/uucp/there back=$work/uucp/back TIMEFORMAT='%R %U %S'
+    new_uucico "$1" "$2"
     {
         time {
             "$uucico" -q -D -I "$work/uucp/b/config" <"$there" >"$back" 2>"$work/uucp/errors" &
@@ -53,8 +65,15 @@ run_uucico() {
             wait
         }
     } 2>>"$work/uucico.times"
-    grep -q "packet/window $1/7" "$work/uucp/a/log" || fail "other packets: $(cat "$work/uucp/a/log")"
-    check_files "$2" "$work/uucp/b/public"
+    check_uucico "$1" "$2"
+}
+
+# run_uucico_at_socket SIZE FILES: the same over a Unix socket; the time is added to uucico_at_socket.times.
+run_uucico_at_socket() {
+    new_uucico "$1" "$2"
+    python3 "$bench/joined.py" "$uucico" -q -D -I "$work/uucp/b/config" -- \
+        "$uucico" -q -D -I "$work/uucp/a/config" -S b >>"$work/uucico_at_socket.times" 2>"$work/uucp/errors"
+    check_uucico "$1" "$2"
 }
 
 # check_files FILES FOLDER: all are there, as they are.

@@ -30,7 +30,7 @@ row() {
 # helps NAME TEXT: what was said last has the text.
 helps() {
     local fault=
-    grep -qF "$2" "$work/said" || fault="not said: $2"
+    grep -qF -e "$2" "$work/said" || fault="not said: $2"
     report "$1" "$fault"
 }
 
@@ -251,8 +251,8 @@ row "an end that is lenient twice" 2 "uucpair: bad script at line 2$line_feed" "
 row "a bad script that does not settle" 2 "uucpair: bad script at line 2$line_feed" "" play --settle < <(printf '\ncall me\n')
 row "a ladder that ends at once" 1 "" "${silent_report}session 1${line_feed}event  caller                                               called${line_feed}start           ...---------------------------------------- TEXT Shere=b$line_feed" \
     play --ladder < <(printf 'caller a 2 32\ncalled b 2 32\n')
-row "a script that is too much for a ladder" 2 "uucpair: bad usage${line_feed}uucpair: a ladder has at most 1000 events, and a picture 1000000 rungs$line_feed" "" \
-    play --svg < <(printf 'caller a 2 32\ncalled b 2 32\nflow 501\n')
+row "a script that is too much for a picture" 2 "uucpair: bad usage${line_feed}uucpair: a picture has at most 1000000 rungs$line_feed" "" \
+    play --svg < <(printf 'caller a 2 32\ncalled b 2 32\n'; yes call | head -n 250000)
 row "a bad script that is not drawn" 2 "uucpair: bad script at line 2$line_feed" "" play --ladder < <(printf '\ncall me\n')
 row "a ladder and a picture at once" 2 "error: " "" play --ladder --svg </dev/null
 row "a ladder that settles" 2 "error: " "" play --ladder --settle </dev/null
@@ -304,6 +304,7 @@ row "help of call" 2 "Calls another system" "" call --help </dev/null
 helps "a name of a line" "  tcp:HOST:PORT  "
 helps "the statuses of call" "Status: 0 the session is done"
 helps "an example of call" "uucpair call unix:line a --me alpha --peer beta"
+helps "the log of a call" "--log <FILE>"
 row "help of answer" 2 "Waits for the call" "" answer --help </dev/null
 row "the version" 0 "" "uucpair 0.1.0$line_feed" --version </dev/null
 row "the version in short" 0 "" "uucpair 0.1.0$line_feed" -V </dev/null
@@ -458,6 +459,25 @@ row "a call where nobody listens" 3 "uucpair: device fault$line_feed" "" \
     call "unix:$socket" "$a" --me a --peer b </dev/null
 row "a call over what is no device" 3 "uucpair: device fault$line_feed" "" call "$a/jobs" "$a" --me a --peer b </dev/null
 holds "the job that is left after no call" "$a/jobs" "send x y u$line_feed"
+
+by=at_a_terminal row "an answer at a terminal" 1 "uucpair: waiting on unix:$socket${line_feed}uucpair: heard nothing$line_feed" \
+    "called gaveup pending 0 struck 0 failed 0$line_feed" answer "unix:$socket" "$b" --me b --peer a --wait 1 --timeout 1
+# announces NAME SIZE [OPTION]..: the end that is called announces packets of this size, to a caller of whom the greeting and
+# the start of the link come at once: INITA 7, INITB 64 and INITC 7.
+announces() {
+    local name=$1 size=$2 heard
+    shift 2
+    heard=$(printf '\020Sa\0\020Ug\0\020\011\153\252\077\367\020\011\171\252\061\353\020\011\173\252\057\367' |
+        "$program" answer - "$b" --me b --peer a --timeout 1 --report "$work/report" "$@" 2>/dev/null | "$program" scan |
+        grep INITB) || true
+    report "$name" "$([ "$heard" = "INITB $size" ] || echo "announced: $heard")"
+}
+
+folders "send x y u"
+announces "the packets of an end that is told no size" 1024
+announces "those of one on a slow line" 256 --speed 1199
+announces "those of one on a line that is not so slow" 1024 --speed 1200
+announces "those of one that is told a size" 64 --size 64 --speed 300
 
 fault="uucpair: device fault$line_feed"
 row "a scan of a folder" 3 "$fault" "" scan <"$work"

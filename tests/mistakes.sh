@@ -43,6 +43,29 @@ mistake() {
     fi
 }
 
+# misspoken NAME WORD.. -- LINE..: the words ask for nothing that there is. What is said of them has each of these lines, and nothing is
+# done.
+misspoken() {
+    local name=$1 words=() ended=0 line fault=''
+    shift
+    while [ "$1" != -- ]; do
+        words+=("$1")
+        shift
+    done
+    shift
+    (cd "$work" && "${as_user[@]}" timeout 60 "$program" "${words[@]}") >"$work/printed" 2>"$work/said" </dev/null || ended=$?
+    [ "$ended" -eq 2 ] && [ ! -s "$work/printed" ] || fault="ended with $ended;"
+    for line in "$@"; do
+        grep -qxF -e "$line" "$work/said" || fault="$fault not said: $line;"
+    done
+    if [ -z "$fault" ]; then
+        passed=$((passed + 1))
+    else
+        failed=$((failed + 1))
+        echo "$name: $fault said $(cat "$work/said")"
+    fi
+}
+
 # call_of LINE [WORD..]: the words of a call over this line.
 call_of() {
     call=(call "$@" --me alpha --peer beta --timeout 2 --locks .)
@@ -74,6 +97,8 @@ call_of unix:old a
 mistake "a socket at which nobody listens" 3 "${fault}unix:old: connection refused" "${call[@]}"
 mistake "a socket in a folder that is not there" 3 "${fault}none/s: no such file or directory" pair none/s a b
 mistake "what can't be seen in the name of a socket" 3 "${fault}none\\x1b[31m/s: no such file or directory" pair $'none\e[31m/s' a b
+call_of - a
+mistake "standard input that is no line" 3 "${fault}-: not supported" "${call[@]}"
 : >"$work/device"
 chmod 0 "$work/device"
 call_of ./device a
@@ -224,6 +249,43 @@ refusing "a stranger who calls" 'heard "Sgamma", expected "alpha"' \
     unhappy "a name that the other end does not know" refused \
     'the other end refused: "RYou are unknown to me" (it does not know the name of this end)' --me gamma --peer beta
 
+folders "send x ~/y me"
+speaker '\x10Shere=beta\0'
+unhappy "the names exchanged" wrongname 'heard "Shere=beta", expected "alpha"' --me beta --peer alpha
+folders "send x ~/y me"
+speaker '\x10Shere=beta\0'
+unhappy "a name that is misspelt" wrongname 'heard "Shere=beta", expected "betta"' --me alpha --peer betta
+folders "send x ~/y me"
+refusing "a name in capitals" 'heard "SALPHA", expected "alpha"' \
+    unhappy "the same at the end that calls" refused \
+    'the other end refused: "RYou are unknown to me" (it does not know the name of this end)' --me ALPHA --peer beta
+folders "send x ~/y me"
+speaker '\x10Shere=beta\0' '\x10RBADSEQ\0'
+unhappy "an end that keeps a number" badsequence 'this end keeps no number' "${alpha[@]}"
+
+# heard_last NAME TEXT SAID: with -v it is said which text was heard last of an end that has closed the line behind this one.
+heard_last() {
+    local ended=0
+    folders "send x ~/y me"
+    speaker '\x10Shere=beta\0' "$2"
+    (cd "$work" && "${as_user[@]}" timeout 60 "$program" call unix:line a --timeout 1 -v "${alpha[@]}") \
+        >"$work/printed" 2>"$work/said" </dev/null &
+    caller=$!
+    wait_until 10 grep -q hail "$work/said" || true
+    pause 0.5
+    kill "$answerer"
+    wait "$caller" || ended=$?
+    if [ "$ended" -eq 1 ] && grep -qxF "uucpair: heard last $3" "$work/said"; then
+        passed=$((passed + 1))
+    else
+        failed=$((failed + 1))
+        echo "$1: ended with $ended, said $(cat "$work/said")"
+    fi
+}
+
+heard_last "an end that is gone" '\x10ROK\0' '"ROK"'
+heard_last "the same, of which not all can be seen" '\x10ROK\x1b[31m\0' '"ROK\x1b[31m"'
+
 # ---- what is read
 
 folders
@@ -238,6 +300,12 @@ mistake "a file to queue that is too large" 3 "${fault}can't read large"$'\n'"la
 # ---- the words of the command line
 
 folders
+misspoken "no words behind call" call -- "  --me <NAME>" "  --peer <NAME>" "  <LINE>" "  <DIR>"
+misspoken "no name of the other end" call unix:s a --me alpha -- "  --peer <NAME>"
+misspoken "an option that there is not" call unix:s a --me alpha --peer beta --baud 9600 -- "error: unexpected argument '--baud' found"
+misspoken "a timeout that is no whole number" call unix:s a --me alpha --peer beta --timeout 0.5 -- \
+    "error: invalid value '0.5' for '--timeout <SECONDS>': invalid digit found in string"
+misspoken "an option in front of its command" -v call unix:s a --me alpha --peer beta -- "error: unexpected argument '-v' found"
 call_of unix:s a --window 8
 mistake "a window of 8" 2 "${usage}window 8 is not 1 to 7" "${call[@]}"
 call_of unix:s a --size 65

@@ -1,10 +1,10 @@
 #!/usr/bin/env bash
 # `answer --sessions N`: calls one after the other over one socket that listens. What each of them moves and prints, what ends the
-# run before there were N, and its status.
+# run before there were N, and its status. Then ends whose partner dies: whichever call finds it, they end in one way.
 #
 #   tests/sessions.sh [PROGRAM]
 #
-# Each row is a line where it failed; the last line counts them, and the status is 1 where one did. It takes about half a minute.
+# Each row is a line where it failed; the last line counts them, and the status is 1 where one did. It takes about a minute.
 . "$(dirname "$(readlink -f "$0")")/common.sh"
 find_program "${1:-}"
 new_passing_work
@@ -87,6 +87,28 @@ wait_for_socket "$work/line" || true
 call_with "unix:$work/line" x one
 ends 0 "$done_line" ""
 report "one call without the option" "$fault"
+
+# The socket of one that was killed is taken over, and that of one that waits is not.
+folders
+start "unix:$work/line"
+wait_for_socket "$work/line" || true
+other=0
+"$program" answer "unix:$work/line" "$work/near" --me far --peer near >"$work/other" 2>"$work/other.said" </dev/null || other=$?
+fault=
+[ "$other" -eq 3 ] && same $'uucpair: device fault\nuucpair: '"unix:$work/line: address in use"$'\n' "$work/other.said" \
+    || fault="ended with $other, said $(cat "$work/other.said")"
+report "a socket at which another waits" "$fault"
+{
+    kill -9 "$answerer"
+    wait "$answerer" || true
+} 2>/dev/null
+[ -S "$work/line" ] || fault="there is no socket of it;"
+start "unix:$work/line"
+wait_until 10 at_socket || true
+call_with "unix:$work/line" x one
+ends 0 "$done_line" ""
+has_got x one || fault="$fault the file did not come;"
+report "the socket of one that was killed" "$fault"
 
 # A caller who hangs up behind the greeting.
 breaks_off() {
@@ -225,6 +247,139 @@ ended=0
 fault=
 [ "$ended" -eq 2 ] && grep -q "unexpected argument '--sessions'" "$work/said" || fault="ended with $ended, said $(cat "$work/said")"
 report "two sessions of a caller" "$fault"
+
+# ---- the other end dies
+
+# hangs_up LINE SIDE PENDING: sets `fault` to what is not so of an end on this side that is left alone. If it says anything it
+# is what the system says of the line.
+hangs_up() {
+    local line=$1
+    fault=
+    [ "$status" -eq 1 ] || fault="status $status;"
+    [ "$(head -n 1 "$work/printed")" = "$2 hungup pending $3 struck 0 failed 0" ] || fault="$fault printed $(cat "$work/printed");"
+    ! grep -qvxE "uucpair: $line: (connection reset|broken pipe|error 5)" "$work/said" || fault="$fault said $(cat "$work/said")"
+}
+
+# place KIND: sets `line` to that of our end at a new line, and `theirs` to that of the other one.
+place() {
+    case $1 in
+    unix) line=unix:$work/line theirs=$line ;;
+    tcp)
+        port=$((20000 + RANDOM % 10000))
+        line=tcp:127.0.0.1:$port theirs=tcp:$port
+        ;;
+    pty) line=$work/line theirs=pty:$work/line ;;
+    esac
+}
+
+# is_there KIND
+is_there() {
+    case $1 in
+    unix) at_socket ;;
+    tcp) at_port ;;
+    pty) [ -e "$work/line" ] ;;
+    esac
+}
+
+# dying ROLE HOW: the other end, in the background.
+dying() {
+    (
+        python3 "$root/tests/dying_end.py" "$theirs" "$1" "$2" >"$work/dying" 2>&1 </dev/null
+        exit $?
+    ) 2>/dev/null &
+    partner=$!
+}
+
+# alone_calling KIND HOW: an end that calls, and whose partner dies so.
+alone_calling() {
+    folders
+    place "$1"
+    dying answer "$2"
+    wait_until 10 is_there "$1" || true
+    status=0
+    call_with "$line" x one --locks "$work" || status=$?
+    mv "$work/called" "$work/printed"
+    mv "$work/call.said" "$work/said"
+    hangs_up "$line" caller 1
+    end_of "$partner" 5
+    [ "$status" -eq 137 ] || fault="$fault the other end: $(cat "$work/dying")"
+    report "a call over $1, $2" "$fault"
+}
+
+# alone_called KIND HOW: the same of one that is called. At a socket it has another session then.
+alone_called() {
+    local words=(--sessions 2)
+    folders
+    place "$1"
+    if [ "$1" = pty ]; then
+        words=(--locks "$work")
+        dying call "$2"
+        wait_until 10 is_there pty || true
+    fi
+    start "$line" "${words[@]}"
+    if [ "$1" != pty ]; then
+        wait_until 10 is_there "$1" || true
+        dying call "$2"
+        wait_until 10 has_ended "$partner" || true
+        call_with "$line" x one || true
+    fi
+    end_of "$answerer" 20
+    hangs_up "$line" called 0
+    if [ "$1" != pty ]; then
+        [ "$(tail -n +2 "$work/printed")" = "$done_line" ] && has_got x one || fault="$fault the next call: $(cat "$work/printed")"
+    fi
+    end_of "$partner" 5
+    [ "$status" -eq 137 ] || fault="$fault the other end: $(cat "$work/dying")"
+    report "an answer over $1, $2" "$fault"
+}
+
+for kind in unix tcp pty; do
+    for how in unread read speaking; do
+        alone_calling "$kind" "$how"
+        alone_called "$kind" "$how"
+    done
+done
+
+# slowly: sets `slow` to the words of ends that take a while for the file that each has for the other.
+slowly() {
+    folders
+    head -c 1000000 /dev/urandom >"$work/near/send/x"
+    head -c 1000000 /dev/urandom >"$work/far/send/y"
+    echo "send x ~/x me" >"$work/near/jobs"
+    echo "send y ~/y me" >"$work/far/jobs"
+    : >"$work/caller.said"
+    : >"$work/called.said"
+    slow=(--timeout 2 --size 32 --window 1)
+}
+
+# killed KIND ROLE ROUND: the end in this role is left alone by one of this program that is killed while files move.
+killed() {
+    local left partner
+    slowly
+    place "$1"
+    "$program" answer "$line" "$work/far" --me far --peer near -v "${slow[@]}" >"$work/called" 2>"$work/called.said" </dev/null &
+    answerer=$!
+    wait_until 10 is_there "$1" || true
+    "$program" call "$line" "$work/near" --me near --peer far -v "${slow[@]}" >"$work/caller" 2>"$work/caller.said" </dev/null &
+    left=$answerer partner=$!
+    [ "$2" = called ] || left=$! partner=$answerer
+    wait_until 20 grep -q " send x " "$work/$2.said" || true
+    pause "0.$((1 + RANDOM % 3))"
+    kill -9 "$partner"
+    wait "$partner" 2>/dev/null || true
+    end_of "$left" 20
+    mv "$work/$2" "$work/printed"
+    grep -vE "^uucpair: ([0-9]+ s: |wrote |read |[0-9]+ timeouts|heard last )" "$work/$2.said" >"$work/said" || true
+    hangs_up "$line" "$2" 1
+    report "the $2 end over $1 whose partner is killed, $3" "$fault"
+}
+
+for kind in unix tcp; do
+    for round in 1 2 3; do
+        killed "$kind" caller "$round"
+        killed "$kind" called "$round"
+    done
+done
 
 echo "$passed passed, $failed failed"
 [ "$failed" -eq 0 ]

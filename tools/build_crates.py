@@ -9,7 +9,8 @@ so a crate is built in a copy of the repository in FOLDER, of what it stands on 
 to its own `out`. The program is built last, where it stands, by `rt run`, which looks once more at all of them.
 
 As many crates are built at a time as there are cores, and memory for (2.5 GB each); the processes are divided among
-them, of which no more run than there are cores, and memory for (half as much each).
+them, of which no more run than two for each core, and memory for (half as much each). All crates but the one on which
+most stands give way to others.
 FOLDER/progress has a line that says how far it is, and how long the rest may take by tools/build_seconds.txt and by what
 the crates have taken that are done. What `rt` says goes to standard output, of one crate after the other, and what each
 took to FOLDER/seconds, of which --table makes such a table. Ends with status 1 where a crate is not proved, or not built.
@@ -30,8 +31,12 @@ KEPT = ("rlib", "incremental")
 TABLE = f"{ROOT}/tools/build_seconds.txt"
 MEMORY_OF_CRATE = 2_500_000_000
 MEMORY_OF_PROCESS = 1_250_000_000
+# For a good part of its time all processes of a crate but one are idle.
+PROCESSES_OF_CORE = 2
 # More processes than these seldom help one crate.
 JOBS_MAX = 8
+# How a command is begun that gives way to others.
+GIVING_WAY = ("nice", "-n", "5")
 # The share of a crate's time in which only one of its processes runs.
 ALONE = 0.35
 
@@ -188,7 +193,7 @@ def link_or_copy(one, other):
 class Lane:
     """A crate that is being built, in a copy of the repository."""
 
-    def __init__(self, crate, below, jobs, folder):
+    def __init__(self, crate, below, jobs, is_first, folder):
         self.crate, self.jobs, self.begun = crate, jobs, time.monotonic()
         self.out, self.root = f"{folder_of(crate)}/out", f"{folder}/{crate}"
         self.own = folder_of(crate, self.root)
@@ -204,7 +209,7 @@ class Lane:
         for name in KEPT:
             self.move(self.out, f"{self.own}/out", name)
         self.log = open(f"{self.root}/log", "w+", encoding="utf-8", errors="replace")
-        words = ["rt", "lib", "--jobs", str(jobs)]
+        words = [*([] if is_first else GIVING_WAY), "rt", "lib", "--jobs", str(jobs)]
         self.process = subprocess.Popen(words, cwd=self.own, stdin=subprocess.DEVNULL, stdout=self.log, stderr=self.log)
 
     @staticmethod
@@ -246,7 +251,7 @@ class Build:
     def __init__(self, folder, needed):
         self.folder, self.needed, self.launcher = folder, needed, launcher_of(folder)
         most, free = processors(), free_memory()
-        processes = max(min(most, free // MEMORY_OF_PROCESS), 1)
+        processes = max(min(PROCESSES_OF_CORE * most, free // MEMORY_OF_PROCESS), 1)
         at_once = max(min(most, free // MEMORY_OF_CRATE), 1)
         self.plan = Plan(needed, table_of(TABLE), processes, at_once)
         self.waiting, self.lanes = [PROGRAM], {}
@@ -289,7 +294,8 @@ class Build:
         for crate, jobs in self.plan.begin(self.waiting, {it: lane.jobs for it, lane in self.lanes.items()}):
             if crate != PROGRAM:
                 self.waiting.remove(crate)
-                self.lanes[crate] = Lane(crate, self.needed[crate], jobs, self.folder)
+                is_first = all(self.plan.way[crate] > self.plan.way[other] for other in self.lanes)
+                self.lanes[crate] = Lane(crate, self.needed[crate], jobs, is_first, self.folder)
 
     def end_lanes(self):
         """Takes over the crates that are proved. Whether no other one has ended."""
@@ -322,7 +328,7 @@ class Build:
 
     def build_program(self):
         """Whether the program is built."""
-        begun, jobs = time.monotonic(), min(self.plan.processes, JOBS_MAX)
+        begun, jobs = time.monotonic(), min(processors(), JOBS_MAX)
         self.waiting = []
         process = subprocess.Popen(["rt", "run", "--", "scan"], cwd=folder_of(PROGRAM), stdin=subprocess.DEVNULL, stderr=subprocess.STDOUT)
         try:

@@ -87,9 +87,9 @@ abbrev pub StopsOnScriptFile : (path : List ℕ) → (why : Option SystemFailure
 StopsOnScriptFile path why Read remark stop = NamesFile path why stop
 StopsOnScriptFile path why fault remark stop = StopsOnScript fault remark stop
 
--- a script that is too much for a ladder has that remark, unless there was no memory for it
+-- a script that is too much for a picture has that remark, unless there was no memory for it
 abbrev pub too_much : List ℕ
-too_much = codes "a ladder has at most 1000 events, and a picture 1000000 rungs"
+too_much = codes "a picture has at most 1000000 rungs"
 
 abbrev pub SaysTooMuch : Stop → Type 0
 SaysTooMuch (Fault fault) = fault ≡ Memory
@@ -123,9 +123,13 @@ StopsOnFolders line first second why (InUse folder) stop = NamesFolder (if folde
 StopsOnFolders line first second (Some failure) Device stop = SaysReason (reason_line (places [] line first second) failure) stop
 StopsOnFolders line first second why fault stop = stop ≡ Fault fault
 
-abbrev pub StopsOnCause : (report line dir : List ℕ) → SystemFailure → Cause → Stop → Type 0
-StopsOnCause report line dir failure causes.InUse stop = NamesFolder line stop
-StopsOnCause report line dir failure cause stop = SaysReason (reason_line (places report line dir dir) failure) stop
+-- The file that a failure on an output of one end is of: its report, or the second, its log.
+abbrev pub output_named : (report log : List ℕ) → (number : ℕ) → List ℕ
+output_named report log number = if number == 1 then log else report
+
+abbrev pub StopsOnCause : (output line dir : List ℕ) → SystemFailure → Cause → Stop → Type 0
+StopsOnCause output line dir failure causes.InUse stop = NamesFolder line stop
+StopsOnCause output line dir failure cause stop = SaysReason (reason_line (places output line dir dir) failure) stop
 
 -- it is said what is wrong with the usage, which this holds of, unless there was no memory for that
 abbrev pub SaysUsage : (List ℕ → Type 0) → Stop → Type 0
@@ -146,7 +150,7 @@ StopsOnPair pair why fault remark stop = StopsOnFolders pair.socket.now pair.dir
 abbrev pub StopsOnEnd : CallTask → (why : Option SystemFailure) → ToolFault → (remark : List ℕ) → Stop → Type 0
 StopsOnEnd call why Usage remark stop = SaysUsage (IsUsageOf call) stop
 StopsOnEnd call why (Jobs line) remark stop = HasLine (Jobs line) remark stop
-StopsOnEnd call (Some failure) Device remark stop = StopsOnCause (word_or_empty call.report) call.line.now call.dir.now failure failure.cause stop
+StopsOnEnd call (Some failure) Device remark stop = StopsOnCause (output_named (word_or_empty call.report) (word_or_empty call.log) failure.end) call.line.now call.dir.now failure failure.cause stop
 StopsOnEnd call why fault remark stop = StopsOnFolders call.line.now call.dir.now call.dir.now why fault stop
 
 -- Of what was to be queued the file is named that can't be copied, and it is said what is wrong with the order, and on what a call

@@ -5,7 +5,8 @@ ghost use Rattle.uug_scan.specs.Scan.{IsScanFault};
 ghost use Rattle.uug_stream.specs.Streams.{Appends, CountsFault};
 ghost use Rattle.uug_disk.specs.Queued.{word_or_empty};
 ghost use Rattle.uucpair.specs.Performed.{Does, DoesOn, DoesOver, IsFaultOf, Performs, Scans, ScansVerbose, streams, version_line};
-ghost use Rattle.uucpair.specs.Stop.{EndsSo, NamesFile, NamesFileFor, NamesFolder, SaysReason, SaysStream, SaysTooMuch, StopsAs, StopsOnDrawing, StopsOnCause, StopsOnDrawingFile, StopsOnEnd, StopsOnFile, StopsOnFolders, StopsOnPair, StopsOnQueue, StopsOnScript, StopsOnScriptFile, status_of_stop, why_not_read};
+ghost use Rattle.uucpair.specs.declared.program.TheConstants.{LOG};
+ghost use Rattle.uucpair.specs.Stop.{EndsSo, NamesFile, NamesFileFor, NamesFolder, SaysReason, SaysStream, SaysTooMuch, StopsAs, StopsOnDrawing, StopsOnCause, StopsOnDrawingFile, StopsOnEnd, StopsOnFile, StopsOnFolders, StopsOnPair, StopsOnQueue, StopsOnScript, StopsOnScriptFile, output_named, status_of_stop, why_not_read};
 
 use crate::input_task::InputTask;
 use crate::stop::Stop;
@@ -16,21 +17,26 @@ use std::net::{Net, TcpListener, TcpStream};
 use std::rt::{Env, Files};
 use std::time::Clock;
 use std::{env, fs, io};
+use uug_conversation::Side;
 use uug_disk::queue_run;
 use uug_failure::{Cause, Resource, SystemFailure};
 use uug_ladder::play_ladder;
+use uug_log::{LogFile, SessionLog, end_text, words_of};
 use uug_pair::pair_run;
 use uug_play::{play_remarked, play_settled, play_stream};
 use uug_port::{ReportFile, StandardStreams, SystemInput, SystemOutput};
-use uug_reason::{jobs_remark, reason_line};
+use uug_reason::{add_escaped, jobs_remark, reason_line};
 use uug_scan::{READ_LIMIT, scan_detailed, scan_stream};
 use uug_stream::{Output, ToolFault, write_all};
 use uug_sys::{SystemObserver, call_run};
 use uug_task::{CallTask, ReportPlace};
 use uug_words::{PairTask, Task, VERSION, pair_remark, task_of, usage_remark};
 
-/// What is remarked of a script that is too much for a ladder.
-const TOO_MUCH: &str = "a ladder has at most 1000 events, and a picture 1000000 rungs";
+/// What is remarked of a script that is too much for a picture.
+const TOO_MUCH: &str = "a picture has at most 1000000 rungs";
+
+/// The number of its log among the outputs of one end, which are its report and this.
+const LOG: usize = 1;
 
 /// Which of the program's streams are terminals.
 #[derive(Clone, Copy, Debug, PartialEq, Eq)]
@@ -143,7 +149,7 @@ where
     answer
 }
 
-/// That a script is too much for a ladder, where there is memory to say so.
+/// That a script is too much for a picture, where there is memory to say so.
 fn says_too_much(alloc: Global) -> Stop
     ensures { SaysTooMuch result }
 {
@@ -331,7 +337,7 @@ fn stop_of_end(
         (ToolFault::Jobs(_), _) => Stop::Told(fault, remark),
         (ToolFault::Device, Some(failure)) => stop_of_cause(
             alloc,
-            call.report,
+            output_named(call.report, call.log, failure.end),
             call.line,
             call.dir,
             failure,
@@ -341,20 +347,24 @@ fn stop_of_end(
 }
 
 /// Why one end gave up for which a call of the system failed.
-fn stop_of_cause(
-    alloc: Global,
-    report: Option<&str>,
-    line: &str,
-    dir: &str,
-    failure: SystemFailure,
-) -> Stop
-    ensures { StopsOnCause (word_or_empty report.entry) line.now dir.now failure
-        failure.cause result }
+fn stop_of_cause(alloc: Global, output: &str, line: &str, dir: &str, failure: SystemFailure) -> Stop
+    ensures { StopsOnCause output.now line.now dir.now failure failure.cause result }
 {
-    let report = report.unwrap_or("");
     match failure.cause {
         Cause::InUse => names_folder(alloc, line),
-        _ => says_reason(reason_line(alloc, report, line, dir, dir, failure)),
+        _ => says_reason(reason_line(alloc, output, line, dir, dir, failure)),
+    }
+}
+
+/// The file that is this output of one end: its report, or its log.
+fn output_named<'a>(report: Option<&'a str>, log: Option<&'a str>, number: usize) -> &'a str
+    ensures { result.now
+        ≡ output_named (word_or_empty report.entry) (word_or_empty log.entry) number }
+{
+    if number == LOG {
+        log.unwrap_or("")
+    } else {
+        report.unwrap_or("")
     }
 }
 
@@ -489,6 +499,7 @@ fn do_call<R, O>(
 where
     R: Files<File = File>
         + Net<Stream = TcpStream, Listener = TcpListener>
+        + Env
         + AllocGlobal
         + Eprint
         + Clock
@@ -523,6 +534,7 @@ fn do_call_reporting<R>(
 where
     R: Files<File = File>
         + Net<Stream = TcpStream, Listener = TcpListener>
+        + Env
         + AllocGlobal
         + Eprint
         + Clock
@@ -561,6 +573,7 @@ fn do_call_over<R, O>(
 where
     R: Files<File = File>
         + Net<Stream = TcpStream, Listener = TcpListener>
+        + Env
         + AllocGlobal
         + Eprint
         + Clock
@@ -572,7 +585,14 @@ where
         → CountsFault (O.fault_count output.old) (O.fault_count output.new) }
     ensures named { result ≡ Err ToolFault.Device → IsSome why.new }
 {
-    let observer = SystemObserver::new(rt.alloc(), rt, call, terminals.errors)?;
+    let log = match open_log(rt, call) {
+        Ok(log) => log,
+        Err(error) => {
+            *why = Some(failure_of_log(&error));
+            return Err(ToolFault::Device);
+        }
+    };
+    let observer = SystemObserver::new(rt.alloc(), rt, call, terminals.errors, log)?;
     let answer = call_run(
         rt.alloc(),
         rt,
@@ -584,7 +604,80 @@ where
         why,
     );
     remark_jobs(rt, call.dir, answer, remark);
+    log_fault(rt, call, answer, *why);
     answer
+}
+
+/// The log of one end, where one is named, and the end may be run. The line of its call is in it.
+fn open_log<'a, R>(rt: &'a R, call: &CallTask<'a>) -> io::Result<Option<SessionLog<'a, R, Global>>>
+where
+    R: Files<File = File> + Env + Clock + AllocGlobal,
+{
+    let Some(path) = call.log else {
+        return Ok(None);
+    };
+    if !call.may_run() {
+        return Ok(None);
+    }
+    let file = LogFile::open(rt, path)?;
+    let mut log = SessionLog::new(rt.alloc(), rt, file, call.side, call.peer, call.line);
+    if call.side == Side::Caller {
+        log.begin();
+    }
+    Ok(Some(log))
+}
+
+/// That the file of a log can't be opened.
+fn failure_of_log(error: &io::Error) -> SystemFailure
+    ensures end { result.end ≡ LOG }
+    ensures resource { result.resource ≡ Resource.Output }
+{
+    SystemFailure {
+        end: LOG,
+        resource: Resource::Output,
+        cause: Cause::of(error),
+    }
+}
+
+/// Has in the log, where there is one, why one end gave up. What can't be written is left out.
+fn log_fault<R>(
+    rt: &R,
+    call: &CallTask<'_>,
+    answer: Result<u8, ToolFault>,
+    why: Option<SystemFailure>,
+)
+where
+    R: Files<File = File> + Env + Clock + AllocGlobal,
+{
+    let (Some(path), Err(fault)) = (call.log, answer) else {
+        return;
+    };
+    if !call.may_run() {
+        return;
+    }
+    if let (Ok(file), Ok(text)) = (
+        LogFile::open(rt, path),
+        fault_text(rt.alloc(), call, fault, why),
+    ) {
+        let mut log = SessionLog::new(rt.alloc(), rt, file, call.side, call.peer, call.line);
+        log.fault(text.as_str());
+    }
+}
+
+/// Why one end gave up, for its log.
+fn fault_text(
+    alloc: Global,
+    call: &CallTask<'_>,
+    fault: ToolFault,
+    why: Option<SystemFailure>,
+) -> Result<String, AllocError> {
+    let word = format!(in alloc; "{fault}")?;
+    let (ToolFault::Device, Some(failure)) = (fault, why) else {
+        return Ok(word);
+    };
+    let report = call.report.unwrap_or("");
+    let reason = reason_line(alloc, report, call.line, call.dir, call.dir, failure)?;
+    end_text(alloc, word.as_str(), words_of(reason.as_str()))
 }
 
 /// Does a task, and gives the program's status.
@@ -627,9 +720,13 @@ where
     do_on(rt, over, file, input, output, remark, why)
 }
 
-/// Says that standard input is read, where somebody sits before it.
-fn greet(rt: &impl Eprint, task: Task<'_>, terminals: Terminals) {
+/// Says that standard input is read, where somebody sits before it, or at which line a call is waited for.
+fn greet<R: Eprint + AllocGlobal>(rt: &R, task: Task<'_>, terminals: Terminals) {
     match task {
+        Task::Call(call) if terminals.errors && call.side == Side::Called => {
+            // What there is no memory for is left out.
+            let _ = say_waiting(rt, &call);
+        }
         Task::Scan(None)
         | Task::ScanVerbose(None)
         | Task::Play(None)
@@ -641,6 +738,18 @@ fn greet(rt: &impl Eprint, task: Task<'_>, terminals: Terminals) {
         }
         _ => (),
     }
+}
+
+/// Says at which line an end waits to be called, where it may be run and its line is not the terminal's own.
+fn say_waiting<R: Eprint + AllocGlobal>(rt: &R, call: &CallTask<'_>) -> Result<(), AllocError> {
+    if call.line == "-" || !call.may_run() {
+        return Ok(());
+    }
+    let mut line = String::new(rt.alloc());
+    add_escaped(&mut line, call.line.as_bytes())?;
+    let line = line.as_str();
+    let _ = eprint!(rt; "uucpair: waiting on {line}\n");
+    Ok(())
 }
 
 /// Says what is remarked of a task that was done.

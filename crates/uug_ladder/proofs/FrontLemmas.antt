@@ -1,166 +1,142 @@
--- The ladder of a script, drawn event by event.
-use Rattle.std.proofs.Common.{◌≡◌, ℕ, suc, ◌+◌, Bool, true, false, List, [], ◌∷◌, drop, length, take, ◌≤◌, Result, Ok, Err, IfErr, IfOk, IsErrAnd, Option, ap, arith, sym, ◌∙◌, subst}
+-- The ladder of a run, drawn event by event.
+use Rattle.std.proofs.Common.{◌≡◌, ℕ, suc, ◌+◌, ◌<◌, ◌≤◌, Bool, true, false, List, [], ◌∷◌, ◌++◌, drop, get_or, length, take, take_all, Result, Ok, Err, IfErr, IsErrAnd, Option, Some, None, IsSomeAnd, refl, ap, arith, sym, ◌∙◌, subst}
+use Rattle.std.proofs.lemmas.List.{drop_all, drop_more, take_more}
 use Rattle.uug_line.specs.declared.event.Event.{Event}
-use Rattle.uug_line.specs.Spelled.{spelled}
-use Rattle.uug_line.specs.Told.{SpelledReport}
-use Rattle.uug_line.specs.World.{report_of_world}
+use Rattle.uug_line.specs.Belongings.{SetupValue}
+use Rattle.uug_line.specs.OfSomeRun.{IsRunOf}
+use Rattle.uug_line.specs.Simulator.{IsBehind, SimulatorValue}
+use Rattle.uug_line.specs.WholeReport.{WholeReport}
 use Rattle.uug_play.specs.Played.{setup_said}
 use Rattle.uug_script.specs.IsScript.{IsScript}
 use Rattle.uug_script.specs.Script.{ScriptSays}
-use Rattle.uug_script.specs.ScriptOf.{script_of}
-use Rattle.uug_ladder.specs.declared.drawing.Places.{Places}
 use Rattle.uug_ladder.specs.declared.fault.LadderFault.{LadderFault}
 use Rattle.uug_ladder.specs.declared.fault.LadderFault.TheVariants as faults
-use Rattle.uug_ladder.specs.declared.front.TheConstants.{EVENTS_MAX}
 use Rattle.uug_ladder.specs.declared.moment.Moment.{Moment}
-use Rattle.uug_ladder.specs.Drawing.{DrawingValue, PlacesValue, draws, first_drawing, is_fooled, places_shown, steps, steps_by, unless_fooled}
-use Rattle.uug_ladder.specs.Fronts.{IsLadderFault, IsLadderOf, front_told, ladder_said, places_said}
-use Rattle.uug_ladder.specs.Moments.{moment_told}
+use Rattle.uug_ladder.specs.Code.Progress.{DrawnSoFar, Steps, drawn_on, moment_now}
+use Rattle.uug_conversation.specs.Sides.{AtBoth}
+use Rattle.uug_conversation.specs.declared.side.Side.TheVariants.{Caller, Called}
+use Rattle.uug_line.specs.Told.{SpelledReport}
+use Rattle.uug_ladder.specs.Drawing.{DrawingValue, draws, first_drawing, unless_fooled}
+use Rattle.uug_ladder.specs.Fronts.{IsLadderFault, IsLadderOf, front_behind, front_of, ladder_of, ladder_said}
+use Rattle.uug_ladder.specs.Moments.{Front, front_shown, moment_told}
 use Rattle.uug_ladder.specs.Rungs.{LadderValue}
 
+-- a text says one thing
 abbrev says_or : ScriptSays → Result ScriptSays ℕ → ScriptSays
 says_or s (Ok says) = says
 says_or s (Err n) = s
 
--- a text says one thing
 pub one_saying : (script : Result ScriptSays ℕ) (says s : ScriptSays) → script ≡ Ok says → script ≡ Ok s → says ≡ s
 one_saying script says s h other = ap (says_or says) (sym h ∙ other)
 
--- the report of the first events is a front of what the script says
-pub is_front : (script : Result ScriptSays ℕ) (says : ScriptSays) (events : List Event) (count : ℕ) (told : SpelledReport) →
-    script ≡ Ok says → events ≡ take count says.events → told ≡ spelled (report_of_world (setup_said says) events) →
-    (s : ScriptSays) → script ≡ Ok s → told ≡ front_told s count
-is_front script says events count told h first is s other =
-    is ∙ ap (λ es. spelled (report_of_world (setup_said says) es)) first ∙ ap (λ x. front_told x count) (one_saying script says s h other)
+-- ---- a run's report shows what is told, and what is on the lines, behind its events
 
--- how a drawing stands behind the first events
-pub record Stands (s : ScriptSays) (places : PlacesValue) (events : List Event) (number : ℕ) (before : Option Moment)
-    (drawing : DrawingValue) : Type 0 where
-  pub told : before ≡ moment_told (front_told s number)
-  pub drawn : draws (front_told s) places number (drop number events) drawing
-      ≡ draws (front_told s) places 0 events (first_drawing places)
+abbrev front_by : SpelledReport → (caller called : List ℕ) → Front
+front_by told caller called = record { told = told; lines = record { at_caller = caller; at_called = called } }
 
-pub stands_first : (s : ScriptSays) (places : PlacesValue) (events : List Event) (before : Option Moment) (drawing : DrawingValue) →
-    before ≡ moment_told (front_told s 0) → drawing ≡ first_drawing places → Stands s places events 0 before drawing
-stands_first s places events before drawing b d = record { told = b; drawn = ap (draws (front_told s) places 0 events) d }
+shows : (setup : SetupValue) (events : List Event) (report : WholeReport) → IsRunOf setup events report → front_shown report ≡ front_behind setup events
+shows setup events report is =
+    ap (λ told. front_by told report.left.at_caller.line report.left.at_called.line) is.told
+    ∙ ap (λ line. front_by (front_behind setup events).told line report.left.at_called.line) (is.lines Caller)
+    ∙ ap (λ line. front_by (front_behind setup events).told (front_behind setup events).lines.at_caller line) (is.lines Called)
 
--- the next event, drawn
-next_drawn : (s : ScriptSays) (places : PlacesValue) (event : Event) (number : ℕ) (before after : Option Moment) (drawing next : DrawingValue) →
-    before ≡ moment_told (front_told s number) → after ≡ moment_told (front_told s (suc number)) →
-    next ≡ steps_by event number before after (front_told s (suc number)).sessions places drawing →
-    next ≡ steps event number (front_told s number) (front_told s (suc number)) places drawing
-next_drawn s places event number before after drawing next b a n =
-    n ∙ ap (λ m. steps_by event number m after (front_told s (suc number)).sessions places drawing) b
-    ∙ ap (λ m. steps_by event number (moment_told (front_told s number)) m (front_told s (suc number)).sessions places drawing) a
+-- ---- behind the first events
 
-abbrev draws_on : (s : ScriptSays) → PlacesValue → (number : ℕ) → List Event → DrawingValue → DrawingValue
-draws_on s places number events = draws (front_told s) places (suc number) (drop (suc number) events)
+module _ (setup : SetupValue) (events : List Event) where
+  abbrev front : ℕ → Front
+  front = front_of setup events
 
--- what is drawn in all, with the next event in front
-all_drawn : (s : ScriptSays) (places : PlacesValue) (events : List Event) (number : ℕ) (event : Event) (before : Option Moment)
-    (drawing next : DrawingValue) → drop number events ≡ event ∷ drop (number + 1) events → Stands s places events number before drawing →
-    next ≡ steps event number (front_told s number) (front_told s (suc number)) places drawing →
-    unless_fooled (is_fooled (front_told s (suc number)).verdict) (draws_on s places number events) next
-    ≡ draws (front_told s) places 0 events (first_drawing places)
-all_drawn s places events number event before drawing next at stands n =
-    let one_more : number + 1 ≡ suc number = omega arith in
-    ap (unless_fooled (is_fooled (front_told s (suc number)).verdict) (draws_on s places number events)) n
-    ∙ sym (ap (λ es. draws (front_told s) places number es drawing) (at ∙ ap (λ n. event ∷ drop n events) one_more)) ∙ stands.drawn
+  abbrev whole : DrawingValue
+  whole = draws front 0 events (first_drawing (front 0))
 
--- an event is drawn that has this number, and by which the run is fooled or not
-pub record Draws (s : ScriptSays) (places : PlacesValue) (event : Event) (number next_number : ℕ) (before after : Option Moment)
-    (drawing next : DrawingValue) (fooled : Bool) : Type 0 where
-  pub told : after ≡ moment_told (front_told s next_number)
-  pub fooled_is : fooled ≡ is_fooled (front_told s next_number).verdict
-  pub drawn : next ≡ steps_by event number before after (front_told s next_number).sessions places drawing
+  -- what is drawn in all, with the events behind so many
+  abbrev drawn_in_all : (number : ℕ) → DrawnSoFar → DrawingValue
+  drawn_in_all number drawn = unless_fooled drawn.stopped (draws front number (drop number events)) drawn.drawing
 
-pub advanced : (s : ScriptSays) (places kept : Places) (event : Event) (number : ℕ) (before after : Option Moment)
-    (drawing next : DrawingValue) (fooled : Bool) → kept ≡ places → after ≡ moment_told (front_told s (number + 1)) →
-    fooled ≡ is_fooled (front_told s (number + 1)).verdict →
-    next ≡ steps_by event number before after (front_told s (number + 1)).sessions (places_shown kept) drawing →
-    Draws s (places_shown places) event number (number + 1) before after drawing next fooled
-advanced s places kept event number before after drawing next fooled same told fooled_is drawn = record {
-  told = told;
-  fooled_is = fooled_is;
-  drawn = drawn ∙ ap (λ p. steps_by event number before after (front_told s (number + 1)).sessions (places_shown p) drawing) same;
-}
+  -- so many have happened, and are drawn
+  pub record Stands (number : ℕ) (run : Option SimulatorValue) (drawn : DrawnSoFar) : Type 0 where
+    pub behind : IsSomeAnd run (IsBehind setup (take number events))
+    pub in_all : drawn_in_all number drawn ≡ whole
 
-numbered : (s : ScriptSays) (places : PlacesValue) (event : Event) (number : ℕ) (before after : Option Moment)
-    (drawing next : DrawingValue) (fooled : Bool) → Draws s places event number (number + 1) before after drawing next fooled →
-    Draws s places event number (suc number) before after drawing next fooled
-numbered s places event number before after drawing next fooled draws =
-    let one_more : number + 1 ≡ suc number = omega arith in
-    subst (λ (k : ℕ). Draws s places event number k before after drawing next fooled) one_more draws
+  pub stands_first : (run : Option SimulatorValue) (drawn : DrawnSoFar) → IsSomeAnd run (IsBehind setup []) →
+      IsSomeAnd run (λ r. drawn ≡ record { drawing = first_drawing (front_shown r.report); stopped = false }) → Stands 0 run drawn
+  stands_first None drawn b d = absurd b
+  stands_first (Some run) drawn b d = record {
+    behind = b;
+    in_all = ap (drawn_in_all 0) d ∙ ap (λ now. draws front 0 events (first_drawing now)) (shows setup [] run.report b.is);
+  }
 
--- where the run is fooled at it, that is all
-stopped : (s : ScriptSays) (places : PlacesValue) (events : List Event) (number : ℕ) (event : Event) (before after : Option Moment)
-    (drawing next : DrawingValue) (fooled : Bool) → drop number events ≡ event ∷ drop (number + 1) events →
-    Stands s places events number before drawing → Draws s places event number (suc number) before after drawing next fooled →
-    fooled ≡ true → next ≡ draws (front_told s) places 0 events (first_drawing places)
-stopped s places events number event before after drawing next fooled at stands draws is =
-    sym (ap (λ b. unless_fooled b (draws_on s places number events) next) (sym draws.fooled_is ∙ is))
-    ∙ all_drawn s places events number event before drawing next at stands
-    (next_drawn s places event number before after drawing next stands.told draws.told draws.drawn)
+  -- what is drawn of an event more
+  next_drawn : (stopped : Bool) (number : ℕ) (event : Event) (drawing : DrawingValue) → drop number events ≡ event ∷ drop (suc number) events →
+      unless_fooled stopped (draws front number (drop number events)) drawing ≡ whole →
+      drawn_in_all (suc number) (drawn_on stopped event number (moment_told (front number).told) (front (suc number)) drawing) ≡ whole
+  next_drawn true number event drawing at h = h
+  next_drawn false number event drawing at h = sym (ap (λ es. draws front number es drawing) at) ∙ h
 
-pub stops_drawn : (s : ScriptSays) (places : PlacesValue) (events : List Event) (number : ℕ) (event : Event) (before after : Option Moment)
-    (drawing next : DrawingValue) (fooled : Bool) → drop number events ≡ event ∷ drop (number + 1) events →
-    Stands s places events number before drawing → Draws s places event number (number + 1) before after drawing next fooled →
-    fooled ≡ true → next.ladder ≡ (draws (front_told s) places 0 events (first_drawing places)).ladder
-stops_drawn s places events number event before after drawing next fooled at stands draws is =
-    ap (λ d. d.ladder) (stopped s places events number event before after drawing next fooled at stands
-    (numbered s places event number before after drawing next fooled draws) is)
+  -- an event happens to a run that stands behind the first ones, and is drawn
+  stepped_on : (number : ℕ) (d : Event) (old new : SimulatorValue) (drawn next : DrawnSoFar) →
+      number < length events → Stands number (Some old) drawn → Steps (get_or events number d) (Some old) (Some new) →
+      next ≡ drawn_on drawn.stopped (get_or events number d) number (moment_told old.report.told) (front_shown new.report) drawn.drawing →
+      Stands (suc number) (Some new) next
+  stepped_on number d old new drawn next within stands happened n =
+      let event : Event = get_or events number d in
+      let one_more : number + 1 ≡ suc number = omega arith in
+      let behind : IsBehind setup (take (suc number) events) new =
+      subst (λ k. IsBehind setup (take k events) new) one_more
+      (subst (λ (es : List Event). IsBehind setup es new) (sym (take_more events number d within))
+      (happened setup (take number events) stands.behind)) in
+      record {
+        behind = behind;
+        in_all =
+            ap (drawn_in_all (suc number)) (n
+            ∙ ap (λ told. drawn_on drawn.stopped event number (moment_told told) (front_shown new.report) drawn.drawing) stands.behind.is.told
+            ∙ ap (λ now. drawn_on drawn.stopped event number (moment_told (front number).told) now drawn.drawing)
+            (shows setup (take (suc number) events) new.report behind.is))
+            ∙ next_drawn drawn.stopped number event drawn.drawing
+            (drop_more events number d within ∙ ap (λ k. event ∷ drop k events) one_more) stands.in_all;
+      }
 
--- where it is not, the drawing goes on
-gone_on : (s : ScriptSays) (places : PlacesValue) (events : List Event) (number : ℕ) (event : Event) (before after : Option Moment)
-    (drawing next : DrawingValue) (fooled : Bool) → drop number events ≡ event ∷ drop (number + 1) events →
-    Stands s places events number before drawing → Draws s places event number (suc number) before after drawing next fooled →
-    fooled ≡ false → Stands s places events (suc number) after next
-gone_on s places events number event before after drawing next fooled at stands draws is = record {
-  told = draws.told;
-  drawn = sym (ap (λ b. unless_fooled b (draws_on s places number events) next) (sym draws.fooled_is ∙ is))
-      ∙ all_drawn s places events number event before drawing next at stands
-      (next_drawn s places event number before after drawing next stands.told draws.told draws.drawn);
-}
+  pub stands_next : (number : ℕ) (d : Event) (old new : Option SimulatorValue) (drawn next : DrawnSoFar) →
+      number < length events → Stands number old drawn → Steps (get_or events number d) old new →
+      IsSomeAnd new (λ run. next ≡ drawn_on drawn.stopped (get_or events number d) number (moment_now old) (front_shown run.report) drawn.drawing) →
+      Stands (number + 1) new next
+  stands_next number d None new drawn next within stands happened n = absurd stands.behind
+  stands_next number d (Some old) None drawn next within stands happened n = absurd n
+  stands_next number d (Some old) (Some new) drawn next within stands happened n =
+      let one_more : number + 1 ≡ suc number = omega arith in
+      subst (λ k. Stands k (Some new) next) (sym one_more) (stepped_on number d old new drawn next within stands happened n)
 
-pub stands_next : (s : ScriptSays) (places : PlacesValue) (events : List Event) (number : ℕ) (event : Event) (before after : Option Moment)
-    (drawing next : DrawingValue) (fooled : Bool) → drop number events ≡ event ∷ drop (number + 1) events →
-    Stands s places events number before drawing → Draws s places event number (number + 1) before after drawing next fooled →
-    fooled ≡ false → Stands s places events (number + 1) after next
-stands_next s places events number event before after drawing next fooled at stands draws is =
-    let one_more : suc number ≡ number + 1 = omega arith in
-    subst (λ (k : ℕ). Stands s places events k after next) one_more
-    (gone_on s places events number event before after drawing next fooled at stands
-    (numbered s places event number before after drawing next fooled draws) is)
+  all_drawn : (stopped : Bool) (rest : List Event) (number : ℕ) (drawing : DrawingValue) → rest ≡ [] →
+      unless_fooled stopped (draws front number rest) drawing ≡ whole → drawing ≡ whole
+  all_drawn true rest number drawing none h = h
+  all_drawn false rest number drawing none h = sym (ap (λ es. draws front number es drawing) none) ∙ h
 
--- behind the last event all is drawn
-pub stands_last : (s : ScriptSays) (places : PlacesValue) (events : List Event) (number : ℕ) (before : Option Moment)
-    (drawing : DrawingValue) → drop number events ≡ [] → Stands s places events number before drawing →
-    drawing.ladder ≡ (draws (front_told s) places 0 events (first_drawing places)).ladder
-stands_last s places events number before drawing none stands =
-    ap (λ d. d.ladder) (sym (ap (λ es. draws (front_told s) places number es drawing) none) ∙ stands.drawn)
+  -- behind the last event all is drawn
+  pub ladder_whole : (number : ℕ) (run : Option SimulatorValue) (drawn : DrawnSoFar) → length events ≤ number → Stands number run drawn →
+      drawn.drawing.ladder ≡ ladder_of setup events
+  ladder_whole number run drawn past stands =
+      ap (λ (d : DrawingValue). d.ladder)
+      (all_drawn drawn.stopped (drop number events) number drawn.drawing (drop_all number events past) stands.in_all)
 
--- so the ladder is that of what the script says
-ladder_drawn : (s : ScriptSays) (places : PlacesValue) (events : List Event) (ladder : LadderValue) → places ≡ places_said s →
-    events ≡ s.events → ladder ≡ (draws (front_told s) places 0 events (first_drawing places)).ladder →
-    ladder ≡ ladder_said s
+  -- and the run is that of all events
+  pub run_whole : (number : ℕ) (found : Option SimulatorValue) (run : SimulatorValue) (drawn : DrawnSoFar) (report : WholeReport) →
+      length events ≤ number → found ≡ Some run → report ≡ run.report → Stands number found drawn → IsRunOf setup events report
+  run_whole number found run drawn report past is same stands =
+      let behind : IsBehind setup (take number events) run =
+      subst (λ (r : Option SimulatorValue). IsSomeAnd r (IsBehind setup (take number events))) is stands.behind in
+      subst (λ (r : WholeReport). IsRunOf setup events r) (sym same)
+      (subst (λ (es : List Event). IsRunOf setup es run.report) (take_all number events past) behind.is)
+
+-- ---- so the ladder is that of what the script says
+
+ladder_drawn : (s : ScriptSays) (events : List Event) (ladder : LadderValue) → events ≡ s.events →
+    ladder ≡ ladder_of (setup_said s) events → ladder ≡ ladder_said s
 unfolding ladder_said
-ladder_drawn s places events ladder p e l =
-    l ∙ ap (λ es. (draws (front_told s) places 0 es (first_drawing places)).ladder) e
-    ∙ ap (λ ps. (draws (front_told s) ps 0 s.events (first_drawing ps)).ladder) p
+ladder_drawn s events ladder e l = l ∙ ap (ladder_of (setup_said s)) e
 
-pub is_ladder : {T : Type 0} (answer : Result T LadderFault) (shown : T → LadderValue) (text : List ℕ) (s : ScriptSays)
-    (places : PlacesValue) (events : List Event) → IsScript text s → script_of text ≡ Ok s → length s.events ≤ EVENTS_MAX →
-    places ≡ places_said s → events ≡ s.events →
-    IfOk answer (λ ladder. (x : ScriptSays) → script_of text ≡ Ok x →
-    shown ladder ≡ (draws (front_told x) places 0 events (first_drawing places)).ladder) →
-    IfOk answer (λ ladder. IsLadderOf text (shown ladder))
-is_ladder (Err fault) shown text s places events is exact few p e drawn = tt
-is_ladder (Ok ladder) shown text s places events is exact few p e drawn = record {
-  says = s;
-  script_is = is;
-  few = few;
-  ladder_is = ladder_drawn s places events (shown ladder) p e (drawn s exact);
-}
+pub is_ladder : (text : List ℕ) (s : ScriptSays) (events : List Event) (ladder : LadderValue) → IsScript text s → events ≡ s.events →
+    ladder ≡ ladder_of (setup_said s) events → IsLadderOf text ladder
+is_ladder text s events ladder is e l = record { says = s; script_is = is; ladder_is = ladder_drawn s events ladder e l }
 
 -- ---- a fault that is handed on by `?`
 

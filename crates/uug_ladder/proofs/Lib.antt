@@ -1,5 +1,7 @@
 pub mod ActsLemmas
+pub mod ArrivalLemmas
 pub mod FrontLemmas
 pub mod ShownLemmas
 pub mod StandardFacts
 pub mod TextLemmas
+pub mod WayLemmas

@@ -1,5 +1,6 @@
 -- What is written of a script that is played and drawn.
-use Rattle.std.proofs.Common.{◌≡◌, ℕ, List, [], ◌++◌, Option, Some, None, IfSome, Result, Ok, Err, IfErr, IsErrAnd, ap, sym, subst, inr, ◌∙◌}
+use Rattle.std.proofs.Common.{◌≡◌, ℕ, ◌<◌, List, [], ◌++◌, length, map, Option, Some, None, IfSome, Result, Ok, Err, IfErr, IsErrAnd, ap, sym, subst, inr, ◌∙◌}
+use Rattle.std.proofs.lemmas.List.{length-map}
 use Rattle.uug_play.specs.Played.{IsPlayed, result_said}
 use Rattle.uug_play.specs.Whole.{BringsAll}
 use Rattle.uug_script.proofs.ScriptTableLemmas.{script_is_read}
@@ -13,8 +14,9 @@ use Rattle.uug_ladder.specs.declared.play.Drawn.TheVariants.{AsText, AsPicture}
 use Rattle.uug_ladder.specs.Fronts.{IsLadderOf, ladder_said}
 use Rattle.uug_ladder.specs.LadderText.{ladder_text}
 use Rattle.uug_ladder.specs.Picture.{picture}
-use Rattle.uug_ladder.specs.Played.{BeginsShown, IsShowingFault, IsShown, RunsOutShowing}
-use Rattle.uug_ladder.specs.Rungs.{LadderValue}
+use Rattle.uug_ladder.specs.declared.svg.TheConstants.{ROWS_MAX}
+use Rattle.uug_ladder.specs.Played.{BeginsShown, IsShowingFault, IsShown, IsTooMuch, RunsOutShowing}
+use Rattle.uug_ladder.specs.Rungs.{LadderValue, RungValue}
 use Rattle.uug_ladder.proofs.FrontLemmas.{one_saying}
 
 -- the ladder is of what was played
@@ -42,6 +44,14 @@ picture_shown script text before all status ladder played is none a = record {
   text_is = a ∙ ap (λ t. t ++ picture ladder) none ∙ ap picture (same_ladder script text status ladder played is);
   status_is = played.status_is;
 }
+
+-- a ladder with so many rungs is too much for a picture
+pub too_much : {R : Type 0} (script : List ℕ) (ladder : LadderValue) (shown : R → RungValue) (rungs : List R) (count : ℕ) →
+    IsLadderOf script ladder → ladder.rungs ≡ map shown rungs → count ≡ length rungs → ROWS_MAX < count → IsTooMuch script
+too_much script ladder shown rungs count is r n many =
+    let same : count ≡ length (ladder_said is.says).rungs =
+    n ∙ sym (length-map rungs shown) ∙ ap length (sym r) ∙ ap (λ (l : LadderValue). length l.rungs) is.ladder_is in
+    record { says = is.says; script_is = is.script_is; many = subst (λ k. ROWS_MAX < k) same many }
 
 -- ---- what was written when writing gave up
 

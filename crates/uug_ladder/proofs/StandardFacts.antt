@@ -29,10 +29,10 @@ not_changed : (passes 4 9 (flips 3 0 two_sent)).fates ≡ Arrives 4 ∷ []
 not_changed = refl
 
 -- a byte that is put in splits it, but not before its first byte
-split : (passes 5 9 (inserts 4 1 (passes 3 1 two_sent))).fates ≡ Lost 4 ∷ []
+split : (passes 5 9 (inserts 4 (passes 3 1 two_sent))).fates ≡ Lost 4 ∷ []
 split = refl
 
-in_front : (passes 5 9 (inserts 4 1 two_sent)).fates ≡ Arrives 5 ∷ []
+in_front : (passes 5 9 (inserts 4 two_sent)).fates ≡ Arrives 5 ∷ []
 in_front = refl
 
 -- an arrow each way

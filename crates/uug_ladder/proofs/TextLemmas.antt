@@ -1,7 +1,7 @@
 -- What is appended in parts.
-use Rattle.std.proofs.Common.{◌≡◌, ℕ, ◌+◌, List, ◌++◌, length, map, Result, Ok, Err, OnOk, ap, ◌∙◌, sym}
-use Rattle.std.proofs.lemmas.List.{append_assoc, length-map}
-use Rattle.uug_ladder.specs.Picture.{head, picture_of, row_y, top_of}
+use Rattle.std.proofs.Common.{◌≡◌, ℕ, ◌+◌, ◌-◌, List, ◌++◌, drop, length, map, take, Result, Ok, Err, OnOk, ap, ◌∙◌, sym}
+use Rattle.std.proofs.lemmas.List.{append_assoc, drop-map, length-map, take_rest}
+use Rattle.uug_ladder.specs.Picture.{head, picture_of, row_y, rows_until, top_of}
 use Rattle.uug_ladder.specs.declared.rung.Fate.{Fate}
 use Rattle.uug_ladder.specs.Rungs.{RungValue}
 
@@ -33,3 +33,9 @@ pub picture_appended : {T E : Type 0} (answer : Result T E) (before after : List
 picture_appended answer before after shown rungs others fates other_fates r f appended =
     same_part answer before after (picture_of (map shown others) other_fates) (picture_of (map shown rungs) fates)
     (ap (λ rs. picture_of (map shown rs) other_fates) r ∙ ap (picture_of (map shown rungs)) f) appended
+
+-- the rows from one on
+pub row_until : {R : Type 0} (shown : R → RungValue) (event row count : ℕ) (all : List R) →
+    count ≡ rows_until event (map shown (take (length all - row) (drop row all))) → row + count ≡ row + rows_until event (drop row (map shown all))
+row_until shown event row count all h =
+    ap (λ n. row + n) (h ∙ ap (λ rs. rows_until event (map shown rs)) (take_rest all row) ∙ ap (rows_until event) (sym (drop-map shown row all)))

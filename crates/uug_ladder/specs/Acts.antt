@@ -1,22 +1,16 @@
 -- What an end does, drawn: what it sends follows on the line (this project's profile).
-use Rattle.std.specs.Prelude.{ℕ, ◌+◌, ◌%◌, ◌==◌, ◌&&◌, not, nat_lt, Bool, true, false, List, [], ◌∷◌, ◌++◌, length, drop, Option, Some, Result, Ok, Err, if◌then◌else◌}
+use Rattle.std.specs.Prelude.{ℕ, ◌+◌, ◌-◌, ◌%◌, ◌==◌, not, nat_lt, Bool, true, false, List, [], ◌∷◌, ◌++◌, length, drop, take, Option, Some, Result, Ok, Err, if◌then◌else◌}
 use Rattle.std.specs.Str.{bytes_eq}
-use Rattle.uug_line.specs.declared.event.Event.{Event}
-use Rattle.uug_line.specs.declared.event.Event.TheVariants.{HangUp}
 use Rattle.uug_conversation.specs.declared.side.Side.{Side}
-use Rattle.uug_link.specs.Entries.{EntryValue, text, packet}
 use Rattle.uug_packet.specs.Decoded.{decoded}
 use Rattle.uug_packet.specs.Packet.{PacketValue, control, carry}
 use Rattle.uug_packet.specs.declared.decoding.NoPacket.{NoPacket}
 use Rattle.uug_session.specs.PhaseWords.{phase_word}
 use Rattle.uug_session.specs.declared.phase.Phase.{Phase}
-use Rattle.uug_session.specs.EndStep.{final_text}
-use Rattle.uug_session.specs.Phases.{is_done, is_over}
-use Rattle.uug_talk.specs.Texts.{written_text}
+use Rattle.uug_session.specs.declared.phase.Phase.TheVariants.{Hail}
 use Rattle.uug_ladder.specs.declared.end.DrawnEnd.{DrawnEnd}
 use Rattle.uug_ladder.specs.declared.moment.Mark.{Mark}
 use Rattle.uug_ladder.specs.declared.way.WayByte.{WayByte}
-use Rattle.uug_ladder.specs.Greeters.{GreeterValue, PlaceValue, greeter_begins, greeter_shown}
 use Rattle.uug_ladder.specs.Rungs.{LadderValue, WhatValue, added, says, sends, takes, stores, strikes, fails, comes}
 use Rattle.uug_ladder.specs.Way.{sent_by}
 
@@ -24,18 +18,17 @@ use Rattle.uug_ladder.specs.Way.{sent_by}
 
 -- what is kept of an end
 pub record EndValue : Type 0 where
-  pub greeter : GreeterValue
   -- the number of the next data packet that it sends for the first time
   pub next : ℕ
   -- what is on its way from it
   pub way : List WayByte
 
 -- a session begins
-abbrev pub end_begins : Side → PlaceValue → EndValue
-end_begins side place = record { greeter = greeter_begins side place; next = 1; way = [] }
+abbrev pub end_begins : EndValue
+end_begins = record { next = 1; way = [] }
 
 abbrev pub end_kept : {A : Type 0} → DrawnEnd A → EndValue
-end_kept e = record { greeter = greeter_shown e.greeter; next = e.next; way = e.way.items }
+end_kept e = record { next = e.next; way = e.way.items }
 
 -- ---- repeats
 
@@ -59,72 +52,71 @@ next_behind next (Ok found) = next_by next found.0
 
 -- ---- what it sends
 
--- a ladder, and what is on the way from an end
-pub record OnPaper : Type 0 where
-  pub ladder : LadderValue
-  pub way : List WayByte
-
-abbrev pub puts : Option ℕ → Side → WhatValue → (bytes : List ℕ) → OnPaper → OnPaper
-puts event side what bytes d = record {
-  ladder = added event side what d.ladder;
-  way = d.way ++ sent_by (length d.ladder.rungs) bytes;
-}
-
--- texts of the greeting
-abbrev pub says_one : Option ℕ → Side → EntryValue → OnPaper → OnPaper
-says_one event side (text bytes) d = puts event side (says bytes) bytes d
-says_one event side (packet bytes first) d = d
-
-abbrev pub says_all : Option ℕ → Side → List EntryValue → OnPaper → OnPaper
-says_all event side [] d = d
-says_all event side (e ∷ es) d = says_all event side es (says_one event side e d)
-
 -- a ladder, and an end
 pub record Drawn : Type 0 where
   pub ladder : LadderValue
   pub end : EndValue
 
-abbrev pub with_way : EndValue → OnPaper → Drawn
-with_way e d = record { ladder = d.ladder; end = record { greeter = e.greeter; next = e.next; way = d.way } }
+-- something goes out, which these are the bytes of
+abbrev pub puts : Option ℕ → Side → WhatValue → (bytes : List ℕ) → Drawn → Drawn
+puts event side what bytes d = record {
+  ladder = added event side what d.ladder;
+  end = record { next = d.end.next; way = d.end.way ++ sent_by (length d.ladder.rungs) bytes };
+}
 
-abbrev pub on_paper : Drawn → OnPaper
-on_paper d = record { ladder = d.ladder; way = d.end.way }
+-- texts, of which each ends with a zero byte: this much of the next one was passed
+pub record Texts : Type 0 where
+  pub text : List ℕ
+  pub drawn : Drawn
 
-abbrev pub silent : GreeterValue → GreeterValue
-silent g = record { place = g.place; heard = g.heard; greeted = g.greeted; says = [] }
+abbrev pub text_by : (is_last : Bool) → Option ℕ → Side → (text : List ℕ) → Drawn → Texts
+text_by true event side text d = record { text = []; drawn = puts event side (says text) text d }
+text_by false event side text d = record { text = text; drawn = d }
 
--- what it says in the greeting goes out
-abbrev pub greets : Option ℕ → Side → Drawn → Drawn
-greets event side d =
-    with_way (record { greeter = silent d.end.greeter; next = d.end.next; way = d.end.way })
-    (says_all event side d.end.greeter.says (on_paper d))
+abbrev pub text_byte : Option ℕ → Side → (byte : ℕ) → Texts → Texts
+text_byte event side byte t = text_by (byte == 0) event side (t.text ++ byte ∷ []) t.drawn
+
+abbrev pub text_bytes : Option ℕ → Side → (bytes : List ℕ) → Texts → Texts
+text_bytes event side [] t = t
+text_bytes event side (b ∷ bs) t = text_bytes event side bs (text_byte event side b t)
+
+abbrev pub says_texts : Option ℕ → Side → (bytes : List ℕ) → Drawn → Drawn
+says_texts event side bytes d = (text_bytes event side bytes (record { text = []; drawn = d })).drawn
 
 -- a packet goes out
+abbrev pub with_next : ℕ → Drawn → Drawn
+with_next next d = record { ladder = d.ladder; end = record { next = next; way = d.end.way } }
+
 abbrev pub sends_packet : (event : ℕ) → Side → (bytes : List ℕ) → Drawn → Drawn
 sends_packet event side bytes d =
-    with_way (record { greeter = d.end.greeter; next = next_behind d.end.next (decoded bytes); way = d.end.way })
-    (puts (Some event) side (sends bytes (is_repeat d.end.next (decoded bytes))) bytes (on_paper d))
+    with_next (next_behind d.end.next (decoded bytes))
+    (puts (Some event) side (sends bytes (is_repeat d.end.next (decoded bytes))) bytes d)
 
 abbrev pub sends_packets : (event : ℕ) → Side → List (List ℕ) → Drawn → Drawn
 sends_packets event side [] d = d
 sends_packets event side (bytes ∷ more) d = sends_packets event side more (sends_packet event side bytes d)
 
--- ---- its last text
+-- ---- all that it sends at an event
 
--- by a hang-up a session ends without it
-abbrev pub may_leave : Event → Bool
-may_leave (HangUp side) = false
-may_leave _ = true
+-- these bytes without so many as the packets have, at their end
+abbrev pub without : List (List ℕ) → (bytes : List ℕ) → List ℕ
+without [] bytes = bytes
+without (p ∷ ps) bytes = without ps (take (length bytes - length p) bytes)
 
--- An end whose session comes from the one phase to the other sends its final text where it is done then
-abbrev pub takes_leave : Event → (before after : Phase) → Bool
-takes_leave event before after = may_leave event && (not (is_over before) && is_done after)
+-- the bytes on the line that are not on the way yet
+abbrev pub new_on : (line : List ℕ) → (way : List WayByte) → List ℕ
+new_on line way = drop (length way) line
 
-abbrev pub leaves_by : (takes_leave : Bool) → (event : ℕ) → Side → Drawn → Drawn
-leaves_by false event side d = d
-leaves_by true event side d =
-    with_way d.end (puts (Some event) side (says (written_text (final_text side)))
-    (written_text (final_text side)) (on_paper d))
+-- in its greeting it says texts before packets, and else behind them, as its last one
+abbrev pub emits : (is_hailing : Bool) → (event : ℕ) → Side → (packets : List (List ℕ)) → (line : List ℕ) → Drawn → Drawn
+emits true event side packets line d =
+    sends_packets event side packets (says_texts (Some event) side (without packets (new_on line d.end.way)) d)
+emits false event side packets line d =
+    let sent = sends_packets event side packets d in says_texts (Some event) side (new_on line sent.end.way) sent
+
+abbrev pub is_hailing : Phase → Bool
+is_hailing Hail = true
+is_hailing _ = false
 
 -- ---- what has become of its jobs and its session
 
@@ -151,14 +143,9 @@ comes_to event side before after l = added_if (is_other before after) event side
 abbrev pub with_ladder : LadderValue → Drawn → Drawn
 with_ladder ladder d = record { ladder = ladder; end = d.end }
 
--- these are the packets that it has sent in the session
-abbrev pub acts : (event : Event) → (number : ℕ) → Side → (before after : Mark) → (packets : List (List ℕ)) → Drawn → Drawn
-acts event number side before after packets d =
-    leaves_by (takes_leave event before.phase after.phase) number side
-    (sends_packets number side (drop before.packets packets)
-    (greets (Some number) side (with_ladder (notes number side before after d.ladder) d)))
-
-abbrev pub acts_whole : (event : Event) → (number : ℕ) → Side → (before after : Mark) → (packets : List (List ℕ)) → Drawn → Drawn
-acts_whole event number side before after packets d =
-    let done = acts event number side before after packets d in
+-- these are the packets that it has sent in the session, and this is on the line from it then
+abbrev pub acts : (number : ℕ) → Side → (before after : Mark) → (packets : List (List ℕ)) → (line : List ℕ) → Drawn → Drawn
+acts number side before after packets line d =
+    let done = emits (is_hailing before.phase) number side (drop before.packets packets) line
+    (with_ladder (notes number side before after d.ladder) d) in
     with_ladder (comes_to number side before.phase after.phase done.ladder) done

@@ -1,7 +1,8 @@
 pub mod Acts
+pub mod Arrivals
+pub mod Code
 pub mod Drawing
 pub mod Fronts
-pub mod Greeters
 pub mod Labels
 pub mod LadderText
 pub mod Moments

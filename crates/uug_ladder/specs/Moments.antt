@@ -1,12 +1,23 @@
 -- What both ends of a run have done by now (this project's profile).
-use Rattle.std.specs.Prelude.{◌-◌, List, length, slice_get, Option, Some, None}
+use Rattle.std.specs.Prelude.{ℕ, ◌-◌, List, length, slice_get, Option, Some, None}
 use Rattle.uug_conversation.specs.declared.side.Side.{Side}
 use Rattle.uug_conversation.specs.declared.side.Side.TheVariants.{Caller, Called}
 use Rattle.uug_line.specs.Belongings.{Belongings}
 use Rattle.uug_conversation.specs.Sides.{AtBoth}
 use Rattle.uug_line.specs.Told.{SpelledEnd, SpelledReport}
+use Rattle.uug_line.specs.WholeReport.{WholeReport}
 use Rattle.uug_ladder.specs.declared.moment.Mark.{Mark}
 use Rattle.uug_ladder.specs.declared.moment.Moment.{Moment}
+
+-- what is told of a run so far, and the bytes that are on the line from each end
+pub record Front : Type 0 where
+  pub told : SpelledReport
+  pub lines : AtBoth (List ℕ)
+
+-- as a program has it
+abbrev pub front_shown : WholeReport → Front
+front_shown r =
+    record { told = r.told; lines = record { at_caller = r.left.at_caller.line; at_called = r.left.at_called.line } }
 
 -- an end, of whose session this is told, and which has this
 abbrev pub mark_by : SpelledEnd → Belongings → Mark
@@ -17,7 +28,6 @@ mark_by e b = record {
   struck = length b.lists.struck;
   failed = length b.lists.failed;
   stored = length b.kept;
-  number = b.number;
 }
 
 abbrev pub moment_by : Option (AtBoth SpelledEnd) → SpelledReport → Option Moment

@@ -1,6 +1,6 @@
 -- A ladder as a picture, one SVG file (this project's profile): a line down for each end, the caller's left, a row for each
 -- rung, and an arrow for what is sent, from its row to that of the event at which it arrives.
-use Rattle.std.specs.Prelude.{ℕ, suc, ◌+◌, ◌*◌, nat_lt, Bool, true, false, List, [], ◌∷◌, ◌++◌, codes, length, Option, Some, None}
+use Rattle.std.specs.Prelude.{ℕ, suc, ◌+◌, ◌*◌, nat_lt, Bool, true, false, List, [], ◌∷◌, ◌++◌, codes, drop, length, Option, Some, None}
 use Rattle.std.specs.Fmt.{decimal}
 use Rattle.uug_conversation.specs.declared.side.Side.{Side}
 use Rattle.uug_conversation.specs.declared.side.Side.TheVariants.{Caller, Called}
@@ -59,12 +59,12 @@ is_before event (Some number) = nat_lt number event
 
 abbrev pub one_more : Bool → ℕ → ℕ
 one_more true n = suc n
-one_more false n = n
+one_more false n = 0
 
--- how many of the rungs occur before this event: so many rows stand above its first one
-abbrev pub rows_before : (event : ℕ) → List RungValue → ℕ
-rows_before event [] = 0
-rows_before event (r ∷ rungs) = one_more (is_before event r.event) (rows_before event rungs)
+-- how many of the rungs, from the first on, occur before this event: so many rows further is its first one
+abbrev pub rows_until : (event : ℕ) → List RungValue → ℕ
+rows_until event [] = 0
+rows_until event (r ∷ rungs) = one_more (is_before event r.event) (rows_until event rungs)
 
 -- ---- an arrow, from the line of an end to that of the other; one that does not arrive ends between them
 
@@ -84,7 +84,7 @@ abbrev pub arrow_drawn : List RungValue → (row : ℕ) → Side → Fate → Li
 arrow_drawn all row side OnTheWay =
     line_to (line_of side) (row_y row) 440 (row_y row + 9) (codes " stroke-dasharray=\"4\"")
 arrow_drawn all row side (Arrives event) =
-    line_to (line_of side) (row_y row) (other_line side) (row_y (rows_before event all)) (codes " marker-end=\"url(#tip)\"")
+    line_to (line_of side) (row_y row) (other_line side) (row_y (row + rows_until event (drop row all))) (codes " marker-end=\"url(#tip)\"")
 arrow_drawn all row side (Lost event) =
     line_to (line_of side) (row_y row) 440 (row_y row + 9) [] ++ lost_words side (row_y row + 13) event
 

@@ -12,7 +12,7 @@ use Rattle.uug_play.specs.Numbers.{status_of_result}
 use Rattle.uug_ladder.specs.declared.play.Drawn.{Drawn}
 use Rattle.uug_ladder.specs.declared.play.Drawn.TheVariants.{AsText, AsPicture}
 use Rattle.uug_ladder.specs.declared.svg.TheConstants.{ROWS_MAX}
-use Rattle.uug_ladder.specs.Fronts.{IsTooLong, ladder_said}
+use Rattle.uug_ladder.specs.Fronts.{ladder_said}
 use Rattle.uug_ladder.specs.LadderText.{ladder_text}
 use Rattle.uug_ladder.specs.Picture.{picture}
 
@@ -43,14 +43,11 @@ abbrev pub RunsOutShowing : Drawn → (script left before after : Option (List �
 RunsOutShowing how script left before after =
     IfSome script (λ bytes. Keeps before after ⊎ ((left ≡ Some []) × BeginsShown how bytes before after))
 
--- the script has too many events, or its ladder too many rungs for a picture
-pub record HasManyRungs (script : List ℕ) : Type 0 where
+-- the ladder of the script has too many rungs for a picture
+pub record IsTooMuch (script : List ℕ) : Type 0 where
   pub says : ScriptSays
   pub script_is : IsScript script says
   pub many : ROWS_MAX < length (ladder_said says).rungs
-
-abbrev pub IsTooMuch : (script : List ℕ) → Type 0
-IsTooMuch script = IsTooLong script ⊎ HasManyRungs script
 
 -- the fault says why nothing is shown; out of memory is left open
 abbrev pub IsShowingFault : (script : List ℕ) → ToolFault → Type 0

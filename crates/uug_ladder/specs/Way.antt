@@ -1,6 +1,6 @@
--- The bytes that are on their way from an end, and what becomes of what they are of (this project's profile). They leave the
--- line in the order in which they came.
-use Rattle.std.specs.Prelude.{ℕ, ◌==◌, Bool, true, false, List, [], ◌∷◌, length, take, drop, bit_xor, slice_index_or, slice_set, Option, Some, None, if◌then◌else◌}
+-- Of what each byte on the way from an end is, and what becomes of that (this project's profile). They leave the line in the
+-- order in which they came.
+use Rattle.std.specs.Prelude.{ℕ, ◌==◌, Bool, true, false, List, [], ◌∷◌, length, take, drop, slice_index_or, slice_set, Option, Some, None, if◌then◌else◌}
 use Rattle.uug_ladder.specs.declared.rung.Fate.{Fate}
 use Rattle.uug_ladder.specs.declared.rung.Fate.TheVariants.{OnTheWay, Arrives, Lost}
 use Rattle.uug_ladder.specs.declared.way.WayByte.{WayByte}
@@ -42,20 +42,16 @@ lost event (b ∷ bs) fates = lost event bs (settled_by b.of (Lost event) fates)
 abbrev pub rest_of : (place : ℕ) → List ℕ → List WayByte
 rest_of place [] = []
 rest_of place (b ∷ bs) =
-    record { value = b; of = Some place; is_first = false; is_last = length bs == 0 } ∷ rest_of place bs
+    record { of = Some place; is_first = false; is_last = length bs == 0 } ∷ rest_of place bs
 
 abbrev pub sent_by : (place : ℕ) → List ℕ → List WayByte
 sent_by place [] = []
 sent_by place (b ∷ bs) =
-    record { value = b; of = Some place; is_first = true; is_last = length bs == 0 } ∷ rest_of place bs
+    record { of = Some place; is_first = true; is_last = length bs == 0 } ∷ rest_of place bs
 
 -- a byte that was put in
-abbrev pub put_in : ℕ → WayByte
-put_in value = record { value = value; of = None; is_first = true; is_last = true }
-
--- a byte that is changed
-abbrev pub changed : (mask : ℕ) → WayByte → WayByte
-changed mask b = record { value = bit_xor b.value mask; of = b.of; is_first = b.is_first; is_last = b.is_last }
+abbrev pub put_in : WayByte
+put_in = record { of = None; is_first = true; is_last = true }
 
 -- ---- what an event does: what is on the way then, and the fates
 
@@ -72,19 +68,17 @@ abbrev pub passes : (event n : ℕ) → Way → Way
 passes event n w = record { bytes = drop n w.bytes; fates = arrived event (take n w.bytes) w.fates }
 
 -- the next byte is changed, where the mask changes anything
-abbrev pub flips_by : (is_none : Bool) → (event mask : ℕ) → List WayByte → List Fate → Way
-flips_by true event mask bytes fates = record { bytes = bytes; fates = fates }
-flips_by false event mask [] fates = record { bytes = []; fates = fates }
-flips_by false event mask (b ∷ bs) fates =
-    record { bytes = changed mask b ∷ bs; fates = lost event (b ∷ []) fates }
+abbrev pub flips_by : (is_none : Bool) → (event : ℕ) → Way → Way
+flips_by true event w = w
+flips_by false event w = record { bytes = w.bytes; fates = lost event (take 1 w.bytes) w.fates }
 
 abbrev pub flips : (event mask : ℕ) → Way → Way
-flips event mask w = flips_by (mask == 0) event mask w.bytes w.fates
+flips event mask w = flips_by (mask == 0) event w
 
 -- a byte is put in front of the next one; what that one is of is lost, where it is not its first byte
 abbrev pub split_by : (event : ℕ) → List WayByte → List Fate → List Fate
 split_by event [] fates = fates
 split_by event (b ∷ bs) fates = if b.is_first then fates else lost event (b ∷ []) fates
 
-abbrev pub inserts : (event value : ℕ) → Way → Way
-inserts event value w = record { bytes = put_in value ∷ w.bytes; fates = split_by event w.bytes w.fates }
+abbrev pub inserts : (event : ℕ) → Way → Way
+inserts event w = record { bytes = put_in ∷ w.bytes; fates = split_by event w.bytes w.fates }

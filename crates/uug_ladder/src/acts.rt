@@ -1,94 +1,102 @@
 //! What an end does, drawn.
-ghost use Rattle.std.specs.Prelude.{◌≡◌, drop, OnOk, Some};
-ghost use Rattle.uug_link.specs.Entries.{shown_entry};
+ghost use Rattle.std.specs.Prelude.{◌≡◌, ◌==◌, drop, OnOk, Some};
 ghost use Rattle.uug_line.specs.Shown.{lists_in};
-ghost use Rattle.uug_session.specs.EndStep.{final_text};
-ghost use Rattle.uug_talk.specs.Texts.{written_text};
-ghost use Rattle.uug_ladder.specs.Acts.{acts, acts_whole, added_if, comes_to, end_kept, greets, is_other, leaves_by, may_leave, notes, puts, says_all, says_one, sends_packet, sends_packets, takes_leave};
+ghost use Rattle.uug_ladder.specs.Acts.{acts, added_if, comes_to, emits, end_kept, is_hailing, is_other, new_on, notes, puts, says_texts, sends_packet, sends_packets, text_by, text_byte, without};
 ghost use Rattle.uug_ladder.specs.Rungs.{ladder_shown, what_shown};
 
 use crate::end::{DrawnEnd, is_repeat, next_behind};
 use crate::ladder::Ladder;
 use crate::moment::Mark;
 use crate::rung::What;
-use crate::way::{WayByte, add_bytes};
+use crate::way::add_bytes;
 use std::alloc::{AllocError, Allocator};
-use uug_line::{Event, Side};
-use uug_link::{Entry, Outbox};
+use uug_line::Side;
 use uug_session::{Phase, phase_word};
 
 /// An end sends something, which these are the bytes of.
 fn put<A: Allocator>(
     ladder: &mut Ladder<A>,
-    way: &mut Vec<WayByte, A>,
+    end: &mut DrawnEnd<A>,
     event: Option<usize>,
     side: Side,
     what: What<A>,
     bytes: &[u8],
 ) -> Result<(), AllocError>
-    ensures { OnOk result (record { ladder = ladder_shown ladder.new; way = way.new.items }
+    ensures { OnOk result (record { ladder = ladder_shown ladder.new; end = end_kept end.new }
         ≡ puts event side (what_shown what) bytes.now
-        (record { ladder = ladder_shown ladder.old; way = way.old.items })) }
+        (record { ladder = ladder_shown ladder.old; end = end_kept end.old })) }
 {
     let place = ladder.rungs.len();
     ladder.add(event, side, what)?;
-    add_bytes(way, place, bytes)
+    add_bytes(&mut end.way, place, bytes)
 }
 
-/// An end says a text.
-fn say<A: Allocator + Copy>(
-    alloc: A,
-    ladder: &mut Ladder<A>,
-    way: &mut Vec<WayByte, A>,
-    event: Option<usize>,
-    side: Side,
-    entry: Entry<'_>,
-) -> Result<(), AllocError>
-    ensures { OnOk result (record { ladder = ladder_shown ladder.new; way = way.new.items }
-        ≡ says_one event side (shown_entry entry.entry)
-        (record { ladder = ladder_shown ladder.old; way = way.old.items })) }
-{
-    match entry {
-        Entry::Text(text) => {
-            let what = What::Says(text.to_vec(alloc)?);
-            put(ladder, way, event, side, what, text)
-        }
-        Entry::Packet { .. } => Ok(()),
-    }
-}
-
-/// An end says the texts in its outbox.
-fn say_all<A: Allocator + Copy>(
-    alloc: A,
-    ladder: &mut Ladder<A>,
-    way: &mut Vec<WayByte, A>,
-    event: Option<usize>,
-    side: Side,
-    says: &Outbox<A>,
-) -> Result<(), AllocError>
-    ensures { OnOk result (record { ladder = ladder_shown ladder.new; way = way.new.items }
-        ≡ says_all event side says.now.entries
-        (record { ladder = ladder_shown ladder.old; way = way.old.items })) }
-{
-    for i in 0..says.len() {
-        say(alloc, ladder, way, event, side, says.entry(i))?;
-    }
-    Ok(())
-}
-
-/// What an end says in the greeting goes out.
-pub(crate) fn greet<A: Allocator + Copy>(
+/// A text is said once it is whole.
+fn say_if<A: Allocator + Copy>(
     alloc: A,
     ladder: &mut Ladder<A>,
     end: &mut DrawnEnd<A>,
     event: Option<usize>,
     side: Side,
+    text: &mut Vec<u8, A>,
+    is_whole: bool,
+) -> Result<(), AllocError>
+    ensures { OnOk result (record {
+      text = text.new.items;
+      drawn = record { ladder = ladder_shown ladder.new; end = end_kept end.new };
+    }
+        ≡ text_by is_whole event side text.old.items
+        (record { ladder = ladder_shown ladder.old; end = end_kept end.old })) }
+{
+    if !is_whole {
+        return Ok(());
+    }
+    let what = What::Says(text.as_slice().to_vec(alloc)?);
+    put(ladder, end, event, side, what, text.as_slice())?;
+    text.clear();
+    Ok(())
+}
+
+/// A byte more of a text is said, which a zero byte ends.
+fn say_byte<A: Allocator + Copy>(
+    alloc: A,
+    ladder: &mut Ladder<A>,
+    end: &mut DrawnEnd<A>,
+    event: Option<usize>,
+    side: Side,
+    text: &mut Vec<u8, A>,
+    byte: u8,
+) -> Result<(), AllocError>
+    ensures { OnOk result (record {
+      text = text.new.items;
+      drawn = record { ladder = ladder_shown ladder.new; end = end_kept end.new };
+    }
+        ≡ text_byte event side byte (record {
+          text = text.old.items;
+          drawn = record { ladder = ladder_shown ladder.old; end = end_kept end.old };
+        })) }
+{
+    text.push(byte)?;
+    say_if(alloc, ladder, end, event, side, text, byte == 0)
+}
+
+/// An end says the texts that these bytes are.
+pub(crate) fn say<A: Allocator + Copy>(
+    alloc: A,
+    ladder: &mut Ladder<A>,
+    end: &mut DrawnEnd<A>,
+    event: Option<usize>,
+    side: Side,
+    bytes: &[u8],
 ) -> Result<(), AllocError>
     ensures { OnOk result (record { ladder = ladder_shown ladder.new; end = end_kept end.new }
-        ≡ greets event side (record { ladder = ladder_shown ladder.old; end = end_kept end.old })) }
+        ≡ says_texts event side bytes.now
+        (record { ladder = ladder_shown ladder.old; end = end_kept end.old })) }
 {
-    say_all(alloc, ladder, &mut end.way, event, side, &end.greeter.says)?;
-    end.greeter.says.clear();
+    let mut text = Vec::new(alloc);
+    for byte in bytes {
+        say_byte(alloc, ladder, end, event, side, &mut text, *byte)?;
+    }
     Ok(())
 }
 
@@ -109,7 +117,7 @@ fn send<A: Allocator + Copy>(
         packet: packet.to_vec(alloc)?,
         again: is_repeat(end.next, packet),
     };
-    put(ladder, &mut end.way, Some(event), side, what, packet)?;
+    put(ladder, end, Some(event), side, what, packet)?;
     end.next = next_behind(end.next, packet);
     Ok(())
 }
@@ -133,65 +141,65 @@ fn send_all<A: Allocator + Copy>(
     Ok(())
 }
 
-fn may_leave(event: Event) -> bool
-    ensures { result ≡ may_leave event }
+/// The bytes without so many at their end as the packets have.
+fn without<'a, A: Allocator>(packets: &[Vec<u8, A>], bytes: &'a [u8]) -> &'a [u8]
+    ensures { result.now ≡ without (lists_in packets.now) bytes.now }
 {
-    match event {
-        Event::HangUp { .. } => false,
-        _ => true,
+    let mut rest = bytes;
+    for packet in packets {
+        rest = &rest[..rest.len().saturating_sub(packet.as_slice().len())];
     }
+    rest
 }
 
-/// Whether an end says its last text where its session comes from the one phase to the other.
-fn takes_leave(event: Event, before: Phase, after: Phase) -> bool
-    ensures { result ≡ takes_leave event before after }
+/// The bytes on the line that are not on the way yet.
+fn new_on<'a, A: Allocator>(line: &'a [u8], end: &DrawnEnd<A>) -> &'a [u8]
+    ensures { result.now ≡ new_on line.now end.now.way.items }
 {
-    may_leave(event) && !before.is_over() && after.is_done()
+    &line[end.way.len().min(line.len())..]
 }
 
-/// The last text of an end, in its frame.
-fn last_text(side: Side) -> &'static [u8]
-    ensures { result.now ≡ written_text (final_text side) }
+fn is_hailing(phase: Phase) -> bool
+    ensures { result ≡ is_hailing phase }
 {
-    match side {
-        Side::Caller => b"\x10OOOOOO\0",
-        Side::Called => b"\x10OOOOOOO\0",
-    }
+    matches!(phase, Phase::Hail)
 }
 
-/// An end says its final text, where its session ends with all done.
-fn leave<A: Allocator + Copy>(
+/// What an end sends at an event: in its greeting texts before packets, and else behind them.
+fn emit<A: Allocator + Copy>(
     alloc: A,
     ladder: &mut Ladder<A>,
     end: &mut DrawnEnd<A>,
-    event: usize,
-    side: Side,
-    takes_leave: bool,
+    at: (usize, Side),
+    is_hailing: bool,
+    packets: &[Vec<u8, A>],
+    line: &[u8],
 ) -> Result<(), AllocError>
     ensures { OnOk result (record { ladder = ladder_shown ladder.new; end = end_kept end.new }
-        ≡ leaves_by takes_leave event side
+        ≡ emits is_hailing at.0 at.1 (lists_in packets.now) line.now
         (record { ladder = ladder_shown ladder.old; end = end_kept end.old })) }
 {
-    if !takes_leave {
-        return Ok(());
+    let (event, side) = at;
+    if is_hailing {
+        let texts = without(packets, new_on(line, end));
+        say(alloc, ladder, end, Some(event), side, texts)?;
+        return send_all(alloc, ladder, end, event, side, packets);
     }
-    let text = last_text(side);
-    let what = What::Says(text.to_vec(alloc)?);
-    put(ladder, &mut end.way, Some(event), side, what, text)
+    send_all(alloc, ladder, end, event, side, packets)?;
+    say(alloc, ladder, end, Some(event), side, new_on(line, end))
 }
 
 fn add_if<A: Allocator>(
     ladder: &mut Ladder<A>,
     is: bool,
-    event: usize,
-    side: Side,
+    at: (usize, Side),
     what: What<A>,
 ) -> Result<(), AllocError>
     ensures { OnOk result (ladder_shown ladder.new
-        ≡ added_if is event side (what_shown what) (ladder_shown ladder.old)) }
+        ≡ added_if is at.0 at.1 (what_shown what) (ladder_shown ladder.old)) }
 {
     if is {
-        ladder.add(Some(event), side, what)?;
+        ladder.add(Some(at.0), at.1, what)?;
     }
     Ok(())
 }
@@ -199,44 +207,19 @@ fn add_if<A: Allocator>(
 /// What an end has taken and stored, and which jobs of it are done and given up.
 fn note<A: Allocator>(
     ladder: &mut Ladder<A>,
-    event: usize,
-    side: Side,
+    at: (usize, Side),
     before: Mark,
     after: Mark,
 ) -> Result<(), AllocError>
     ensures { OnOk result (ladder_shown ladder.new
-        ≡ notes event side before after (ladder_shown ladder.old)) }
+        ≡ notes at.0 at.1 before after (ladder_shown ladder.old)) }
 {
     let (taken, stored) = (after.taken, after.stored);
     let (struck, failed) = (after.struck, after.failed);
-    add_if(
-        ladder,
-        before.taken < taken,
-        event,
-        side,
-        What::Takes(taken),
-    )?;
-    add_if(
-        ladder,
-        before.stored < stored,
-        event,
-        side,
-        What::Stores(stored),
-    )?;
-    add_if(
-        ladder,
-        before.struck < struck,
-        event,
-        side,
-        What::Strikes(struck),
-    )?;
-    add_if(
-        ladder,
-        before.failed < failed,
-        event,
-        side,
-        What::Fails(failed),
-    )
+    add_if(ladder, before.taken < taken, at, What::Takes(taken))?;
+    add_if(ladder, before.stored < stored, at, What::Stores(stored))?;
+    add_if(ladder, before.struck < struck, at, What::Strikes(struck))?;
+    add_if(ladder, before.failed < failed, at, What::Fails(failed))
 }
 
 fn is_other(before: Phase, after: Phase) -> bool
@@ -248,21 +231,14 @@ fn is_other(before: Phase, after: Phase) -> bool
 /// The session of an end comes from the one phase to the other.
 pub(crate) fn come<A: Allocator>(
     ladder: &mut Ladder<A>,
-    event: usize,
-    side: Side,
+    at: (usize, Side),
     before: Phase,
     after: Phase,
 ) -> Result<(), AllocError>
     ensures { OnOk result (ladder_shown ladder.new
-        ≡ comes_to event side before after (ladder_shown ladder.old)) }
+        ≡ comes_to at.0 at.1 before after (ladder_shown ladder.old)) }
 {
-    add_if(
-        ladder,
-        is_other(before, after),
-        event,
-        side,
-        What::Comes(after),
-    )
+    add_if(ladder, is_other(before, after), at, What::Comes(after))
 }
 
 /// The packets behind the first ones, so many or all.
@@ -272,50 +248,24 @@ fn behind<A: Allocator>(packets: &[Vec<u8, A>], count: usize) -> &[Vec<u8, A>]
     &packets[count.min(packets.len())..]
 }
 
-/// What an end does and sends at an event. These are the packets that it has sent in the session.
-fn act_first<A: Allocator + Copy>(
-    alloc: A,
-    ladder: &mut Ladder<A>,
-    end: &mut DrawnEnd<A>,
-    event: (usize, Event),
-    side: Side,
-    marks: (Mark, Mark),
-    packets: &[Vec<u8, A>],
-) -> Result<(), AllocError>
-    ensures { OnOk result (record { ladder = ladder_shown ladder.new; end = end_kept end.new }
-        ≡ acts event.1 event.0 side marks.0 marks.1 (lists_in packets.now)
-        (record { ladder = ladder_shown ladder.old; end = end_kept end.old })) }
-{
-    let (number, event) = event;
-    let (before, after) = marks;
-    note(ladder, number, side, before, after)?;
-    greet(alloc, ladder, end, Some(number), side)?;
-    send_all(
-        alloc,
-        ladder,
-        end,
-        number,
-        side,
-        behind(packets, before.packets),
-    )?;
-    let takes_leave = takes_leave(event, before.phase, after.phase);
-    leave(alloc, ladder, end, number, side, takes_leave)
-}
-
-/// All that an end does at an event.
+/// All that an end does at an event. These are the packets that it has sent in the session, and what is on the line from it.
 pub(crate) fn act<A: Allocator + Copy>(
     alloc: A,
     ladder: &mut Ladder<A>,
     end: &mut DrawnEnd<A>,
-    event: (usize, Event),
-    side: Side,
+    at: (usize, Side),
     marks: (Mark, Mark),
     packets: &[Vec<u8, A>],
+    line: &[u8],
 ) -> Result<(), AllocError>
     ensures { OnOk result (record { ladder = ladder_shown ladder.new; end = end_kept end.new }
-        ≡ acts_whole event.1 event.0 side marks.0 marks.1 (lists_in packets.now)
+        ≡ acts at.0 at.1 marks.0 marks.1 (lists_in packets.now) line.now
         (record { ladder = ladder_shown ladder.old; end = end_kept end.old })) }
 {
-    act_first(alloc, ladder, end, event, side, marks, packets)?;
-    come(ladder, event.0, side, marks.0.phase, marks.1.phase)
+    let (before, after) = marks;
+    note(ladder, at, before, after)?;
+    let new = behind(packets, before.packets);
+    let hails = is_hailing(before.phase);
+    emit(alloc, ladder, end, at, hails, new, line)?;
+    come(ladder, at, before.phase, after.phase)
 }

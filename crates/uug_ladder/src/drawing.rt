@@ -1,28 +1,21 @@
 //! A ladder that is being drawn.
 ghost use Rattle.std.specs.Prelude.{◌≡◌, ◌-◌, ◌==◌, map, slice_get, IfOk, MatchOption, None, OnOk, Some};
-ghost use Rattle.uug_line.specs.Shown.{end_shown, session_shown};
+ghost use Rattle.uug_line.specs.Shown.{session_shown};
+ghost use Rattle.uug_conversation.specs.Sides.{at as at_side};
 ghost use Rattle.uug_ladder.specs.Acts.{end_kept};
-ghost use Rattle.uug_ladder.specs.Moments.{last_of};
-ghost use Rattle.uug_ladder.specs.Drawing.{acts_in, begins_session, both_act, brought, calls_again, drawing_shown, ends_at, first_drawing, from_other, goes_on, happens, is_hailing, loses_all, places_shown, renewed, side_acts, steps_by, stepped};
-ghost use Rattle.uug_ladder.specs.Rungs.{ladder_shown, no_rungs};
-ghost use Rattle.uug_ladder.specs.Way.{drops, flips, inserts};
+ghost use Rattle.uug_ladder.specs.Moments.{front_shown, last_of, moment_told};
+ghost use Rattle.uug_ladder.specs.Drawing.{acts_in, begins_session, calls_again, drawing_shown, ends_at, first_drawing, from_other, goes_on, happens, loses_all, side_acts, stepped};
+ghost use Rattle.uug_ladder.specs.Rungs.{ladder_shown};
+ghost use Rattle.uug_ladder.specs.Way.{drops, flips, inserts, passes};
 
-use crate::acts::{act, come, greet};
+use crate::acts::{act, come, say};
 use crate::end::DrawnEnd;
 use crate::ladder::Ladder;
-use crate::moment::{Mark, Moment, last_of};
+use crate::moment::{Moment, last_of, moment_of};
 use crate::rung::What;
 use crate::way::{drop_next, flip_next, insert_next, pass_next};
 use std::alloc::{AllocError, Allocator};
-use uug_line::{Event, SessionReport, Side};
-use uug_session::{Phase, Place};
-
-/// Where both ends stand.
-#[derive(Clone, Copy)]
-pub(crate) struct Places {
-    pub(crate) caller: Place,
-    pub(crate) called: Place,
-}
+use uug_line::{Event, Report, SessionReport, Side};
 
 /// A ladder that is being drawn.
 #[derive(Drop)]
@@ -30,48 +23,6 @@ pub(crate) struct Drawing<A: Allocator> {
     pub(crate) ladder: Ladder<A>,
     pub(crate) caller: DrawnEnd<A>,
     pub(crate) called: DrawnEnd<A>,
-}
-
-fn is_hailing(phase: Phase) -> bool
-    ensures { result ≡ is_hailing phase }
-{
-    matches!(phase, Phase::Hail)
-}
-
-/// The next bytes come from one end to the other, which hears texts in its greeting.
-fn bring<A: Allocator + Copy>(
-    ladder: &mut Ladder<A>,
-    from: &mut DrawnEnd<A>,
-    to: &mut DrawnEnd<A>,
-    n: usize,
-    event: usize,
-    hails: bool,
-) -> Result<(), AllocError>
-    ensures { OnOk result
-        (record { ladder = ladder_shown ladder.new; from = end_kept from.new; to = end_kept to.new }
-        ≡ brought event n hails
-        (record { ladder = ladder_shown ladder.old; from = end_kept from.old; to = end_kept to.old })) }
-{
-    if hails {
-        to.greeter.hear(&from.way[..n.min(from.way.len())])?;
-    }
-    pass_next(&mut from.way, &mut ladder.fates, n, event);
-    Ok(())
-}
-
-fn renewed(places: Places, now: &Moment) -> Places
-    ensures { places_shown result ≡ renewed now.now (places_shown places) }
-{
-    Places {
-        caller: Place {
-            number: now.caller.number,
-            ..places.caller
-        },
-        called: Place {
-            number: now.called.number,
-            ..places.called
-        },
-    }
 }
 
 /// The session at this place, counted from 0.
@@ -102,34 +53,23 @@ fn end_session<A: Allocator>(
     let Some(over) = session_at(sessions, before.session.saturating_sub(1)) else {
         return Ok(());
     };
-    come(
-        ladder,
-        event,
-        Side::Caller,
-        before.caller.phase,
-        over.caller.phase,
-    )?;
-    come(
-        ladder,
-        event,
-        Side::Called,
-        before.called.phase,
-        over.called.phase,
-    )
+    let (caller, called) = (before.caller.phase, before.called.phase);
+    come(ladder, (event, Side::Caller), caller, over.caller.phase)?;
+    come(ladder, (event, Side::Called), called, over.called.phase)
 }
 
 impl<A: Allocator + Copy> Drawing<A> {
-    /// The first session begins.
-    pub(crate) fn first(alloc: A, places: Places) -> Result<Self, AllocError>
+    /// The first session begins, of which this is told.
+    pub(crate) fn first(alloc: A, report: &Report<A>) -> Result<Self, AllocError>
         ensures { IfOk result (λ drawing.
-            drawing_shown drawing ≡ first_drawing (places_shown places)) }
+            drawing_shown drawing ≡ first_drawing (front_shown report.now)) }
     {
         let mut drawing = Drawing {
             ladder: Ladder::new(alloc),
-            caller: DrawnEnd::new(alloc, Side::Caller, places.caller)?,
-            called: DrawnEnd::new(alloc, Side::Called, places.called)?,
+            caller: DrawnEnd::new(alloc),
+            called: DrawnEnd::new(alloc),
         };
-        drawing.begin(alloc, None, 1, places)?;
+        drawing.begin(alloc, None, 1, report)?;
         Ok(drawing)
     }
 
@@ -139,33 +79,29 @@ impl<A: Allocator + Copy> Drawing<A> {
         alloc: A,
         event: Option<usize>,
         number: usize,
-        places: Places,
+        report: &Report<A>,
     ) -> Result<(), AllocError>
         ensures { OnOk result (drawing_shown self.new
-            ≡ begins_session event number (places_shown places) (ladder_shown self.old.ladder)) }
+            ≡ begins_session event number (front_shown report.now) (ladder_shown self.old.ladder)) }
     {
-        self.caller = DrawnEnd::new(alloc, Side::Caller, places.caller)?;
-        self.called = DrawnEnd::new(alloc, Side::Called, places.called)?;
-        self.ladder.add(event, Side::Caller, What::Begins(number))?;
-        greet(
-            alloc,
-            &mut self.ladder,
-            &mut self.called,
-            event,
-            Side::Called,
-        )
+        self.caller = DrawnEnd::new(alloc);
+        self.called = DrawnEnd::new(alloc);
+        let ladder = &mut self.ladder;
+        ladder.add(event, Side::Caller, What::Begins(number))?;
+        let name = report.line_from(Side::Called);
+        say(alloc, ladder, &mut self.called, event, Side::Called, name)
     }
 
     /// What an event does on the line, or to an end.
-    fn happen(&mut self, event: Event, number: usize, before: &Moment) -> Result<(), AllocError>
-        ensures { OnOk result (drawing_shown self.new
-            ≡ happens event number before.now (drawing_shown self.old)) }
+    fn happen(&mut self, event: Event, number: usize) -> Result<(), AllocError>
+        ensures { OnOk result
+            (drawing_shown self.new ≡ happens event number (drawing_shown self.old)) }
     {
         match event {
-            Event::Pass { side, n } => self.pass(side, n as usize, number, before)?,
+            Event::Pass { side, n } => self.pass(side, n as usize, number),
             Event::Drop { side, n } => self.lose(side, n as usize, number),
             Event::Flip { side, mask } => self.flip(side, mask, number),
-            Event::Insert { side, byte } => self.insert(side, byte, number)?,
+            Event::Insert { side, .. } => self.insert(side, number)?,
             Event::Timeout { side } => self.ladder.add(Some(number), side, What::TimesOut)?,
             Event::HangUp { side } => self.ladder.add(Some(number), side, What::HangsUp)?,
             Event::Call => self.lose_all(number),
@@ -173,39 +109,12 @@ impl<A: Allocator + Copy> Drawing<A> {
         Ok(())
     }
 
-    fn pass(
-        &mut self,
-        side: Side,
-        n: usize,
-        number: usize,
-        before: &Moment,
-    ) -> Result<(), AllocError>
-        ensures { OnOk result (drawing_shown self.new
-            ≡ happens (Event.Pass side n) number before.now (drawing_shown self.old)) }
+    fn pass(&mut self, side: Side, n: usize, number: usize)
+        ensures { drawing_shown self.new ≡ from_other side (passes number n) (drawing_shown self.old) }
     {
         match side {
-            Side::Caller => {
-                let hails = is_hailing(before.caller.phase);
-                bring(
-                    &mut self.ladder,
-                    &mut self.called,
-                    &mut self.caller,
-                    n,
-                    number,
-                    hails,
-                )
-            }
-            Side::Called => {
-                let hails = is_hailing(before.called.phase);
-                bring(
-                    &mut self.ladder,
-                    &mut self.caller,
-                    &mut self.called,
-                    n,
-                    number,
-                    hails,
-                )
-            }
+            Side::Caller => pass_next(&mut self.called.way, &mut self.ladder.fates, n, number),
+            Side::Called => pass_next(&mut self.caller.way, &mut self.ladder.fates, n, number),
         }
     }
 
@@ -238,150 +147,122 @@ impl<A: Allocator + Copy> Drawing<A> {
         }
     }
 
-    fn insert(&mut self, side: Side, byte: u8, number: usize) -> Result<(), AllocError>
+    fn insert(&mut self, side: Side, number: usize) -> Result<(), AllocError>
         ensures { OnOk result (drawing_shown self.new
-            ≡ from_other side (inserts number byte) (drawing_shown self.old)) }
+            ≡ from_other side (inserts number) (drawing_shown self.old)) }
     {
         match side {
-            Side::Caller => insert_next(&mut self.called.way, &mut self.ladder.fates, byte, number),
-            Side::Called => insert_next(&mut self.caller.way, &mut self.ladder.fates, byte, number),
+            Side::Caller => insert_next(&mut self.called.way, &mut self.ladder.fates, number),
+            Side::Called => insert_next(&mut self.caller.way, &mut self.ladder.fates, number),
         }
     }
 
-    /// What both ends have done in the session, of which this is told.
-    fn act(
+    /// What an end has done in the last session.
+    fn act_at(
         &mut self,
         alloc: A,
-        event: (usize, Event),
-        before: &Moment,
-        after: &Moment,
+        at: (usize, Side),
+        marks: &(Moment, Moment),
         told: &SessionReport<A>,
+        line: &[u8],
     ) -> Result<(), AllocError>
         ensures { OnOk result (drawing_shown self.new
-            ≡ both_act event.1 event.0 before.now after.now (session_shown told.now)
+            ≡ side_acts at.0 at.1 marks.now.0 marks.now.1 (at_side at.1 (session_shown told.now)) line.now
             (drawing_shown self.old)) }
     {
-        let marks: (Mark, Mark) = (before.caller, after.caller);
-        let packets = told.caller.packets.as_slice();
-        act(
-            alloc,
-            &mut self.ladder,
-            &mut self.caller,
-            event,
-            Side::Caller,
-            marks,
-            packets,
-        )?;
-        let marks: (Mark, Mark) = (before.called, after.called);
-        let packets = told.called.packets.as_slice();
-        act(
-            alloc,
-            &mut self.ladder,
-            &mut self.called,
-            event,
-            Side::Called,
-            marks,
-            packets,
-        )
+        let (before, after) = marks;
+        let ladder = &mut self.ladder;
+        match at.1 {
+            Side::Caller => {
+                let marks = (before.caller, after.caller);
+                let packets = told.caller.packets.as_slice();
+                act(alloc, ladder, &mut self.caller, at, marks, packets, line)
+            }
+            Side::Called => {
+                let marks = (before.called, after.called);
+                let packets = told.called.packets.as_slice();
+                act(alloc, ladder, &mut self.called, at, marks, packets, line)
+            }
+        }
     }
 
-    /// What both ends have done in the last of these sessions.
+    /// What both ends have done in the last session.
     fn act_last(
         &mut self,
         alloc: A,
-        event: (usize, Event),
-        before: &Moment,
-        after: &Moment,
-        sessions: &[SessionReport<A>],
+        number: usize,
+        marks: &(Moment, Moment),
+        report: &Report<A>,
     ) -> Result<(), AllocError>
         ensures { OnOk result (drawing_shown self.new
-            ≡ acts_in event.1 event.0 before.now after.now
-            (last_of (map session_shown sessions.now)) (drawing_shown self.old)) }
+            ≡ acts_in number marks.now.0 marks.now.1 (last_of report.now.told.sessions)
+            (front_shown report.now).lines (drawing_shown self.old)) }
     {
-        let Some(told) = last_of(sessions) else {
+        let Some(told) = last_of(report.sessions()) else {
             return Ok(());
         };
-        self.act(alloc, event, before, after, told)
+        let line = report.line_from(Side::Caller);
+        self.act_at(alloc, (number, Side::Caller), marks, told, line)?;
+        let line = report.line_from(Side::Called);
+        self.act_at(alloc, (number, Side::Called), marks, told, line)
     }
 
     /// The next session begins.
     fn call_again(
         &mut self,
         alloc: A,
-        places: Places,
-        event: usize,
-        before: &Moment,
-        after: &Moment,
-        sessions: &[SessionReport<A>],
+        number: usize,
+        marks: &(Moment, Moment),
+        report: &Report<A>,
     ) -> Result<(), AllocError>
         ensures { OnOk result (drawing_shown self.new
-            ≡ calls_again event before.now after.now
-            (slice_get (map session_shown sessions.now) (before.now.session - 1))
-            (places_shown places) (drawing_shown self.old)) }
+            ≡ calls_again number marks.now.0 marks.now.1 (front_shown report.now)
+            (drawing_shown self.old)) }
     {
-        end_session(&mut self.ladder, event, before, sessions)?;
-        self.begin(alloc, Some(event), after.session, renewed(places, after))
+        end_session(&mut self.ladder, number, &marks.0, report.sessions())?;
+        self.begin(alloc, Some(number), marks.1.session, report)
     }
 
     /// What both ends do behind an event, by whether the session is the same.
     fn go_on(
         &mut self,
         alloc: A,
-        places: Places,
-        event: (usize, Event),
-        marks: (Moment, Moment),
+        number: usize,
+        marks: &(Moment, Moment),
         same: bool,
-        sessions: &[SessionReport<A>],
+        report: &Report<A>,
     ) -> Result<(), AllocError>
         ensures { OnOk result (drawing_shown self.new
-            ≡ goes_on same event.1 event.0 marks.0 marks.1 (map session_shown sessions.now)
-            (places_shown places) (drawing_shown self.old)) }
+            ≡ goes_on same number marks.now.0 marks.now.1 (front_shown report.now)
+            (drawing_shown self.old)) }
     {
-        let (before, after) = marks;
         if !same {
-            return self.call_again(alloc, places, event.0, &before, &after, sessions);
+            return self.call_again(alloc, number, marks, report);
         }
-        self.act_last(alloc, event, &before, &after, sessions)
+        self.act_last(alloc, number, marks, report)
     }
 
-    /// An event, by what both ends have done before it and behind it.
-    fn step(
+    /// An event, by what both ends had done before it, and by what is told of the run behind it.
+    pub(crate) fn step(
         &mut self,
         alloc: A,
-        places: Places,
-        event: (usize, Event),
-        marks: (Moment, Moment),
-        sessions: &[SessionReport<A>],
-    ) -> Result<(), AllocError>
-        ensures { OnOk result (drawing_shown self.new
-            ≡ stepped event.1 event.0 marks.0 marks.1 (map session_shown sessions.now)
-            (places_shown places) (drawing_shown self.old)) }
-    {
-        self.happen(event.1, event.0, &marks.0)?;
-        let same = marks.0.session == marks.1.session;
-        self.go_on(alloc, places, event, marks, same, sessions)
-    }
-
-    /// The same, where it is known what they have done.
-    pub(crate) fn step_by(
-        &mut self,
-        alloc: A,
-        places: Places,
-        event: (usize, Event),
+        number: usize,
+        event: Event,
         before: Option<Moment>,
-        after: Option<Moment>,
-        sessions: &[SessionReport<A>],
+        report: &Report<A>,
     ) -> Result<(), AllocError>
         ensures { OnOk result (drawing_shown self.new
-            ≡ steps_by event.1 event.0 before after (map session_shown sessions.now)
-            (places_shown places) (drawing_shown self.old)) }
+            ≡ stepped event number before (moment_told report.now.told) (front_shown report.now)
+            (drawing_shown self.old)) }
     {
         let Some(before) = before else {
             return Ok(());
         };
-        let Some(after) = after else {
+        let Some(after) = moment_of(report) else {
             return Ok(());
         };
-        self.step(alloc, places, event, (before, after), sessions)
+        self.happen(event, number)?;
+        let same = before.session == after.session;
+        self.go_on(alloc, number, &(before, after), same, report)
     }
 }

@@ -1,20 +1,15 @@
 //! An end as its ladder is drawn.
-ghost use Rattle.std.specs.Prelude.{◌≡◌, IfOk};
+ghost use Rattle.std.specs.Prelude.{◌≡◌};
 ghost use Rattle.uug_packet.specs.Decoded.{decoded};
 ghost use Rattle.uug_ladder.specs.Acts.{end_begins, end_kept, is_repeat, next_behind};
-ghost use Rattle.uug_ladder.specs.Greeters.{place_shown};
 
-use crate::greeter::Greeter;
 use crate::way::WayByte;
-use std::alloc::{AllocError, Allocator};
-use uug_line::Side;
+use std::alloc::Allocator;
 use uug_packet::{Packet, decode};
-use uug_session::Place;
 
 /// What is kept of an end.
 #[derive(Drop)]
 pub(crate) struct DrawnEnd<A: Allocator> {
-    pub(crate) greeter: Greeter<A>,
     /// The number of the next data packet that it sends for the first time.
     pub(crate) next: u8,
     /// What is on its way from it.
@@ -23,14 +18,13 @@ pub(crate) struct DrawnEnd<A: Allocator> {
 
 impl<A: Allocator + Copy> DrawnEnd<A> {
     /// A session begins.
-    pub(crate) fn new(alloc: A, side: Side, place: Place) -> Result<Self, AllocError>
-        ensures { IfOk result (λ end. end_kept end ≡ end_begins side (place_shown place)) }
+    pub(crate) fn new(alloc: A) -> Self
+        ensures { end_kept result ≡ end_begins }
     {
-        Ok(DrawnEnd {
-            greeter: Greeter::new(alloc, side, place)?,
+        DrawnEnd {
             next: 1,
             way: Vec::new(alloc),
-        })
+        }
     }
 }
 

@@ -10,9 +10,6 @@ pub enum LadderFault {
     /// The first bad line of the script, counted from 1.
     #[error("bad script at line {0}")]
     Script(usize),
-    /// The script has more than `EVENTS_MAX` events.
-    #[error("more than 1000 events")]
-    TooLong,
     /// There is no memory for it.
     #[error("out of memory")]
     Memory,

@@ -4,10 +4,9 @@
 
 mod acts;
 mod drawing;
+mod drawn_run;
 mod end;
 mod fault;
-mod front;
-mod greeter;
 mod label;
 mod ladder;
 pub mod laws;
@@ -18,8 +17,8 @@ mod svg;
 mod text;
 mod way;
 
+pub use drawn_run::draw;
 pub use fault::LadderFault;
-pub use front::{EVENTS_MAX, draw};
 pub use label::add_label;
 pub use ladder::Ladder;
 pub use play::{Drawn, play_ladder};

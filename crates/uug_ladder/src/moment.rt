@@ -21,8 +21,6 @@ pub(crate) struct Mark {
     pub(crate) failed: usize,
     /// How many files it has stored.
     pub(crate) stored: usize,
-    /// The number of its conversations, where it keeps one.
-    pub(crate) number: Option<u32>,
 }
 
 /// What both ends have done.
@@ -45,7 +43,6 @@ fn mark_of<A: Allocator + Copy>(end: &EndReport<A>, node: &Node<MemorySpool<A>, 
         struck: queue.struck().len(),
         failed: queue.failed().len(),
         stored: node.spool().stored().len(),
-        number: node.number(),
     }
 }
 

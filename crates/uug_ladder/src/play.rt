@@ -2,7 +2,7 @@
 ghost use Rattle.std.specs.Prelude.{◌≡◌, ℕ, ◌<◌, ◌≤◌, ◌*◌, IfErr, IfOk, IfSome, OnOk, length, string_bytes};
 ghost use Rattle.std.specs.Io.KnownBytes.{Keeps};
 ghost use Rattle.uug_script.specs.IsScript.{IsFirstBad};
-ghost use Rattle.uug_play.specs.Played.{OnceRead};
+ghost use Rattle.uug_play.specs.Played.{IsPlayed, OnceRead};
 ghost use Rattle.uug_stream.specs.Fault.{UnlessRead, UnlessWrite};
 ghost use Rattle.uug_stream.specs.Streams.{CountsFault, ReadsAll};
 ghost use Rattle.uug_ladder.specs.Fronts.{IsLadderOf};
@@ -11,13 +11,13 @@ ghost use Rattle.uug_ladder.specs.Picture.{picture};
 ghost use Rattle.uug_ladder.specs.Played.{AppendsShown, BeforeWriting, BeginsShown, IsDrawingFault, IsShowingFault, IsShown, IsTooMuch, RunsOutShowing};
 ghost use Rattle.uug_ladder.specs.Rungs.{ladder_shown};
 
+use crate::drawn_run::{DrawnRun, draw_run};
 use crate::fault::LadderFault;
-use crate::front::draw;
 use crate::ladder::Ladder;
 use crate::svg::{ROWS_MAX, add_svg};
 use crate::text::add_ladder;
 use std::alloc::Allocator;
-use uug_play::{Played, play_script, read_whole};
+use uug_play::{Played, read_whole, shown};
 use uug_scan::{PIECE_SIZE, READ_LIMIT};
 use uug_stream::{Input, Output, ToolFault, write_all};
 
@@ -30,16 +30,33 @@ pub enum Drawn {
     AsPicture,
 }
 
-/// The ladder of a script.
-fn draw_script<A: Allocator + Copy>(alloc: A, script: &[u8]) -> Result<Ladder<A>, ToolFault>
-    ensures ladder { IfOk result (λ ladder. IsLadderOf script.now (ladder_shown ladder)) }
+/// A script, played and drawn.
+#[derive(Drop)]
+struct PlayedAndDrawn<A: Allocator> {
+    played: Played<A>,
+    ladder: Ladder<A>,
+}
+
+/// Plays a script, and draws what it does.
+fn play_and_draw<A: Allocator + Copy>(
+    alloc: A,
+    script: &[u8],
+) -> Result<PlayedAndDrawn<A>, ToolFault>
+    ensures played { IfOk result (λ both.
+        IsPlayed script.now (string_bytes both.played.text) both.played.status) }
+    ensures ladder { IfOk result (λ both. IsLadderOf script.now (ladder_shown both.ladder)) }
     ensures fault { IfErr result (IsShowingFault script.now) }
 {
-    match draw(alloc, script) {
-        Ok(ladder) => Ok(ladder),
-        Err(LadderFault::Script(line)) => Err(ToolFault::Script(line)),
-        Err(LadderFault::TooLong) => Err(ToolFault::Usage),
-        Err(LadderFault::Memory) => Err(ToolFault::Memory),
+    let DrawnRun { ladder, report } = match draw_run(alloc, script) {
+        Ok(drawn) => drawn,
+        Err(LadderFault::Script(line)) => return Err(ToolFault::Script(line)),
+        Err(LadderFault::Memory) => return Err(ToolFault::Memory),
+    };
+    let played = shown(alloc, &report);
+    drop(report);
+    match played {
+        Ok(played) => Ok(PlayedAndDrawn { played, ladder }),
+        Err(_) => Err(ToolFault::Memory),
     }
 }
 
@@ -49,8 +66,8 @@ fn as_text<A: Allocator + Copy>(alloc: A, script: &[u8]) -> Result<Played<A>, To
         IsShown Drawn.AsText script.now (string_bytes played.text) played.status) }
     ensures fault { IfErr result (IsShowingFault script.now) }
 {
-    let Played { mut text, status } = play_script(alloc, script)?;
-    let ladder = draw_script(alloc, script)?;
+    let PlayedAndDrawn { played, ladder } = play_and_draw(alloc, script)?;
+    let Played { mut text, status } = played;
     add_ladder(alloc, &mut text, &ladder)?;
     Ok(Played { text, status })
 }
@@ -61,8 +78,8 @@ fn as_picture<A: Allocator + Copy>(alloc: A, script: &[u8]) -> Result<Played<A>,
         IsShown Drawn.AsPicture script.now (string_bytes played.text) played.status) }
     ensures fault { IfErr result (IsShowingFault script.now) }
 {
-    let Played { status, .. } = play_script(alloc, script)?;
-    let ladder = draw_script(alloc, script)?;
+    let PlayedAndDrawn { played, ladder } = play_and_draw(alloc, script)?;
+    let Played { status, .. } = played;
     if ladder.rungs.len() > ROWS_MAX {
         return Err(ToolFault::Usage);
     }
@@ -84,7 +101,7 @@ fn show<A: Allocator + Copy>(alloc: A, script: &[u8], how: Drawn) -> Result<Play
 
 /// Reads the input to its end as a script, plays it, and writes the report and behind it the ladder, or the picture of the
 /// ladder alone. The answer is the program's status, as `play_stream` gives it. Nothing is written before all was played.
-/// A script with more than `EVENTS_MAX` events, or a picture of more than `ROWS_MAX` rungs, is answered by `Usage`. Of two
+/// A picture of more than `ROWS_MAX` rungs is answered by `Usage`. Of two
 /// faults the one that the work meets first is answered; where a write failed, or memory ran out in writing, a front of
 /// what is shown was written.
 pub fn play_ladder<A: Allocator + Copy, I: Input, O: Output>(

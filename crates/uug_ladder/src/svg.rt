@@ -1,6 +1,6 @@
 //! A ladder as a picture.
-ghost use Rattle.std.specs.Prelude.{◌≡◌, ◌≤◌, ◌<◌, ◌++◌, [], OnOk, IfOk, length, map, string_bytes};
-ghost use Rattle.uug_ladder.specs.Picture.{anchored, arrow_drawn, arrow_if, beside, head, is_before, line_end, line_goal, line_of, line_start, line_to, lost_words, other_line, picture, picture_of, place_words, row_by, row_drawn, row_y, rows_before, rows_drawn, rung_words, session_row, size_line, top_of, words_at};
+ghost use Rattle.std.specs.Prelude.{◌≡◌, ◌+◌, ◌≤◌, ◌<◌, ◌++◌, [], OnOk, drop, IfOk, length, map, string_bytes};
+ghost use Rattle.uug_ladder.specs.Picture.{anchored, arrow_drawn, arrow_if, beside, head, is_before, line_end, line_goal, line_of, line_start, line_to, lost_words, other_line, picture, picture_of, place_words, row_by, row_drawn, row_y, rows_drawn, rows_until, rung_words, session_row, size_line, top_of, words_at};
 ghost use Rattle.uug_ladder.specs.Rungs.{ladder_shown, rung_shown};
 
 use crate::label::label_of;
@@ -138,18 +138,28 @@ fn is_before(event: usize, number: Option<usize>) -> bool
     }
 }
 
-/// How many rungs occur before this event.
-fn rows_before<A: Allocator>(event: usize, rungs: &[Rung<A>]) -> usize
-    ensures count { result ≡ rows_before event (map rung_shown rungs.now) }
+/// How many rungs, from the first on, occur before this event.
+fn rows_until<A: Allocator>(event: usize, rungs: &[Rung<A>]) -> usize
+    ensures count { result ≡ rows_until event (map rung_shown rungs.now) }
     ensures within { result ≤ length rungs.now }
 {
     let mut count = 0;
     for rung in rungs {
-        if is_before(event, rung.event) {
-            count += 1;
+        if !is_before(event, rung.event) {
+            return count;
         }
+        count += 1;
     }
     count
+}
+
+/// The row in which the first rung of this event stands, from this row on.
+fn row_of<A: Allocator>(event: usize, all: &[Rung<A>], row: usize) -> usize
+    requires { row < length all.now }
+    ensures row { result ≡ row + rows_until event (drop row (map rung_shown all.now)) }
+    ensures within { result ≤ length all.now }
+{
+    row + rows_until(event, &all[row..])
 }
 
 fn line_of(side: Side) -> usize
@@ -211,7 +221,7 @@ fn add_arrow<A: Allocator + Copy, B: Allocator>(
     let from = (line_of(side), y);
     match fate {
         Fate::Arrives(event) => {
-            let to = (other_line(side), row_y(rows_before(event, all)));
+            let to = (other_line(side), row_y(row_of(event, all, row)));
             add_line(text, from, to, " marker-end=\"url(#tip)\"")
         }
         Fate::Lost(event) => {

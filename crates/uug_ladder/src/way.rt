@@ -1,4 +1,4 @@
-//! The bytes that are on their way from an end, and what becomes of what they are of.
+//! Of what each byte on the way from an end is, and what becomes of that.
 ghost use Rattle.std.specs.Prelude.{◌≡◌, ◌++◌, ◌∷◌, [], OnOk, take, true, false};
 ghost use Rattle.uug_ladder.specs.Way.{arrived, drops, flips, inserts, lost, passes, rest_of, sent_by, settled, settled_at, settled_by};
 
@@ -8,7 +8,6 @@ use std::alloc::{AllocError, Allocator};
 /// A byte on its way.
 #[derive(Clone, Copy, Debug, PartialEq, Eq)]
 pub(crate) struct WayByte {
-    pub(crate) value: u8,
     /// The rung that sent it; none where it was put in.
     pub(crate) of: Option<usize>,
     pub(crate) is_first: bool,
@@ -23,11 +22,10 @@ pub(crate) fn add_bytes<A: Allocator>(
 ) -> Result<(), AllocError>
     ensures { OnOk result (way.new.items ≡ way.old.items ++ sent_by place bytes.now) }
 {
-    let Some((first, rest)) = bytes.split_first() else {
+    let Some((_, rest)) = bytes.split_first() else {
         return Ok(());
     };
     way.push(WayByte {
-        value: *first,
         of: Some(place),
         is_first: true,
         is_last: rest.is_empty(),
@@ -42,9 +40,8 @@ fn add_rest<A: Allocator>(
 ) -> Result<(), AllocError>
     ensures { OnOk result (way.new.items ≡ way.old.items ++ rest_of place bytes.now) }
 {
-    for (i, byte) in bytes.iter().enumerate() {
+    for (i, _) in bytes.iter().enumerate() {
         way.push(WayByte {
-            value: *byte,
             of: Some(place),
             is_first: false,
             is_last: bytes.len() - i == 1,
@@ -139,22 +136,21 @@ pub(crate) fn flip_next<A: Allocator, B: Allocator>(
     ensures { record { bytes = way.new.items; fates = fates.new.items }
         ≡ flips event mask (record { bytes = way.old.items; fates = fates.old.items }) }
 {
-    if way.is_empty() || mask == 0 {
+    if mask == 0 {
         return;
     }
-    lose(fates, &way[..1], event);
-    way[0].value ^= mask;
+    let next = way.len().min(1);
+    lose(fates, &way[..next], event);
 }
 
-/// This byte is put in front of the next one.
+/// A byte is put in front of the next one.
 pub(crate) fn insert_next<A: Allocator, B: Allocator>(
     way: &mut Vec<WayByte, A>,
     fates: &mut Vec<Fate, B>,
-    value: u8,
     event: usize,
 ) -> Result<(), AllocError>
     ensures { OnOk result (record { bytes = way.new.items; fates = fates.new.items }
-        ≡ inserts event value (record { bytes = way.old.items; fates = fates.old.items })) }
+        ≡ inserts event (record { bytes = way.old.items; fates = fates.old.items })) }
 {
     if !way.is_empty() && !way[0].is_first {
         lose(fates, &way[..1], event);
@@ -162,7 +158,6 @@ pub(crate) fn insert_next<A: Allocator, B: Allocator>(
     way.insert(
         0,
         WayByte {
-            value,
             of: None,
             is_first: true,
             is_last: true,

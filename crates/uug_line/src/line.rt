@@ -49,11 +49,18 @@ impl<A: Allocator> Line<A> {
         self.bytes.len() - self.gone
     }
 
+    /// All that is on it.
+    pub(crate) fn bytes(&self) -> &[u8]
+        ensures { result.now ≡ self.now }
+    {
+        &self.bytes[self.gone..]
+    }
+
     /// The next bytes, so many or all.
     pub(crate) fn next(&self, n: usize) -> &[u8]
         ensures { result.now ≡ take n self.now }
     {
-        let bytes = &self.bytes[self.gone..];
+        let bytes = self.bytes();
         &bytes[..n.min(bytes.len())]
     }
 

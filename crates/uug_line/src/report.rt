@@ -2,6 +2,7 @@ ghost use Rattle.std.specs.Prelude.{◌≡◌, ◌↔◌, List, IsTrue, map};
 ghost use Rattle.uug_line.specs.declared.event.Event.{Event};
 ghost use Rattle.uug_line.specs.Belongings.{SetupValue};
 ghost use Rattle.uug_line.specs.OfSomeRun.{IsOfSomeRun, IsRunOf};
+ghost use Rattle.uug_conversation.specs.Sides.{at};
 ghost use Rattle.uug_line.specs.Settle.{MaySettle};
 ghost use Rattle.uug_line.specs.Settled.{CanSettle, EndCanSettle};
 ghost use Rattle.uug_line.specs.Shown.{HasSaidAll, held_at, owned_by, session_shown, spool_of, stands_so};
@@ -11,7 +12,7 @@ use crate::line::Line;
 use crate::verdict::LineVerdict;
 use std::alloc::Allocator;
 use std::marker::Model;
-use uug_session::{MemorySpool, Node, Phase};
+use uug_session::{MemorySpool, Node, Phase, Side};
 
 /// What an end did in a session.
 #[derive(Drop)]
@@ -102,6 +103,16 @@ impl<A: Allocator + Copy> Report<A> {
         ensures said { HasSaidAll result.now }
     {
         &self.called.node
+    }
+
+    /// The bytes that are on their way from the end on the side.
+    pub fn line_from(&self, side: Side) -> &[u8]
+        ensures { result.now ≡ (at side self.now.left).line }
+    {
+        match side {
+            Side::Caller => self.caller.line.bytes(),
+            Side::Called => self.called.line.bytes(),
+        }
     }
 
     /// Whether each packet that was found had been sent.

@@ -1,5 +1,5 @@
 -- A mail, and two copies in one job, as they were found in a spool, so that a wrong definition does not check.
-use Rattle.std.proofs.Common.{◌≡◌, [], ◌∷◌, codes, Some, None, Ok, Err, refl}
+use Rattle.std.proofs.Common.{◌≡◌, ℕ, List, true, false, [], ◌∷◌, codes, Some, None, Ok, Err, refl}
 use Rattle.uug_conversation.specs.declared.job.Job.{Job}
 use Rattle.uug_conversation.specs.declared.job.Job.TheVariants as job
 use Rattle.uug_spool.specs.Operations.{folder_synced, renamed, unlinked}
@@ -8,7 +8,9 @@ use Rattle.uug_spool.specs.declared.spool_names.Room.TheVariants as rooms
 use Rattle.uug_mailbox.specs.Offers.{offer_of}
 use Rattle.uug_mailbox.specs.OpenLines.{file_lines, line_of, lines_left}
 use Rattle.uug_mailbox.specs.OverOrder.{store_ops}
-use Rattle.uug_mailbox.specs.Placing.{place_ops}
+use Rattle.uug_mailbox.specs.Placing.{end_ops, marks_after, names_data, no_marks, place_ops}
+use Rattle.uug_mailbox.specs.declared.marks.Came.{Came}
+use Rattle.uug_mailbox.specs.declared.marks.Marks.{Marks}
 use Rattle.uug_mailbox.specs.declared.offer.NotOffered.TheVariants as why
 use Rattle.uug_mailbox.specs.declared.open_line.OpenLine.{OpenLine}
 
@@ -30,7 +32,7 @@ a_mail : offer_of (codes "E D.0001 D.alphaN0001 uucp -CNZR D.0001 0666 sender@he
 a_mail = refl
 
 no_copy : offer_of (codes "S /srv/f1 ~/nocopy uucp -cd D.0002 0644 ")
-    ≡ Ok (record { copy = None; first = job.Send (codes "/srv/f1") (codes "~/nocopy") (codes "uucp") None; second = None })
+    ≡ Ok (record { copy = None; first = job.Send (codes "/srv/f1") (codes "~/nocopy") (codes "uucp") (Some (codes "D.0002")); second = None })
 no_copy = refl
 
 a_wildcard : offer_of (codes "X ~/glob* alpha!/srv/alpha/pub/ uucp -d") ≡ Err why.Wildcard
@@ -81,11 +83,32 @@ its_copy_goes : store_ops (second_copy ∷ []) [] (first_line ∷ second_line �
     ≡ unlinked (spot rooms.Data (codes "D.0003")) ∷ folder_synced rooms.Data ∷ []
 its_copy_goes = refl
 
--- a mail that had come is dropped, and the marker of its data goes
-had_come : place_ops (Some (codes "D.alphaN0001")) (codes "X.alphaN0001" ∷ []) (codes "X.alphaN0001") (codes "C rmail u\n")
-    ≡ unlinked (spot rooms.Marked (codes "D.alphaN0001")) ∷ []
-had_come = refl
+-- a mail: its data, and then its execution file, which leaves the marker of the data
+abbrev text_bytes : List ℕ
+text_bytes = codes "U uucp alpha\nF D.alphaN0001\nI D.alphaN0001\nC rmail u\n"
+
+abbrev after_data : Marks
+after_data = marks_after no_marks (codes "D.alphaN0001")
+
+data_has_come : after_data ≡ record { before = None; last = Some (codes "D.alphaN0001") }
+data_has_come = refl
+
+both_have_come : marks_after after_data (codes "X.alphaN0002")
+    ≡ record { before = Some (codes "D.alphaN0001"); last = Some (codes "X.alphaN0002") }
+both_have_come = refl
+
+-- the next data shows that the sender knows of both
+next_comes : end_ops (marks_after after_data (codes "X.alphaN0002"))
+    ≡ unlinked (spot rooms.Marked (codes "D.alphaN0001")) ∷ unlinked (spot rooms.Marked (codes "X.alphaN0002")) ∷ []
+next_comes = refl
+
+-- the same text names its data, so it is dropped under another name
+names_its_data : names_data text_bytes ≡ true
+names_its_data = refl
+
+names_nothing : names_data (codes "U uucp alpha\nC rmail u\n") ≡ false
+names_nothing = refl
 
 -- this system's own data is not overwritten
-is_ours : place_ops None [] (codes "D.0001") (codes "x") ≡ []
-is_ours = refl
+is_ours : {A : Type 0} (came : List (Came A)) → place_ops no_marks came (codes "D.0001") (codes "x") ≡ []
+is_ours came = refl

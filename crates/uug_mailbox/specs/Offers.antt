@@ -30,19 +30,16 @@ words_of f = if has_option 113 f.options then Err why.Quoted else
     named f.source >>= (λ source. named f.target >>= (λ target. named f.user >>= (λ user.
     Ok (record { source = source; target = target; user = user }))))
 
-abbrev pub some_name : Result (List ℕ) NotOffered → Result (Option (List ℕ)) NotOffered
-some_name (Ok name) = Ok (Some name)
-some_name (Err e) = Err e
-
 -- option C says that the data is a copy of this name
-abbrev pub copied : (options temp : List ℕ) → Result (Option (List ℕ)) NotOffered
-copied options temp = if has_option 67 options then some_name (named temp) else Ok None
+abbrev pub copied : (options temp : List ℕ) → Option (List ℕ)
+copied options temp = if has_option 67 options then Some temp else None
 
-abbrev pub sending : JobNames → (copy : Option (List ℕ)) → Offer
-sending n copy = record { copy = copy; first = job.Send n.source n.target n.user copy; second = None }
+-- it goes under the name of its copy, also where that is a name alone
+abbrev pub sending : JobNames → (copy : Option (List ℕ)) → (temp : List ℕ) → Offer
+sending n copy temp = record { copy = copy; first = job.Send n.source n.target n.user (Some temp); second = None }
 
 abbrev pub sent : FieldWords → FileWords → Result Offer NotOffered
-sent f w = words_of f >>= (λ n. copied f.options w.temp >>= (λ copy. Ok (sending n copy)))
+sent f w = words_of f >>= (λ n. named w.temp >>= (λ temp. Ok (sending n (copied f.options temp) temp)))
 
 abbrev pub requested : FieldWords → Result Offer NotOffered
 requested f = words_of f >>= (λ n.

@@ -1,23 +1,26 @@
 -- How the files of another system come into their places (this project's profile).
-use Rattle.std.specs.Prelude.{ℕ, List, [], ◌∷◌, ◌++◌, Bool, true, false, Option, Some, None, Result, Ok, Err, if◌then◌else◌}
+use Rattle.std.specs.Prelude.{◌&&◌, ◌||◌, ℕ, List, [], ◌∷◌, ◌++◌, Bool, true, false, Option, Some, None, Result, Ok, Err, codes, if◌then◌else◌}
+use Rattle.std.specs.List.{list_any}
 use Rattle.std.specs.Str.{bytes_eq}
+use Rattle.uug_talk.specs.Lines.{lines}
 use Rattle.uug_spool.specs.DiskOrder.{stored_ops}
-use Rattle.uug_spool.specs.Operations.{Op, unlinked}
-use Rattle.uug_spool.specs.SpoolNames.{spot, spot_of}
+use Rattle.uug_spool.specs.Operations.{Op, folder_synced, unlinked}
+use Rattle.uug_spool.specs.SpoolNames.{begins_with, spot, spot_of}
 use Rattle.uug_spool.specs.declared.spool_names.Barred.{Barred}
 use Rattle.uug_spool.specs.declared.spool_names.Room.{Room}
 use Rattle.uug_spool.specs.declared.spool_names.Room.TheVariants as rooms
 use Rattle.uug_spool.specs.declared.spool_names.Spot.{Spot}
-use Rattle.uug_mailbox.specs.OpenLines.{has_name}
+use Rattle.uug_mailbox.specs.declared.marks.Came.{Came}
+use Rattle.uug_mailbox.specs.declared.marks.Marks.{Marks}
 use Rattle.uug_mailbox.specs.declared.spool_folder.SpoolFolder.{SpoolFolder}
 
 -- ---- what a folder has
 
-abbrev pub came_of : {D A : Type 0} → SpoolFolder D A → List (List ℕ)
+abbrev pub came_of : {D A : Type 0} → SpoolFolder D A → List (Came A)
 came_of folder = folder.came.items
 
-abbrev pub last_of : {D A : Type 0} → SpoolFolder D A → Option (List ℕ)
-last_of folder = folder.last
+abbrev pub marks_of : {D A : Type 0} → SpoolFolder D A → Marks
+marks_of folder = folder.marks
 
 abbrev pub faults_of : {D A : Type 0} → SpoolFolder D A → ℕ
 faults_of folder = folder.faults
@@ -31,30 +34,82 @@ barred_by (Err why) = true
 abbrev pub is_barred : List ℕ → Bool
 is_barred name = barred_by (spot_of name)
 
--- a file of the spool whose marker stood when the session began; a name in the public folder may come with another file
-abbrev pub is_again : Room → (came : List (List ℕ)) → (name : List ℕ) → Bool
-is_again rooms.Public came name = false
-is_again _ came name = has_name name came
+-- ---- files that had come
+
+-- a line of an execution file that names a file which has to be there
+abbrev pub names_file : List ℕ → Bool
+names_file line = begins_with (codes "F ") line
+
+abbrev pub names_data : (text : List ℕ) → Bool
+names_data text = list_any names_file (lines text)
+
+abbrev pub has_marker : {A : Type 0} → List (Came A) → (name : List ℕ) → Bool
+has_marker came name = list_any (λ other. bytes_eq other.name name) came
+
+abbrev pub has_same_text : {A : Type 0} → List (Came A) → (text : List ℕ) → Bool
+has_same_text came text = list_any (λ other. bytes_eq other.text.items text) came
+
+-- a file of the spool whose marker stood when the session began, and an execution file of the same text that names its data; a
+-- name in the public folder may come with another file
+abbrev pub is_again : {A : Type 0} → Room → (came : List (Came A)) → (name bytes : List ℕ) → Bool
+is_again rooms.Public came name bytes = false
+is_again rooms.Execution came name bytes = has_marker came name || (names_data bytes && has_same_text came bytes)
+is_again _ came name bytes = has_marker came name
+
+abbrev pub marker_text : Room → (name bytes : List ℕ) → List ℕ
+marker_text rooms.Execution name bytes = bytes
+marker_text _ name bytes = name
+
+-- ---- markers
+
+abbrev pub no_marks : Marks
+no_marks = record { before = None; last = None }
+
+-- that of data stays when its execution file comes: both come again where the sender does not know of both
+abbrev pub keeps : Room → (last : Option (List ℕ)) → Bool
+keeps rooms.Execution (Some last) = begins_with (codes "D.") last
+keeps _ _ = false
+
+abbrev pub next_marks : Marks → Room → (name : List ℕ) → Marks
+next_marks marks room name = record { before = if keeps room marks.last then marks.last else None; last = Some name }
+
+abbrev pub is_mark : (mark : Option (List ℕ)) → (name : List ℕ) → Bool
+is_mark None name = false
+is_mark (Some mark) name = bytes_eq mark name
 
 -- ---- what is done
 
--- the marker of the last file goes
-abbrev pub end_ops : (last : Option (List ℕ)) → List Op
-end_ops None = []
-end_ops (Some last) = unlinked (spot rooms.Marked last) ∷ []
+abbrev pub mark_ops : (mark : Option (List ℕ)) → List Op
+mark_ops None = []
+mark_ops (Some mark) = unlinked (spot rooms.Marked mark) ∷ []
 
--- unless the next one has its name
-abbrev pub unmark_ops : (last : Option (List ℕ)) → (name : List ℕ) → List Op
-unmark_ops None name = []
-unmark_ops (Some last) name = if bytes_eq last name then [] else unlinked (spot rooms.Marked last) ∷ []
+-- the markers that stand go
+abbrev pub end_ops : Marks → List Op
+end_ops marks = mark_ops marks.before ++ mark_ops marks.last
+
+-- for good where the next file has the name of one of them: else the power could bring it back beside a file that is not whole
+abbrev pub seen_ops : Marks → (name : List ℕ) → List Op
+seen_ops marks name = if is_mark marks.before name || is_mark marks.last name then folder_synced rooms.Marked ∷ [] else []
+
+abbrev pub unmark_ops : Marks → Room → (name : List ℕ) → List Op
+unmark_ops marks room name = if keeps room marks.last then [] else end_ops marks ++ seen_ops marks name
 
 -- a file that had come already is dropped
-abbrev pub again_ops : (came : List (List ℕ)) → (name bytes : List ℕ) → Spot → List Op
-again_ops came name bytes target = if is_again target.room came name then [] else stored_ops name target name bytes
+abbrev pub again_ops : (again : Bool) → (name bytes : List ℕ) → Spot → List Op
+again_ops again name bytes target = if again then [] else stored_ops name target (marker_text target.room name bytes) bytes
 
-abbrev pub placed_by : (came : List (List ℕ)) → (name bytes : List ℕ) → Result Spot Barred → List Op
-placed_by came name bytes (Ok target) = again_ops came name bytes target
-placed_by came name bytes (Err why) = []
+abbrev pub placed_by : {A : Type 0} → Marks → (came : List (Came A)) → (name bytes : List ℕ) → Result Spot Barred → List Op
+placed_by marks came name bytes (Ok target) =
+    unmark_ops marks target.room name ++ again_ops (is_again target.room came name bytes) name bytes target
+placed_by marks came name bytes (Err why) = []
 
-abbrev pub place_ops : (last : Option (List ℕ)) → (came : List (List ℕ)) → (name bytes : List ℕ) → List Op
-place_ops last came name bytes = unmark_ops last name ++ placed_by came name bytes (spot_of name)
+abbrev pub place_ops : {A : Type 0} → Marks → (came : List (Came A)) → (name bytes : List ℕ) → List Op
+place_ops marks came name bytes = placed_by marks came name bytes (spot_of name)
+
+-- the markers that stand when a file of this name has come
+abbrev pub marks_by : Marks → (name : List ℕ) → Result Spot Barred → Marks
+marks_by marks name (Ok target) = next_marks marks target.room name
+marks_by marks name (Err why) = marks
+
+abbrev pub marks_after : Marks → (name : List ℕ) → Marks
+marks_after marks name = marks_by marks name (spot_of name)

@@ -1,5 +1,5 @@
 //! Laws of the mail of a system. A call does nothing: its contract is the law.
-ghost use Rattle.std.specs.Prelude.{◌≡◌, ◌++◌, ℕ, List, Option, Some, take, true};
+ghost use Rattle.std.specs.Prelude.{◌≡◌, ◌++◌, ℕ, Bool, List, Some, take, true};
 ghost use Rattle.uug_conversation.specs.declared.job.Job.{Job};
 ghost use Rattle.uug_folder.specs.OpenJobs.{HoldsAtLeast, jobs_left};
 ghost use Rattle.uug_spool.specs.SpoolNames.{data_spot, spot};
@@ -10,6 +10,7 @@ ghost use Rattle.uug_spool.specs.declared.spool_names.Spot.{Spot};
 ghost use Rattle.uug_mailbox.specs.OpenLines.{jobs_of};
 ghost use Rattle.uug_mailbox.specs.OverOrder.{has_copy, has_line, lines_after, over_ops};
 ghost use Rattle.uug_mailbox.specs.Placing.{again_ops, unmark_ops};
+ghost use Rattle.uug_mailbox.specs.declared.marks.Marks.{Marks};
 ghost use Rattle.uug_mailbox.specs.declared.open_line.OpenLine.{OpenLine};
 ghost use Rattle.uug_mailbox.specs.declared.open_line.Outcome.{Outcome};
 ghost use Rattle.uug_mailbox.specs.declared.open_line.Outcome.TheVariants.{Done};
@@ -36,10 +37,11 @@ pub fn what_is_open_stays()
         → AfterEach (IsAsBefore s (spot rooms.Commands file)) (over_ops outcome over others) s }
 {}
 
-/// Wherever a power cut stops it: while a file of another system is put into its place, with the marker of the one before taken
-/// away, its place has what it had before or the whole file.
+/// Wherever a power cut stops it: while a file of another system is put into its place, with the markers of those before taken
+/// away, or dropped since it had come, its place has what it had before or the whole file.
 pub fn what_comes_is_whole()
-    ensures { (last : Option (List ℕ)) (came : List (List ℕ)) (name bytes : List ℕ) (place : Spot) (s : Standing)
+    ensures { (marks : Marks) (again : Bool) (name bytes : List ℕ) (place : Spot) (s : Standing)
         → is_place place.room ≡ true
-        → AfterEach (IsBeforeOrWhole s place bytes) (unmark_ops last name ++ again_ops came name bytes place) s }
+        → AfterEach (IsBeforeOrWhole s place bytes)
+        (unmark_ops marks place.room name ++ again_ops again name bytes place) s }
 {}

@@ -5,6 +5,7 @@
 
 mod command_file;
 pub mod laws;
+mod marks;
 mod offer;
 mod open_line;
 mod parted;
@@ -13,8 +14,9 @@ mod spool_folder;
 mod work_store;
 
 pub use command_file::{add_file, queue_of};
+pub use marks::{Came, Marks};
 pub use offer::{NotOffered, Offer, read_offer};
 pub use open_line::{OpenLine, Outcome};
 pub use settled::{settle, settle_file};
-pub use spool_folder::{NotPlaced, SpoolFolder};
+pub use spool_folder::{NotPlaced, SpoolFolder, remove_markers};
 pub use work_store::WorkStore;

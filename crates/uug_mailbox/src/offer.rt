@@ -78,14 +78,14 @@ fn words_of(fields: &Fields<'_>) -> Result<JobNames, NotOffered>
     })
 }
 
-/// The name of the copy, where the options say that the data is one.
-fn copied(options: &[u8], temp: &[u8]) -> Result<Option<Name>, NotOffered>
+/// The name of the copy, where the options say that the data is one of this name.
+fn copied(options: &[u8], temp: &Name) -> Option<Name>
     ensures { result ≡ copied options.now temp.now }
 {
     if has_option(options, b'C') {
-        Ok(Some(named(temp)?))
+        Some(*temp)
     } else {
-        Ok(None)
+        None
     }
 }
 
@@ -93,21 +93,21 @@ fn sent(fields: &Fields<'_>, file: &SentFile<'_>) -> Result<Offer, NotOffered>
     ensures { result ≡ sent (shown_fields fields.now) (shown_file file.now) }
 {
     let names = words_of(fields)?;
-    let copy = copied(fields.options, file.temp)?;
-    Ok(sending(&names, &copy))
+    let temp = named(file.temp)?;
+    Ok(sending(&names, copied(fields.options, &temp), &temp))
 }
 
 /// A job that sends a file, and nothing with it.
-fn sending(names: &JobNames, copy: &Option<Name>) -> Offer
-    ensures { result ≡ sending names.now copy.now }
+fn sending(names: &JobNames, copy: Option<Name>, temp: &Name) -> Offer
+    ensures { result ≡ sending names.now copy temp.now }
 {
     Offer {
-        copy: *copy,
+        copy,
         first: Job::Send {
             source: names.source,
             target: names.target,
             user: names.user,
-            temp: *copy,
+            temp: Some(*temp),
         },
         second: None,
     }

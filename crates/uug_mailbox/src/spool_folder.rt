@@ -1,9 +1,9 @@
 //! The folders of a spool, as one folder that takes the files of another system.
-ghost use Rattle.std.specs.Prelude.{◌≡◌, ◌++◌, None, Some, OnErr, OnOk};
+ghost use Rattle.std.specs.Prelude.{◌≡◌, ◌++◌, None, OnErr, OnOk};
 ghost use Rattle.uug_spool.specs.Operations.{FrontDone, also_all};
-ghost use Rattle.uug_mailbox.specs.Placing.{again_ops, came_of, end_ops, faults_of, is_again, is_barred, last_of, place_ops, unmark_ops};
+ghost use Rattle.uug_mailbox.specs.Placing.{again_ops, came_of, end_ops, faults_of, is_barred, mark_ops, marks_after, marks_of, no_marks, place_ops, seen_ops, unmark_ops};
 
-use crate::command_file::has_name;
+use crate::marks::{Came, Marks, is_again, is_mark, keeps, marker_text, next_marks};
 use std::alloc::Allocator;
 use thiserror::Error;
 use uug_folder::{Folder, FolderFailed};
@@ -22,41 +22,52 @@ pub enum NotPlaced {
 }
 
 /// The folders of a spool, as one folder that takes the files of another system, each with a marker of its name. The marker of
-/// a file is taken away when the next one comes, which shows that the other system knows of it.
+/// a file is taken away when the next one comes, which shows that the other system knows of it; that of data stays when its
+/// execution file comes, since both come again where the other system does not know of both.
 #[derive(Drop)]
 pub struct SpoolFolder<D, A: Allocator> {
     pub disk: D,
-    /// The names of the markers that stood when the session began: their files are in their places, and may come again.
-    came: Vec<Name, A>,
-    /// The name of the file that came last.
-    last: Option<Name>,
+    /// The markers that stood when the session began.
+    came: Vec<Came<A>, A>,
+    /// The files of the session whose markers stand.
+    marks: Marks,
     faults: u64,
 }
 
 impl<D: Disk, A: Allocator> SpoolFolder<D, A> {
-    /// The folders of this disk, on which the markers of these names stand.
-    pub fn new(disk: D, came: Vec<Name, A>) -> Self
+    /// The folders of this disk, on which these markers stand.
+    pub fn new(disk: D, came: Vec<Came<A>, A>) -> Self
         ensures came { came_of result ≡ came.items }
-        ensures last { last_of result ≡ None }
+        ensures marks { marks_of result ≡ no_marks }
     {
         SpoolFolder {
             disk,
             came,
-            last: None,
+            marks: Marks {
+                before: None,
+                last: None,
+            },
             faults: 0,
         }
     }
 
-    /// Puts a file in its place, and takes the marker of the one before away. A file of the spool that had come already is
+    /// The files of the session whose markers stand.
+    pub fn marks(&self) -> Marks
+        ensures { result ≡ marks_of self.now }
+    {
+        self.marks
+    }
+
+    /// Puts a file in its place, and takes the markers of those before away. A file of the spool that had come already is
     /// dropped: it is in its place, or was used up there.
     pub fn place(&mut self, name: &Name, bytes: &[u8]) -> Result<(), NotPlaced>
         ensures ok { OnOk result (D.done self.new.disk
-            ≡ also_all (place_ops (last_of self.old) (came_of self.old) name.now bytes.now)
+            ≡ also_all (place_ops (marks_of self.old) (came_of self.old) name.now bytes.now)
             (D.done self.old.disk)) }
         ensures err { OnErr result (FrontDone
-            (place_ops (last_of self.old) (came_of self.old) name.now bytes.now)
+            (place_ops (marks_of self.old) (came_of self.old) name.now bytes.now)
             (D.done self.old.disk) (D.done self.new.disk)) }
-        ensures last { OnOk result (last_of self.new ≡ Some name.now) }
+        ensures marks { OnOk result (marks_of self.new ≡ marks_after (marks_of self.old) name.now) }
         ensures came { came_of self.new ≡ came_of self.old }
         ensures faults { faults_of self.new ≡ faults_of self.old }
     {
@@ -64,105 +75,125 @@ impl<D: Disk, A: Allocator> SpoolFolder<D, A> {
             Ok(target) => target,
             Err(why) => return Err(NotPlaced::Barred(why)),
         };
-        let came = self.came.as_slice();
-        match place_at(&mut self.disk, &self.last, came, name, &target, bytes) {
+        let again = is_again(target.room, self.came.as_slice(), name, bytes);
+        match place_at(&mut self.disk, &self.marks, again, name, &target, bytes) {
             Ok(()) => (),
             Err(DiskFailed) => return Err(NotPlaced::Disk),
         }
-        self.last = Some(*name);
+        self.marks = next_marks(&self.marks, target.room, name);
         Ok(())
     }
 
-    /// Takes the marker of the last file away, when the session has ended well.
+    /// Takes the markers of the session away, when it has ended well.
     pub fn end(&mut self) -> Result<(), DiskFailed>
         ensures ok { OnOk result (D.done self.new.disk
-            ≡ also_all (end_ops (last_of self.old)) (D.done self.old.disk)) }
-        ensures err { OnErr result (FrontDone (end_ops (last_of self.old))
+            ≡ also_all (end_ops (marks_of self.old)) (D.done self.old.disk)) }
+        ensures err { OnErr result (FrontDone (end_ops (marks_of self.old))
             (D.done self.old.disk) (D.done self.new.disk)) }
-        ensures last { OnOk result (last_of self.new ≡ None) }
+        ensures marks { OnOk result (marks_of self.new ≡ no_marks) }
     {
-        if let Some(last) = &self.last {
-            remove_marker(&mut self.disk, last)?;
-        }
-        self.last = None;
+        remove_markers(&mut self.disk, &self.marks)?;
+        self.marks = Marks {
+            before: None,
+            last: None,
+        };
         Ok(())
     }
 }
 
-/// Takes the marker of this name away.
-fn remove_marker<D: Disk>(disk: &mut D, name: &Name) -> Result<(), DiskFailed>
-    ensures ok { OnOk result (D.done disk.new
-        ≡ also_all (end_ops (Some name.now)) (D.done disk.old)) }
-    ensures err { OnErr result (FrontDone (end_ops (Some name.now))
-        (D.done disk.old) (D.done disk.new)) }
+/// Takes the marker of this name away, if there is one.
+fn remove_marker<D: Disk>(disk: &mut D, mark: &Option<Name>) -> Result<(), DiskFailed>
+    ensures ok { OnOk result (D.done disk.new ≡ also_all (mark_ops mark.now) (D.done disk.old)) }
+    ensures err { OnErr result (FrontDone (mark_ops mark.now) (D.done disk.old) (D.done disk.new)) }
 {
-    disk.unlink(&Spot {
-        room: Room::Marked,
-        name: *name,
-    })
-}
-
-/// Takes the marker of the file before away, unless it has this name too.
-fn unmark<D: Disk>(disk: &mut D, last: &Option<Name>, name: &Name) -> Result<(), DiskFailed>
-    ensures ok { OnOk result (D.done disk.new
-        ≡ also_all (unmark_ops last.now name.now) (D.done disk.old)) }
-    ensures err { OnErr result (FrontDone (unmark_ops last.now name.now)
-        (D.done disk.old) (D.done disk.new)) }
-{
-    match last {
-        Some(last) if last.as_bytes() != name.as_bytes() => remove_marker(disk, last),
-        _ => Ok(()),
+    match mark {
+        Some(mark) => disk.unlink(&Spot {
+            room: Room::Marked,
+            name: *mark,
+        }),
+        None => Ok(()),
     }
 }
 
-/// Whether a file of this place and name had come before the session.
-fn is_again(target: &Spot, came: &[Name], name: &Name) -> bool
-    ensures { result ≡ is_again target.now.room came.now name.now }
+/// Takes the markers that stand away.
+pub fn remove_markers<D: Disk>(disk: &mut D, marks: &Marks) -> Result<(), DiskFailed>
+    ensures ok { OnOk result (D.done disk.new ≡ also_all (end_ops marks.now) (D.done disk.old)) }
+    ensures err { OnErr result (FrontDone (end_ops marks.now) (D.done disk.old) (D.done disk.new)) }
 {
-    match target.room {
-        Room::Public => false,
-        _ => has_name(came, name),
+    remove_marker(disk, &marks.before)?;
+    remove_marker(disk, &marks.last)?;
+    Ok(())
+}
+
+/// Sees on the device which markers stand, where one of these has this name.
+fn see_markers<D: Disk>(disk: &mut D, marks: &Marks, name: &Name) -> Result<(), DiskFailed>
+    ensures ok { OnOk result (D.done disk.new
+        ≡ also_all (seen_ops marks.now name.now) (D.done disk.old)) }
+    ensures err { OnErr result (FrontDone (seen_ops marks.now name.now)
+        (D.done disk.old) (D.done disk.new)) }
+{
+    if is_mark(&marks.before, name) || is_mark(&marks.last, name) {
+        disk.sync_folder(Room::Marked)
+    } else {
+        Ok(())
     }
 }
 
-/// Puts a file in this place, unless it had come before the session, when the marker of the file before is gone.
+/// Takes the markers of the files before away, unless they stay where a file of this place comes.
+fn unmark<D: Disk>(disk: &mut D, marks: &Marks, room: Room, name: &Name) -> Result<(), DiskFailed>
+    ensures ok { OnOk result (D.done disk.new
+        ≡ also_all (unmark_ops marks.now room name.now) (D.done disk.old)) }
+    ensures err { OnErr result (FrontDone (unmark_ops marks.now room name.now)
+        (D.done disk.old) (D.done disk.new)) }
+{
+    if keeps(room, &marks.last) {
+        return Ok(());
+    }
+    remove_markers(disk, marks)?;
+    see_markers(disk, marks, name)?;
+    Ok(())
+}
+
+/// Puts a file in this place, unless it had come before the session, when the markers of those before are gone.
+#[tactic(auto, using(crate::proofs::OverLemmas::both_done, crate::proofs::OverLemmas::front_of_first, crate::proofs::OverLemmas::front_of_both))]
 fn place_at<D: Disk>(
     disk: &mut D,
-    last: &Option<Name>,
-    came: &[Name],
+    marks: &Marks,
+    again: bool,
     name: &Name,
     target: &Spot,
     bytes: &[u8],
 ) -> Result<(), DiskFailed>
     ensures ok { OnOk result (D.done disk.new
-        ≡ also_all (unmark_ops last.now name.now ++ again_ops came.now name.now bytes.now target.now)
-        (D.done disk.old)) }
-    ensures err { OnErr result (FrontDone
-        (unmark_ops last.now name.now ++ again_ops came.now name.now bytes.now target.now)
+        ≡ also_all (unmark_ops marks.now target.now.room name.now
+        ++ again_ops again name.now bytes.now target.now) (D.done disk.old)) }
+    ensures err { OnErr result (FrontDone (unmark_ops marks.now target.now.room name.now
+        ++ again_ops again name.now bytes.now target.now)
         (D.done disk.old) (D.done disk.new)) }
 {
-    unmark(disk, last, name)?;
-    store_new(disk, came, name, target, bytes)?;
+    unmark(disk, marks, target.room, name)?;
+    store_new(disk, again, name, target, bytes)?;
     Ok(())
 }
 
 /// Puts a file in this place, unless it had come before the session.
 fn store_new<D: Disk>(
     disk: &mut D,
-    came: &[Name],
+    again: bool,
     name: &Name,
     target: &Spot,
     bytes: &[u8],
 ) -> Result<(), DiskFailed>
     ensures ok { OnOk result (D.done disk.new
-        ≡ also_all (again_ops came.now name.now bytes.now target.now) (D.done disk.old)) }
-    ensures err { OnErr result (FrontDone (again_ops came.now name.now bytes.now target.now)
+        ≡ also_all (again_ops again name.now bytes.now target.now) (D.done disk.old)) }
+    ensures err { OnErr result (FrontDone (again_ops again name.now bytes.now target.now)
         (D.done disk.old) (D.done disk.new)) }
 {
-    if is_again(target, came, name) {
+    if again {
         return Ok(());
     }
-    store(disk, name, target, name.as_bytes(), bytes)
+    let text = marker_text(target.room, name, bytes);
+    store(disk, name, target, text, bytes)
 }
 
 impl<D: Disk, A: Allocator> Folder for SpoolFolder<D, A> {

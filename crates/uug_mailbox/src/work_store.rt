@@ -27,7 +27,8 @@ pub struct WorkStore<D, A: Allocator> {
 impl<D: Disk, A: Allocator + Copy> WorkStore<D, A> {
     /// The store of these lines, which were read of this disk.
     pub fn new(alloc: A, disk: D, lines: Vec<OpenLine, A>) -> Self
-        ensures { lines_of result ≡ lines.items }
+        ensures lines { lines_of result ≡ lines.items }
+        ensures disk { result.disk ≡ disk }
     {
         WorkStore { disk, lines, alloc }
     }

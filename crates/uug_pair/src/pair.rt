@@ -1,6 +1,5 @@
 //! Two folders, and the socket between their ends.
 ghost use Rattle.std.specs.Prelude.{◌≡◌, ◌≢◌, ◌≤◌, ◌<◌, ◌↔◌, ◌&&◌, false, IfErr, IfOk, IsSome};
-ghost use Rattle.uug_talk.specs.Name.{IsName};
 ghost use Rattle.uug_events.specs.Beginnings.{IsSoundBeginning};
 ghost use Rattle.uug_events.specs.NodeRuns.{HasRun};
 ghost use Rattle.uug_folder.specs.JobsText.{IsQueueOf};
@@ -8,7 +7,7 @@ ghost use Rattle.uug_stream.specs.Streams.{CountsFault};
 ghost use Rattle.uug_transfer.specs.FaultInjection.{is_in_range};
 ghost use Rattle.uug_failure.specs.Faults.{IsReadingFault, IsRunFault};
 ghost use Rattle.uug_pair.specs.GoneJobs.{GoneJobsWereDone, beginnings_of, kept_by, nodes_of};
-ghost use Rattle.uug_pair.specs.Places.{IsPlaceInPair};
+ghost use Rattle.uug_task.specs.Places.{IsPlaceInPair};
 ghost use Rattle.uug_task.specs.Tasks.{beginning_of};
 ghost use Rattle.uug_transfer.specs.BufferedNodes.{IsLed, node_in, spool_in};
 
@@ -23,28 +22,14 @@ use uug_ends::laws::the_file_of_a_job_that_is_gone_was_kept;
 use uug_events::laws::events_follow_events;
 use uug_failure::{EndDir, RunFault, SystemFailure};
 use uug_folder::FolderSpool;
-use uug_link::Announce;
 use uug_port::open_wire;
-use uug_session::{Place, Side, Spool, Stored};
+use uug_session::{Side, Spool, Stored};
 use uug_stream::{Output, ToolFault};
-use uug_talk::Name;
-use uug_task::EndParts;
+use uug_task::{EndParts, place_in_pair};
 use uug_transfer::{FaultInjector, TransferEnd, pair_over};
 
 /// The most turns that two ends take.
 pub const TURNS_MAX: u32 = 1_000_000;
-
-/// The window that both ends announce.
-const WINDOW: u8 = 7;
-
-/// The packet size that both ends announce.
-const SIZE: usize = 64;
-
-/// The name of the end that calls.
-const CALLER: &[u8] = b"a";
-
-/// The name of the end that is called.
-const CALLED: &[u8] = b"b";
 
 /// The files of an end in a folder of the system.
 type SystemSpool<'a, R, A> = FolderSpool<SystemFolder<'a, R, A>, A>;
@@ -392,7 +377,7 @@ fn make_parts<'a, A: Allocator + Copy, R: Files>(
     let OpenJobs { file, queue } = jobs;
     let spool = make_spool(alloc, rt, dir, files)?;
     Ok(EndParts {
-        place: place(side),
+        place: place_in_pair(side),
         queue,
         spool,
         jobs: file,
@@ -409,35 +394,4 @@ fn make_spool<'a, A: Allocator + Copy, R: Files>(
 ) -> Result<SystemSpool<'a, R, A>, AllocError> {
     let folder = SystemFolder::new(alloc, rt, dir)?;
     Ok(FolderSpool::new(alloc, files, folder))
-}
-
-/// Where the end on this side stands. It keeps no number of its conversations.
-fn place(side: Side) -> Place
-    ensures { IsPlaceInPair side result }
-{
-    let Ok(announce) = Announce::new(WINDOW, SIZE) else {
-        unreachable!();
-    };
-    let (caller, called) = (name(CALLER), name(CALLED));
-    let (me, peer) = match side {
-        Side::Caller => (caller, called),
-        Side::Called => (called, caller),
-    };
-    Place {
-        me,
-        peer,
-        announce,
-        number: None,
-    }
-}
-
-/// The name of these bytes, which are one.
-fn name(bytes: &[u8]) -> Name
-    requires { IsName bytes.now }
-    ensures { result ≡ bytes.now }
-{
-    let Ok(name) = Name::new(bytes) else {
-        unreachable!();
-    };
-    name
 }

@@ -10,7 +10,7 @@ mod unsettled;
 mod whole;
 
 pub use play::{play_stream, play_within};
-pub use played::{Played, PlayedVerbosely, play_script, play_script_verbosely};
+pub use played::{Played, PlayedVerbosely, play_script, play_script_verbosely, shown};
 pub use reasons::{Reason, add_reasons};
 pub use remarked::play_remarked;
 pub use settled::{play_settled, settle_script};

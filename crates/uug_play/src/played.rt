@@ -96,10 +96,7 @@ fn status(sessions: &[SessionNumbers], verdict: LineVerdict) -> u8
 }
 
 /// The text of a report, and the status.
-pub(crate) fn shown<A: Allocator + Copy>(
-    alloc: A,
-    report: &Report<A>,
-) -> Result<Played<A>, AllocError>
+pub fn shown<A: Allocator + Copy>(alloc: A, report: &Report<A>) -> Result<Played<A>, AllocError>
     ensures text { IfOk result (λ played.
         string_bytes played.text ≡ report_text (result_of report.now.told)) }
     ensures status { IfOk result (λ played.

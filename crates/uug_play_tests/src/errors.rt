@@ -40,7 +40,6 @@ const TEXTS: &[(Fault, &str)] = &[
         Fault::Ladder(LadderFault::Script(3)),
         "bad script at line 3",
     ),
-    (Fault::Ladder(LadderFault::TooLong), "more than 1000 events"),
     (Fault::Ladder(LadderFault::Memory), "out of memory"),
 ];
 

@@ -21,7 +21,7 @@ const WAITS_MAX: u32 = u32::MAX;
 
 /// A socket that listens, and does not wait itself.
 pub trait Listener: AsRawFd {
-    type Stream: TimedStream + Drop;
+    type Stream: TimedStream + AsRawFd + Drop;
 
     /// The next that has connected. Its calls wait.
     fn take(&self) -> io::Result<Self::Stream>;

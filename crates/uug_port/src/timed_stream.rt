@@ -8,6 +8,9 @@ use std::time::Duration;
 pub trait TimedStream: Read + Write {
     /// From now on its reads and its writes wait for so long at most.
     fn set_time(&self, time: Duration) -> io::Result<()>;
+
+    /// Whether a read of it that waits is woken also where the other end takes what was written to it.
+    fn is_woken_for_nothing(&self) -> bool;
 }
 
 impl TimedStream for UnixStream {
@@ -15,11 +18,19 @@ impl TimedStream for UnixStream {
         self.set_read_timeout(Some(time))?;
         self.set_write_timeout(Some(time))
     }
+
+    fn is_woken_for_nothing(&self) -> bool {
+        true
+    }
 }
 
 impl TimedStream for TcpStream {
     fn set_time(&self, time: Duration) -> io::Result<()> {
         self.set_read_timeout(Some(time))?;
         self.set_write_timeout(Some(time))
+    }
+
+    fn is_woken_for_nothing(&self) -> bool {
+        false
     }
 }

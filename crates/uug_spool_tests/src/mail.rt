@@ -5,7 +5,7 @@ use crate::assertions::{assert_same_at, assert_so_at, name};
 use std::alloc::Global;
 use std::process::Abort;
 use uug_folder::{Folder, JobStore};
-use uug_mailbox::{OpenLine, SpoolFolder, WorkStore, add_file, queue_of, settle_file};
+use uug_mailbox::{Came, OpenLine, SpoolFolder, WorkStore, add_file, queue_of, settle_file};
 use uug_session::Job;
 use uug_spool::{MemoryDisk, Operation, Room, Spot, finish, store};
 use uug_talk::Name;
@@ -344,32 +344,75 @@ fn places_each_mail_once(rt: HostRuntime) {
 
 // ---- the taker's folders
 
-/// Markers that stand when the session begins, the files that come, how many of them get their places, and how many markers go.
-type Arrival = (
-    &'static [&'static str],
-    &'static [&'static str],
-    usize,
-    usize,
-);
+/// A file, and its bytes, where they matter.
+type Coming = (&'static str, &'static str);
 
-const ARRIVALS: [Arrival; 6] = [
-    (&[], &["D.alphaN0001", "X.alphaN0001"], 2, 1),
+/// Markers that stand when the session begins, the files that come, how many of them get their places, and how many markers go.
+type Arrival = (&'static [Coming], &'static [Coming], usize, usize);
+
+const TEXT: &str = "U uucp alpha\nF D.alphaN0001\nI D.alphaN0001\nC rmail u\n";
+
+const ARRIVALS: [Arrival; 9] = [
+    // the marker of a mail's data stays beside that of its execution file, until the next data comes
+    (&[], &[("D.alphaN0001", ""), ("X.alphaN0001", TEXT)], 2, 0),
+    (
+        &[],
+        &[
+            ("D.alphaN0001", ""),
+            ("X.alphaN0001", TEXT),
+            ("D.alphaN0002", ""),
+        ],
+        3,
+        2,
+    ),
     // both had come
     (
-        &["D.alphaN0001", "X.alphaN0001"],
-        &["D.alphaN0001", "X.alphaN0001"],
+        &[("D.alphaN0001", ""), ("X.alphaN0001", TEXT)],
+        &[("D.alphaN0001", ""), ("X.alphaN0001", TEXT)],
         0,
+        0,
+    ),
+    // both had come, and the sender has named the execution file anew
+    (
+        &[("D.alphaN0001", ""), ("X.alphaN0002", TEXT)],
+        &[("D.alphaN0001", ""), ("X.alphaN0003", TEXT)],
+        0,
+        0,
+    ),
+    // two commands with no data may be the same
+    (
+        &[("X.alphaN0002", "U uucp alpha\nC rmail u\n")],
+        &[("X.alphaN0003", "U uucp alpha\nC rmail u\n")],
         1,
+        0,
     ),
     // the execution file had come, and its data comes again
-    (&["X.alphaN0001"], &["D.alphaN0001", "X.alphaN0001"], 1, 1),
+    (
+        &[("X.alphaN0001", TEXT)],
+        &[("D.alphaN0001", ""), ("X.alphaN0001", TEXT)],
+        1,
+        0,
+    ),
     // the same name again in one session
-    (&[], &["x", "x"], 2, 0),
+    (&[], &[("x", ""), ("x", "")], 2, 1),
     // a file of this name in the public folder may be another one
-    (&["x"], &["x", "y"], 2, 1),
+    (&[("x", "")], &[("x", ""), ("y", "")], 2, 1),
     // names that are barred
-    (&[], &["D.0001", "C.N0001", "../x"], 0, 0),
+    (&[], &[("D.0001", ""), ("C.N0001", ""), ("../x", "")], 0, 0),
 ];
+
+fn markers(rt: &impl Abort, alloc: Global, texts: &[Coming]) -> Vec<Came<Global>, Global> {
+    let mut came = Vec::new(alloc);
+    for coming in texts {
+        let (marker, text) = *coming;
+        let marker = Came {
+            name: name(rt, marker),
+            text: text.as_bytes().to_vec(alloc).expect(rt, "memory"),
+        };
+        came.push(marker).expect(rt, "memory");
+    }
+    came
+}
 
 fn is_marker(operation: &Operation<Global>) -> bool {
     match operation {
@@ -387,14 +430,15 @@ fn is_rename(operation: &Operation<Global>) -> bool {
 
 fn assert_arrival(rt: &impl Abort, alloc: Global, row: Arrival) {
     let (came, files, placed, unmarked) = row;
-    let came = names(rt, alloc, came);
+    let came = markers(rt, alloc, came);
     let mut folder = SpoolFolder::new(MemoryDisk::new(alloc, 1000), came);
     let mut barred: u64 = 0;
-    for file in files {
+    for coming in files {
+        let (file, text) = *coming;
         let file = name(rt, file);
         assert_same_at(
             rt,
-            folder.put(&file, b"bytes").is_ok(),
+            folder.put(&file, text.as_bytes()).is_ok(),
             !folder.is_barred(&file),
             placed,
         );

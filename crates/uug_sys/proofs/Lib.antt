@@ -1,3 +1,4 @@
 pub mod FrontLemmas
 mod NumberRemarkFacts
 pub mod FailedRemarkFacts
+mod LineEndFacts

@@ -2,3 +2,4 @@ pub mod FailedRemarks
 pub mod NumberRemarks
 pub mod Callers
 pub mod UnreadRemarks
+pub mod LineEnds

@@ -1,4 +1,4 @@
--- What is said of a text for which a session has ended (this project's profile).
+-- What is said of the text that was heard last where a session has ended badly: for it, or for something else (this project's profile).
 use Rattle.std.specs.Prelude.{◌||◌, ℕ, Bool, true, false, List, ◌++◌, codes, is_ok, length, min, take}
 use Rattle.uug_scan.specs.Detailed.{escaped}
 use Rattle.uug_talk.specs.Answer.{answer_of}
@@ -14,5 +14,12 @@ front_words true = codes "uucpair: out of turn: heard \""
 front_words false = codes "uucpair: can't read \""
 
 -- Of the text 60 bytes are shown; what can't be seen of it is escaped.
+abbrev pub quoted_line : (front said : List ℕ) → List ℕ
+quoted_line front said = front ++ (escaped (take (min (length said) 60) said) ++ codes "\"\n")
+
 abbrev pub unread_remark : List ℕ → List ℕ
-unread_remark said = front_words (is_read said) ++ (escaped (take (min (length said) 60) said) ++ codes "\"\n")
+unread_remark said = quoted_line (front_words (is_read said)) said
+
+-- of a session that ended badly for something else
+abbrev pub last_remark : List ℕ → List ℕ
+last_remark said = quoted_line (codes "uucpair: heard last \"") said

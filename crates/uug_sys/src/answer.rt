@@ -3,7 +3,7 @@ ghost use Rattle.std.specs.Prelude.{◌≡◌, ◌≢◌, ◌≤◌, Err, IfErr,
 ghost use Rattle.uug_stream.specs.Streams.{CountsFault};
 ghost use Rattle.uug_failure.specs.Faults.{IsCallFault};
 
-use crate::call::talk_over;
+use crate::call::{stream_line, talk_over};
 use crate::doorkeeper::Doorkeeper;
 use crate::held_output::HeldOutput;
 use std::alloc::Allocator;
@@ -13,7 +13,7 @@ use std::net::Net;
 use std::rt::Files;
 use std::time::Clock;
 use uug_failure::{Cause, Resource, SystemFailure};
-use uug_port::{Deadline, Listener, Listening, SilentLine, StreamLine, SystemLine};
+use uug_port::{Deadline, Listener, Listening, SilentLine, SystemLine};
 use uug_stream::{Output, ToolFault, write_all};
 use uug_task::{CallTask, Station};
 use uug_transfer::SessionObserver;
@@ -169,10 +169,10 @@ where
             Ok(None) => break,
             Err(error) => return (broken(alloc, why, &error), doorkeeper),
         };
-        let line = Ok(StreamLine::new(stream));
+        let line = stream_line(alloc, rt, Ok(stream));
         let (served, keeper) = serve(alloc, rt, task, station, line, doorkeeper, remark, why);
         doorkeeper = keeper;
-        if doorkeeper.has_let_in() || !is_of_line(served.answer, *why) {
+        if doorkeeper.has_let_in() || served.answer.is_err() {
             return (served, doorkeeper);
         }
         drop(served);
@@ -252,15 +252,6 @@ fn fails(why: &mut Option<SystemFailure>, error: &io::Error) -> ToolFault
 {
     *why = Some(SystemFailure::on(Resource::Line, Cause::of(error)));
     ToolFault::Device
-}
-
-/// Whether it is the line that has ended a session, and not a file or the want of memory.
-fn is_of_line(answer: Result<u8, ToolFault>, why: Option<SystemFailure>) -> bool {
-    match (answer, why) {
-        (Ok(_), _) => true,
-        (Err(ToolFault::Device), Some(failure)) => matches!(failure.resource, Resource::Line),
-        _ => false,
-    }
 }
 
 /// Prints what is to be printed of a caller. What was answered first counts.

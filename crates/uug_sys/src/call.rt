@@ -6,6 +6,7 @@ ghost use Rattle.uug_task.specs.Tasks.{IsTask};
 
 use crate::answer::answer_at;
 use crate::failed_remark::remark_failed;
+use crate::failing_line::{FailingLine, remark_failure};
 use crate::number_remark::remark_numbers;
 use crate::numbers::{meet, read_numbers};
 use crate::parts::{failure_of, read_parts};
@@ -13,14 +14,16 @@ use crate::waking_line::WakingLine;
 use std::alloc::{AllocError, Allocator};
 use std::fs::File;
 use std::io;
+use std::io::ErrorKind;
 use std::net::{Net, TcpListener, TcpStream};
+use std::os::fd::AsRawFd;
 use std::rt::Files;
 use std::time::{Clock, Duration};
 use uug_disk::{DirLock, lock_device, lock_dir, open_jobs, see_folders};
 use uug_failure::{Cause, Resource, RunFault, SystemFailure};
 use uug_port::{
-    DeviceLine, SessionLine, SilentLine, StandardLine, StandardStreams, StreamLine, SystemLine,
-    TimedLine, TimedStream, call_tcp, call_unix, listen_tcp, listen_unix,
+    DeviceLine, PolledStream, SessionLine, SilentLine, StandardLine, StandardStreams, StreamLine,
+    SystemLine, TimedLine, TimedStream, call_tcp, call_unix, listen_tcp, listen_unix,
 };
 use uug_session::Side;
 use uug_stream::{Output, ToolFault};
@@ -152,7 +155,7 @@ where
     let Terms { line, station } = terms;
     match (line, task.side) {
         (LineName::Unix(path), Side::Caller) => {
-            let line = stream_line(call_unix(rt, path, station.time()));
+            let line = stream_line(alloc, rt, call_unix(rt, path, station.time()));
             let (answer, observer) = talk_over(
                 alloc, rt, task, station, held, line, observer, output, remark, why,
             );
@@ -160,7 +163,8 @@ where
             answer
         }
         (LineName::Tcp(host, port), Side::Caller) => {
-            let line = stream_line(call_tcp(alloc, rt, host, port, station.time()));
+            let stream = call_tcp(alloc, rt, host, port, station.time());
+            let line = stream_line(alloc, rt, stream);
             let (answer, observer) = talk_over(
                 alloc, rt, task, station, held, line, observer, output, remark, why,
             );
@@ -180,7 +184,7 @@ where
             )
         }
         (LineName::Standard, _) => {
-            let line = StandardLine::new(alloc, rt, streams, station.time());
+            let line = StandardLine::new(alloc, rt, streams, station.time()).map_err(no_line);
             let (answer, observer) = talk_over(
                 alloc, rt, task, station, held, line, observer, output, remark, why,
             );
@@ -194,12 +198,41 @@ where
     }
 }
 
+/// Why the standard streams are no line. Of a file, for which nobody can wait, the system says that it does not permit that.
+fn no_line(cause: Cause) -> Cause {
+    match cause {
+        Cause::Refused(ErrorKind::PermissionDenied, _) => {
+            Cause::Refused(ErrorKind::Unsupported, None)
+        }
+        cause => cause,
+    }
+}
+
 /// The line over a stream, or why there is none.
-fn stream_line<T: TimedStream>(stream: io::Result<T>) -> Result<StreamLine<T>, Cause> {
-    match stream {
+pub(crate) fn stream_line<A, R, T>(
+    alloc: A,
+    rt: &R,
+    stream: io::Result<T>,
+) -> Result<StreamLine<PolledStream<T, A>>, Cause>
+where
+    A: Allocator + Copy,
+    R: Net,
+    T: TimedStream + AsRawFd + Drop,
+{
+    match polled(alloc, rt, stream) {
         Ok(stream) => Ok(StreamLine::new(stream)),
         Err(error) => Err(Cause::of(&error)),
     }
+}
+
+/// The stream, if it is there, waited for before it is read.
+fn polled<A, R, T>(alloc: A, rt: &R, stream: io::Result<T>) -> io::Result<PolledStream<T, A>>
+where
+    A: Allocator + Copy,
+    R: Net,
+    T: TimedStream + AsRawFd + Drop,
+{
+    PolledStream::new(alloc, rt, stream?)
 }
 
 /// The end locks its device, opens it, and talks over it. A device that another run holds is not opened. The lock is given
@@ -373,18 +406,23 @@ where
         }
     };
     let line = TimedLine::new(rt, SessionLine::new(line, station.pace));
+    let line = FailingLine::new(line);
     let mut line = GreetedLine::new(alloc, LineMonitor::new(line, observer));
     let result = match lock_again(alloc, rt, task, held) {
         Ok(lock) => {
             let result = talk_locked(
-                alloc, rt, task, &lock, station, &mut line, output, remark, why,
+                alloc, rt, &*task, &lock, station, &mut line, output, remark, why,
             );
             drop(lock);
             result
         }
         Err(fault) => Err(fault.tell(why)),
     };
-    *why = why.or(line.line().line().failure());
+    if let Ok(1) = result {
+        let failure = line.line().line().failure();
+        // A remark for which there is no memory is left out.
+        let _ = remark_failure(alloc, remark, task.line, failure);
+    }
     (result, line.into_line().into_observer())
 }
 

@@ -1,26 +1,29 @@
-//! What a person follows on standard error.
+//! What a person follows on standard error, and what goes to a log.
 
 use crate::hearing::Hearing;
 use crate::last_text::Tail;
-use crate::unread_remark::unread_remark;
+use crate::tellers::Tellers;
+use crate::unread_remark::{last_remark, unread_remark};
 use crate::voice::Voice;
 use std::alloc::{AllocError, Allocator};
 use std::time::Clock;
 use uug_follow::{Observer, Way};
+use uug_log::SessionLog;
 use uug_reason::{Heard, heard_remark};
 use uug_session::{End, Phase, Side};
 use uug_talk::Name;
 use uug_task::CallTask;
 use uug_transfer::{ReadOutcome, SessionObserver, SessionStatus};
 
-/// Says on standard error what becomes of each session: its phases, the jobs of both ends, and what was lost.
+/// Says on standard error what becomes of each session: its phases, the jobs of both ends, and what was lost. Where there is a log,
+/// it has in it how each session begins and ends, and each job.
 #[derive(Drop)]
 pub struct SystemObserver<'a, R, A: Allocator> {
     alloc: A,
     is_lenient: bool,
     /// Nobody looks where nothing is to be said.
     observer: Option<Observer<A>>,
-    voice: Voice<'a, R, A>,
+    tellers: Tellers<'a, R, A>,
     /// What was said of the session last.
     phase: Option<Phase>,
     /// Whether it came past its greeting.
@@ -39,14 +42,15 @@ pub struct SystemObserver<'a, R, A: Allocator> {
 
 impl<'a, R: Eprint + Clock, A: Allocator + Copy> SystemObserver<'a, R, A> {
     /// An observer that says something of the session of this task, or nothing. At a terminal it shows how far a long file
-    /// has come.
+    /// has come. With a log it looks in any case.
     pub fn new(
         alloc: A,
         rt: &'a R,
         task: &CallTask<'_>,
         at_terminal: bool,
+        log: Option<SessionLog<'a, R, A>>,
     ) -> Result<Self, AllocError> {
-        let observer = if task.is_loud {
+        let observer = if task.is_loud || log.is_some() {
             Some(Observer::new(alloc, task.is_lenient)?)
         } else {
             None
@@ -55,7 +59,11 @@ impl<'a, R: Eprint + Clock, A: Allocator + Copy> SystemObserver<'a, R, A> {
             alloc,
             is_lenient: task.is_lenient,
             observer,
-            voice: Voice::new(alloc, rt, at_terminal),
+            tellers: Tellers {
+                is_loud: task.is_loud,
+                voice: Voice::new(alloc, rt, at_terminal),
+                log,
+            },
             phase: None,
             has_met: false,
             written: 0,
@@ -83,21 +91,23 @@ impl<'a, R: Eprint + Clock, A: Allocator + Copy> SystemObserver<'a, R, A> {
     }
 
     /// All that went over the line.
-    fn say_counts(&mut self) {
+    fn say_counts(&self) {
         let Some(observer) = &self.observer else {
             return;
         };
-        self.voice
-            .say_counts("wrote", self.written, observer.counts(Way::Out));
-        self.voice
-            .say_counts("read", self.read, observer.counts(Way::In));
-        self.voice.say_silences(self.silences);
+        if !self.tellers.is_loud {
+            return;
+        }
+        let voice = &self.tellers.voice;
+        voice.say_counts("wrote", self.written, observer.counts(Way::Out));
+        voice.say_counts("read", self.read, observer.counts(Way::In));
+        voice.say_silences(self.silences);
     }
 
     /// What was heard of the other end, where the session ended badly: a line, or none.
     fn heard(&self, phase: Phase) -> Result<String<A>, AllocError> {
         match (phase, &self.peer) {
-            (Phase::Ended(End::BadTalk), _) => self.unread(),
+            (Phase::Ended(End::BadTalk), _) => self.last(true),
             (Phase::Ended(end), Some(peer)) => {
                 let heard = self.hearing.heard();
                 heard_remark(self.alloc, self.side, end, peer.as_str(), heard)
@@ -106,16 +116,34 @@ impl<'a, R: Eprint + Clock, A: Allocator + Copy> SystemObserver<'a, R, A> {
         }
     }
 
-    /// What was heard last, where the session ended with it.
-    fn unread(&self) -> Result<String<A>, AllocError> {
+    /// A line of what was heard last, or none: the session has ended for it, or for something else.
+    fn last(&self, ended_for_it: bool) -> Result<String<A>, AllocError> {
         let last = self.tail.last_text()?;
         if last.is_whole() {
-            return unread_remark(self.alloc, last.bytes());
+            return remark_of(self.alloc, last.bytes(), ended_for_it);
         }
         match self.hearing.heard() {
-            Heard::Text(text) if !self.has_met => unread_remark(self.alloc, text),
+            // A session past its greeting ends for no text of that.
+            Heard::Text(text) if !(self.has_met && ended_for_it) => {
+                remark_of(self.alloc, text, ended_for_it)
+            }
             _ => Ok(String::new(self.alloc)),
         }
+    }
+
+    /// The session has ended so.
+    fn tell_end(&mut self, status: SessionStatus) {
+        let said = match self.heard(status.phase) {
+            Ok(said) => said,
+            Err(AllocError) => String::new(self.alloc),
+        };
+        let line = said.as_str();
+        self.tellers.voice.say_line(line);
+        if line.is_empty() && !status.phase.is_done() {
+            self.tellers.tell_last(self.last(false));
+        }
+        self.say_counts();
+        self.tellers.log_end(status, line);
     }
 
     /// These bytes go over the line.
@@ -123,9 +151,9 @@ impl<'a, R: Eprint + Clock, A: Allocator + Copy> SystemObserver<'a, R, A> {
         let Some(observer) = &mut self.observer else {
             return;
         };
-        observer.see(way, piece, &mut self.voice);
+        observer.see(way, piece, &mut self.tellers);
         if let Some((job, bytes)) = observer.job() {
-            self.voice.show_progress(&job, bytes);
+            self.tellers.show_progress(&job, bytes);
         }
     }
 }
@@ -138,7 +166,10 @@ impl<R: Eprint + Clock, A: Allocator + Copy> SessionObserver for SystemObserver<
 
     fn read(&mut self, outcome: ReadOutcome, piece: &[u8]) {
         match outcome {
-            ReadOutcome::Bytes(count) => self.read = self.read.saturating_add(count as u64),
+            ReadOutcome::Bytes(count) => {
+                self.read = self.read.saturating_add(count as u64);
+                self.tellers.begin();
+            }
             ReadOutcome::TimedOut => self.silences = self.silences.saturating_add(1),
             ReadOutcome::Eof => {}
         }
@@ -151,18 +182,30 @@ impl<R: Eprint + Clock, A: Allocator + Copy> SessionObserver for SystemObserver<
     }
 
     fn note(&mut self, status: SessionStatus) {
-        self.voice.say_held();
-        if self.observer.is_some() && self.phase != Some(status.phase) {
-            self.voice.say_status(status);
+        self.tellers.tell_held();
+        if self.phase != Some(status.phase) {
+            self.tellers.tell_status(status);
         }
         self.phase = Some(status.phase);
         if let Phase::Starting | Phase::Talking | Phase::Closing = status.phase {
             self.has_met = true;
         }
         if status.is_over {
-            self.voice.say(self.heard(status.phase));
-            self.say_counts();
+            self.tell_end(status);
             self.begin_anew();
         }
+    }
+}
+
+/// The line of the text that was heard last: the session has ended for it, or for something else.
+fn remark_of<A: Allocator>(
+    alloc: A,
+    said: &[u8],
+    ended_for_it: bool,
+) -> Result<String<A>, AllocError> {
+    if ended_for_it {
+        unread_remark(alloc, said)
+    } else {
+        last_remark(alloc, said)
     }
 }

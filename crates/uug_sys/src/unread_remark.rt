@@ -1,6 +1,6 @@
-//! What is said of a text for which a session has ended.
+//! What is said of the text that was heard last.
 ghost use Rattle.std.specs.Prelude.{◌≡◌, IfOk, string_bytes};
-ghost use Rattle.uug_sys.specs.UnreadRemarks.{front_words, is_read, unread_remark};
+ghost use Rattle.uug_sys.specs.UnreadRemarks.{front_words, is_read, last_remark, quoted_line, unread_remark};
 
 use std::alloc::{AllocError, Allocator};
 use uug_reason::add_escaped;
@@ -13,7 +13,21 @@ const SHOWN_MAX: usize = 60;
 pub(crate) fn unread_remark<A: Allocator>(alloc: A, said: &[u8]) -> Result<String<A>, AllocError>
     ensures { IfOk result (λ line. string_bytes line ≡ unread_remark said.now) }
 {
-    let mut line = String::from_str(alloc, front_words(is_read(said)))?;
+    quoted_line(alloc, front_words(is_read(said)), said)
+}
+
+/// That this text was heard last, as a line for standard error.
+pub(crate) fn last_remark<A: Allocator>(alloc: A, said: &[u8]) -> Result<String<A>, AllocError>
+    ensures { IfOk result (λ line. string_bytes line ≡ last_remark said.now) }
+{
+    quoted_line(alloc, "uucpair: heard last \"", said)
+}
+
+/// The line with this in front of a text.
+fn quoted_line<A: Allocator>(alloc: A, front: &str, said: &[u8]) -> Result<String<A>, AllocError>
+    ensures { IfOk result (λ line. string_bytes line ≡ quoted_line front.now said.now) }
+{
+    let mut line = String::from_str(alloc, front)?;
     add_escaped(&mut line, &said[..said.len().min(SHOWN_MAX)])?;
     line.push_str("\"\n")?;
     Ok(line)

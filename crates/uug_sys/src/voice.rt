@@ -51,9 +51,16 @@ impl<'a, R: Eprint + Clock, A: Allocator + Copy> Voice<'a, R, A> {
         }
     }
 
+    /// Says a line, if there was memory for it and it is not empty.
     pub(crate) fn say(&self, line: Result<String<A>, AllocError>) {
         if let Ok(line) = line {
-            let line = line.as_str();
+            self.say_line(line.as_str());
+        }
+    }
+
+    /// Says a line, if it is not empty.
+    pub(crate) fn say_line(&self, line: &str) {
+        if !line.is_empty() {
             let _ = eprint!(self.rt; "{line}");
         }
     }

@@ -1,12 +1,16 @@
 //! Laws of what the task of an end may take. A call does nothing: its contract is the law.
 ghost use Rattle.std.specs.Prelude.{◌≡◌};
+ghost use Rattle.uug_task.specs.declared.places.TheConstants.{SIZE, WINDOW};
 ghost use Rattle.uug_task.specs.declared.task.TheConstants.{MOST_MIN, SECONDS_MAX, SESSIONS_MAX, WAIT_MAX};
 
-/// Each limit is this number: the seconds for which a line waits, and for which an end waits to be called, its sessions, and the
-/// bytes of files that may be offered in a session, at least.
+/// Each limit is this number: the seconds for which a line waits, and for which an end waits to be called, its sessions, the
+/// bytes of files that may be offered in a session, at least, and the window and the packet size that both ends of a pair
+/// announce.
 pub fn limits()
     ensures seconds { SECONDS_MAX ≡ 600 }
     ensures most { MOST_MIN ≡ 1048576 }
     ensures wait { WAIT_MAX ≡ 1000000000 }
     ensures sessions { SESSIONS_MAX ≡ 1000000 }
+    ensures window { WINDOW ≡ 7 }
+    ensures size { SIZE ≡ 64 }
 {}

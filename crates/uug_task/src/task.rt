@@ -67,6 +67,8 @@ pub struct CallTask<'a> {
     pub locks: &'a str,
     /// The file to which the report goes, where one is named.
     pub report: Option<&'a str>,
+    /// The file of its log, where one is named.
+    pub log: Option<&'a str>,
     /// So many bytes at most have the files together of the jobs that it offers in a session.
     pub most: u32,
 }
@@ -95,6 +97,13 @@ impl<'a> CallTask<'a> {
             (None, Some(LineName::Standard)) => ReportPlace::Errors,
             (None, _) => ReportPlace::Output,
         }
+    }
+
+    /// Whether it may be run: its numbers are in their ranges, and its line and its names are such.
+    pub fn may_run(&self) -> bool
+        ensures { IsTrue result ↔ IsTask self.now }
+    {
+        read_terms(self).is_some()
     }
 
     /// What its end leaves out of what it emits.

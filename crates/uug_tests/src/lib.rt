@@ -5,6 +5,8 @@
 #[cfg(test)]
 mod assertions;
 #[cfg(test)]
+mod digests;
+#[cfg(test)]
 mod errors;
 pub mod example_end;
 #[cfg(test)]

@@ -3,7 +3,7 @@ use Rattle.std.proofs.Common.{◌≡◌, true, false, List, [], ◌∷◌, Optio
 use Rattle.std.specs.Option.{option_map, option_map_or}
 use Rattle.clap.specs.Words.{Text, first_of, is_simple, subcommand_of, takes}
 use Rattle.clap.proofs.OnLiterals.{clap_on_literals}
-use Rattle.uug_words.specs.Asked.{Entries, drawn, is_given, manner_in, number_in, number_or_one, number_or_zero, text_in}
+use Rattle.uug_words.specs.Asked.{Entries, drawn, is_given, manner_in, number_in, number_or_one, number_or_zero, size_in, text_in, usual_size}
 use Rattle.uug_words.specs.Tools.{uucpair}
 use Rattle.uug_ladder.specs.declared.play.Drawn.TheVariants.{AsPicture}
 
@@ -77,7 +77,7 @@ answer_has_window : number_or_zero (entries_of answer_words) (codes "window") �
 unfolding clap_on_literals
 answer_has_window = refl
 
-answer_has_size : number_or_zero (entries_of answer_words) (codes "size") ≡ 64
+answer_has_size : size_in (entries_of answer_words) ≡ 1024
 unfolding clap_on_literals
 answer_has_size = refl
 
@@ -119,6 +119,10 @@ slow_has_speed : number_in (entries_of slow_words) (codes "speed") ≡ Some 1200
 unfolding clap_on_literals
 slow_has_speed = refl
 
+slow_has_size : size_in (entries_of slow_words) ≡ 1024
+unfolding clap_on_literals
+slow_has_size = refl
+
 slow_acknowledges_each : is_given (entries_of slow_words) (codes "every-ack") ≡ true
 unfolding clap_on_literals
 slow_acknowledges_each = refl
@@ -126,6 +130,28 @@ slow_acknowledges_each = refl
 slow_has_no_wait : number_in (entries_of slow_words) (codes "wait") ≡ None
 unfolding clap_on_literals
 slow_has_no_wait = refl
+
+-- ---- uucpair answer - dir --me a --peer b --speed 300 --size 64
+
+abbrev sized_words : List Text
+sized_words = codes "uucpair" ∷ codes "answer" ∷ codes "-" ∷ codes "dir" ∷ codes "--me" ∷ codes "a"
+    ∷ codes "--peer" ∷ codes "b" ∷ codes "--speed" ∷ codes "300" ∷ codes "--size" ∷ codes "64" ∷ []
+
+sized_has_size : size_in (entries_of sized_words) ≡ 64
+unfolding clap_on_literals
+sized_has_size = refl
+
+-- ---- the packet size of an end that is told none
+
+record AreUsual : Type 0 where
+  no_speed : usual_size None ≡ 1024
+  slowest : usual_size (Some 300) ≡ 256
+  below : usual_size (Some 1199) ≡ 256
+  at : usual_size (Some 1200) ≡ 1024
+  fast : usual_size (Some 57600) ≡ 1024
+
+usual : AreUsual
+usual = record { no_speed = refl; slowest = refl; below = refl; at = refl; fast = refl }
 
 -- ---- uucpair queue dir send /tmp/x --user me
 

@@ -58,6 +58,16 @@ number_or_one entries name = unwrap_or (number_in entries name) 1
 
 -- ---- what the tools are asked for
 
+-- The packet size of an end that is told none, by the bits a second of its line, where these are told: of a line that is slower
+-- than 1,200 the shorter one.
+abbrev pub usual_size : (speed : Option ℕ) → ℕ
+usual_size None = 1024
+usual_size (Some speed) = if nat_lt speed 1200 then 256 else 1024
+
+-- the packet size that an end announces: the one that is given, else that
+abbrev pub size_in : Entries → ℕ
+size_in entries = unwrap_or (number_in entries (codes "size")) (usual_size (number_in entries (codes "speed")))
+
 -- how a script is played
 pub data Manner : Type 0 where
   plainly : Manner
@@ -117,7 +127,7 @@ pub record IsEndIn (entries : Entries) (task : CallTask) : Type 0 where
   pub me : task.me.now ≡ text_in entries (codes "me")
   pub peer : task.peer.now ≡ text_in entries (codes "peer")
   pub window : task.window ≡ number_or_zero entries (codes "window")
-  pub size : task.size ≡ number_or_zero entries (codes "size")
+  pub size : task.size ≡ size_in entries
   pub seconds : task.seconds ≡ number_or_zero entries (codes "timeout")
   pub speed : task.speed ≡ number_in entries (codes "speed")
   pub wait : task.wait ≡ number_in entries (codes "wait")
@@ -130,6 +140,7 @@ pub record IsEndIn (entries : Entries) (task : CallTask) : Type 0 where
   pub is_loud : task.is_loud ≡ is_given entries (codes "verbose")
   pub locks : task.locks.now ≡ text_in entries (codes "locks")
   pub report : IsWordIn entries (codes "report") task.report
+  pub log : IsWordIn entries (codes "log") task.log
   pub most : task.most ≡ number_or_zero entries (codes "most")
 
 pub record AsksForPair (tool : Text) (entries : Entries) (task : PairTask) : Type 0 where

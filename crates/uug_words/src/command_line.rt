@@ -2,7 +2,7 @@
 ghost use Rattle.std.specs.Prelude.{◌≡◌, IfErr, IfOk, codes, map, true};
 ghost use Rattle.clap.specs.Words.{Text, kind_of, takes};
 ghost use Rattle.clap.specs.declared.error.kind.ErrorKind.TheVariants.{OutOfMemory};
-ghost use Rattle.uug_words.specs.Asked.{Asks, AsksIn, IsEndIn, IsFileIn, IsPairIn, IsQueueIn, IsToolName, IsWordIn, NamesScan, entries_of, is_given, number_in, text_in};
+ghost use Rattle.uug_words.specs.Asked.{Asks, AsksIn, IsEndIn, IsFileIn, IsPairIn, IsQueueIn, IsToolName, IsWordIn, NamesScan, entries_of, is_given, number_in, size_in, text_in, usual_size};
 ghost use Rattle.uug_words.specs.Tools.{uucpair};
 
 use crate::tools::command;
@@ -14,6 +14,14 @@ use uug_conversation::Side;
 use uug_disk::QueueTask;
 use uug_ladder::Drawn;
 use uug_task::CallTask;
+
+/// The packet size of an end that is told none. A smaller one lets more of what a line changes pass the checksum.
+const SIZE: u32 = 1_024;
+
+/// The same over a line that is slower than `SLOW` bits a second, where a packet that is sent again takes long.
+const SIZE_SLOW: u32 = 256;
+
+const SLOW: u32 = 1_200;
 
 /// What the command line asks for.
 #[derive(Clone, Copy, Debug, PartialEq, Eq)]
@@ -90,6 +98,26 @@ fn number(matches: &ArgMatches<'_>, name: &str) -> Option<u32>
     matches.get_one::<u32>(name)
 }
 
+/// The packet size of an end that is told none, by the bits a second of its line, where these are told.
+fn usual_size(speed: Option<u32>) -> u32
+    ensures { result ≡ usual_size speed }
+{
+    match speed {
+        Some(speed) if speed < SLOW => SIZE_SLOW,
+        _ => SIZE,
+    }
+}
+
+/// The packet size that an end announces.
+fn size(matches: &ArgMatches<'_>) -> u32
+    ensures { result ≡ size_in (entries_of matches.now) }
+{
+    match number(matches, "size") {
+        Some(size) => size,
+        None => usual_size(number(matches, "speed")),
+    }
+}
+
 /// What one end is run over, as the words behind `call` or `answer` say. All of them are required, or have a default.
 fn end_task<'a>(side: Side, matches: &ArgMatches<'a>) -> CallTask<'a>
     ensures side { result.side ≡ side }
@@ -102,7 +130,7 @@ fn end_task<'a>(side: Side, matches: &ArgMatches<'a>) -> CallTask<'a>
         me: text(matches, "me"),
         peer: text(matches, "peer"),
         window: number(matches, "window").unwrap_or(0),
-        size: number(matches, "size").unwrap_or(0),
+        size: size(matches),
         seconds: number(matches, "timeout").unwrap_or(0),
         speed: number(matches, "speed"),
         wait: number(matches, "wait"),
@@ -115,6 +143,7 @@ fn end_task<'a>(side: Side, matches: &ArgMatches<'a>) -> CallTask<'a>
         is_loud: is_given(matches, "verbose"),
         locks: text(matches, "locks"),
         report: word(matches, "report"),
+        log: word(matches, "log"),
         most: number(matches, "most").unwrap_or(0),
     }
 }

@@ -69,7 +69,7 @@ times in a row, and nothing waits at an end or on the line; else a line says wha
 With --ladder a picture of each session follows the report: a line for each packet
 or text in the order in which it was sent, with the number of its event, and an arrow
 to the other end, which ends in x where it was lost or damaged. With --svg that is
-written as an SVG file, without the report. The script may have 1000 events.
+written as an SVG file, without the report.
 
 Status: 0 the last session is done at both ends, 1 it is not, 2 bad usage or a bad
 script, 3 a device fault, 4 out of memory, 5 the line fooled an end
@@ -146,9 +146,13 @@ pub const LINE: &str = "-, unix:PATH, tcp:HOST:PORT, or the path of a terminal d
 pub const REPORT: &str =
     "The file to which the report goes; without it standard output, or at LINE - standard error";
 
+pub const LOG: &str =
+    "The file to which each session, and each job, appends a line as Taylor UUCP does; uulog reads it";
+
 pub const WINDOW: &str = "The window that the other end is to use, 1 to 7";
 
-pub const SIZE: &str = "The packet size that the other end is to use, 32 to 4096";
+pub const SIZE: &str =
+    "The packet size that the other end is to use, 32 to 4096; without it 1024, or 256 where --speed is below 1200";
 
 pub const TIMEOUT: &str = "How long the line waits, 1 to 600";
 

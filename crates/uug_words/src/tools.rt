@@ -10,10 +10,8 @@ use std::alloc::{AllocError, Global};
 /// The version of the program, which `--version` prints.
 pub const VERSION: &str = "0.1.0";
 
-/// The window, the packet size and the seconds of an end that is told none.
+/// The window and the seconds of an end that is told none.
 const WINDOW: &str = "7";
-
-const SIZE: &str = "64";
 
 const SECONDS: &str = "10";
 
@@ -157,7 +155,7 @@ fn end_command<'a>(alloc: Global, name: &'a str, about: &'a str) -> Result<Comma
         .arg(end_name(alloc, "me", "The name of this end"))?
         .arg(end_name(alloc, "peer", "The name of the other end"))?
         .arg(number(alloc, "window", "W", help::WINDOW, WINDOW))?
-        .arg(number(alloc, "size", "S", help::SIZE, SIZE))?
+        .arg(whole(alloc, "size", "S", help::SIZE))?
         .arg(number(alloc, "timeout", "SECONDS", help::TIMEOUT, SECONDS))?
         .arg(whole(alloc, "speed", "BPS", help::SPEED))?
         .arg(flag(
@@ -187,6 +185,7 @@ fn end_command<'a>(alloc: Global, name: &'a str, about: &'a str) -> Result<Comma
         ))?
         .arg(folder(alloc, "locks", help::LOCKS, LOCKS))?
         .arg(named(alloc, "report", "FILE", help::REPORT))?
+        .arg(named(alloc, "log", "FILE", help::LOG))?
         .arg(number(alloc, "most", "BYTES", help::MOST, MOST))?
         .arg(verbose(
             alloc,

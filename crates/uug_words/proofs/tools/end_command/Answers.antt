@@ -9,9 +9,9 @@ returns c =
     let me = adds dir c.in_ok-arg-3.ensures c.end_name.ensures in
     let peer = adds me c.in_ok-arg-4.ensures c.end_name-2.ensures in
     let window = adds peer c.in_ok-arg-5.ensures c.number.ensures in
-    let size = adds window c.in_ok-arg-6.ensures c.number-2.ensures in
-    let timeout = adds size c.in_ok-arg-7.ensures c.number-3.ensures in
-    let speed = adds timeout c.in_ok-arg-8.ensures c.whole.ensures in
+    let size = adds window c.in_ok-arg-6.ensures c.whole.ensures in
+    let timeout = adds size c.in_ok-arg-7.ensures c.number-2.ensures in
+    let speed = adds timeout c.in_ok-arg-8.ensures c.whole-2.ensures in
     let no_quiet = adds speed c.in_ok-arg-9.ensures c.flag.ensures in
     let fill_commands = adds no_quiet c.in_ok-arg-10.ensures c.flag-2.ensures in
     let strict = adds fill_commands c.in_ok-arg-11.ensures c.flag-3.ensures in
@@ -19,5 +19,6 @@ returns c =
     let numbered = adds every_ack c.in_ok-arg-13.ensures c.flag-5.ensures in
     let locks = adds numbered c.in_ok-arg-14.ensures c.folder.ensures in
     let report = adds locks c.in_ok-arg-15.ensures c.named.ensures in
-    let most = adds report c.in_ok-arg-16.ensures c.number-4.ensures in
-    IfOk-weaker c.arg-17.result _ _ (λ made step. adds most step c.verbose.ensures) c.arg-17.ensures
+    let log = adds report c.in_ok-arg-16.ensures c.named-2.ensures in
+    let most = adds log c.in_ok-arg-17.ensures c.number-3.ensures in
+    IfOk-weaker c.arg-18.result _ _ (λ made step. adds most step c.verbose.ensures) c.arg-18.ensures

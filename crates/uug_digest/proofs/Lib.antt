@@ -1,0 +1,4 @@
+mod DigestFacts
+pub mod DigitLemmas
+pub mod ReadLemmas
+pub mod TellingLemmas

@@ -1,0 +1,97 @@
+//! Reading what a command or an answer tells of its file.
+ghost use Rattle.std.specs.Prelude.{◌≡◌};
+ghost use Rattle.std.specs.Char.{is_ascii_hexdigit};
+ghost use Rattle.std.specs.List.{list_all};
+ghost use Rattle.uug_digest.specs.Digests.{digest_in, hash_told, hex_number, is_hex_numeral, size_told, told_behind_mode, told_by_answer, told_by_order};
+ghost use Rattle.uug_talk.specs.Words.{words};
+
+use crate::file_digest::FileDigest;
+use hex::FromHex;
+use uug_talk::split_word;
+
+/// What a command `S` tells of its file, by the words behind its mode, or `None` where they tell no size and digest.
+pub fn told_by_order(text: &[u8]) -> Option<FileDigest>
+    ensures { result ≡ told_by_order text.now }
+{
+    let (first, rest) = split_word(text)?;
+    match first {
+        [b'S'] => read_behind_mode(rest),
+        _ => None,
+    }
+}
+
+/// What an answer `RY` tells of its file, by the words behind its mode, or `None` where they tell no size and digest.
+pub fn told_by_answer(text: &[u8]) -> Option<FileDigest>
+    ensures { result ≡ told_by_answer text.now }
+{
+    let (first, rest) = split_word(text)?;
+    match first {
+        [b'R', b'Y', ..] => {
+            let (_, rest) = split_word(rest)?;
+            read_digest(rest)
+        }
+        _ => None,
+    }
+}
+
+fn read_behind_mode(text: &[u8]) -> Option<FileDigest>
+    ensures { result ≡ told_behind_mode (words text.now) }
+{
+    let (_, rest) = split_word(text)?;
+    let (_, rest) = split_word(rest)?;
+    let (_, rest) = split_word(rest)?;
+    let (_, rest) = split_word(rest)?;
+    let (_, rest) = split_word(rest)?;
+    let (_, rest) = split_word(rest)?;
+    read_digest(rest)
+}
+
+fn read_digest(text: &[u8]) -> Option<FileDigest>
+    ensures { result ≡ digest_in (words text.now) }
+{
+    let (_, rest) = split_word(text)?;
+    let (size, rest) = split_word(rest)?;
+    let (hash, _) = split_word(rest)?;
+    Some(FileDigest {
+        size: read_size(size)?,
+        hash: read_hash(hash)?,
+    })
+}
+
+fn read_size(word: &[u8]) -> Option<u32>
+    ensures { result ≡ size_told word.now }
+{
+    read_hex(word.strip_prefix(b"0x")?)
+}
+
+fn read_hash(word: &[u8]) -> Option<[u8; 32]>
+    ensures { result ≡ hash_told word.now }
+{
+    let digits = word.strip_prefix(b"sha256:")?;
+    <[u8; 32] as FromHex>::from_hex(digits).ok()
+}
+
+fn are_hex_digits(word: &[u8]) -> bool
+    ensures { result ≡ list_all is_ascii_hexdigit word.now }
+{
+    word.iter().all(|b| b.is_ascii_hexdigit())
+}
+
+fn is_hex_numeral(word: &[u8]) -> bool
+    ensures { result ≡ is_hex_numeral word.now }
+{
+    !word.is_empty() && are_hex_digits(word)
+}
+
+/// The number that a word of hexadecimal digits writes, if it fits 32 bits. A sign is not read.
+fn read_hex(word: &[u8]) -> Option<u32>
+    ensures { result ≡ hex_number word.now }
+{
+    if !is_hex_numeral(word) {
+        return None;
+    }
+    let Ok(digits) = str::from_utf8(word) else {
+        unreachable!();
+    };
+    u32::from_str_radix(digits, 16).ok()
+}

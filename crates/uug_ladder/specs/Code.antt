@@ -1,0 +1,2 @@
+-- How the code of this crate keeps what the other definitions say: no public contract names any of it.
+pub mod Progress

@@ -1,0 +1,195 @@
+//! The ladder of what a script says, drawn as its run goes on.
+ghost use Rattle.std.specs.Prelude.{◌≡◌, [], IfErr, IfOk, IfSome, IsSomeAnd, Ok, OnSome, false};
+ghost use Rattle.uug_line.specs.OfSomeRun.{IsRunOf};
+ghost use Rattle.uug_line.specs.Setup.{setup_of};
+ghost use Rattle.uug_line.specs.Simulator.{IsBehind};
+ghost use Rattle.uug_play.specs.Settled.{IsRunOfScript};
+ghost use Rattle.uug_script.specs.IsScript.{IsScript};
+ghost use Rattle.uug_script.specs.ScriptOf.{script_of, script_said};
+ghost use Rattle.uug_ladder.specs.Arrivals.{NothingComesBefore};
+ghost use Rattle.uug_ladder.specs.Code.Progress.{Steps, drawn_on, moment_now, progress_shown};
+ghost use Rattle.uug_ladder.specs.Drawing.{drawing_shown, first_drawing, is_fooled};
+ghost use Rattle.uug_ladder.specs.Fronts.{IsLadderFault, IsLadderOf, front_of, ladder_of};
+ghost use Rattle.uug_ladder.specs.Moments.{front_shown};
+ghost use Rattle.uug_ladder.specs.Rungs.{ladder_shown};
+
+use crate::drawing::Drawing;
+use crate::fault::LadderFault;
+use crate::ladder::Ladder;
+use crate::moment::{Moment, moment_of};
+use std::alloc::Allocator;
+use uug_line::{Event, LineVerdict, Report, Setup, Simulator};
+use uug_script::{Script, ScriptFault, read_script};
+
+/// What a script says, run and drawn.
+#[derive(Drop)]
+pub(crate) struct DrawnRun<A: Allocator + Copy> {
+    /// What occurred in its sessions.
+    pub(crate) ladder: Ladder<A>,
+    /// What is told of it.
+    pub(crate) report: Report<A>,
+}
+
+/// The script.
+fn read<A: Allocator + Copy>(alloc: A, text: &[u8]) -> Result<Script<A>, LadderFault>
+    ensures script { IfOk result (λ script. IsScript text.now (script_said script)) }
+    ensures exact { IfOk result (λ script. script_of text.now ≡ Ok (script_said script)) }
+    ensures fault { IfErr result (IsLadderFault text.now) }
+{
+    match read_script(alloc, text) {
+        Ok(script) => Ok(script),
+        Err(ScriptFault::Bad(line)) => Err(LadderFault::Script(line)),
+        Err(ScriptFault::Memory) => Err(LadderFault::Memory),
+    }
+}
+
+/// Whether an end was fooled.
+fn is_fooled(verdict: LineVerdict) -> bool
+    ensures { result ≡ is_fooled verdict }
+{
+    match verdict {
+        LineVerdict::Clean => false,
+        LineVerdict::Fooled { .. } => true,
+    }
+}
+
+/// The ladder of what a script says. Out of memory is answered by `Memory`.
+pub fn draw<A: Allocator + Copy>(alloc: A, text: &[u8]) -> Result<Ladder<A>, LadderFault>
+    ensures ladder { IfOk result (λ ladder. IsLadderOf text.now (ladder_shown ladder)) }
+    // So nothing in it arrives, or is lost, before it was sent.
+    ensures order { IfOk result (λ ladder. NothingComesBefore (ladder_shown ladder)) }
+    ensures fault { IfErr result (IsLadderFault text.now) }
+{
+    let DrawnRun { ladder, report } = draw_run(alloc, text)?;
+    drop(report);
+    Ok(ladder)
+}
+
+/// The same, and the report of the run.
+pub(crate) fn draw_run<A: Allocator + Copy>(
+    alloc: A,
+    text: &[u8],
+) -> Result<DrawnRun<A>, LadderFault>
+    ensures ladder { IfOk result (λ drawn. IsLadderOf text.now (ladder_shown drawn.ladder)) }
+    ensures run { IfOk result (λ drawn. IsRunOfScript text.now drawn.report) }
+    ensures fault { IfErr result (IsLadderFault text.now) }
+{
+    let Script { setup, events } = read(alloc, text)?;
+    let Some(drawn) = draw_events(alloc, setup, events.as_slice()) else {
+        return Err(LadderFault::Memory);
+    };
+    Ok(drawn)
+}
+
+/// What both ends have done by now.
+fn moment_now<A: Allocator + Copy>(run: &Option<Simulator<A>>) -> Option<Moment>
+    ensures { result ≡ moment_now run.now }
+{
+    match run {
+        Some(run) => moment_of(run.report()),
+        None => None,
+    }
+}
+
+/// The event happens. None is out of memory, and leaves nothing of the run.
+fn step<A: Allocator + Copy>(run: &mut Option<Simulator<A>>, alloc: A, event: Event) -> Option<()>
+    ensures { OnSome result (Steps event run.old run.new) }
+{
+    let before = run.take()?;
+    let Ok(after) = before.step(alloc, event) else {
+        return None;
+    };
+    *run = Some(after);
+    Some(())
+}
+
+/// A run that is drawn as it goes on.
+#[derive(Drop)]
+struct Progress<A: Allocator + Copy> {
+    /// None within a step, and where memory ran out in one.
+    run: Option<Simulator<A>>,
+    drawing: Drawing<A>,
+    /// Whether an end was fooled: nothing more is drawn then.
+    stopped: bool,
+}
+
+impl<A: Allocator + Copy> Progress<A> {
+    /// Before the first event. None is out of memory.
+    fn new(alloc: A, setup: Setup<A>) -> Option<Self>
+        ensures run { IfSome result (λ progress.
+            IsSomeAnd progress.run (IsBehind (setup_of setup) [])) }
+        ensures drawn { IfSome result (λ progress.
+            IsSomeAnd progress.run (λ run. progress_shown progress
+            ≡ record { drawing = first_drawing (front_shown run.report); stopped = false })) }
+    {
+        let Ok(run) = Simulator::new(alloc, setup) else {
+            return None;
+        };
+        let Ok(drawing) = Drawing::first(alloc, run.report()) else {
+            drop(run);
+            return None;
+        };
+        Some(Progress {
+            run: Some(run),
+            drawing,
+            stopped: false,
+        })
+    }
+
+    /// The event of this number, which has happened, is drawn unless an end was fooled before. None is out of memory.
+    fn draw(&mut self, alloc: A, number: usize, event: Event, before: Option<Moment>) -> Option<()>
+        ensures run { self.new.run ≡ self.old.run }
+        ensures drawn { OnSome result (IsSomeAnd self.old.run (λ run. progress_shown self.new
+            ≡ drawn_on self.old.stopped event number before (front_shown run.report)
+            (drawing_shown self.old.drawing))) }
+    {
+        let run = self.run.as_ref()?;
+        if self.stopped {
+            return Some(());
+        }
+        let report = run.report();
+        let fooled = is_fooled(report.verdict());
+        let Ok(()) = self.drawing.step(alloc, number, event, before, report) else {
+            return None;
+        };
+        self.stopped = fooled;
+        Some(())
+    }
+
+    /// The event of this number happens, and is drawn. None is out of memory.
+    fn advance(&mut self, alloc: A, number: usize, event: Event) -> Option<()>
+        ensures run { OnSome result (Steps event self.old.run self.new.run) }
+        ensures drawn { OnSome result (IsSomeAnd self.new.run (λ run. progress_shown self.new
+            ≡ drawn_on self.old.stopped event number (moment_now self.old.run)
+            (front_shown run.report) (drawing_shown self.old.drawing))) }
+    {
+        let before = moment_now(&self.run);
+        step(&mut self.run, alloc, event)?;
+        self.draw(alloc, number, event, before)?;
+        Some(())
+    }
+}
+
+/// The ladder of these events between two ends that are set up so, and the report. None is out of memory.
+fn draw_events<A: Allocator + Copy>(
+    alloc: A,
+    setup: Setup<A>,
+    events: &[Event],
+) -> Option<DrawnRun<A>>
+    ensures drawn { IfSome result (λ drawn.
+        ladder_shown drawn.ladder ≡ ladder_of (setup_of setup) events.now) }
+    ensures run { IfSome result (λ drawn. IsRunOf (setup_of setup) events.now drawn.report) }
+{
+    let mut progress = Progress::new(alloc, setup)?;
+    for (number, event) in events.iter().enumerate() {
+        progress.advance(alloc, number, *event)?;
+    }
+    let Progress { run, drawing, .. } = progress;
+    let Some(run) = run else {
+        return None;
+    };
+    Some(DrawnRun {
+        ladder: drawing.ladder,
+        report: run.into_report(),
+    })
+}

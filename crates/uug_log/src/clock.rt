@@ -1,0 +1,84 @@
+//! The time of a line of a log.
+ghost use Rattle.std.specs.Prelude.{◌≡◌};
+ghost use Rattle.uug_log.specs.Logged.{moment_at};
+
+use jiff_core::civil::DateTime;
+use jiff_core::{Error, Timestamp};
+use jiff_tz::{SystemTimeZone, TimeZone, TimeZoneDatabase};
+use std::rt::{Env, Files};
+use std::time::Clock;
+use std::{env, fs};
+use uug_spool::Moment;
+
+/// Where the files of the system's time zones are.
+const ZONES: &str = "/usr/share/zoneinfo";
+
+/// The clock of the system, as it is read where the program runs. Where its time zone can't be read it is that of UTC.
+#[derive(Drop)]
+pub struct LocalClock {
+    zone: Option<SystemTimeZone>,
+    zones: TimeZoneDatabase,
+}
+
+impl LocalClock {
+    /// The clock, with the time zone that `TZ` or the system names.
+    pub fn read<R: Env + Files + AllocGlobal>(rt: &R) -> Self {
+        let mut zones = TimeZoneDatabase::new(rt.alloc());
+        if let Ok(name) = env::var(rt, "TZ") {
+            // A zone that can't be read is none, and the clock's is UTC.
+            let _ = add_zone(rt, &mut zones, name.as_str());
+        }
+        LocalClock {
+            zone: SystemTimeZone::read(rt).ok(),
+            zones,
+        }
+    }
+
+    /// Now; the beginning of 1970 where the system does not say it.
+    pub fn now<R: Clock>(&self, rt: &R) -> Moment {
+        moment_of(self.zone().to_datetime(instant(rt)))
+    }
+
+    fn zone(&self) -> TimeZone<'_> {
+        let Some(zone) = &self.zone else {
+            return TimeZone::UTC;
+        };
+        zone.time_zone(&self.zones).unwrap_or(TimeZone::UTC)
+    }
+}
+
+/// Adds the zone of this name, as its file has it.
+fn add_zone<R: Files + AllocGlobal>(
+    rt: &R,
+    zones: &mut TimeZoneDatabase,
+    name: &str,
+) -> Result<(), Error> {
+    let name = name.strip_prefix(':').unwrap_or(name);
+    let path = format!(in rt.alloc(); "{ZONES}/{name}")?;
+    let bytes = fs::read(rt, path.as_str())?;
+    zones.insert(name, bytes.as_slice())
+}
+
+/// The instant that the system's clock says, or the beginning of 1970.
+fn instant<R: Clock>(rt: &R) -> Timestamp {
+    let Ok(since) = rt.since_1970() else {
+        return Timestamp::UNIX_EPOCH;
+    };
+    Timestamp::from_nanosecond(since.as_nanos() as i128).unwrap_or(Timestamp::UNIX_EPOCH)
+}
+
+/// The moment that a clock shows so.
+fn moment_of(shown: DateTime) -> Moment
+    ensures { result ≡ moment_at shown }
+{
+    let DateTime { date, time } = shown;
+    Moment {
+        year: date.year.unsigned_abs(),
+        month: date.month,
+        day: date.day,
+        hour: time.hour,
+        minute: time.minute,
+        second: time.second,
+        hundredths: (time.subsec_nanosecond / 10_000_000 % 100) as u8,
+    }
+}

@@ -1,0 +1,174 @@
+//! The lines that an end has in its log.
+ghost use Rattle.std.specs.Prelude.{◌≡◌, ◌++◌, IfOk, OnOk, string_bytes};
+ghost use Rattle.uug_log.specs.Logged.{end_text, is_sent, job_entry, start_entry, unfinished};
+ghost use Rattle.uug_scan.specs.Detailed.{escaped};
+ghost use Rattle.uug_spool.specs.LogLines.{fault as fault_entry, log_line, over as over_entry};
+ghost use Rattle.uug_spool.specs.ShownLines.{shown_head};
+ghost use Rattle.uug_follow.specs.Lines.{outcome_word, wish_word};
+
+use std::alloc::{AllocError, Allocator};
+use uug_conversation::Side;
+use uug_follow::{Outcome, Transfer, Way, Wish};
+use uug_reason::add_escaped;
+use uug_spool::{LogEvent, LogHead, log_line};
+
+/// The line of a session that begins: the system is called over the line of this name, or has called there.
+pub fn start_line<A: Allocator + Copy>(
+    alloc: A,
+    head: &LogHead<'_>,
+    side: Side,
+    line: &str,
+) -> Result<Vec<u8, A>, AllocError>
+    ensures { IfOk result (λ made. made.items
+        ≡ log_line (shown_head head.now) (start_entry side line.now)) }
+{
+    let port = escaped(alloc, line.as_bytes())?;
+    let event = match side {
+        Side::Caller => LogEvent::Calls(port.as_bytes()),
+        Side::Called => LogEvent::Called(b"-", port.as_bytes()),
+    };
+    log_line(alloc, head, &event)
+}
+
+/// The line of a job that has ended so, with so many bytes of its file: the file that was sent or received, or why it was not.
+pub fn job_line<A: Allocator + Copy>(
+    alloc: A,
+    head: &LogHead<'_>,
+    job: &Transfer,
+    outcome: Outcome,
+    bytes: u64,
+) -> Result<Vec<u8, A>, AllocError>
+    ensures { IfOk result (λ made. made.items
+        ≡ log_line (shown_head head.now) (job_entry job.now outcome bytes)) }
+{
+    match outcome {
+        Outcome::Done => done_line(alloc, head, job, bytes),
+        Outcome::Never | Outcome::Later => {
+            let text = unfinished(alloc, job, outcome)?;
+            log_line(alloc, head, &LogEvent::Fault(text.as_bytes()))
+        }
+    }
+}
+
+/// The line of a job that is done.
+fn done_line<A: Allocator + Copy>(
+    alloc: A,
+    head: &LogHead<'_>,
+    job: &Transfer,
+    bytes: u64,
+) -> Result<Vec<u8, A>, AllocError>
+    ensures { IfOk result (λ made. made.items
+        ≡ log_line (shown_head head.now) (job_entry job.now Outcome.Done bytes)) }
+{
+    if is_sent(job) {
+        let file = escaped(alloc, job.source.as_bytes())?;
+        log_line(alloc, head, &LogEvent::Sends(file.as_bytes(), bytes))
+    } else {
+        let file = escaped(alloc, job.target.as_bytes())?;
+        log_line(
+            alloc,
+            head,
+            &LogEvent::Receives(file.as_bytes(), Some(bytes)),
+        )
+    }
+}
+
+/// Whether the file of a job goes to the other end.
+fn is_sent(job: &Transfer) -> bool
+    ensures { result ≡ is_sent job.now.way job.now.wish }
+{
+    match (job.way, job.wish) {
+        (Way::Out, Wish::Send) | (Way::In, Wish::Request) => true,
+        _ => false,
+    }
+}
+
+/// What a job was that is not done, and why.
+fn unfinished<A: Allocator>(
+    alloc: A,
+    job: &Transfer,
+    outcome: Outcome,
+) -> Result<String<A>, AllocError>
+    ensures { IfOk result (λ text. string_bytes text ≡ unfinished job.now outcome) }
+{
+    let mut text = String::new(alloc);
+    text.push_str(wish_word(job.wish))?;
+    text.push_str(" ")?;
+    add_escaped(&mut text, job.source.as_bytes())?;
+    text.push_str(" ")?;
+    add_escaped(&mut text, job.target.as_bytes())?;
+    text.push_str(": ")?;
+    text.push_str(outcome_word(outcome))?;
+    Ok(text)
+}
+
+fn wish_word(wish: Wish) -> &'static str
+    ensures { result.now ≡ wish_word wish }
+{
+    match wish {
+        Wish::Send => "send",
+        Wish::Request => "request",
+    }
+}
+
+fn outcome_word(outcome: Outcome) -> &'static str
+    ensures { result.now ≡ outcome_word outcome }
+{
+    match outcome {
+        Outcome::Done => "done",
+        Outcome::Never => "refused",
+        Outcome::Later => "put off",
+    }
+}
+
+/// The line that says what went wrong.
+pub fn fault_line<A: Allocator + Copy>(
+    alloc: A,
+    head: &LogHead<'_>,
+    text: &str,
+) -> Result<Vec<u8, A>, AllocError>
+    ensures { IfOk result (λ made. made.items
+        ≡ log_line (shown_head head.now) (fault_entry text.now)) }
+{
+    log_line(alloc, head, &LogEvent::Fault(text.as_bytes()))
+}
+
+/// The line of a session that is over after so many seconds, in which so many bytes of files went.
+pub fn over_line<A: Allocator + Copy>(
+    alloc: A,
+    head: &LogHead<'_>,
+    seconds: u64,
+    bytes: u64,
+) -> Result<Vec<u8, A>, AllocError>
+    ensures { IfOk result (λ made. made.items
+        ≡ log_line (shown_head head.now) (over_entry seconds bytes)) }
+{
+    log_line(alloc, head, &LogEvent::Over(seconds, bytes))
+}
+
+/// How a session or a run ended badly: its word, and what is said of it, if anything is.
+pub fn end_text<A: Allocator>(alloc: A, word: &str, said: &str) -> Result<String<A>, AllocError>
+    ensures { IfOk result (λ text. string_bytes text ≡ end_text word.now said.now) }
+{
+    let mut text = String::from_str(alloc, word)?;
+    if !said.is_empty() {
+        text.push_str(": ")?;
+        text.push_str(said)?;
+    }
+    Ok(text)
+}
+
+/// What a line on standard error says, without the name of the program in front of it.
+pub fn words_of(line: &str) -> &str {
+    let words = line.strip_prefix("uucpair: ").unwrap_or(line);
+    words.strip_suffix('\n').unwrap_or(words)
+}
+
+/// A text in which all can be seen.
+fn escaped<A: Allocator>(alloc: A, bytes: &[u8]) -> Result<String<A>, AllocError>
+    ensures { IfOk result (λ text. string_bytes text ≡ escaped bytes.now) }
+{
+    let mut text = String::new(alloc);
+    add_escaped(&mut text, bytes)?;
+    Ok(text)
+}

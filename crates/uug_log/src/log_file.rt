@@ -1,0 +1,56 @@
+//! The file of a log.
+
+use crate::clock::LocalClock;
+use crate::process::process_number;
+use std::alloc::{AllocError, Allocator};
+use std::fs::{File, OpenOptions};
+use std::io;
+use std::rt::{Env, Files};
+use std::time::Clock;
+use uug_failure::write_again;
+use uug_spool::LogHead;
+
+/// What this program is called in a log.
+const PROGRAM: &[u8] = b"uucpair";
+
+/// A file to which lines are appended, and what is known of each of them: when it is written, and by which process.
+#[derive(Drop)]
+pub struct LogFile<'a, R> {
+    rt: &'a R,
+    file: File,
+    clock: LocalClock,
+    process: u32,
+}
+
+impl<'a, R: Files<File = File> + Env + AllocGlobal> LogFile<'a, R> {
+    /// The file of this path, which is made where there is none.
+    pub fn open(rt: &'a R, path: &str) -> io::Result<Self> {
+        let file = OpenOptions::new().append(true).create(true).open(rt, path)?;
+        Ok(LogFile {
+            rt,
+            file,
+            clock: LocalClock::read(rt),
+            process: process_number(rt.alloc(), rt),
+        })
+    }
+}
+
+impl<'a, R: Clock> LogFile<'a, R> {
+    /// What stands in front of a line that is written now, of this system; empty where that isn't known.
+    pub fn head<'b>(&self, system: &'b [u8]) -> LogHead<'b> {
+        LogHead {
+            program: PROGRAM,
+            system,
+            user: b"",
+            moment: self.clock.now(self.rt),
+            process: self.process,
+        }
+    }
+
+    /// Appends a line, by one write. One for which there is no memory, or that can't be written, is left out.
+    pub fn append<A: Allocator>(&mut self, line: Result<Vec<u8, A>, AllocError>) {
+        if let Ok(line) = line {
+            let _ = write_again(&mut self.file, line.as_slice());
+        }
+    }
+}

@@ -1,0 +1,135 @@
+//! The log of the sessions of an end.
+
+use crate::lines::{end_text, fault_line, job_line, over_line, start_line};
+use crate::log_file::LogFile;
+use std::alloc::Allocator;
+use std::time::{Clock, Instant};
+use uug_conversation::Side;
+use uug_follow::{Journal, News, Outcome};
+
+/// Has in a file what becomes of the sessions of an end. What becomes of a job is written once it is on the disk.
+#[derive(Drop)]
+pub struct SessionLog<'a, R, A: Allocator> {
+    alloc: A,
+    rt: &'a R,
+    file: LogFile<'a, R>,
+    side: Side,
+    /// The other end's name, and what the line to it is called.
+    system: &'a str,
+    line: &'a str,
+    /// When the session began, where it has and the clock says so.
+    since: Option<Instant>,
+    /// Whether it has.
+    is_begun: bool,
+    /// So many bytes of files have come to their places, up to the greatest number.
+    bytes: u64,
+    /// What is to be written of jobs, once it stands on the disk.
+    held: Vec<News, A>,
+}
+
+impl<'a, R: Clock, A: Allocator + Copy> SessionLog<'a, R, A> {
+    /// The log in this file of an end whose sessions have not begun.
+    pub fn new(
+        alloc: A,
+        rt: &'a R,
+        file: LogFile<'a, R>,
+        side: Side,
+        system: &'a str,
+        line: &'a str,
+    ) -> Self {
+        SessionLog {
+            alloc,
+            rt,
+            file,
+            side,
+            system,
+            line,
+            since: None,
+            is_begun: false,
+            bytes: 0,
+            held: Vec::new(alloc),
+        }
+    }
+
+    /// A session begins, which is written once: the end calls, or the first byte of its caller has come.
+    pub fn begin(&mut self) {
+        if self.is_begun {
+            return;
+        }
+        self.is_begun = true;
+        self.since = Instant::now(self.rt).ok();
+        // Who has called is not known yet.
+        let system = match self.side {
+            Side::Caller => self.system,
+            Side::Called => "",
+        };
+        let head = self.file.head(system.as_bytes());
+        let line = start_line(self.alloc, &head, self.side, self.line);
+        self.file.append(line);
+    }
+
+    /// What has become of jobs is on the disk.
+    pub fn write_held(&mut self) {
+        for news in &self.held {
+            if let News::Ends(job, outcome, bytes) = news {
+                let head = self.file.head(self.system.as_bytes());
+                self.file
+                    .append(job_line(self.alloc, &head, job, *outcome, *bytes));
+            }
+        }
+        self.held.clear();
+    }
+
+    /// The session is over. Where it ended badly it is said how, by a word, and what else is to be said of it; and how many jobs
+    /// were given up in it.
+    pub fn end(&mut self, bad: Option<&str>, said: &str, failed: usize) {
+        if failed > 0 {
+            if let Ok(text) = format!(in self.alloc; "{failed} jobs were given up") {
+                self.fault(text.as_str());
+            }
+        }
+        if let Some(word) = bad {
+            if let Ok(text) = end_text(self.alloc, word, said) {
+                self.fault(text.as_str());
+            }
+        }
+        if self.is_begun {
+            let head = self.file.head(self.system.as_bytes());
+            let line = over_line(self.alloc, &head, self.seconds(), self.bytes);
+            self.file.append(line);
+        }
+        self.since = None;
+        self.is_begun = false;
+        self.bytes = 0;
+        self.held.clear();
+    }
+
+    /// Something went wrong.
+    pub fn fault(&mut self, text: &str) {
+        let head = self.file.head(self.system.as_bytes());
+        self.file.append(fault_line(self.alloc, &head, text));
+    }
+
+    /// So many seconds has the session lasted, where the clock says so.
+    fn seconds(&self) -> u64 {
+        let Some(since) = self.since else {
+            return 0;
+        };
+        match since.elapsed(self.rt) {
+            Ok(elapsed) => elapsed.as_secs(),
+            Err(_) => 0,
+        }
+    }
+}
+
+impl<R: Clock, A: Allocator + Copy> Journal for SessionLog<'_, R, A> {
+    fn note(&mut self, news: &News) {
+        if let News::Ends(_, outcome, bytes) = news {
+            if *outcome == Outcome::Done {
+                self.bytes = self.bytes.saturating_add(*bytes);
+            }
+            // What there is no memory for is left out.
+            let _ = self.held.push(*news);
+        }
+    }
+}

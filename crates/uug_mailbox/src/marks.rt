@@ -1,0 +1,119 @@
+//! The markers of files that have come, and which of them stand.
+ghost use Rattle.std.specs.Prelude.{◌≡◌};
+ghost use Rattle.std.specs.List.{list_any};
+ghost use Rattle.uug_talk.specs.Lines.{lines};
+ghost use Rattle.uug_mailbox.specs.Placing.{has_marker, has_same_text, is_again, is_mark, keeps, marker_text, names_data, next_marks};
+
+use std::alloc::Allocator;
+use uug_spool::Room;
+use uug_talk::{Name, split_line};
+
+/// A marker that stood when the session began: its file is in its place, or was used up there, and may come again.
+#[derive(Drop)]
+pub struct Came<A: Allocator> {
+    /// Its name, which is that of its file.
+    pub name: Name,
+    /// Its text.
+    pub text: Vec<u8, A>,
+}
+
+/// The files of this session whose markers stand.
+#[derive(Clone, Copy, Debug, PartialEq, Eq)]
+pub struct Marks {
+    /// The data that came with the last file, where that is an execution file.
+    pub before: Option<Name>,
+    /// The last file.
+    pub last: Option<Name>,
+}
+
+/// Whether an execution file that comes leaves the marker of the last file, which is data: the sender has not sent the last
+/// of the two for good before it knows of both.
+pub(crate) fn keeps(room: Room, last: &Option<Name>) -> bool
+    ensures { result ≡ keeps room last.now }
+{
+    match (room, last) {
+        (Room::Execution, Some(last)) => last.as_bytes().starts_with(b"D."),
+        _ => false,
+    }
+}
+
+/// The markers that stand once a file of this place and name has come.
+pub(crate) fn next_marks(marks: &Marks, room: Room, name: &Name) -> Marks
+    ensures { result ≡ next_marks marks.now room name.now }
+{
+    let before = if keeps(room, &marks.last) {
+        marks.last
+    } else {
+        None
+    };
+    Marks {
+        before,
+        last: Some(*name),
+    }
+}
+
+/// Whether this marker has the name.
+pub(crate) fn is_mark(mark: &Option<Name>, name: &Name) -> bool
+    ensures { result ≡ is_mark mark.now name.now }
+{
+    match mark {
+        Some(mark) => mark.as_bytes() == name.as_bytes(),
+        None => false,
+    }
+}
+
+/// Whether the text of an execution file names a file that has to be there.
+fn names_data(text: &[u8]) -> bool
+    ensures { result ≡ names_data text.now }
+{
+    let mut rest = text;
+    while let Some((line, behind)) = split_line(rest) {
+        if line.starts_with(b"F ") {
+            return true;
+        }
+        rest = behind;
+    }
+    false
+}
+
+fn has_marker<A: Allocator>(came: &[Came<A>], name: &Name) -> bool
+    ensures { result ≡ has_marker came.now name.now }
+{
+    came.iter()
+        .any(|other| other.name.as_bytes() == name.as_bytes())
+}
+
+fn has_same_text<A: Allocator>(came: &[Came<A>], text: &[u8]) -> bool
+    ensures { result ≡ has_same_text came.now text.now }
+{
+    came.iter().any(|other| other.text.as_slice() == text)
+}
+
+/// Whether a file of this place, name and text had come before the session. An execution file is known by its text as well,
+/// since Taylor UUCP gives it another name at each try: the name of its data is in it, and stands for no other.
+pub(crate) fn is_again<A: Allocator>(
+    room: Room,
+    came: &[Came<A>],
+    name: &Name,
+    bytes: &[u8],
+) -> bool
+    ensures { result ≡ is_again room came.now name.now bytes.now }
+{
+    match room {
+        Room::Public => false,
+        Room::Execution => {
+            has_marker(came, name) || (names_data(bytes) && has_same_text(came, bytes))
+        }
+        _ => has_marker(came, name),
+    }
+}
+
+/// The text of the marker of a file: that of an execution file, else its name.
+pub(crate) fn marker_text<'a>(room: Room, name: &'a Name, bytes: &'a [u8]) -> &'a [u8]
+    ensures { result.now ≡ marker_text room name.now bytes.now }
+{
+    match room {
+        Room::Execution => bytes,
+        _ => name.as_bytes(),
+    }
+}

@@ -1,0 +1,78 @@
+//! A stream that is waited for before it is read.
+
+use crate::timed_stream::TimedStream;
+use mio::unix::SourceFd;
+use mio::{Events, Interest, Poll, Token};
+use std::alloc::Allocator;
+use std::io;
+use std::io::{Read, Write};
+use std::net::Net;
+use std::os::fd::AsRawFd;
+use std::time::Duration;
+
+/// The stream is the one thing that is waited for.
+const STREAM: Token = Token(0);
+
+/// For so many milliseconds the next bytes are waited for before the read that brings them, or waits itself.
+const POLL_MILLIS: u64 = 100;
+
+/// A stream that is waited for before it is read, where a read that waits is woken for nothing: for each window of small packets
+/// that costs more than one call. What a read comes to is what it comes to at the stream, a tenth of a second later at most.
+#[derive(Drop)]
+pub struct PolledStream<T, A: Allocator> {
+    stream: T,
+    poll: Poll,
+    events: Events<A>,
+    /// Whether the last read has left nothing behind. The system tells of no byte twice, so what was left is not waited for.
+    is_drained: bool,
+}
+
+impl<T: TimedStream + AsRawFd + Drop, A: Allocator + Copy> PolledStream<T, A> {
+    /// This stream, of which nothing was read yet.
+    pub fn new<R: Net>(alloc: A, rt: &R, stream: T) -> io::Result<Self> {
+        let poll = Poll::new(rt)?;
+        let events = Events::with_capacity(alloc, 1)?;
+        let fd = stream.as_raw_fd();
+        poll.registry()
+            .register(&mut SourceFd(&fd), STREAM, Interest::READABLE)?;
+        Ok(PolledStream {
+            stream,
+            poll,
+            events,
+            is_drained: true,
+        })
+    }
+}
+
+impl<T: TimedStream, A: Allocator> Read for PolledStream<T, A> {
+    fn read(&mut self, buffer: &mut [u8]) -> io::Result<usize> {
+        if self.is_drained && self.stream.is_woken_for_nothing() {
+            // Whatever comes of it, the read says.
+            let time = Duration::from_millis(POLL_MILLIS);
+            let _ = self.poll.poll(&mut self.events, Some(time));
+        }
+        let count = self.stream.read(buffer)?;
+        self.is_drained = count < buffer.len();
+        Ok(count)
+    }
+}
+
+impl<T: TimedStream, A: Allocator> Write for PolledStream<T, A> {
+    fn write(&mut self, piece: &[u8]) -> io::Result<usize> {
+        self.stream.write(piece)
+    }
+
+    fn flush(&mut self) -> io::Result<()> {
+        self.stream.flush()
+    }
+}
+
+impl<T: TimedStream, A: Allocator> TimedStream for PolledStream<T, A> {
+    fn set_time(&self, time: Duration) -> io::Result<()> {
+        self.stream.set_time(time)
+    }
+
+    fn is_woken_for_nothing(&self) -> bool {
+        false
+    }
+}

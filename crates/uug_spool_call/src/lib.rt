@@ -1,0 +1,13 @@
+//! One end over a spool of Taylor UUCP, at its line: what waits for a system, the session, and what is told of it.
+#![tactic(auto)]
+
+mod arrivals;
+mod notices;
+mod session;
+mod spool_call;
+mod spool_end;
+mod telling;
+mod work;
+
+pub use session::talk_over_spool;
+pub use spool_call::SpoolCall;

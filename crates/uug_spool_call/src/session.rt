@@ -1,0 +1,209 @@
+//! The session of an end over a spool.
+ghost use Rattle.std.specs.Prelude.{◌≡◌, ◌≢◌, ◌<◌, ◌≤◌, ◌⊎◌, IfErr, IfOk, IsErr, IsSome};
+ghost use Rattle.uug_failure.specs.Faults.{IsCallFault, IsFolderFault};
+ghost use Rattle.uug_session.specs.Engine.{HasFailed};
+ghost use Rattle.uug_stream.specs.Fault.{StopsWriting};
+ghost use Rattle.uug_stream.specs.Streams.{CountsFault};
+
+use crate::arrivals::finish_arrivals;
+use crate::notices::mail_failed;
+use crate::spool_call::SpoolCall;
+use crate::spool_end::SpoolEnd;
+use crate::telling::{begin_call, end_call};
+use crate::work::read_work;
+use std::alloc::{AllocError, Allocator};
+use std::fs::File;
+use std::rt::Files;
+use std::time::Clock;
+use uug_disk::NoFile;
+use uug_failure::{RunFault, SystemFailure};
+use uug_folder::{add_failed, add_state};
+use uug_session::{Node, Place, Side, Spool};
+use uug_spool_disk::SpoolPaths;
+use uug_stream::{Output, ToolFault, write_all};
+use uug_talk::Name;
+use uug_transfer::{BYTES_MAX, EndLine, PatienceLimits, SessionFault, run_session};
+
+/// An end over a spool has its session at its line. What was left between its arrival and its place is put there first. A job
+/// that is over is taken off the disk before anything is written that acknowledges it. The answer is the program's status.
+pub fn talk_over_spool<A, R, L, O>(
+    alloc: A,
+    rt: &R,
+    call: &SpoolCall<'_>,
+    place: Place,
+    limits: PatienceLimits,
+    line: &mut L,
+    output: &mut O,
+    why: &mut Option<SystemFailure>,
+) -> Result<u8, ToolFault>
+where
+    A: Allocator + Copy,
+    R: Files<File = File> + Clock + Alloc + Clone + Drop,
+    L: EndLine,
+    O: Output,
+    ensures status { IfOk result (λ status. status ≤ 1) }
+    ensures write { result ≡ Err ToolFault.Write
+        → CountsFault (O.fault_count output.old) (O.fault_count output.new) }
+    ensures no_other { IfErr result IsCallFault }
+    ensures no_usage { result ≢ Err ToolFault.Usage }
+    // Where the line has not failed it is said which call on the spool it was.
+    ensures why { result ≡ Err ToolFault.Device
+        → IsSome why.new ⊎ (0 < L.fault_count line.new) }
+{
+    match paths_of(alloc, call, place.peer) {
+        Ok(paths) => talk_at(alloc, rt, call, place, limits, &paths, line, output, why),
+        Err(AllocError) => Err(ToolFault::Memory),
+    }
+}
+
+/// The same, over the folders of a system.
+fn talk_at<A, R, L, O>(
+    alloc: A,
+    rt: &R,
+    call: &SpoolCall<'_>,
+    place: Place,
+    limits: PatienceLimits,
+    paths: &SpoolPaths<A>,
+    line: &mut L,
+    output: &mut O,
+    why: &mut Option<SystemFailure>,
+) -> Result<u8, ToolFault>
+where
+    A: Allocator + Copy,
+    R: Files<File = File> + Clock + Alloc + Clone + Drop,
+    L: EndLine,
+    O: Output,
+    ensures status { IfOk result (λ status. status ≤ 1) }
+    ensures write { result ≡ Err ToolFault.Write
+        → CountsFault (O.fault_count output.old) (O.fault_count output.new) }
+    ensures no_other { IfErr result IsCallFault }
+    ensures no_usage { result ≢ Err ToolFault.Usage }
+    ensures why { result ≡ Err ToolFault.Device
+        → IsSome why.new ⊎ (0 < L.fault_count line.new) }
+{
+    let mut end = match begin(alloc, rt, call, place, paths) {
+        Ok(end) => end,
+        Err(fault) => return Err(fault.tell(why)),
+    };
+    begin_call(alloc, rt, call, paths);
+    let session = run_end(alloc, &mut end, line, limits);
+    let answer = answer_of(alloc, call.side, session, end.buffered.node(), output);
+    *why = end.failure();
+    end_call(alloc, rt, call, paths, &end);
+    mail_failed(alloc, rt, &place.me, paths, &end);
+    drop(end);
+    answer
+}
+
+/// The end has its session.
+fn run_end<A, R, L>(
+    alloc: A,
+    end: &mut SpoolEnd<'_, '_, R, A>,
+    line: &mut L,
+    limits: PatienceLimits,
+) -> Result<(), SessionFault>
+where
+    A: Allocator + Copy,
+    R: Files<File = File>,
+    L: EndLine,
+    ensures jobs { result ≡ Err SessionFault.Jobs → HasFailed u64.MAX
+        end.old.store.disk.faults.count end.new.store.disk.faults.count }
+    ensures no_number { result ≢ Err SessionFault.Number }
+    ensures line { result ≡ Err SessionFault.Line
+        → HasFailed u64.MAX (L.fault_count line.old) (L.fault_count line.new) }
+    ensures grows { L.fault_count line.old ≤ L.fault_count line.new }
+{
+    let mut number = NoFile;
+    run_session(
+        alloc,
+        &mut end.buffered,
+        &mut end.store,
+        &mut number,
+        line,
+        BYTES_MAX,
+        limits,
+    )
+}
+
+/// Where the folders of a system are. Without a public folder that is named it is `uucppublic` beside the spool.
+fn paths_of<A: Allocator + Copy>(
+    alloc: A,
+    call: &SpoolCall<'_>,
+    system: Name,
+) -> Result<SpoolPaths<A>, AllocError> {
+    match call.public {
+        Some(public) => SpoolPaths::new(alloc, call.spool, system, public),
+        None => {
+            let spool = call.spool;
+            let public = format!(in alloc; "{spool}/../uucppublic")?;
+            SpoolPaths::new(alloc, spool, system, public.as_str())
+        }
+    }
+}
+
+/// The end over the spool as it stands.
+fn begin<'a, 'p, A: Allocator + Copy, R: Files<File = File> + Alloc + Clone + Drop>(
+    alloc: A,
+    rt: &'a R,
+    call: &SpoolCall<'_>,
+    place: Place,
+    paths: &'p SpoolPaths<A>,
+) -> Result<SpoolEnd<'a, 'p, R, A>, RunFault>
+    ensures calm { IfOk result (λ end. end.store.disk.faults.count ≡ 0) }
+    ensures no_other { IfErr result IsFolderFault }
+{
+    let came = finish_arrivals(alloc, rt, paths)?;
+    let work = match read_work(alloc, rt, paths, &place.me, u64::from(call.most)) {
+        Ok(work) => work,
+        Err(fault) => {
+            drop(came);
+            return Err(fault);
+        }
+    };
+    Ok(SpoolEnd::begin(alloc, rt, call, place, paths, came, work)?)
+}
+
+/// What the program answers when the session has ended so. The report goes to the output, except where memory ran out.
+fn answer_of<S: Spool, A: Allocator + Copy, O: Output>(
+    alloc: A,
+    side: Side,
+    session: Result<(), SessionFault>,
+    end: &Node<S, A>,
+    output: &mut O,
+) -> Result<u8, ToolFault>
+    ensures status { IfOk result (λ status. status ≤ 1) }
+    ensures write { result ≡ Err ToolFault.Write
+        → CountsFault (O.fault_count output.old) (O.fault_count output.new) }
+    ensures no_other { IfErr result IsCallFault }
+    ensures no_usage { result ≢ Err ToolFault.Usage }
+    ensures device { result ≡ Err ToolFault.Device → IsErr session }
+    ensures memory { session ≡ Err SessionFault.Memory → result ≡ Err ToolFault.Memory }
+{
+    if let Err(SessionFault::Memory) = session {
+        return Err(ToolFault::Memory);
+    }
+    let printed = print_report(alloc, side, end, output);
+    let status = if end.phase().is_done() { 0 } else { 1 };
+    match (session, printed) {
+        (Err(SessionFault::Line), Err(ToolFault::Memory)) => Err(ToolFault::Memory),
+        (Err(SessionFault::Jobs | SessionFault::Number), _) => Err(ToolFault::Device),
+        (Err(SessionFault::Line), _) if status > 0 => Err(ToolFault::Device),
+        (_, Err(fault)) => Err(fault),
+        (_, Ok(())) => Ok(status),
+    }
+}
+
+/// Prints how an end stands, and then the jobs that it has given up.
+fn print_report<S: Spool, O: Output, A: Allocator + Copy>(
+    alloc: A,
+    side: Side,
+    end: &Node<S, A>,
+    output: &mut O,
+) -> Result<(), ToolFault>
+    ensures { IfErr result (StopsWriting (O.fault_count output.old) (O.fault_count output.new)) }
+{
+    let mut text = String::new(alloc);
+    add_state(alloc, &mut text, side, end.phase(), end.queue())?;
+    add_failed(alloc, &mut text, side, end.queue())?;
+    write_all(output, text.as_bytes())
+}

@@ -1,0 +1,240 @@
+//! What is told of a call with a system: its status, the log, and the statistics. What can't be told is left out.
+
+use crate::spool_call::SpoolCall;
+use crate::spool_end::SpoolEnd;
+use std::alloc::{AllocError, Allocator};
+use std::fs::File;
+use std::rt::Files;
+use std::time::Clock;
+use uug_mailbox::{remove_markers, settle_file};
+use uug_session::{End, Job, Phase, Side, Spool};
+use uug_spool::{
+    Amount, CallState, Course, LogEvent, LogHead, StatsHead, Status, log_line, stats_line,
+    status_failed,
+};
+use uug_spool_disk::{
+    Arrived, SpoolDisk, SpoolPaths, append_line, process_number, read_clock, read_status_file,
+    write_status_file,
+};
+
+/// The program that writes a line of the log: that in whose place this one stands, so that all that read it find it.
+const PROGRAM: &[u8] = b"uucico";
+
+/// Whom a file belongs to of which it is not known.
+const NOBODY: &[u8] = b"uucp";
+
+/// Tells that a call begins.
+pub(crate) fn begin_call<A: Allocator + Copy, R: Files<File = File> + Clock>(
+    alloc: A,
+    rt: &R,
+    call: &SpoolCall<'_>,
+    paths: &SpoolPaths<A>,
+) {
+    let now = read_clock(rt);
+    let port = call.port.as_bytes();
+    match call.side {
+        Side::Caller => {
+            let tries = match read_status_file(alloc, rt, paths) {
+                Some(status) => status.tries,
+                None => 0,
+            };
+            let status = Status {
+                state: CallState::Talking,
+                tries,
+                time: now.seconds,
+                wait: 0,
+            };
+            let _ = write_status_file(alloc, rt, paths, &status);
+            log(alloc, rt, call, paths, b"", &LogEvent::Calls(port));
+        }
+        Side::Called => {
+            let login = paths.system().as_bytes();
+            log(alloc, rt, call, paths, b"", &LogEvent::Called(login, port));
+        }
+    }
+}
+
+/// Appends a line to the log, if there is one.
+fn log<A: Allocator + Copy, R: Files<File = File> + Clock>(
+    alloc: A,
+    rt: &R,
+    call: &SpoolCall<'_>,
+    paths: &SpoolPaths<A>,
+    user: &[u8],
+    event: &LogEvent<'_>,
+) {
+    let Some(path) = call.log else {
+        return;
+    };
+    let head = LogHead {
+        program: PROGRAM,
+        system: paths.system().as_bytes(),
+        user,
+        moment: read_clock(rt).moment,
+        process: process_number(alloc, rt),
+    };
+    if let Ok(line) = log_line(alloc, &head, event) {
+        let _ = append_line(rt, path, line.as_slice());
+    }
+}
+
+/// Takes what is over off the disk, and tells what became of a call.
+pub(crate) fn end_call<A: Allocator + Copy, R: Files<File = File> + Clock>(
+    alloc: A,
+    rt: &R,
+    call: &SpoolCall<'_>,
+    paths: &SpoolPaths<A>,
+    end: &SpoolEnd<'_, '_, R, A>,
+) {
+    let phase = end.buffered.node().phase();
+    tidy(alloc, rt, paths, end, phase);
+    tell_sent(alloc, rt, call, paths, end);
+    tell_failed(alloc, rt, call, paths, end);
+    let folder = end.buffered.node().spool().files().folder();
+    tell_arrived(alloc, rt, call, paths, folder.disk.arrived());
+    tell_status(alloc, rt, call, paths, phase);
+    log(alloc, rt, call, paths, b"", &LogEvent::Over(0, 0));
+}
+
+/// After a session that is done the markers of the last files go, and each C. file none of whose lines is open.
+fn tidy<A: Allocator + Copy, R: Files<File = File>>(
+    alloc: A,
+    rt: &R,
+    paths: &SpoolPaths<A>,
+    end: &SpoolEnd<'_, '_, R, A>,
+    phase: Phase,
+) {
+    if !phase.is_done() {
+        return;
+    }
+    let mut disk = SpoolDisk::new(alloc, rt, paths);
+    for name in end.names.as_slice() {
+        let _ = settle_file(&mut disk, name, end.store.lines());
+    }
+    let marks = end.buffered.node().spool().files().folder().marks();
+    let _ = remove_markers(&mut disk, &marks);
+}
+
+/// Tells of each file that was sent.
+fn tell_sent<A: Allocator + Copy, R: Files<File = File> + Clock>(
+    alloc: A,
+    rt: &R,
+    call: &SpoolCall<'_>,
+    paths: &SpoolPaths<A>,
+    end: &SpoolEnd<'_, '_, R, A>,
+) {
+    let node = end.buffered.node();
+    for job in node.queue().struck() {
+        if let Job::Send {
+            source,
+            user,
+            temp,
+            ..
+        } = job
+        {
+            let name = temp.unwrap_or(*source);
+            let size = match node.spool().fetch(&name) {
+                Some(file) => file.bytes.len() as u64,
+                None => 0,
+            };
+            let event = LogEvent::Sends(source.as_bytes(), size);
+            log(alloc, rt, call, paths, user.as_bytes(), &event);
+            count(alloc, rt, call, paths, user.as_bytes(), Course::Sent, size);
+        }
+    }
+}
+
+/// Tells of each job that has failed.
+fn tell_failed<A: Allocator + Copy, R: Files<File = File> + Clock>(
+    alloc: A,
+    rt: &R,
+    call: &SpoolCall<'_>,
+    paths: &SpoolPaths<A>,
+    end: &SpoolEnd<'_, '_, R, A>,
+) {
+    for job in end.buffered.node().queue().failed() {
+        let (source, user) = match job {
+            Job::Send { source, user, .. } => (source, user),
+            Job::Request { source, user, .. } => (source, user),
+        };
+        let event = LogEvent::Fault(source.as_bytes());
+        log(alloc, rt, call, paths, user.as_bytes(), &event);
+    }
+}
+
+/// Tells of each file that has come. Whom it belongs to its sender knows.
+fn tell_arrived<A: Allocator + Copy, R: Files<File = File> + Clock>(
+    alloc: A,
+    rt: &R,
+    call: &SpoolCall<'_>,
+    paths: &SpoolPaths<A>,
+    arrived: &[Arrived],
+) {
+    for file in arrived {
+        let name = file.spot.name;
+        let event = LogEvent::Receives(name.as_bytes(), Some(file.size));
+        log(alloc, rt, call, paths, NOBODY, &event);
+        count(alloc, rt, call, paths, NOBODY, Course::Received, file.size);
+    }
+}
+
+/// Appends a line to the statistics, if there are any.
+fn count<A: Allocator + Copy, R: Files<File = File> + Clock>(
+    alloc: A,
+    rt: &R,
+    call: &SpoolCall<'_>,
+    paths: &SpoolPaths<A>,
+    user: &[u8],
+    course: Course,
+    size: u64,
+) {
+    let Some(path) = call.stats else {
+        return;
+    };
+    let head = StatsHead {
+        user,
+        system: paths.system().as_bytes(),
+        moment: read_clock(rt).moment,
+        port: call.port.as_bytes(),
+    };
+    let amount = Amount {
+        bytes: u32::try_from(size).unwrap_or(u32::MAX),
+        thousandths: 0,
+    };
+    if let Ok(line) = stats_line(alloc, &head, course, false, amount) {
+        let _ = append_line(rt, path, line.as_slice());
+    }
+}
+
+/// Writes how the call went. An end that was called says it where the session is done.
+fn tell_status<A: Allocator + Copy, R: Files<File = File> + Clock>(
+    alloc: A,
+    rt: &R,
+    call: &SpoolCall<'_>,
+    paths: &SpoolPaths<A>,
+    phase: Phase,
+) {
+    let time = read_clock(rt).seconds;
+    let status = match (state_of(phase), call.side) {
+        (CallState::Complete, _) => Status {
+            state: CallState::Complete,
+            tries: 0,
+            time,
+            wait: 0,
+        },
+        (_, Side::Called) => return,
+        (state, Side::Caller) => { status_failed(state, read_status_file(alloc, rt, paths), time) }
+    };
+    let _ = write_status_file(alloc, rt, paths, &status);
+}
+
+/// How a call went whose session has ended so.
+fn state_of(phase: Phase) -> CallState {
+    match phase {
+        Phase::Ended(End::Done) => CallState::Complete,
+        Phase::Ended(End::Refused | End::WrongName | End::NoProtocol | End::BadSequence) => {
+            CallState::HandshakeFailed
+        }
+        _ => CallState::CallFailed,
+    }
+}

@@ -1,0 +1,243 @@
+//! What waits for a system in its spool.
+ghost use Rattle.std.specs.Prelude.{◌≤◌, IfErr};
+ghost use Rattle.uug_failure.specs.Faults.{IsFolderFault};
+ghost use Rattle.uug_talk.specs.declared.mode.TheConstants.{MODE_MAX};
+
+use std::alloc::{AllocError, Allocator};
+use std::cmp::Ordering;
+use std::rt::Files;
+use uug_failure::RunFault;
+use uug_mailbox::{OpenLine, add_file};
+use uug_session::{JOBS_MAX, Stored};
+use uug_spool::{
+    Command, Fields, Room, SentFile, Spot, data_spot, execution_temp, execution_text, grade_of,
+    has_option, read_command, work_order,
+};
+use uug_spool_disk::{SpoolPaths, list_room, read_source, read_spot};
+use uug_talk::{FILE_MAX, Name, split_line};
+
+/// The most bytes of a C. file.
+const COMMANDS_MAX: usize = 1_048_576;
+
+/// Only this system may read the text of a command that is run with a file.
+const TEXT_MODE: u16 = 0o600;
+
+/// What waits for a system: the lines of its C. files that are not over, and the files that these send.
+#[derive(Drop)]
+pub(crate) struct Work<A: Allocator> {
+    /// The names of the C. files that were read.
+    pub(crate) names: Vec<Name, A>,
+    pub(crate) lines: Vec<OpenLine, A>,
+    pub(crate) files: Vec<Stored<A>, A>,
+}
+
+/// Reads what waits for a system, C. file after C. file, as long as the files have so many bytes together at most; the first C.
+/// file always. What this node is called stands in the texts of commands.
+pub(crate) fn read_work<A: Allocator + Copy, R: Files + Alloc + Clone + Drop>(
+    alloc: A,
+    rt: &R,
+    paths: &SpoolPaths<A>,
+    me: &Name,
+    most: u64,
+) -> Result<Work<A>, RunFault>
+    ensures { IfErr result IsFolderFault }
+{
+    let names = work_names(alloc, rt, paths)?;
+    let there = data_names(alloc, rt, paths)?;
+    let mut work = Work {
+        names: Vec::new(alloc),
+        lines: Vec::new(alloc),
+        files: Vec::new(alloc),
+    };
+    let mut room = most;
+    for name in names.as_slice() {
+        let fits = add_commands(
+            &mut work,
+            alloc,
+            rt,
+            paths,
+            me,
+            name,
+            there.as_slice(),
+            &mut room,
+        )?;
+        if !fits {
+            break;
+        }
+    }
+    Ok(work)
+}
+
+/// The names of the C. files, in the order in which they are taken.
+fn work_names<A: Allocator + Copy, R: Files + Alloc + Clone + Drop>(
+    alloc: A,
+    rt: &R,
+    paths: &SpoolPaths<A>,
+) -> Result<Vec<Name, A>, RunFault>
+    ensures { IfErr result IsFolderFault }
+{
+    let listed = list_room(alloc, rt, paths, Room::Commands)?;
+    let mut names = Vec::new(alloc);
+    for name in listed.as_slice() {
+        if grade_of(name.as_bytes()).is_some() {
+            insert(&mut names, *name)?;
+        }
+    }
+    Ok(names)
+}
+
+/// Adds a name to names that are in order.
+fn insert<A: Allocator>(names: &mut Vec<Name, A>, name: Name) -> Result<(), AllocError> {
+    let place = names
+        .iter()
+        .position(|other| work_order(name.as_bytes(), other.as_bytes()) == Ordering::Less)
+        .unwrap_or(names.len());
+    names.insert(place, name)?;
+    Ok(())
+}
+
+/// The names of the data that is there.
+fn data_names<A: Allocator + Copy, R: Files + Alloc + Clone + Drop>(
+    alloc: A,
+    rt: &R,
+    paths: &SpoolPaths<A>,
+) -> Result<Vec<Name, A>, RunFault>
+    ensures { IfErr result IsFolderFault }
+{
+    let mut names = list_room(alloc, rt, paths, Room::Data)?;
+    let texts = list_room(alloc, rt, paths, Room::Text)?;
+    names.extend_from_slice(texts.as_slice())?;
+    Ok(names)
+}
+
+/// Adds the lines and the files of a C. file, if there is room for them. One that is gone by now is none.
+fn add_commands<A: Allocator + Copy, R: Files>(
+    work: &mut Work<A>,
+    alloc: A,
+    rt: &R,
+    paths: &SpoolPaths<A>,
+    me: &Name,
+    name: &Name,
+    there: &[Name],
+    room: &mut u64,
+) -> Result<bool, RunFault>
+    ensures { IfErr result IsFolderFault }
+{
+    let spot = Spot {
+        room: Room::Commands,
+        name: *name,
+    };
+    let Some(text) = read_spot(alloc, rt, paths, &spot, COMMANDS_MAX)? else {
+        return Ok(true);
+    };
+    let mut files = Vec::new(alloc);
+    add_files(&mut files, alloc, rt, paths, me, text.as_slice(), there)?;
+    let mut lines = Vec::new(alloc);
+    add_file(&mut lines, name, text.as_slice(), there)?;
+    let size = size_of(files.as_slice());
+    let is_first = work.lines.is_empty();
+    if !is_first && (size > *room || work.lines.len().saturating_add(lines.len()) > JOBS_MAX) {
+        return Ok(false);
+    }
+    *room = room.saturating_sub(size);
+    work.names.reserve(1)?;
+    work.names.push_reserved(*name);
+    work.lines.append(&mut lines)?;
+    work.files.append(&mut files)?;
+    Ok(true)
+}
+
+/// The bytes of files together.
+fn size_of<A: Allocator>(files: &[Stored<A>]) -> u64 {
+    let mut size: u64 = 0;
+    for file in files {
+        size = size.saturating_add(file.bytes.len() as u64);
+    }
+    size
+}
+
+/// Adds the files that the lines of a C. file send.
+fn add_files<A: Allocator + Copy, R: Files>(
+    files: &mut Vec<Stored<A>, A>,
+    alloc: A,
+    rt: &R,
+    paths: &SpoolPaths<A>,
+    me: &Name,
+    text: &[u8],
+    there: &[Name],
+) -> Result<(), RunFault>
+    ensures { IfErr result IsFolderFault }
+{
+    let mut rest = text;
+    while let Some((line, behind)) = split_line(rest) {
+        match read_command(line) {
+            Ok(Command::Send(fields, file)) => {
+                add_sent(files, alloc, rt, paths, &fields, &file, there)?;
+            }
+            Ok(Command::Execute(fields, file, command)) => {
+                add_sent(files, alloc, rt, paths, &fields, &file, there)?;
+                add_text(files, alloc, me, &fields, &file, command)?;
+            }
+            _ => (),
+        }
+        rest = behind;
+    }
+    Ok(())
+}
+
+/// Adds the file that a line sends, if it can be read: its copy, or the file that a person named.
+fn add_sent<A: Allocator + Copy, R: Files>(
+    files: &mut Vec<Stored<A>, A>,
+    alloc: A,
+    rt: &R,
+    paths: &SpoolPaths<A>,
+    fields: &Fields<'_>,
+    file: &SentFile<'_>,
+    there: &[Name],
+) -> Result<(), RunFault>
+    ensures { IfErr result IsFolderFault }
+{
+    let Ok(name) = Name::new(file.temp) else {
+        return Ok(());
+    };
+    let found = if !has_option(fields.options, b'C') {
+        read_source(alloc, rt, fields.source, FILE_MAX)
+    } else if there
+        .iter()
+        .any(|other| other.as_bytes() == name.as_bytes())
+    {
+        read_spot(alloc, rt, paths, &data_spot(&name), FILE_MAX)?
+    } else {
+        None
+    };
+    if let Some(bytes) = found {
+        files.reserve(1)?;
+        files.push_reserved(stored(name, file.mode, bytes));
+    }
+    Ok(())
+}
+
+/// Adds the execution file of a line that has a command run.
+fn add_text<A: Allocator + Copy>(
+    files: &mut Vec<Stored<A>, A>,
+    alloc: A,
+    me: &Name,
+    fields: &Fields<'_>,
+    file: &SentFile<'_>,
+    command: &[u8],
+) -> Result<(), AllocError> {
+    let Some(name) = execution_temp(file.temp) else {
+        return Ok(());
+    };
+    let bytes = execution_text(alloc, me, fields, file, command)?;
+    files.reserve(1)?;
+    files.push_reserved(stored(name, TEXT_MODE, bytes));
+    Ok(())
+}
+
+/// A file to give.
+fn stored<A: Allocator>(name: Name, mode: u16, bytes: Vec<u8, A>) -> Stored<A>
+    requires { mode ≤ MODE_MAX }
+{
+    Stored { name, mode, bytes }
+}

@@ -1,0 +1,61 @@
+//! The files that tell of the calls with a system: its status, the log, and the statistics.
+
+use crate::spool_files::read_file;
+use crate::spool_paths::SpoolPaths;
+use std::alloc::Allocator;
+use std::fs::{File, OpenFile, OpenOptions};
+use std::io::Write;
+use std::rt::Files;
+use std::{fs, io};
+use uug_spool::{Status, read_status, status_line};
+use uug_talk::{NUMBER_MAX, read_number};
+
+/// The most bytes of a status file that are read.
+const STATUS_MAX: usize = 4096;
+
+/// How the last call with the system went, if its file says it.
+pub fn read_status_file<A: Allocator + Copy, R: Files>(
+    alloc: A,
+    rt: &R,
+    paths: &SpoolPaths<A>,
+) -> Option<Status> {
+    let spool = paths.spool();
+    let system = paths.system().as_str();
+    let path = format!(in alloc; "{spool}/.Status/{system}").ok()?;
+    let text = read_file(alloc, rt, path.as_str(), STATUS_MAX).ok()??;
+    read_status(text.as_slice())
+}
+
+/// Writes how a call with the system went, whole. Nobody waits for the device: it is said again at the next call.
+pub fn write_status_file<A: Allocator + Copy, R: Files>(
+    alloc: A,
+    rt: &R,
+    paths: &SpoolPaths<A>,
+    status: &Status,
+) -> io::Result<()> {
+    let spool = paths.spool();
+    let system = paths.system().as_str();
+    let text = status_line(alloc, status, paths.system())?;
+    let folder = format!(in alloc; "{spool}/.Status")?;
+    let part = format!(in alloc; "{spool}/.Status/.part.{system}")?;
+    let path = format!(in alloc; "{spool}/.Status/{system}")?;
+    fs::create_dir_all(rt, folder.as_str())?;
+    let mut file = File::create(rt, part.as_str())?;
+    file.write_all(text.as_slice())?;
+    fs::rename(rt, part.as_str(), path.as_str())
+}
+
+/// Appends a line to the file at a path, by one write.
+pub fn append_line<R: Files<File = File>>(rt: &R, path: &str, line: &[u8]) -> io::Result<()> {
+    let mut file = OpenOptions::new().append(true).create(true).open(rt, path)?;
+    file.write_all(line)
+}
+
+/// The number of this process, or 0 where the system does not tell it.
+pub fn process_number<A: Allocator + Copy, R: Files>(alloc: A, rt: &R) -> u32 {
+    let Ok(process) = rt.read_link(alloc, "/proc/self") else {
+        return 0;
+    };
+    let process = process.into_string();
+    read_number(process.as_bytes(), NUMBER_MAX).unwrap_or(0)
+}

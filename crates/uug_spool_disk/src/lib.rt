@@ -1,0 +1,14 @@
+//! A spool of Taylor UUCP on a disk: its folders, what is done to them and read there, and the files that tell of calls.
+#![tactic(auto)]
+
+mod call_files;
+mod moments;
+mod spool_disk;
+mod spool_files;
+mod spool_paths;
+
+pub use call_files::{append_line, process_number, read_status_file, write_status_file};
+pub use moments::{Now, read_clock};
+pub use spool_disk::{Arrived, SpoolDisk};
+pub use spool_files::{is_there, list_room, read_source, read_spot};
+pub use spool_paths::SpoolPaths;

@@ -1,0 +1,168 @@
+//! What stands in the folders of a spool.
+ghost use Rattle.std.specs.Prelude.{◌<◌, ◌≤◌, IfErr, IfOk, IfSome, length};
+ghost use Rattle.uug_failure.specs.Faults.{IsFolderFault};
+
+use crate::spool_paths::SpoolPaths;
+use std::alloc::Allocator;
+use std::fs::{DirEntry, File, ReadDir};
+use std::io::{ErrorKind, Read};
+use std::rt::Files;
+use std::{fs, io};
+use uug_failure::{Resource, RunFault};
+use uug_spool::{Room, Spot};
+use uug_talk::Name;
+
+/// The names in a room that a session can say. A folder that lacks has none.
+pub fn list_room<A: Allocator + Copy, R: Files + Alloc + Clone + Drop>(
+    alloc: A,
+    rt: &R,
+    paths: &SpoolPaths<A>,
+    room: Room,
+) -> Result<Vec<Name, A>, RunFault>
+    ensures { IfErr result IsFolderFault }
+{
+    let mut names = Vec::new(alloc);
+    add_names(&mut names, alloc, rt, paths, room)?;
+    Ok(names)
+}
+
+/// Adds the names in a room.
+fn add_names<A: Allocator + Copy, R: Files + Alloc + Clone + Drop>(
+    names: &mut Vec<Name, A>,
+    alloc: A,
+    rt: &R,
+    paths: &SpoolPaths<A>,
+    room: Room,
+) -> Result<(), RunFault>
+    ensures { IfErr result IsFolderFault }
+{
+    let path = paths.room(alloc, room)?;
+    match fs::read_dir(rt, path.as_str()) {
+        Ok(entries) => add_entries(names, paths, entries),
+        Err(error) if error.kind() == ErrorKind::NotFound => Ok(()),
+        Err(error) => Err(RunFault::of(&error, paths.end_dir(), Resource::Dir)),
+    }
+}
+
+/// Adds the names of these entries. One that is no text is nobody's here.
+fn add_entries<A: Allocator, R: Files + Alloc + Clone + Drop>(
+    names: &mut Vec<Name, A>,
+    paths: &SpoolPaths<A>,
+    entries: ReadDir<R, R::A>,
+) -> Result<(), RunFault>
+    ensures { IfErr result IsFolderFault }
+{
+    for entry in entries {
+        match entry {
+            Ok(entry) => add_entry(names, &entry)?,
+            Err(error) if error.kind() == ErrorKind::InvalidFilename => (),
+            Err(error) => return Err(RunFault::of(&error, paths.end_dir(), Resource::Dir)),
+        }
+    }
+    Ok(())
+}
+
+/// Adds the name of an entry, if a session can say it.
+fn add_entry<A: Allocator, R: Files + Alloc + Clone + Drop>(
+    names: &mut Vec<Name, A>,
+    entry: &DirEntry<R, R::A>,
+) -> Result<(), RunFault>
+    ensures { IfErr result IsFolderFault }
+{
+    if let Ok(name) = Name::new(entry.file_name().as_bytes()) {
+        names.reserve(1)?;
+        names.push_reserved(name);
+    }
+    Ok(())
+}
+
+/// Whether there is a file.
+pub fn is_there<A: Allocator + Copy, R: Files>(
+    alloc: A,
+    rt: &R,
+    paths: &SpoolPaths<A>,
+    spot: &Spot,
+) -> Result<bool, RunFault>
+    ensures { IfErr result IsFolderFault }
+{
+    let path = paths.file(alloc, spot)?;
+    Ok(fs::symlink_metadata(rt, path.as_str()).is_ok())
+}
+
+/// The bytes of a file of the spool, unless there is none, or it has more than so many.
+pub fn read_spot<A: Allocator + Copy, R: Files>(
+    alloc: A,
+    rt: &R,
+    paths: &SpoolPaths<A>,
+    spot: &Spot,
+    most: usize,
+) -> Result<Option<Vec<u8, A>>, RunFault>
+    requires { most < u64.MAX }
+    ensures within { IfOk result (λ found. IfSome found (λ bytes. length bytes.items ≤ most)) }
+    ensures no_other { IfErr result IsFolderFault }
+{
+    let path = paths.file(alloc, spot)?;
+    match read_file(alloc, rt, path.as_str(), most) {
+        Ok(found) => Ok(found),
+        Err(error) => Err(RunFault::of(&error, paths.end_dir(), Resource::Dir)),
+    }
+}
+
+/// The bytes of the file that a person named, unless it can't be read, or has more than so many. What has a relative path is in
+/// no folder that is known.
+pub fn read_source<A: Allocator, R: Files>(
+    alloc: A,
+    rt: &R,
+    path: &[u8],
+    most: usize,
+) -> Option<Vec<u8, A>>
+    requires { most < u64.MAX }
+    ensures { IfSome result (λ bytes. length bytes.items ≤ most) }
+{
+    let path = str::from_utf8(path).ok()?;
+    if !path.starts_with('/') {
+        return None;
+    }
+    match read_file(alloc, rt, path, most) {
+        Ok(found) => found,
+        Err(_) => None,
+    }
+}
+
+/// The bytes of the regular file at a path, unless there is none, or it has more than so many. No pipe is opened, which would
+/// wait for a writer.
+pub(crate) fn read_file<A: Allocator, R: Files>(
+    alloc: A,
+    rt: &R,
+    path: &str,
+    most: usize,
+) -> io::Result<Option<Vec<u8, A>>>
+    requires { most < u64.MAX }
+    ensures within { IfOk result (λ found. IfSome found (λ bytes. length bytes.items ≤ most)) }
+{
+    match fs::metadata(rt, path) {
+        Ok(metadata) if metadata.is_file() => (),
+        Ok(_) => return Ok(None),
+        Err(error) if error.kind() == ErrorKind::NotFound => return Ok(None),
+        Err(error) => return Err(error),
+    }
+    read_within(alloc, File::open(rt, path)?, most)
+}
+
+/// All that comes from a reader, unless it is more than so many bytes.
+fn read_within<A: Allocator, R: Read + Drop>(
+    alloc: A,
+    reader: R,
+    most: usize,
+) -> io::Result<Option<Vec<u8, A>>>
+    requires { most < u64.MAX }
+    ensures within { IfOk result (λ found. IfSome found (λ bytes. length bytes.items ≤ most)) }
+{
+    let mut bytes = Vec::new(alloc);
+    let mut front = reader.take(most as u64 + 1);
+    front.read_to_end(&mut bytes)?;
+    if bytes.len() > most {
+        return Ok(None);
+    }
+    Ok(Some(bytes))
+}

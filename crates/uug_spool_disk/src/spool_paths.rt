@@ -1,0 +1,73 @@
+//! Where the folders of a spool are.
+
+use std::alloc::{AllocError, Allocator};
+use uug_failure::EndDir;
+use uug_spool::{Room, Spot};
+use uug_talk::Name;
+
+/// A spool, the system in it whose files are meant, and the public folder.
+#[derive(Drop)]
+pub struct SpoolPaths<A: Allocator> {
+    spool: String<A>,
+    system: Name,
+    public: String<A>,
+}
+
+impl<A: Allocator + Copy> SpoolPaths<A> {
+    /// The spool at this path, this system's folders, and the public folder at that path.
+    pub fn new(alloc: A, spool: &str, system: Name, public: &str) -> Result<Self, AllocError> {
+        Ok(SpoolPaths {
+            spool: String::from_str(alloc, spool)?,
+            system,
+            public: String::from_str(alloc, public)?,
+        })
+    }
+}
+
+impl<A: Allocator> SpoolPaths<A> {
+    /// The path of the spool.
+    pub fn spool(&self) -> &str {
+        self.spool.as_str()
+    }
+
+    /// The name of the system, which is that of its folder.
+    pub fn system(&self) -> &Name {
+        &self.system
+    }
+
+    /// The spool, as what a failure is of.
+    pub fn end_dir(&self) -> EndDir<'_> {
+        EndDir {
+            path: self.spool.as_str(),
+            number: 0,
+        }
+    }
+
+    /// The path of a room.
+    pub(crate) fn room<B: Allocator>(&self, alloc: B, room: Room) -> Result<String<B>, AllocError> {
+        let spool = self.spool.as_str();
+        let system = self.system.as_str();
+        match room {
+            Room::Commands => format!(in alloc; "{spool}/{system}/C."),
+            Room::Data => format!(in alloc; "{spool}/{system}/D."),
+            Room::Text => format!(in alloc; "{spool}/{system}/D.X"),
+            Room::Execution => format!(in alloc; "{spool}/{system}/X."),
+            Room::Public => String::from_str(alloc, self.public.as_str()),
+            Room::Temporary => format!(in alloc; "{spool}/.Temp/{system}"),
+            Room::Marked => format!(in alloc; "{spool}/.Received/{system}"),
+            Room::Preserved => format!(in alloc; "{spool}/.Preserve"),
+        }
+    }
+
+    /// The path of a file.
+    pub(crate) fn file<B: Allocator + Copy>(
+        &self,
+        alloc: B,
+        spot: &Spot,
+    ) -> Result<String<B>, AllocError> {
+        let room = self.room(alloc, spot.room)?;
+        let front = room.as_str();
+        let name = spot.name.as_str();
+        format!(in alloc; "{front}/{name}")
+    }
+}

@@ -1,0 +1,112 @@
+//! A line that is at its end where it fails.
+ghost use Rattle.std.specs.Prelude.{◌≡◌, ◌≤◌, ◌++◌, None, IfOk, OnErr, OnOk, length, string_bytes};
+ghost use Rattle.uug_sys.specs.LineEnds.{failure_remark, outcome_then, taken_then};
+ghost use Rattle.uug_transfer.specs.ReadOutcomes.{IsWithin};
+
+use std::alloc::{AllocError, Allocator};
+use uug_failure::SystemFailure;
+use uug_port::SystemLine;
+use uug_reason::reason_line;
+use uug_transfer::{EndLine, LineFailed, ReadOutcome, SessionStatus};
+
+/// A line of which a failure is the end, whichever call meets it. What has come by then is read still, and what is written then is
+/// lost, as on any line; so a session is over in the same way whether a read or a write has found that the other end is gone.
+#[derive(Drop)]
+pub(crate) struct FailingLine<L> {
+    line: L,
+    /// Whether a write has failed.
+    is_cut: bool,
+}
+
+impl<L: SystemLine> FailingLine<L> {
+    /// This line.
+    pub(crate) fn new(line: L) -> Self {
+        FailingLine {
+            line,
+            is_cut: false,
+        }
+    }
+
+    /// Why the line has failed, if it has.
+    pub(crate) fn failure(&self) -> Option<SystemFailure> {
+        self.line.failure()
+    }
+}
+
+impl<L: SystemLine> EndLine for FailingLine<L> {
+    ghost fault_count = { λ _. 0 };
+
+    ghost received = { λ _. None };
+
+    ghost taken = { λ _. None };
+
+    ghost writes = { λ _. None };
+
+    fn write(&mut self, piece: &[u8]) -> Result<usize, LineFailed> {
+        if self.is_cut {
+            return Ok(piece.len());
+        }
+        let written = self.line.write(piece);
+        self.is_cut = written.is_err();
+        Ok(taken_then(written, piece))
+    }
+
+    fn read(&mut self, buffer: &mut [u8]) -> Result<ReadOutcome, LineFailed> {
+        let read = self.line.read(buffer);
+        Ok(outcome_then(read, self.is_cut, buffer))
+    }
+
+    fn note(&mut self, status: SessionStatus) {
+        self.line.note(status);
+    }
+
+    fn seconds(&self) -> u64 {
+        self.line.seconds()
+    }
+
+    fn faults(&self) -> u64 {
+        0
+    }
+}
+
+/// How many bytes of this piece are gone behind a write of it.
+fn taken_then(written: Result<usize, LineFailed>, piece: &[u8]) -> usize
+    requires { IfOk written (λ n. n ≤ length piece.now) }
+    ensures taken { result ≡ taken_then (length piece.now) written }
+    ensures within { result ≤ length piece.now }
+{
+    match written {
+        Ok(count) => count,
+        Err(LineFailed) => piece.len(),
+    }
+}
+
+/// What a read into this buffer comes to. Behind a write that has failed nothing is waited for any more.
+fn outcome_then(read: Result<ReadOutcome, LineFailed>, is_cut: bool, _buffer: &[u8]) -> ReadOutcome
+    requires { IfOk read (λ outcome. IsWithin (length _buffer.now) outcome) }
+    ensures outcome { result ≡ outcome_then is_cut read }
+    ensures within { IsWithin (length _buffer.now) result }
+{
+    match (read, is_cut) {
+        (Err(LineFailed), _) | (Ok(ReadOutcome::TimedOut), true) => ReadOutcome::Eof,
+        (Ok(outcome), _) => outcome,
+    }
+}
+
+/// Appends to the remark why the line of this name has failed, if it has. Out of memory leaves the remark as it was.
+pub(crate) fn remark_failure<A: Allocator, B: Allocator>(
+    alloc: A,
+    remark: &mut String<B>,
+    line: &str,
+    failure: Option<SystemFailure>,
+) -> Result<(), AllocError>
+    ensures ok { OnOk result (string_bytes remark.new
+        ≡ string_bytes remark.old ++ failure_remark line.now failure) }
+    ensures err { OnErr result (string_bytes remark.new ≡ string_bytes remark.old) }
+{
+    let Some(failure) = failure else {
+        return Ok(());
+    };
+    let reason = reason_line(alloc, "", line, "", "", failure)?;
+    remark.push_str(reason.as_str())
+}

@@ -1,0 +1,82 @@
+//! Who tells what becomes of a session.
+
+use crate::voice::Voice;
+use std::alloc::{AllocError, Allocator};
+use std::time::Clock;
+use uug_follow::{Journal, News, Transfer};
+use uug_log::{SessionLog, words_of};
+use uug_session::{End, Phase, phase_word};
+use uug_transfer::SessionStatus;
+
+/// A voice on standard error, and a log, if there is one.
+#[derive(Drop)]
+pub(crate) struct Tellers<'a, R, A: Allocator> {
+    /// Whether the voice tells all; else only what went wrong.
+    pub(crate) is_loud: bool,
+    pub(crate) voice: Voice<'a, R, A>,
+    pub(crate) log: Option<SessionLog<'a, R, A>>,
+}
+
+impl<R: Eprint + Clock, A: Allocator + Copy> Tellers<'_, R, A> {
+    /// The first byte of the other end has come, or one more.
+    pub(crate) fn begin(&mut self) {
+        if let Some(log) = &mut self.log {
+            log.begin();
+        }
+    }
+
+    /// All that has become of the jobs is on the disk.
+    pub(crate) fn tell_held(&mut self) {
+        self.voice.say_held();
+        if let Some(log) = &mut self.log {
+            log.write_held();
+        }
+    }
+
+    /// The end now stands so.
+    pub(crate) fn tell_status(&mut self, status: SessionStatus) {
+        if self.is_loud {
+            self.voice.say_status(status);
+        }
+    }
+
+    /// This line is to be said of a session that has ended badly.
+    pub(crate) fn tell_last(&self, line: Result<String<A>, AllocError>) {
+        if self.is_loud {
+            self.voice.say(line);
+        }
+    }
+
+    /// So much of the file of a job has passed.
+    pub(crate) fn show_progress(&mut self, job: &Transfer, bytes: u64) {
+        if self.is_loud {
+            self.voice.show_progress(job, bytes);
+        }
+    }
+
+    /// The session is over, of which this line was said, if it is not empty.
+    pub(crate) fn log_end(&mut self, status: SessionStatus, line: &str) {
+        if let Some(log) = &mut self.log {
+            log.end(bad_word(status.phase), words_of(line), status.failed);
+        }
+    }
+}
+
+/// The word of a session that ended otherwise than done.
+fn bad_word(phase: Phase) -> Option<&'static str> {
+    match phase {
+        Phase::Ended(End::Done) => None,
+        phase => Some(phase_word(phase)),
+    }
+}
+
+impl<R: Eprint + Clock, A: Allocator + Copy> Journal for Tellers<'_, R, A> {
+    fn note(&mut self, news: &News) {
+        if self.is_loud {
+            self.voice.note(news);
+        }
+        if let Some(log) = &mut self.log {
+            log.note(news);
+        }
+    }
+}

@@ -1,0 +1,99 @@
+//! Digests of files and the texts that tell them, with values of `sha256sum`.
+
+use crate::assertions::{assert_same, assert_so};
+use std::alloc::AllocGlobal;
+use std::process::Abort;
+use uug_digest::{FileDigest, give_telling, order_telling, told_by_answer, told_by_order};
+use uug_talk::{Name, Order};
+
+/// Commands that tell a size and the digest of the file `abc`, or of none, and whether that is so.
+const COMMANDS: &[(&[u8], bool)] = &[
+    (
+        b"S x y u - D.0 0644 \"\" 0x00000003 sha256:ba7816bf8f01cfea414140de5dae2223b00361a396177a9cb410ff61f20015ad",
+        true,
+    ),
+    (
+        b"S x y u -C D.1 0644 u 0x3 sha256:BA7816BF8F01CFEA414140DE5DAE2223B00361A396177A9CB410FF61F20015AD more",
+        true,
+    ),
+    // another size, and another digest
+    (
+        b"S x y u - D.0 0644 \"\" 0x4 sha256:ba7816bf8f01cfea414140de5dae2223b00361a396177a9cb410ff61f20015ad",
+        false,
+    ),
+    (
+        b"S x y u - D.0 0644 \"\" 0x3 sha256:ba7816bf8f01cfea414140de5dae2223b00361a396177a9cb410ff61f20015ae",
+        false,
+    ),
+    // none is told
+    (b"S x y u - D.0 0644 \"\" 0x3", false),
+    (
+        b"S x y u - D.0 0644 \"\" 3 sha256:ba7816bf8f01cfea414140de5dae2223b00361a396177a9cb410ff61f20015ad",
+        false,
+    ),
+    (
+        b"R x y u - \"\" 0x3 sha256:ba7816bf8f01cfea414140de5dae2223b00361a396177a9cb410ff61f20015ad",
+        false,
+    ),
+    (b"", false),
+];
+
+/// Whether the command tells what is that of a file with these bytes.
+fn tells_of(command: &[u8], bytes: &[u8]) -> bool {
+    match told_by_order(command) {
+        Some(told) => told.is_of(bytes),
+        None => false,
+    }
+}
+
+#[test]
+fn a_command_tells_the_digest_of_a_file(rt: HostRuntime) {
+    for (command, is_told) in COMMANDS {
+        assert_same(&rt, tells_of(command, b"abc"), *is_told);
+    }
+}
+
+/// Commands and answers as they are written.
+fn write_and_read(rt: &impl Abort) {
+    let name = Name::new(b"x").expect(rt, "a name");
+    let order = Order::Send {
+        source: name,
+        target: name,
+        user: name,
+        temp: None,
+        mode: 0o644,
+    };
+    let told = FileDigest::of(b"abc");
+    let command = order_telling(&order, &told);
+    assert_same(
+        rt,
+        command.as_slice(),
+        b"S x x x - D.0 0644 \"\" 0x00000003 sha256:ba7816bf8f01cfea414140de5dae2223b00361a396177a9cb410ff61f20015ad".as_slice(),
+    );
+    assert_same(rt, told_by_order(&command), Some(told));
+    let answer = give_telling(0o600, &told);
+    assert_same(
+        rt,
+        answer.as_slice(),
+        b"RY 0600 \"\" 0x00000003 sha256:ba7816bf8f01cfea414140de5dae2223b00361a396177a9cb410ff61f20015ad".as_slice(),
+    );
+    assert_same(rt, told_by_answer(&answer), Some(told));
+}
+
+#[test]
+fn what_is_told_is_read(rt: HostRuntime) {
+    write_and_read(&rt);
+}
+
+/// The largest file, all of whose bytes are `a`.
+#[test]
+fn the_largest_file_has_its_digest(rt: HostRuntime) {
+    let command =
+        b"S x y u - D.0 0644 \"\" 0x00100000 sha256:9bc1b2a288b26af7257a36277ae3816a7d4f16e89c1e7e77d0a5c48bad62b360";
+    let mut bytes = vec![in rt.alloc(); b'a'; 1_048_576].expect(&rt, "memory");
+    assert_so(&rt, tells_of(command, &bytes));
+    if let Some(last) = bytes.last_mut() {
+        *last = b'b';
+    }
+    assert_so(&rt, !tells_of(command, &bytes));
+}
