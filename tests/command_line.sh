@@ -355,6 +355,15 @@ row "a pair that can't keep" 1 "" \
     "caller peerclosed pending 1 struck 0 failed 0${line_feed}called spoolfault pending 0 struck 0 failed 0$line_feed" \
     pair "$socket" "$a" "$b" </dev/null
 holds "the job that is left" "$a/jobs" "send x y u$line_feed"
+row "a spool that is not there" 3 \
+    "uucpair: device fault${line_feed}uucpair: $a/none: no such file or directory$line_feed" "" \
+    call unix:"$socket" "$a/none" --spool --me a --peer b --locks "$a" </dev/null
+row "a spool whose line is not there" 3 \
+    "uucpair: device fault${line_feed}uucpair: unix:$socket: no such file or directory$line_feed" "" \
+    call unix:"$socket" "$a" --spool --me a --peer b --locks "$a" </dev/null
+fault=
+grep -qx '2 1 [0-9]* 600 Dial failed b' "$a/.Status/b" || fault="the status is $(cat "$a/.Status/b")"
+report "the status of a call that nobody answered" "$fault"
 folders "send x y"
 row "a pair with a bad job" 2 "uucpair: bad jobs at line 1$line_feed" "" pair "$socket" "$a" "$b" </dev/null
 holds "the bad job" "$a/jobs" "send x y$line_feed"

@@ -37,7 +37,7 @@ import sources
 BEGIN = "<!-- begin: made by tools/contracts_index.py: {} -->"
 END = "<!-- end -->"
 PART = re.compile(r"(<!-- begin: made by tools/contracts_index\.py: ([^>]*?) -->\n)(.*?)(<!-- end -->)", re.S)
-DOCUMENTS = ("README.md", "CONTRIBUTING.md", "docs/ARCHITECTURE.md", "docs/CONTRACTS.md")
+DOCUMENTS = ("README.md", "CONTRIBUTING.md", "docs/ARCHITECTURE.md", "docs/CONTRACTS.md", "docs/GATE.md")
 CONTRACTS = "docs/CONTRACTS.md"
 
 

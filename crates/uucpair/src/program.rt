@@ -608,7 +608,8 @@ where
     answer
 }
 
-/// The log of one end, where one is named, and the end may be run. The line of its call is in it.
+/// The log of one end, where one is named, and the end may be run. The line of its call is in it. An end over a spool writes to
+/// its log itself: it knows who calls.
 fn open_log<'a, R>(rt: &'a R, call: &CallTask<'a>) -> io::Result<Option<SessionLog<'a, R, Global>>>
 where
     R: Files<File = File> + Env + Clock + AllocGlobal,
@@ -616,7 +617,7 @@ where
     let Some(path) = call.log else {
         return Ok(None);
     };
-    if !call.may_run() {
+    if call.is_spool || !call.may_run() {
         return Ok(None);
     }
     let file = LogFile::open(rt, path)?;

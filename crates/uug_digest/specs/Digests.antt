@@ -22,6 +22,10 @@ use Rattle.uug_talk.specs.declared.order.Order.TheVariants.{Send}
 abbrev pub digest_of : (bytes : List ℕ) → FileDigest
 digest_of bytes = record { size = length bytes; hash = sha256 bytes }
 
+-- the digest of these bytes, in hexadecimal digits
+abbrev pub hash_text : (bytes : List ℕ) → List ℕ
+hash_text bytes = encode_lower (sha256 bytes)
+
 -- ---- written
 
 -- `"" 0xSIZE sha256:HEX`: nobody to notify, the size in eight hexadecimal digits, and the digest

@@ -7,5 +7,5 @@ mod telling;
 mod told;
 
 pub use file_digest::FileDigest;
-pub use telling::{TELLING_MAX, give_telling, order_telling};
+pub use telling::{TELLING_MAX, give_telling, hash_text, order_telling};
 pub use told::{told_by_answer, told_by_order};

@@ -2,7 +2,7 @@
 ghost use Rattle.std.specs.Prelude.{◌≡◌, ◌+◌, ◌≤◌, ◌++◌, ◌∷◌, length, Some};
 ghost use Rattle.hex.specs.Hex.{IsBytes, encode_lower};
 ghost use Rattle.std.specs.Int.{to_be_bytes, w32};
-ghost use Rattle.uug_digest.specs.Digests.{IsSend, digest_text, give_telling_text, order_telling_text, told_by_answer, told_by_order};
+ghost use Rattle.uug_digest.specs.Digests.{IsSend, digest_text, give_telling_text, hash_text, order_telling_text, told_by_answer, told_by_order};
 ghost use Rattle.uug_talk.specs.Answer.{ReadsAnswer};
 ghost use Rattle.uug_talk.specs.Chunks.{IsCommandText};
 ghost use Rattle.uug_talk.specs.Order.{HasMode, ReadsOrder};
@@ -10,6 +10,7 @@ ghost use Rattle.uug_talk.specs.declared.answer.Answer.TheVariants.{GiveYes};
 
 use crate::file_digest::FileDigest;
 use arrayvec::ArrayVec;
+use sha2::{Digest, Sha256};
 use uug_talk::{Answer, MODE_MAX, Order, write_answer, write_order};
 
 /// The room for a text that tells of its file. It is more than the longest one needs.
@@ -41,6 +42,13 @@ pub fn give_telling(mode: u16, told: &FileDigest) -> ArrayVec<u8, TELLING_MAX>
     ensures command { IsCommandText result.items }
 {
     with_digest(&write_answer(&Answer::GiveYes(mode)), told)
+}
+
+/// The SHA-256 digest of these bytes (FIPS 180-4), in hexadecimal digits.
+pub fn hash_text(bytes: &[u8]) -> [u8; 64]
+    ensures { result ≡ hash_text bytes.now }
+{
+    hash_digits(&Sha256::digest(bytes))
 }
 
 /// A text, and behind it what is told.

@@ -4,7 +4,7 @@ use Rattle.std.proofs.lemmas.List.{drop_all, drop_more, take_more}
 use Rattle.uug_line.specs.declared.event.Event.{Event}
 use Rattle.uug_line.specs.Belongings.{SetupValue}
 use Rattle.uug_line.specs.OfSomeRun.{IsRunOf}
-use Rattle.uug_line.specs.Simulator.{IsBehind, SimulatorValue}
+use Rattle.uug_line.specs.Simulator.{IsBehind, SimulatorValue, Steps, report_kept}
 use Rattle.uug_line.specs.WholeReport.{WholeReport}
 use Rattle.uug_play.specs.Played.{setup_said}
 use Rattle.uug_script.specs.IsScript.{IsScript}
@@ -12,7 +12,7 @@ use Rattle.uug_script.specs.Script.{ScriptSays}
 use Rattle.uug_ladder.specs.declared.fault.LadderFault.{LadderFault}
 use Rattle.uug_ladder.specs.declared.fault.LadderFault.TheVariants as faults
 use Rattle.uug_ladder.specs.declared.moment.Moment.{Moment}
-use Rattle.uug_ladder.specs.Code.Progress.{DrawnSoFar, Steps, drawn_on, moment_now}
+use Rattle.uug_ladder.specs.Code.Progress.{DrawnSoFar, drawn_on, moment_now}
 use Rattle.uug_conversation.specs.Sides.{AtBoth}
 use Rattle.uug_conversation.specs.declared.side.Side.TheVariants.{Caller, Called}
 use Rattle.uug_line.specs.Told.{SpelledReport}
@@ -59,7 +59,7 @@ module _ (setup : SetupValue) (events : List Event) where
     pub in_all : drawn_in_all number drawn ≡ whole
 
   pub stands_first : (run : Option SimulatorValue) (drawn : DrawnSoFar) → IsSomeAnd run (IsBehind setup []) →
-      IsSomeAnd run (λ r. drawn ≡ record { drawing = first_drawing (front_shown r.report); stopped = false }) → Stands 0 run drawn
+      IsSomeAnd (report_kept run) (λ report. drawn ≡ record { drawing = first_drawing (front_shown report); stopped = false }) → Stands 0 run drawn
   stands_first None drawn b d = absurd b
   stands_first (Some run) drawn b d = record {
     behind = b;
@@ -98,7 +98,7 @@ module _ (setup : SetupValue) (events : List Event) where
 
   pub stands_next : (number : ℕ) (d : Event) (old new : Option SimulatorValue) (drawn next : DrawnSoFar) →
       number < length events → Stands number old drawn → Steps (get_or events number d) old new →
-      IsSomeAnd new (λ run. next ≡ drawn_on drawn.stopped (get_or events number d) number (moment_now old) (front_shown run.report) drawn.drawing) →
+      IsSomeAnd (report_kept new) (λ report. next ≡ drawn_on drawn.stopped (get_or events number d) number (moment_now (report_kept old)) (front_shown report) drawn.drawing) →
       Stands (number + 1) new next
   stands_next number d None new drawn next within stands happened n = absurd stands.behind
   stands_next number d (Some old) None drawn next within stands happened n = absurd n
@@ -119,13 +119,13 @@ module _ (setup : SetupValue) (events : List Event) where
       (all_drawn drawn.stopped (drop number events) number drawn.drawing (drop_all number events past) stands.in_all)
 
   -- and the run is that of all events
-  pub run_whole : (number : ℕ) (found : Option SimulatorValue) (run : SimulatorValue) (drawn : DrawnSoFar) (report : WholeReport) →
-      length events ≤ number → found ≡ Some run → report ≡ run.report → Stands number found drawn → IsRunOf setup events report
-  run_whole number found run drawn report past is same stands =
-      let behind : IsBehind setup (take number events) run =
-      subst (λ (r : Option SimulatorValue). IsSomeAnd r (IsBehind setup (take number events))) is stands.behind in
-      subst (λ (r : WholeReport). IsRunOf setup events r) (sym same)
-      (subst (λ (es : List Event). IsRunOf setup es run.report) (take_all number events past) behind.is)
+  pub run_whole : (number : ℕ) (run : Option SimulatorValue) (drawn : DrawnSoFar) (kept : Option WholeReport) (report : WholeReport) →
+      length events ≤ number → kept ≡ report_kept run → kept ≡ Some report → Stands number run drawn → IsRunOf setup events report
+  run_whole number None drawn kept report past k is stands = absurd stands.behind
+  run_whole number (Some run) drawn kept report past k is stands =
+      let same : run.report ≡ report = let e : Some run.report ≡ Some report = sym k ∙ is in cc in
+      subst (λ (r : WholeReport). IsRunOf setup events r) same
+      (subst (λ (es : List Event). IsRunOf setup es run.report) (take_all number events past) stands.behind.is)
 
 -- ---- so the ladder is that of what the script says
 

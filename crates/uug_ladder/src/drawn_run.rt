@@ -2,12 +2,12 @@
 ghost use Rattle.std.specs.Prelude.{◌≡◌, [], IfErr, IfOk, IfSome, IsSomeAnd, Ok, OnSome, false};
 ghost use Rattle.uug_line.specs.OfSomeRun.{IsRunOf};
 ghost use Rattle.uug_line.specs.Setup.{setup_of};
-ghost use Rattle.uug_line.specs.Simulator.{IsBehind};
+ghost use Rattle.uug_line.specs.Simulator.{IsBehind, Steps, report_kept};
 ghost use Rattle.uug_play.specs.Settled.{IsRunOfScript};
 ghost use Rattle.uug_script.specs.IsScript.{IsScript};
 ghost use Rattle.uug_script.specs.ScriptOf.{script_of, script_said};
 ghost use Rattle.uug_ladder.specs.Arrivals.{NothingComesBefore};
-ghost use Rattle.uug_ladder.specs.Code.Progress.{Steps, drawn_on, moment_now, progress_shown};
+ghost use Rattle.uug_ladder.specs.Code.Progress.{drawn_on, moment_now, progress_shown};
 ghost use Rattle.uug_ladder.specs.Drawing.{drawing_shown, first_drawing, is_fooled};
 ghost use Rattle.uug_ladder.specs.Fronts.{IsLadderFault, IsLadderOf, front_of, ladder_of};
 ghost use Rattle.uug_ladder.specs.Moments.{front_shown};
@@ -82,32 +82,27 @@ pub(crate) fn draw_run<A: Allocator + Copy>(
 }
 
 /// What both ends have done by now.
-fn moment_now<A: Allocator + Copy>(run: &Option<Simulator<A>>) -> Option<Moment>
-    ensures { result ≡ moment_now run.now }
+fn moment_now<A: Allocator + Copy>(run: &Simulator<A>) -> Option<Moment>
+    ensures { result ≡ moment_now (report_kept run.now) }
 {
-    match run {
-        Some(run) => moment_of(run.report()),
-        None => None,
-    }
+    moment_of(run.report()?)
 }
 
-/// The event happens. None is out of memory, and leaves nothing of the run.
-fn step<A: Allocator + Copy>(run: &mut Option<Simulator<A>>, alloc: A, event: Event) -> Option<()>
-    ensures { OnSome result (Steps event run.old run.new) }
+/// What is drawn before the first event. None is out of memory.
+fn first_drawing<A: Allocator + Copy>(alloc: A, run: &Simulator<A>) -> Option<Drawing<A>>
+    ensures { IfSome result (λ drawing. IsSomeAnd (report_kept run.now) (λ report.
+        drawing_shown drawing ≡ first_drawing (front_shown report))) }
 {
-    let before = run.take()?;
-    let Ok(after) = before.step(alloc, event) else {
-        return None;
-    };
-    *run = Some(after);
-    Some(())
+    match Drawing::first(alloc, run.report()?) {
+        Ok(drawing) => Some(drawing),
+        Err(_) => None,
+    }
 }
 
 /// A run that is drawn as it goes on.
 #[derive(Drop)]
 struct Progress<A: Allocator + Copy> {
-    /// None within a step, and where memory ran out in one.
-    run: Option<Simulator<A>>,
+    run: Simulator<A>,
     drawing: Drawing<A>,
     /// Whether an end was fooled: nothing more is drawn then.
     stopped: bool,
@@ -119,18 +114,18 @@ impl<A: Allocator + Copy> Progress<A> {
         ensures run { IfSome result (λ progress.
             IsSomeAnd progress.run (IsBehind (setup_of setup) [])) }
         ensures drawn { IfSome result (λ progress.
-            IsSomeAnd progress.run (λ run. progress_shown progress
-            ≡ record { drawing = first_drawing (front_shown run.report); stopped = false })) }
+            IsSomeAnd (report_kept progress.run) (λ report. progress_shown progress
+            ≡ record { drawing = first_drawing (front_shown report); stopped = false })) }
     {
         let Ok(run) = Simulator::new(alloc, setup) else {
             return None;
         };
-        let Ok(drawing) = Drawing::first(alloc, run.report()) else {
+        let Some(drawing) = first_drawing(alloc, &run) else {
             drop(run);
             return None;
         };
         Some(Progress {
-            run: Some(run),
+            run,
             drawing,
             stopped: false,
         })
@@ -139,15 +134,15 @@ impl<A: Allocator + Copy> Progress<A> {
     /// The event of this number, which has happened, is drawn unless an end was fooled before. None is out of memory.
     fn draw(&mut self, alloc: A, number: usize, event: Event, before: Option<Moment>) -> Option<()>
         ensures run { self.new.run ≡ self.old.run }
-        ensures drawn { OnSome result (IsSomeAnd self.old.run (λ run. progress_shown self.new
-            ≡ drawn_on self.old.stopped event number before (front_shown run.report)
+        ensures drawn { OnSome result (IsSomeAnd (report_kept self.old.run) (λ report.
+            progress_shown self.new
+            ≡ drawn_on self.old.stopped event number before (front_shown report)
             (drawing_shown self.old.drawing))) }
     {
-        let run = self.run.as_ref()?;
+        let report = self.run.report()?;
         if self.stopped {
             return Some(());
         }
-        let report = run.report();
         let fooled = is_fooled(report.verdict());
         let Ok(()) = self.drawing.step(alloc, number, event, before, report) else {
             return None;
@@ -159,12 +154,15 @@ impl<A: Allocator + Copy> Progress<A> {
     /// The event of this number happens, and is drawn. None is out of memory.
     fn advance(&mut self, alloc: A, number: usize, event: Event) -> Option<()>
         ensures run { OnSome result (Steps event self.old.run self.new.run) }
-        ensures drawn { OnSome result (IsSomeAnd self.new.run (λ run. progress_shown self.new
-            ≡ drawn_on self.old.stopped event number (moment_now self.old.run)
-            (front_shown run.report) (drawing_shown self.old.drawing))) }
+        ensures drawn { OnSome result (IsSomeAnd (report_kept self.new.run) (λ report.
+            progress_shown self.new
+            ≡ drawn_on self.old.stopped event number (moment_now (report_kept self.old.run))
+            (front_shown report) (drawing_shown self.old.drawing))) }
     {
         let before = moment_now(&self.run);
-        step(&mut self.run, alloc, event)?;
+        let Ok(()) = self.run.step(alloc, event) else {
+            return None;
+        };
         self.draw(alloc, number, event, before)?;
         Some(())
     }
@@ -185,11 +183,12 @@ fn draw_events<A: Allocator + Copy>(
         progress.advance(alloc, number, *event)?;
     }
     let Progress { run, drawing, .. } = progress;
-    let Some(run) = run else {
+    let Some(report) = run.into_report() else {
+        drop(drawing);
         return None;
     };
     Some(DrawnRun {
         ladder: drawing.ladder,
-        report: run.into_report(),
+        report,
     })
 }

@@ -233,8 +233,8 @@ one_less {A} sessions front last is =
 pub goes_on_as : {A : Type 0} (sessions front : List (SessionReport A)) (last : SessionReport A) (kept_caller kept_called : LastEnd A)
     (verdict : LineVerdict) (report : WholeReport) (caller called : LineEndValue) →
     report_shown sessions kept_caller kept_called verdict ≡ report → sessions ≡ front ++ last ∷ [] →
-    caller ≡ part_from (end_shown last.caller) (left_of kept_caller) (held_by kept_caller.node.spool) →
-    called ≡ part_from (end_shown last.called) (left_of kept_called) (held_by kept_called.node.spool) →
+    caller ≡ part_from (end_shown last.caller) (left_of kept_caller) (held_by kept_caller.node.value.spool) →
+    called ≡ part_from (end_shown last.called) (left_of kept_called) (held_by kept_called.node.value.spool) →
     (parts : RunValue) → whole_report parts report.told.verdict ≡ report →
     record { past = map session_shown front; ends = record { at_caller = caller; at_called = called } } ≡ parts
 goes_on_as {A} sessions front last kept_caller kept_called verdict report caller called view_is one_more caller_is called_is parts shown =

@@ -1,5 +1,5 @@
 -- An event more behind those of a report.
-use Rattle.std.proofs.Common.{◌≡◌, ℕ, ◌+◌, Bool, true, false, List, [], ◌∷◌, ◌++◌, length, length-append, refl, sym, ap, subst, ◌∙◌, arith}
+use Rattle.std.proofs.Common.{◌≡◌, ℕ, ◌+◌, Bool, true, false, List, [], ◌∷◌, ◌++◌, length, length-append, Option, Some, None, IfSome, refl, sym, ap, subst, ◌∙◌, arith}
 use Rattle.std.proofs.lemmas.List.Elements.{All-append, All-cons, All-nil}
 use Rattle.uug_conversation.specs.DialogueState.{DialogueState}
 use Rattle.uug_line.specs.declared.event.Event.{Event}
@@ -14,7 +14,7 @@ use Rattle.uug_line.specs.Run.{Run, first_run, goes_through}
 use Rattle.uug_line.specs.RunKeeper.{RunKeeper, by_numbers, by_themselves}
 use Rattle.uug_line.specs.RunValue.{AllIsSaid, EndsAs, Happens, RunValue, StandsAs, hearing_side}
 use Rattle.uug_line.specs.Settle.{line_from}
-use Rattle.uug_line.specs.Simulator.{IsBehind, simulator, verdict_behind}
+use Rattle.uug_line.specs.Simulator.{IsBehind, IsBehindSome, SimulatorValue, Steps, report_kept, simulator, simulator_kept, verdict_behind}
 use Rattle.uug_line.specs.Spelled.{spelled}
 use Rattle.uug_line.specs.StillHeld.{HoldWhatIsLeft}
 use Rattle.uug_line.specs.Told.{SpelledReport}
@@ -111,3 +111,30 @@ module _ (setup : SetupValue) (events : List Event) (event : Event) where
 pub counted_more : (events : List Event) (event : Event) (number more : ℕ) → number ≡ length events → more ≡ number + 1
     → more ≡ length (events ++ event ∷ [])
 counted_more events event number more n m = omega (arith, n, m, length-append events (event ∷ []))
+
+-- ---- as the program keeps it
+
+pub kept_report : (report : Option WholeReport) (count : ℕ) → report_kept (simulator_kept report count) ≡ report
+kept_report None count = refl
+kept_report (Some report) count = refl
+
+-- the report that is taken out is of some two ends and events
+pub some_kept : (kept taken : Option WholeReport) (count : ℕ) (report : WholeReport) → taken ≡ kept → taken ≡ Some report
+    → IfSome (simulator_kept kept count) IsBehindSome → IsBehindSome (simulator report count)
+some_kept kept taken count report same is some =
+    subst (λ (r : Option WholeReport). IfSome (simulator_kept r count) IsBehindSome) (sym same ∙ is) some
+
+module _ (event : Event) (count more : ℕ) (before after : WholeReport) (m : more ≡ count + 1)
+    (next : (setup : SetupValue) (events : List Event) → IsBehind setup events (simulator before count) → IsRunOf setup (events ++ event ∷ []) after) where
+  one_more : (setup : SetupValue) (events : List Event) → IsBehind setup events (simulator before count)
+      → IsBehind setup (events ++ event ∷ []) (simulator after more)
+  one_more setup events behind = record { is = next setup events behind; counted = counted_more events event count more behind.counted m }
+
+  pub one_more_kept : IsBehindSome (simulator before count) → IsBehindSome (simulator after more)
+  one_more_kept some = record { setup = some.setup; events = some.events ++ event ∷ []; is = one_more some.setup some.events some.is }
+
+  pub steps_kept : (value : Option SimulatorValue) (kept taken : Option WholeReport) → simulator_kept kept count ≡ value → taken ≡ kept
+      → taken ≡ Some before → Steps event value (Some (simulator after more))
+  steps_kept value kept taken view same is =
+      subst (λ (v : Option SimulatorValue). Steps event v (Some (simulator after more)))
+      (ap (λ (r : Option WholeReport). simulator_kept r count) (sym is ∙ same) ∙ view) one_more

@@ -35,8 +35,8 @@ pub record LineEndValue : Type 0 where
 
 abbrev pub live_end_value : {A : Type 0} → LineEnd A → LineEndValue
 live_end_value e = record {
-  node = node_of e.node;
-  spool = held_by e.node.spool;
+  node = node_of e.node.value;
+  spool = held_by e.node.value.spool;
   journal = journal_value e.journal;
   line = e.line;
 }

@@ -48,18 +48,18 @@ part_from told left spool =
 -- ---- of the program's report
 
 abbrev pub left_of : {A : Type 0} → LastEnd A → EndLeft
-left_of e = record { node = node_of e.node; line = e.line; passed = e.passed }
+left_of e = record { node = node_of e.node.value; line = e.line; passed = e.passed }
 
 -- a report of these sessions, with the ends as they stand then
 abbrev pub report_shown : {A : Type 0} → List (SessionReport A) → (caller called : LastEnd A) → LineVerdict → WholeReport
 report_shown sessions caller called verdict = record {
   told = record {
     sessions = map session_shown sessions;
-    ends = record { at_caller = stands_so caller.node; at_called = stands_so called.node };
-    belongings = record { at_caller = owned_by caller.node; at_called = owned_by called.node };
+    ends = record { at_caller = stands_so caller.node.value; at_called = stands_so called.node.value };
+    belongings = record { at_caller = owned_by caller.node.value; at_called = owned_by called.node.value };
     verdict = verdict;
   };
-  spools = record { at_caller = spool_of caller.node; at_called = spool_of called.node };
-  held = record { at_caller = held_at caller.node; at_called = held_at called.node };
+  spools = record { at_caller = spool_of caller.node.value; at_called = spool_of called.node.value };
+  held = record { at_caller = held_at caller.node.value; at_called = held_at called.node.value };
   left = record { at_caller = left_of caller; at_called = left_of called };
 }

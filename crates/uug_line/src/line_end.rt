@@ -22,7 +22,8 @@ use uug_session::{MemorySpool, Node};
 /// An end of a session on a line, and what is written down of it.
 #[derive(Drop)]
 pub(crate) struct LineEnd<A: Allocator + Copy> {
-    pub(crate) node: Node<MemorySpool<A>, A>,
+    /// In a box, since the end is moved into its report and out of it.
+    pub(crate) node: Box<Node<MemorySpool<A>, A>, A>,
     pub(crate) journal: Journal<A>,
     /// What it has emitted and what is on its way to the other end.
     pub(crate) line: Line<A>,
@@ -47,6 +48,7 @@ impl<A: Allocator + Copy> LineEnd<A> {
             → BeginsSession id own number l [] (node_of node).engine → HoldsNothing (node_of node)
             → HasBegun id own number l (held_by node.spool) (live_end_value end)) }
     {
+        let node = Box::new(alloc, node)?;
         let mut end = LineEnd {
             node,
             journal: Journal::new(alloc),
@@ -92,7 +94,7 @@ impl<A: Allocator + Copy> LineEnd<A> {
 
     /// The next session begins, with nothing on the line. The answer is what the end did in the last one, which is over.
     pub(crate) fn call_again(&mut self, alloc: A) -> Result<EndReport<A>, AllocError>
-        requires ended { IsEnded (node_of self.old.node).engine.stage }
+        requires ended { IsEnded (live_end_value self.old).node.engine.stage }
         requires ordered { IsOrdered (live_end_value self.old) }
         ensures begun { OnOk result (BeginsAgain (live_end_value self.old) (live_end_value self.new)) }
         ensures report { IfOk result (λ report. end_shown report ≡ told_of (live_end_value self.old)) }
@@ -158,7 +160,7 @@ impl<A: Allocator + Copy> LineEnd<A> {
         ensures { IfOk result (λ taking.
             TakesNext taking (lists_in others.now) (live_end_value self.old) (live_end_value self.new)) }
     {
-        match sight(&mut self.node, others, self.journal.passed) {
+        match sight(&mut *self.node, others, self.journal.passed) {
             Sighting::Nothing => Ok(Taking::Waits),
             Sighting::Unsent => Ok(Taking::Stops),
             Sighting::Other => {
@@ -174,7 +176,7 @@ impl<A: Allocator + Copy> LineEnd<A> {
 
     /// Takes up the text or the broken packet that is shown.
     fn take_other(&mut self, alloc: A) -> Result<(), AllocError>
-        requires { 0 < item_size (node_of self.old.node) }
+        requires { 0 < item_size (live_end_value self.old).node }
         ensures { OnOk result
             (IsTakenUp (λ took. journal_value self.old.journal) (live_end_value self.old) (live_end_value self.new)) }
     {
@@ -185,7 +187,7 @@ impl<A: Allocator + Copy> LineEnd<A> {
 
     /// Takes up the packet that is shown, which is spelled so and stands at that place among those of the other end.
     fn take_packet(&mut self, alloc: A, packet: &[u8], place: usize) -> Result<(), AllocError>
-        requires shown { 0 < item_size (node_of self.old.node) }
+        requires shown { 0 < item_size (live_end_value self.old).node }
         requires place { place < usize.MAX }
         ensures { OnOk result
             (IsTakenUp (packet_noted packet.now place (journal_value self.old.journal))

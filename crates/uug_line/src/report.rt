@@ -54,7 +54,7 @@ pub struct Report<A: Allocator + Copy> {
 /// An end as a run leaves it.
 #[derive(Drop)]
 pub(crate) struct LastEnd<A: Allocator + Copy> {
-    pub(crate) node: Node<MemorySpool<A>, A>,
+    pub(crate) node: Box<Node<MemorySpool<A>, A>, A>,
     /// What it has emitted and what is on its way to the other end.
     pub(crate) line: Line<A>,
     /// How many of the other end's packets were found or skipped.
@@ -71,7 +71,7 @@ impl<A: Allocator + Copy> Model for Report<A> {
     ghost view = { λ r. report_shown r.sessions.items r.caller r.called r.verdict };
 
     ghost invariant = { λ r. IsOfSomeRun (report_shown r.sessions.items r.caller r.called r.verdict)
-        × HasSaidAll r.caller.node × HasSaidAll r.called.node };
+        × HasSaidAll r.caller.node.value × HasSaidAll r.called.node.value };
 }
 
 impl<A: Allocator + Copy> Report<A> {
@@ -91,7 +91,7 @@ impl<A: Allocator + Copy> Report<A> {
         ensures holds { held_at result.now ≡ self.now.held.at_caller }
         ensures said { HasSaidAll result.now }
     {
-        &self.caller.node
+        &*self.caller.node
     }
 
     /// The end that is called, as it stands.
@@ -102,7 +102,7 @@ impl<A: Allocator + Copy> Report<A> {
         ensures holds { held_at result.now ≡ self.now.held.at_called }
         ensures said { HasSaidAll result.now }
     {
-        &self.called.node
+        &*self.called.node
     }
 
     /// The bytes that are on their way from the end on the side.
@@ -150,8 +150,8 @@ impl<A: Allocator + Copy> LastEnd<A> {
     /// Whether it talks, is not quiet on repeats, and has not counted too many timeouts, and nothing waits at it or on the line
     /// from it.
     fn can_settle(&self) -> bool
-        ensures { IsTrue result ↔ EndCanSettle (stands_so self.now.node)
-            (held_at self.now.node) self.now.line }
+        ensures { IsTrue result ↔ EndCanSettle (stands_so self.now.node.value)
+            (held_at self.now.node.value) self.now.line }
     {
         let talks = matches!(self.node.phase(), Phase::Talking);
         talks

@@ -2,7 +2,6 @@ ghost use Rattle.std.specs.Prelude.{◌≡◌, ◌↔◌, ◌≤◌, List, IfOk,
 ghost use Rattle.uug_session.specs.declared.end.End.TheVariants.{Done as done};
 ghost use Rattle.uug_session.specs.EndStep.{ended};
 ghost use Rattle.uug_conversation.specs.MemoryHoldings.{held_by};
-ghost use Rattle.uug_session.specs.Node.{node_of};
 ghost use Rattle.uug_line.specs.declared.event.Event.{Event};
 ghost use Rattle.uug_line.specs.declared.verdict.LineVerdict.TheVariants.{Clean};
 ghost use Rattle.uug_line.specs.Belongings.{SetupValue};
@@ -74,7 +73,7 @@ impl<A: Allocator + Copy> LastEnd<A> {
     /// The end in its session, of which this is reported.
     fn goes_on(self, report: EndReport<A>) -> LineEnd<A>
         ensures { live_end_value result
-            ≡ part_from (end_shown report) (left_of self) (held_by self.node.spool) }
+            ≡ part_from (end_shown report) (left_of self) (held_by self.node.value.spool) }
     {
         let journal = Journal::from_report(report, self.passed);
         LineEnd {
@@ -144,14 +143,14 @@ impl<A: Allocator + Copy> RunSoFar<A> {
 impl<A: Allocator + Copy> LineEnd<A> {
     /// Whether its session is over, and well.
     fn is_done(&self) -> bool
-        ensures { IsTrue result ↔ ((node_of self.now.node).engine.stage ≡ ended done) }
+        ensures { IsTrue result ↔ ((live_end_value self.now).node.engine.stage ≡ ended done) }
     {
         matches!(self.node.phase(), Phase::Ended(End::Done))
     }
 
     /// One where its session is over, however it ended.
     fn one_if_over(&self) -> u128
-        ensures { result ≡ one_if_over (node_of self.now.node).engine.stage }
+        ensures { result ≡ one_if_over (live_end_value self.now).node.engine.stage }
     {
         match self.node.phase() {
             Phase::Ended(_) => 1,

@@ -1,10 +1,10 @@
 //! A run, event by event.
-ghost use Rattle.std.specs.Prelude.{◌≡◌, ◌∷◌, [], ◌++◌, List, IfOk};
+ghost use Rattle.std.specs.Prelude.{◌≡◌, ◌∷◌, [], ◌++◌, List, IfOk, IsSomeAnd, MatchOption, None, OnErr, OnOk, Some};
 ghost use Rattle.uug_line.specs.declared.event.Event.{Event};
 ghost use Rattle.uug_line.specs.Belongings.{SetupValue};
 ghost use Rattle.uug_line.specs.OfSomeRun.{IsRunOf};
 ghost use Rattle.uug_line.specs.Setup.{setup_of};
-ghost use Rattle.uug_line.specs.Simulator.{IsBehind, IsBehindSome, simulator, verdict_behind};
+ghost use Rattle.uug_line.specs.Simulator.{IsBehind, IsBehindSome, Steps, report_kept, simulator, verdict_behind};
 
 use crate::event::Event;
 use crate::fault::RunFault;
@@ -17,22 +17,25 @@ use std::alloc::Allocator;
 use std::marker::Model;
 
 /// A run that stands behind some events, and to which more may happen. Whoever made it, it is that of some two ends under as
-/// many events as it has counted: its type keeps that.
+/// many events as it has counted: its type keeps that. Once memory was refused in a step it has no run any more: a clause
+/// sees `None` then, and else the report and how many events have happened.
 #[derive(Drop)]
 pub struct Simulator<A: Allocator + Copy> {
-    report: Report<A>,
+    /// None once memory was refused in a step.
+    report: Option<Report<A>>,
     /// How many events have happened.
     count: usize,
 }
 
 impl<A: Allocator + Copy> Model for Simulator<A> {
-    ghost use Rattle.uug_line.specs.Simulator.{IsBehindSome, SimulatorValue, simulator};
+    ghost use Rattle.std.specs.Prelude.{IfSome, Option};
+    ghost use Rattle.uug_line.specs.Simulator.{IsBehindSome, SimulatorValue, simulator_kept};
 
-    ghost Value = { SimulatorValue };
+    ghost Value = { Option SimulatorValue };
 
-    ghost view = { λ s. simulator s.report s.count };
+    ghost view = { λ s. simulator_kept s.report s.count };
 
-    ghost invariant = { λ s. IsBehindSome (simulator s.report s.count) };
+    ghost invariant = { λ s. IfSome (simulator_kept s.report s.count) IsBehindSome };
 }
 
 /// The verdict behind the event of this number.
@@ -76,40 +79,45 @@ fn go_on<A: Allocator + Copy>(
 impl<A: Allocator + Copy> Simulator<A> {
     /// Two ends that are set up so, before the first event.
     pub fn new(alloc: A, setup: Setup<A>) -> Result<Self, RunFault>
-        ensures { IfOk result (λ first. IsBehind (setup_of setup) [] first) }
+        ensures { IfOk result (λ first. IsSomeAnd first (IsBehind (setup_of setup) [])) }
     {
         let report = run(alloc, setup, &[])?;
-        Ok(Simulator { report, count: 0 })
-    }
-
-    /// The event happens behind the others. So `run` does the same as a step for each event. Out of memory leaves nothing of
-    /// the run, as do more events than can be counted.
-    pub fn step(self, alloc: A, event: Event) -> Result<Self, RunFault>
-        ensures { IfOk result (λ next. (setup : SetupValue) (events : List Event)
-            → IsBehind setup events self → IsBehind setup (events ++ event ∷ []) next) }
-    {
-        let Simulator { report, count } = self;
-        let Some(more) = count.checked_add(1) else {
-            drop(report);
-            return Err(RunFault::Memory);
-        };
-        let report = go_on(alloc, report, count, event)?;
         Ok(Simulator {
-            report,
-            count: more,
+            report: Some(report),
+            count: 0,
         })
     }
 
-    /// What is told of the events so far.
-    pub fn report(&self) -> &Report<A>
-        ensures { result.now ≡ self.now.report }
+    /// The event happens behind the others. So `run` does the same as a step for each event. Out of memory leaves nothing of
+    /// the run, as do more events than can be counted; each step behind that is refused too.
+    pub fn step(&mut self, alloc: A, event: Event) -> Result<(), RunFault>
+        ensures happens { OnOk result (Steps event self.old self.new) }
+        ensures refused { OnErr result (self.new ≡ None) }
     {
-        &self.report
+        let Some(before) = self.report.take() else {
+            return Err(RunFault::Memory);
+        };
+        let Some(more) = self.count.checked_add(1) else {
+            drop(before);
+            return Err(RunFault::Memory);
+        };
+        let after = go_on(alloc, before, self.count, event)?;
+        self.report = Some(after);
+        self.count = more;
+        Ok(())
     }
 
-    /// The report of the events so far, from which `settle` may go on.
-    pub fn into_report(self) -> Report<A>
-        ensures { result ≡ self.report }
+    /// What is told of the events so far. None where memory was refused in a step.
+    pub fn report(&self) -> Option<&Report<A>>
+        ensures { MatchOption result (report_kept self.now ≡ None)
+            (λ report. report_kept self.now ≡ Some report.now) }
+    {
+        self.report.as_ref()
+    }
+
+    /// The report of the events so far, from which `settle` may go on. None where memory was refused in a step.
+    pub fn into_report(self) -> Option<Report<A>>
+        ensures { result ≡ report_kept self }
     {
         self.report
     }

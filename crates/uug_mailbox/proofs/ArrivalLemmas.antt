@@ -1,9 +1,8 @@
 -- What a power cut leaves of a file that another system sends.
 use Rattle.std.proofs.Common.{◌≡◌, ◌⊎◌, inl, inr, ◌||◌, ℕ, Bool, true, false, List, [], ◌∷◌, ◌++◌, Option, Some, None, refl, if◌then◌else◌}
-use Rattle.uug_spool.specs.DiskOrder.{stored_ops}
 use Rattle.uug_spool.specs.Operations.{folder_synced}
 use Rattle.uug_spool.specs.SpoolNames.{spot}
-use Rattle.uug_spool.specs.Standings.{AfterEach, IsAsBefore, IsBeforeOrWhole, MayHold, Standing, after, after_all, gone, is_room}
+use Rattle.uug_spool.specs.Standings.{AfterEach, IsAsBefore, IsBeforeOrWhole, MayHold, Standing, after_all, gone, is_room}
 use Rattle.uug_spool.specs.StoredSafely.{is_place}
 use Rattle.uug_spool.specs.declared.spool_names.Room.{Room}
 use Rattle.uug_spool.specs.declared.spool_names.Room.TheVariants as rooms

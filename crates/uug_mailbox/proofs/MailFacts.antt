@@ -8,7 +8,7 @@ use Rattle.uug_spool.specs.declared.spool_names.Room.TheVariants as rooms
 use Rattle.uug_mailbox.specs.Offers.{offer_of}
 use Rattle.uug_mailbox.specs.OpenLines.{file_lines, line_of, lines_left}
 use Rattle.uug_mailbox.specs.OverOrder.{store_ops}
-use Rattle.uug_mailbox.specs.Placing.{end_ops, marks_after, names_data, no_marks, place_ops}
+use Rattle.uug_mailbox.specs.Placing.{end_ops, is_again, marks_after, names_data, no_marks, place_ops}
 use Rattle.uug_mailbox.specs.declared.marks.Came.{Came}
 use Rattle.uug_mailbox.specs.declared.marks.Marks.{Marks}
 use Rattle.uug_mailbox.specs.declared.offer.NotOffered.TheVariants as why
@@ -87,20 +87,27 @@ its_copy_goes = refl
 abbrev text_bytes : List ℕ
 text_bytes = codes "U uucp alpha\nF D.alphaN0001\nI D.alphaN0001\nC rmail u\n"
 
-abbrev after_data : Marks
-after_data = marks_after no_marks (codes "D.alphaN0001")
+abbrev none_came : List (Came (Unit {0}))
+none_came = []
 
-data_has_come : after_data ≡ record { before = None; last = Some (codes "D.alphaN0001") }
+abbrev after_data : Marks
+after_data = marks_after no_marks none_came (codes "D.alphaN0001") (codes "a mail")
+
+data_has_come : after_data ≡ record { before = None; last = Some (codes "D.alphaN0001"); is_new = true }
 data_has_come = refl
 
-both_have_come : marks_after after_data (codes "X.alphaN0002")
-    ≡ record { before = Some (codes "D.alphaN0001"); last = Some (codes "X.alphaN0002") }
+both_have_come : marks_after after_data none_came (codes "X.alphaN0002") text_bytes
+    ≡ record { before = Some (codes "D.alphaN0001"); last = Some (codes "X.alphaN0002"); is_new = false }
 both_have_come = refl
 
 -- the next data shows that the sender knows of both
-next_comes : end_ops (marks_after after_data (codes "X.alphaN0002"))
+next_comes : end_ops (marks_after after_data none_came (codes "X.alphaN0002") text_bytes)
     ≡ unlinked (spot rooms.Marked (codes "D.alphaN0001")) ∷ unlinked (spot rooms.Marked (codes "X.alphaN0002")) ∷ []
 next_comes = refl
+
+-- whatever markers stand, an execution file whose data is new is new
+new_with_its_data : {A : Type 0} (came : List (Came A)) → is_again rooms.Execution after_data.is_new came (codes "X.alphaN0001") text_bytes ≡ false
+new_with_its_data came = refl
 
 -- the same text names its data, so it is dropped under another name
 names_its_data : names_data text_bytes ≡ true

@@ -1,8 +1,9 @@
 -- How the files of another system come into their places (this project's profile).
-use Rattle.std.specs.Prelude.{◌&&◌, ◌||◌, ℕ, List, [], ◌∷◌, ◌++◌, Bool, true, false, Option, Some, None, Result, Ok, Err, codes, if◌then◌else◌}
+use Rattle.std.specs.Prelude.{◌&&◌, ◌||◌, ℕ, List, [], ◌∷◌, ◌++◌, Bool, true, false, not, Option, Some, None, Result, Ok, Err, codes, if◌then◌else◌}
 use Rattle.std.specs.List.{list_any}
 use Rattle.std.specs.Str.{bytes_eq}
 use Rattle.uug_talk.specs.Lines.{lines}
+use Rattle.uug_digest.specs.Digests.{hash_text}
 use Rattle.uug_spool.specs.DiskOrder.{stored_ops}
 use Rattle.uug_spool.specs.Operations.{Op, folder_synced, unlinked}
 use Rattle.uug_spool.specs.SpoolNames.{begins_with, spot, spot_of}
@@ -43,35 +44,49 @@ names_file line = begins_with (codes "F ") line
 abbrev pub names_data : (text : List ℕ) → Bool
 names_data text = list_any names_file (lines text)
 
-abbrev pub has_marker : {A : Type 0} → List (Came A) → (name : List ℕ) → Bool
-has_marker came name = list_any (λ other. bytes_eq other.name name) came
+abbrev pub has_marker : {A : Type 0} → List (Came A) → (name text : List ℕ) → Bool
+has_marker came name text = list_any (λ other. bytes_eq other.name name && bytes_eq other.text.items text) came
 
 abbrev pub has_same_text : {A : Type 0} → List (Came A) → (text : List ℕ) → Bool
 has_same_text came text = list_any (λ other. bytes_eq other.text.items text) came
 
--- a file of the spool whose marker stood when the session began, and an execution file of the same text that names its data; a
--- name in the public folder may come with another file
-abbrev pub is_again : {A : Type 0} → Room → (came : List (Came A)) → (name bytes : List ℕ) → Bool
-is_again rooms.Public came name bytes = false
-is_again rooms.Execution came name bytes = has_marker came name || (names_data bytes && has_same_text came bytes)
-is_again _ came name bytes = has_marker came name
-
+-- a marker tells which file has come: by the text of an execution file, and else by the digest of its bytes
 abbrev pub marker_text : Room → (name bytes : List ℕ) → List ℕ
 marker_text rooms.Execution name bytes = bytes
-marker_text _ name bytes = name
+marker_text rooms.Public name bytes = name
+marker_text _ name bytes = hash_text bytes
+
+-- a file whose marker stood when the session began: its name alone does not tell, since names begin anew with a spool that is
+-- made anew; an execution file that names its data may have another name, and is new where its data is; a name in the public
+-- folder may come with another file
+abbrev pub is_again : {A : Type 0} → Room → (is_new : Bool) → (came : List (Came A)) → (name bytes : List ℕ) → Bool
+is_again rooms.Public is_new came name bytes = false
+is_again rooms.Execution is_new came name bytes =
+    not is_new && (has_marker came name bytes || (names_data bytes && has_same_text came bytes))
+is_again room is_new came name bytes = has_marker came name (hash_text bytes)
 
 -- ---- markers
 
 abbrev pub no_marks : Marks
-no_marks = record { before = None; last = None }
+no_marks = record { before = None; last = None; is_new = false }
 
 -- that of data stays when its execution file comes: both come again where the sender does not know of both
 abbrev pub keeps : Room → (last : Option (List ℕ)) → Bool
 keeps rooms.Execution (Some last) = begins_with (codes "D.") last
 keeps _ _ = false
 
-abbrev pub next_marks : Marks → Room → (name : List ℕ) → Marks
-next_marks marks room name = record { before = if keeps room marks.last then marks.last else None; last = Some name }
+-- data that goes with an execution file
+abbrev pub is_data : Room → Bool
+is_data rooms.Data = true
+is_data rooms.Text = true
+is_data _ = false
+
+abbrev pub next_marks : Marks → Room → (again : Bool) → (name : List ℕ) → Marks
+next_marks marks room again name = record {
+  before = if keeps room marks.last then marks.last else None;
+  last = Some name;
+  is_new = is_data room && not again;
+}
 
 abbrev pub is_mark : (mark : Option (List ℕ)) → (name : List ℕ) → Bool
 is_mark None name = false
@@ -100,16 +115,18 @@ again_ops again name bytes target = if again then [] else stored_ops name target
 
 abbrev pub placed_by : {A : Type 0} → Marks → (came : List (Came A)) → (name bytes : List ℕ) → Result Spot Barred → List Op
 placed_by marks came name bytes (Ok target) =
-    unmark_ops marks target.room name ++ again_ops (is_again target.room came name bytes) name bytes target
+    unmark_ops marks target.room name
+    ++ again_ops (is_again target.room marks.is_new came name bytes) name bytes target
 placed_by marks came name bytes (Err why) = []
 
 abbrev pub place_ops : {A : Type 0} → Marks → (came : List (Came A)) → (name bytes : List ℕ) → List Op
 place_ops marks came name bytes = placed_by marks came name bytes (spot_of name)
 
--- the markers that stand when a file of this name has come
-abbrev pub marks_by : Marks → (name : List ℕ) → Result Spot Barred → Marks
-marks_by marks name (Ok target) = next_marks marks target.room name
-marks_by marks name (Err why) = marks
+-- the markers that stand when this file has come
+abbrev pub marks_by : {A : Type 0} → Marks → (came : List (Came A)) → (name bytes : List ℕ) → Result Spot Barred → Marks
+marks_by marks came name bytes (Ok target) =
+    next_marks marks target.room (is_again target.room marks.is_new came name bytes) name
+marks_by marks came name bytes (Err why) = marks
 
-abbrev pub marks_after : Marks → (name : List ℕ) → Marks
-marks_after marks name = marks_by marks name (spot_of name)
+abbrev pub marks_after : {A : Type 0} → Marks → (came : List (Came A)) → (name bytes : List ℕ) → Marks
+marks_after marks came name bytes = marks_by marks came name bytes (spot_of name)

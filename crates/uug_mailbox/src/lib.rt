@@ -1,6 +1,6 @@
 //! The mail of one system in a spool of Taylor UUCP, as the jobs and files of an end: the lines of its C. files, what a session
 //! offers of them, what goes from the disk when a job is over, and where the files of the other system come.
-//! Nothing here calls the system, and no program uses it yet.
+//! Nothing here calls the system.
 #![tactic(auto)]
 
 mod command_file;

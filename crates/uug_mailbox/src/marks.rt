@@ -2,9 +2,10 @@
 ghost use Rattle.std.specs.Prelude.{◌≡◌};
 ghost use Rattle.std.specs.List.{list_any};
 ghost use Rattle.uug_talk.specs.Lines.{lines};
-ghost use Rattle.uug_mailbox.specs.Placing.{has_marker, has_same_text, is_again, is_mark, keeps, marker_text, names_data, next_marks};
+ghost use Rattle.uug_mailbox.specs.Placing.{has_marker, has_same_text, is_again, is_data, is_mark, keeps, names_data, next_marks};
 
 use std::alloc::Allocator;
+use uug_digest::hash_text;
 use uug_spool::Room;
 use uug_talk::{Name, split_line};
 
@@ -13,7 +14,7 @@ use uug_talk::{Name, split_line};
 pub struct Came<A: Allocator> {
     /// Its name, which is that of its file.
     pub name: Name,
-    /// Its text.
+    /// Its text: that of an execution file, or the digest of data.
     pub text: Vec<u8, A>,
 }
 
@@ -24,6 +25,8 @@ pub struct Marks {
     pub before: Option<Name>,
     /// The last file.
     pub last: Option<Name>,
+    /// Whether the last file is data that had not come before the session.
+    pub is_new: bool,
 }
 
 /// Whether an execution file that comes leaves the marker of the last file, which is data: the sender has not sent the last
@@ -37,9 +40,16 @@ pub(crate) fn keeps(room: Room, last: &Option<Name>) -> bool
     }
 }
 
-/// The markers that stand once a file of this place and name has come.
-pub(crate) fn next_marks(marks: &Marks, room: Room, name: &Name) -> Marks
-    ensures { result ≡ next_marks marks.now room name.now }
+/// Whether files of this place are the data of execution files.
+fn is_data(room: Room) -> bool
+    ensures { result ≡ is_data room }
+{
+    matches!(room, Room::Data | Room::Text)
+}
+
+/// The markers that stand once a file of this place and name has come, which had come before the session or not.
+pub(crate) fn next_marks(marks: &Marks, room: Room, again: bool, name: &Name) -> Marks
+    ensures { result ≡ next_marks marks.now room again name.now }
 {
     let before = if keeps(room, &marks.last) {
         marks.last
@@ -49,6 +59,7 @@ pub(crate) fn next_marks(marks: &Marks, room: Room, name: &Name) -> Marks
     Marks {
         before,
         last: Some(*name),
+        is_new: is_data(room) && !again,
     }
 }
 
@@ -76,11 +87,12 @@ fn names_data(text: &[u8]) -> bool
     false
 }
 
-fn has_marker<A: Allocator>(came: &[Came<A>], name: &Name) -> bool
-    ensures { result ≡ has_marker came.now name.now }
+fn has_marker<A: Allocator>(came: &[Came<A>], name: &Name, text: &[u8]) -> bool
+    ensures { result ≡ has_marker came.now name.now text.now }
 {
-    came.iter()
-        .any(|other| other.name.as_bytes() == name.as_bytes())
+    came.iter().any(|other| {
+        other.name.as_bytes() == name.as_bytes() && other.text.as_slice() == text
+    })
 }
 
 fn has_same_text<A: Allocator>(came: &[Came<A>], text: &[u8]) -> bool
@@ -89,31 +101,25 @@ fn has_same_text<A: Allocator>(came: &[Came<A>], text: &[u8]) -> bool
     came.iter().any(|other| other.text.as_slice() == text)
 }
 
-/// Whether a file of this place, name and text had come before the session. An execution file is known by its text as well,
-/// since Taylor UUCP gives it another name at each try: the name of its data is in it, and stands for no other.
+/// Whether a file of this place, name and bytes had come before the session. Its name alone does not tell: names begin anew
+/// with a spool that is made anew. An execution file is new where the data before it is; else it is known by its text as well,
+/// since Taylor UUCP gives it another name at each try: the name of its data is in it.
 pub(crate) fn is_again<A: Allocator>(
     room: Room,
+    is_new: bool,
     came: &[Came<A>],
     name: &Name,
     bytes: &[u8],
 ) -> bool
-    ensures { result ≡ is_again room came.now name.now bytes.now }
+    ensures { result ≡ is_again room is_new came.now name.now bytes.now }
 {
     match room {
         Room::Public => false,
         Room::Execution => {
-            has_marker(came, name) || (names_data(bytes) && has_same_text(came, bytes))
+            !is_new
+                && (has_marker(came, name, bytes)
+                    || (names_data(bytes) && has_same_text(came, bytes)))
         }
-        _ => has_marker(came, name),
-    }
-}
-
-/// The text of the marker of a file: that of an execution file, else its name.
-pub(crate) fn marker_text<'a>(room: Room, name: &'a Name, bytes: &'a [u8]) -> &'a [u8]
-    ensures { result.now ≡ marker_text room name.now bytes.now }
-{
-    match room {
-        Room::Execution => bytes,
-        _ => name.as_bytes(),
+        _ => has_marker(came, name, &hash_text(bytes)),
     }
 }

@@ -3,9 +3,10 @@ ghost use Rattle.std.specs.Prelude.{◌≡◌, ◌++◌, None, OnErr, OnOk};
 ghost use Rattle.uug_spool.specs.Operations.{FrontDone, also_all};
 ghost use Rattle.uug_mailbox.specs.Placing.{again_ops, came_of, end_ops, faults_of, is_barred, mark_ops, marks_after, marks_of, no_marks, place_ops, seen_ops, unmark_ops};
 
-use crate::marks::{Came, Marks, is_again, is_mark, keeps, marker_text, next_marks};
+use crate::marks::{Came, Marks, is_again, is_mark, keeps, next_marks};
 use std::alloc::Allocator;
 use thiserror::Error;
+use uug_digest::hash_text;
 use uug_folder::{Folder, FolderFailed};
 use uug_spool::{Barred, Disk, DiskFailed, Room, Spot, spot_of, store};
 use uug_talk::Name;
@@ -20,6 +21,13 @@ pub enum NotPlaced {
     #[error("device fault")]
     Disk,
 }
+
+/// No marker of the session stands.
+const NO_MARKS: Marks = Marks {
+    before: None,
+    last: None,
+    is_new: false,
+};
 
 /// The folders of a spool, as one folder that takes the files of another system, each with a marker of its name. The marker of
 /// a file is taken away when the next one comes, which shows that the other system knows of it; that of data stays when its
@@ -43,10 +51,7 @@ impl<D: Disk, A: Allocator> SpoolFolder<D, A> {
         SpoolFolder {
             disk,
             came,
-            marks: Marks {
-                before: None,
-                last: None,
-            },
+            marks: NO_MARKS,
             faults: 0,
         }
     }
@@ -67,7 +72,8 @@ impl<D: Disk, A: Allocator> SpoolFolder<D, A> {
         ensures err { OnErr result (FrontDone
             (place_ops (marks_of self.old) (came_of self.old) name.now bytes.now)
             (D.done self.old.disk) (D.done self.new.disk)) }
-        ensures marks { OnOk result (marks_of self.new ≡ marks_after (marks_of self.old) name.now) }
+        ensures marks { OnOk result (marks_of self.new
+            ≡ marks_after (marks_of self.old) (came_of self.old) name.now bytes.now) }
         ensures came { came_of self.new ≡ came_of self.old }
         ensures faults { faults_of self.new ≡ faults_of self.old }
     {
@@ -75,12 +81,13 @@ impl<D: Disk, A: Allocator> SpoolFolder<D, A> {
             Ok(target) => target,
             Err(why) => return Err(NotPlaced::Barred(why)),
         };
-        let again = is_again(target.room, self.came.as_slice(), name, bytes);
+        let came = self.came.as_slice();
+        let again = is_again(target.room, self.marks.is_new, came, name, bytes);
         match place_at(&mut self.disk, &self.marks, again, name, &target, bytes) {
             Ok(()) => (),
             Err(DiskFailed) => return Err(NotPlaced::Disk),
         }
-        self.marks = next_marks(&self.marks, target.room, name);
+        self.marks = next_marks(&self.marks, target.room, again, name);
         Ok(())
     }
 
@@ -93,10 +100,7 @@ impl<D: Disk, A: Allocator> SpoolFolder<D, A> {
         ensures marks { OnOk result (marks_of self.new ≡ no_marks) }
     {
         remove_markers(&mut self.disk, &self.marks)?;
-        self.marks = Marks {
-            before: None,
-            last: None,
-        };
+        self.marks = NO_MARKS;
         Ok(())
     }
 }
@@ -192,8 +196,11 @@ fn store_new<D: Disk>(
     if again {
         return Ok(());
     }
-    let text = marker_text(target.room, name, bytes);
-    store(disk, name, target, text, bytes)
+    match target.room {
+        Room::Execution => store(disk, name, target, bytes, bytes),
+        Room::Public => store(disk, name, target, name.as_bytes(), bytes),
+        _ => store(disk, name, target, &hash_text(bytes), bytes),
+    }
 }
 
 impl<D: Disk, A: Allocator> Folder for SpoolFolder<D, A> {

@@ -1,6 +1,6 @@
 //! A spool of Taylor UUCP: the names of its files, the lines of C. files, execution files, statuses and logs, and the order
 //! in which its files come and go.
-//! Nothing here calls the system, and no program uses it yet.
+//! Nothing here calls the system.
 #![tactic(auto)]
 
 mod command;

@@ -109,6 +109,11 @@ fn command_text<A: Allocator>(
     format!(in alloc; "U uucp {me}\nF {data}\nI {data}\nN\nC rmail {user}\n")
 }
 
+/// The last two digits of a number.
+fn two_digits(number: u8) -> (u8, u8) {
+    (number / 10 % 10, number % 10)
+}
+
 /// What is mailed of a job that has failed.
 fn mail_text<A: Allocator + Copy, R: Clock, S: Spool>(
     alloc: A,
@@ -121,13 +126,15 @@ fn mail_text<A: Allocator + Copy, R: Clock, S: Spool>(
     let now = read_clock(rt);
     let (day, month) = now.words();
     let moment = now.moment;
-    let (date, hour, minute, second, year) = (
-        moment.day,
-        moment.hour,
-        moment.minute,
-        moment.second,
-        moment.year,
+    let (date, year) = (moment.day, moment.year);
+    let (hour, minute, second) = (
+        two_digits(moment.hour),
+        two_digits(moment.minute),
+        two_digits(moment.second),
     );
+    let (h, hh) = hour;
+    let (m, mm) = minute;
+    let (s, ss) = second;
     let me = me.as_str();
     let user = user_of(job).as_str();
     let system = paths.system().as_str();
@@ -135,6 +142,6 @@ fn mail_text<A: Allocator + Copy, R: Clock, S: Spool>(
     let notice = write_notices(alloc, spool, &[*job])?;
     let notice = notice.as_str();
     format!(in alloc;
-        "From uucp {day} {month} {date} {hour}:{minute}:{second} {year} remote from {me}\nTo: {user}\nSubject: UUCP failed\n\nMessage from UUCP on {me}\n\nThis job for {system} was given up:\n{notice}\nThe data, if it was a copy, is in\n{saved}/.Preserve\n"
+        "From uucp {day} {month} {date} {h}{hh}:{m}{mm}:{s}{ss} {year} remote from {me}\nTo: {user}\nSubject: UUCP failed\n\nMessage from UUCP on {me}\n\nThis job for {system} was given up:\n{notice}\nThe data, if it was a copy, is in\n{saved}/.Preserve\n"
     )
 }

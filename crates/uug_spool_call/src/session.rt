@@ -1,13 +1,21 @@
 //! The session of an end over a spool.
-ghost use Rattle.std.specs.Prelude.{◌≡◌, ◌≢◌, ◌<◌, ◌≤◌, ◌⊎◌, IfErr, IfOk, IsErr, IsSome};
+ghost use Rattle.std.specs.Prelude.{◌≡◌, ◌≢◌, ◌<◌, ◌≤◌, ◌⊎◌, Some, IfErr, IfOk, IsErr, IsSome, OnOk, string_bytes};
 ghost use Rattle.uug_failure.specs.Faults.{IsCallFault, IsFolderFault};
+ghost use Rattle.uug_mailbox.specs.OpenLines.{jobs_of};
+ghost use Rattle.uug_mailbox.specs.WorkStores.{lines_of};
 ghost use Rattle.uug_session.specs.Engine.{HasFailed};
+ghost use Rattle.uug_session.specs.Node.{node_of};
+ghost use Rattle.uug_spool_call.specs.Reported.{IsReported};
 ghost use Rattle.uug_stream.specs.Fault.{StopsWriting};
-ghost use Rattle.uug_stream.specs.Streams.{CountsFault};
+ghost use Rattle.uug_stream.specs.Streams.{Appends, CountsFault};
+ghost use Rattle.uug_transfer.specs.BufferedNodes.{node_in};
+ghost use Rattle.uug_transfer.specs.Ends.{phase_of_end, report_of, status_of_phase};
+ghost use Rattle.uug_transfer.specs.SessionFaults.{UnlessUnsettled};
+ghost use Rattle.uug_transfer.specs.Settling.{LosesNoJob, StaysInStore};
 
 use crate::arrivals::finish_arrivals;
 use crate::notices::mail_failed;
-use crate::spool_call::SpoolCall;
+use crate::spool_call::{SpoolCall, paths_of};
 use crate::spool_end::SpoolEnd;
 use crate::telling::{begin_call, end_call};
 use crate::work::read_work;
@@ -21,7 +29,6 @@ use uug_folder::{add_failed, add_state};
 use uug_session::{Node, Place, Side, Spool};
 use uug_spool_disk::SpoolPaths;
 use uug_stream::{Output, ToolFault, write_all};
-use uug_talk::Name;
 use uug_transfer::{BYTES_MAX, EndLine, PatienceLimits, SessionFault, run_session};
 
 /// An end over a spool has its session at its line. What was left between its arrival and its place is put there first. A job
@@ -42,6 +49,9 @@ where
     L: EndLine,
     O: Output,
     ensures status { IfOk result (λ status. status ≤ 1) }
+    // A report is printed whose session is done where the status is 0, and is not where it is 1.
+    ensures reported { IfOk result (λ status. IsReported call.now.side status
+        (O.written output.old) (O.written output.new)) }
     ensures write { result ≡ Err ToolFault.Write
         → CountsFault (O.fault_count output.old) (O.fault_count output.new) }
     ensures no_other { IfErr result IsCallFault }
@@ -74,6 +84,8 @@ where
     L: EndLine,
     O: Output,
     ensures status { IfOk result (λ status. status ≤ 1) }
+    ensures reported { IfOk result (λ status. IsReported call.now.side status
+        (O.written output.old) (O.written output.new)) }
     ensures write { result ≡ Err ToolFault.Write
         → CountsFault (O.fault_count output.old) (O.fault_count output.new) }
     ensures no_other { IfErr result IsCallFault }
@@ -85,11 +97,11 @@ where
         Ok(end) => end,
         Err(fault) => return Err(fault.tell(why)),
     };
-    begin_call(alloc, rt, call, paths);
+    let begun = begin_call(alloc, rt, call, paths);
     let session = run_end(alloc, &mut end, line, limits);
     let answer = answer_of(alloc, call.side, session, end.buffered.node(), output);
     *why = end.failure();
-    end_call(alloc, rt, call, paths, &end);
+    end_call(alloc, rt, call, paths, &end, begun);
     mail_failed(alloc, rt, &place.me, paths, &end);
     drop(end);
     answer
@@ -106,6 +118,11 @@ where
     A: Allocator + Copy,
     R: Files<File = File>,
     L: EndLine,
+    // A job that is over is taken out of its C. files, and nothing else is.
+    ensures stays { UnlessUnsettled result (StaysInStore (Some (jobs_of (lines_of end.old.store)))
+        (Some (jobs_of (lines_of end.new.store))) (node_in end.old.buffered) (node_in end.new.buffered)) }
+    ensures none_lost { LosesNoJob (Some (jobs_of (lines_of end.old.store)))
+        (Some (jobs_of (lines_of end.new.store))) (node_in end.old.buffered) (node_in end.new.buffered) }
     ensures jobs { result ≡ Err SessionFault.Jobs → HasFailed u64.MAX
         end.old.store.disk.faults.count end.new.store.disk.faults.count }
     ensures no_number { result ≢ Err SessionFault.Number }
@@ -123,22 +140,6 @@ where
         BYTES_MAX,
         limits,
     )
-}
-
-/// Where the folders of a system are. Without a public folder that is named it is `uucppublic` beside the spool.
-fn paths_of<A: Allocator + Copy>(
-    alloc: A,
-    call: &SpoolCall<'_>,
-    system: Name,
-) -> Result<SpoolPaths<A>, AllocError> {
-    match call.public {
-        Some(public) => SpoolPaths::new(alloc, call.spool, system, public),
-        None => {
-            let spool = call.spool;
-            let public = format!(in alloc; "{spool}/../uucppublic")?;
-            SpoolPaths::new(alloc, spool, system, public.as_str())
-        }
-    }
 }
 
 /// The end over the spool as it stands.
@@ -171,7 +172,11 @@ fn answer_of<S: Spool, A: Allocator + Copy, O: Output>(
     end: &Node<S, A>,
     output: &mut O,
 ) -> Result<u8, ToolFault>
-    ensures status { IfOk result (λ status. status ≤ 1) }
+    ensures within { IfOk result (λ status. status ≤ 1) }
+    ensures status { IfOk result (λ status.
+        status ≡ status_of_phase (phase_of_end (node_of end.now))) }
+    ensures appends { OnOk result (Appends (report_of side (node_of end.now))
+        (O.written output.old) (O.written output.new)) }
     ensures write { result ≡ Err ToolFault.Write
         → CountsFault (O.fault_count output.old) (O.fault_count output.new) }
     ensures no_other { IfErr result IsCallFault }
@@ -200,10 +205,25 @@ fn print_report<S: Spool, O: Output, A: Allocator + Copy>(
     end: &Node<S, A>,
     output: &mut O,
 ) -> Result<(), ToolFault>
-    ensures { IfErr result (StopsWriting (O.fault_count output.old) (O.fault_count output.new)) }
+    ensures appends { OnOk result (Appends (report_of side (node_of end.now))
+        (O.written output.old) (O.written output.new)) }
+    ensures fault { IfErr result
+        (StopsWriting (O.fault_count output.old) (O.fault_count output.new)) }
+{
+    let text = report(alloc, side, end)?;
+    write_all(output, text.as_bytes())
+}
+
+/// How an end stands, and then the jobs that it has given up.
+fn report<S: Spool, A: Allocator + Copy>(
+    alloc: A,
+    side: Side,
+    end: &Node<S, A>,
+) -> Result<String<A>, AllocError>
+    ensures { IfOk result (λ text. string_bytes text ≡ report_of side (node_of end.now)) }
 {
     let mut text = String::new(alloc);
     add_state(alloc, &mut text, side, end.phase(), end.queue())?;
     add_failed(alloc, &mut text, side, end.queue())?;
-    write_all(output, text.as_bytes())
+    Ok(text)
 }

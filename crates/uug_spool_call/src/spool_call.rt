@@ -1,4 +1,12 @@
+//! What a call over a spool is told, and where its folders are.
+ghost use Rattle.std.specs.Path.{rsplit_once, slash};
+ghost use Rattle.std.specs.Prelude.{◌≡◌, IfOk, MatchOption, None, Some, string_bytes};
+ghost use Rattle.uug_spool_call.specs.PublicNames.{folder_of, public_beside, public_path, without_slash};
+
+use std::alloc::{AllocError, Allocator};
 use uug_session::Side;
+use uug_spool_disk::SpoolPaths;
+use uug_talk::Name;
 use uug_transfer::Thinning;
 
 /// What a call over a spool is told.
@@ -22,4 +30,68 @@ pub struct SpoolCall<'a> {
     pub thinning: Thinning,
     /// So many bytes at most have the files together of the jobs that it offers in a session.
     pub most: u32,
+}
+
+/// Where the folders of a system are.
+pub(crate) fn paths_of<A: Allocator + Copy>(
+    alloc: A,
+    call: &SpoolCall<'_>,
+    system: Name,
+) -> Result<SpoolPaths<A>, AllocError>
+    ensures spool { IfOk result (λ paths. string_bytes paths.spool ≡ call.now.spool.now) }
+    ensures system { IfOk result (λ paths. paths.system ≡ system) }
+    ensures public { IfOk result (λ paths.
+        string_bytes paths.public ≡ public_path call.now.spool.now call.now.public) }
+{
+    match call.public {
+        Some(public) => SpoolPaths::new(alloc, call.spool, system, without_slash(public)),
+        None => {
+            let public = public_beside(alloc, call.spool)?;
+            SpoolPaths::new(alloc, call.spool, system, public.as_str())
+        }
+    }
+}
+
+/// A path without a slash at its end.
+fn without_slash(path: &str) -> &str
+    ensures { result.now ≡ without_slash path.now }
+{
+    match path.strip_suffix("/") {
+        Some(front) => front,
+        None => path,
+    }
+}
+
+/// The public folder where none is named: `uucppublic` beside the spool, by the path that `uucp` gives it in its jobs where that
+/// of the spool is whole.
+fn public_beside<A: Allocator>(alloc: A, spool: &str) -> Result<String<A>, AllocError>
+    ensures { IfOk result (λ public. string_bytes public ≡ public_beside spool.now) }
+{
+    match folder_of(spool) {
+        Some(folder) => format!(in alloc; "{folder}/uucppublic"),
+        None => format!(in alloc; "{spool}/../uucppublic"),
+    }
+}
+
+/// The folder in which a spool stands, where its path is whole and ends in a name.
+fn folder_of(spool: &str) -> Option<&str>
+    ensures { MatchOption result (folder_of spool.now ≡ None)
+        (λ folder. folder_of spool.now ≡ Some folder.now) }
+{
+    if !spool.as_bytes().starts_with(b"/") {
+        return None;
+    }
+    let (folder, name) = split_last(spool)?;
+    if name.is_empty() { None } else { Some(folder) }
+}
+
+/// What stands in front of the last slash of a path, and what stands behind it.
+fn split_last(path: &str) -> Option<(&str, &str)>
+    ensures { MatchOption result (rsplit_once slash path.now ≡ None)
+        (λ parts. rsplit_once slash path.now ≡ Some (parts.0.now, parts.1.now)) }
+{
+    match path.rsplit_once('/') {
+        Some((folder, name)) => Some((folder, name)),
+        None => None,
+    }
 }

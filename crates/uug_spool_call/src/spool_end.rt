@@ -1,5 +1,11 @@
 //! An end over a spool, whose session begins.
-ghost use Rattle.std.specs.Prelude.{◌≡◌, ◌<◌, IfOk, IsSome};
+ghost use Rattle.std.specs.Prelude.{◌≡◌, ◌<◌, [], IfOk, IsSome, take};
+ghost use Rattle.uug_conversation.specs.Jobs.{at_start};
+ghost use Rattle.uug_conversation.specs.declared.queue.TheConstants.{JOBS_MAX};
+ghost use Rattle.uug_mailbox.specs.OpenLines.{jobs_of};
+ghost use Rattle.uug_mailbox.specs.WorkStores.{lines_of};
+ghost use Rattle.uug_task.specs.Tasks.{HasBegunAt};
+ghost use Rattle.uug_transfer.specs.BufferedNodes.{node_in, spool_in};
 
 use crate::spool_call::SpoolCall;
 use crate::work::Work;
@@ -9,7 +15,7 @@ use std::rt::Files;
 use uug_failure::SystemFailure;
 use uug_folder::{FolderSpool, LocalNames};
 use uug_mailbox::{Came, SpoolFolder, WorkStore, queue_of};
-use uug_session::Place;
+use uug_session::{Place, Queue, Spool, Stored};
 use uug_spool_disk::{SpoolDisk, SpoolPaths};
 use uug_talk::Name;
 use uug_task::make_node;
@@ -30,7 +36,7 @@ pub(crate) struct SpoolEnd<'a, 'p, R: Files<File = File>, A: Allocator + Copy> {
 }
 
 impl<'a, 'p, R: Files<File = File>, A: Allocator + Copy> SpoolEnd<'a, 'p, R, A> {
-    /// The end with this work, where the markers of these names stand.
+    /// The end with this work, where the markers of these names stand. All its jobs are to be offered, as many as a session has.
     pub(crate) fn begin(
         alloc: A,
         rt: &'a R,
@@ -40,26 +46,38 @@ impl<'a, 'p, R: Files<File = File>, A: Allocator + Copy> SpoolEnd<'a, 'p, R, A> 
         came: Vec<Came<A>, A>,
         work: Work<A>,
     ) -> Result<Self, AllocError>
-        ensures { IfOk result (λ end. end.store.disk.faults.count ≡ 0) }
+        ensures calm { IfOk result (λ end. end.store.disk.faults.count ≡ 0) }
+        ensures lines { IfOk result (λ end. lines_of end.store ≡ work.lines.items) }
+        ensures names { IfOk result (λ end. end.names ≡ work.names) }
+        ensures begun { IfOk result (λ end. HasBegunAt call.now.side place
+            (at_start (take JOBS_MAX (jobs_of work.lines.items)) [] []) (node_in end.buffered)) }
     {
+        let queue = match queue_of(alloc, work.lines.as_slice()) {
+            Ok(queue) => queue,
+            Err(AllocError) => {
+                drop(came);
+                drop(work);
+                return Err(AllocError);
+            }
+        };
         let Work {
             names,
             lines,
             files,
         } = work;
-        let queue = queue_of(alloc, lines.as_slice())?;
-        let folder = SpoolFolder::new(SpoolDisk::new(alloc, rt, paths), came);
-        let mut spool = LocalNames::new(alloc, FolderSpool::new(alloc, files, folder));
-        spool.set_lenient(call.is_lenient);
-        let node = make_node(alloc, call.side, place, queue, spool)?;
-        let injector = FaultInjector::without_faults(call.thinning);
-        let buffered = BufferedNode::new(alloc, node, injector)?;
-        let store = WorkStore::new(alloc, SpoolDisk::new(alloc, rt, paths), lines);
-        Ok(SpoolEnd {
-            buffered,
-            store,
-            names,
-        })
+        let spool = files_over(alloc, rt, call, paths, came, files);
+        match at_line(alloc, call, place, queue, spool) {
+            Ok(buffered) => Ok(SpoolEnd {
+                buffered,
+                store: WorkStore::new(alloc, SpoolDisk::new(alloc, rt, paths), lines),
+                names,
+            }),
+            Err(AllocError) => {
+                drop(lines);
+                drop(names);
+                Err(AllocError)
+            }
+        }
     }
 
     /// Which call of the system on the spool failed first: on the files that came, else on its jobs.
@@ -69,4 +87,39 @@ impl<'a, 'p, R: Files<File = File>, A: Allocator + Copy> SpoolEnd<'a, 'p, R, A> 
         let folder = self.buffered.node().spool().files().folder();
         folder.disk.failure().or(self.store.disk.failure())
     }
+}
+
+/// The files that an end gives, over the folders in which it puts those that come.
+fn files_over<'a, 'p, R: Files<File = File>, A: Allocator + Copy>(
+    alloc: A,
+    rt: &'a R,
+    call: &SpoolCall<'_>,
+    paths: &'p SpoolPaths<A>,
+    came: Vec<Came<A>, A>,
+    files: Vec<Stored<A>, A>,
+) -> SpoolFiles<'a, 'p, R, A>
+    ensures lenient { result.lenient ≡ call.now.is_lenient }
+    ensures files { result.files.files ≡ files.items }
+{
+    let folder = SpoolFolder::new(SpoolDisk::new(alloc, rt, paths), came);
+    let mut spool = LocalNames::new(alloc, FolderSpool::new(alloc, files, folder));
+    spool.set_lenient(call.is_lenient);
+    spool
+}
+
+/// An end with these jobs and files at its line, whose session begins.
+fn at_line<S: Spool + Drop, A: Allocator + Copy>(
+    alloc: A,
+    call: &SpoolCall<'_>,
+    place: Place,
+    queue: Queue<A>,
+    spool: S,
+) -> Result<BufferedNode<S, A>, AllocError>
+    ensures begun { IfOk result (λ buffered.
+        HasBegunAt call.now.side place queue (node_in buffered)) }
+    ensures spool { IfOk result (λ buffered. spool_in buffered ≡ spool) }
+{
+    let node = make_node(alloc, call.side, place, queue, spool)?;
+    let buffered = BufferedNode::new(alloc, node, FaultInjector::without_faults(call.thinning))?;
+    Ok(buffered)
 }

@@ -1,6 +1,6 @@
 //! What is told of a call with a system: its status, the log, and the statistics. What can't be told is left out.
 
-use crate::spool_call::SpoolCall;
+use crate::spool_call::{SpoolCall, paths_of};
 use crate::spool_end::SpoolEnd;
 use std::alloc::{AllocError, Allocator};
 use std::fs::File;
@@ -16,6 +16,7 @@ use uug_spool_disk::{
     Arrived, SpoolDisk, SpoolPaths, append_line, process_number, read_clock, read_status_file,
     write_status_file,
 };
+use uug_talk::Name;
 
 /// The program that writes a line of the log: that in whose place this one stands, so that all that read it find it.
 const PROGRAM: &[u8] = b"uucico";
@@ -23,13 +24,13 @@ const PROGRAM: &[u8] = b"uucico";
 /// Whom a file belongs to of which it is not known.
 const NOBODY: &[u8] = b"uucp";
 
-/// Tells that a call begins.
+/// Tells that a call begins, and gives the seconds since 1970.
 pub(crate) fn begin_call<A: Allocator + Copy, R: Files<File = File> + Clock>(
     alloc: A,
     rt: &R,
     call: &SpoolCall<'_>,
     paths: &SpoolPaths<A>,
-) {
+) -> u32 {
     let now = read_clock(rt);
     let port = call.port.as_bytes();
     match call.side {
@@ -51,6 +52,40 @@ pub(crate) fn begin_call<A: Allocator + Copy, R: Files<File = File> + Clock>(
             let login = paths.system().as_bytes();
             log(alloc, rt, call, paths, b"", &LogEvent::Called(login, port));
         }
+    }
+    now.seconds
+}
+
+/// Tells that a system was to be called over a line that could not be opened: another run has it, or nobody answers there.
+pub fn tell_no_line<A: Allocator + Copy, R: Files<File = File> + Clock>(
+    alloc: A,
+    rt: &R,
+    call: &SpoolCall<'_>,
+    system: Name,
+    is_in_use: bool,
+) {
+    let state = if is_in_use {
+        CallState::PortUnavailable
+    } else {
+        CallState::DialFailed
+    };
+    if let Ok(paths) = paths_of(alloc, call, system) {
+        let before = read_status_file(alloc, rt, &paths);
+        let status = status_failed(state, before, read_clock(rt).seconds);
+        let _ = write_status_file(alloc, rt, &paths, &status);
+    }
+}
+
+/// Tells that a system has called with which another run talks.
+pub fn tell_locked<A: Allocator + Copy, R: Files<File = File> + Clock>(
+    alloc: A,
+    rt: &R,
+    call: &SpoolCall<'_>,
+    system: Name,
+) {
+    if let Ok(paths) = paths_of(alloc, call, system) {
+        let event = LogEvent::Fault(b"System already locked");
+        log(alloc, rt, call, &paths, b"", &event);
     }
 }
 
@@ -78,22 +113,26 @@ fn log<A: Allocator + Copy, R: Files<File = File> + Clock>(
     }
 }
 
-/// Takes what is over off the disk, and tells what became of a call.
+/// Takes what is over off the disk, and tells what became of a call that began so many seconds after 1970 did.
 pub(crate) fn end_call<A: Allocator + Copy, R: Files<File = File> + Clock>(
     alloc: A,
     rt: &R,
     call: &SpoolCall<'_>,
     paths: &SpoolPaths<A>,
     end: &SpoolEnd<'_, '_, R, A>,
+    begun: u32,
 ) {
     let phase = end.buffered.node().phase();
     tidy(alloc, rt, paths, end, phase);
-    tell_sent(alloc, rt, call, paths, end);
+    let sent = tell_sent(alloc, rt, call, paths, end);
     tell_failed(alloc, rt, call, paths, end);
+    tell_unoffered(alloc, rt, call, paths, end);
     let folder = end.buffered.node().spool().files().folder();
-    tell_arrived(alloc, rt, call, paths, folder.disk.arrived());
+    let taken = tell_arrived(alloc, rt, call, paths, folder.disk.arrived());
     tell_status(alloc, rt, call, paths, phase);
-    log(alloc, rt, call, paths, b"", &LogEvent::Over(0, 0));
+    let seconds = read_clock(rt).seconds.saturating_sub(begun);
+    let over = LogEvent::Over(u64::from(seconds), sent.saturating_add(taken));
+    log(alloc, rt, call, paths, b"", &over);
 }
 
 /// After a session that is done the markers of the last files go, and each C. file none of whose lines is open.
@@ -115,15 +154,16 @@ fn tidy<A: Allocator + Copy, R: Files<File = File>>(
     let _ = remove_markers(&mut disk, &marks);
 }
 
-/// Tells of each file that was sent.
+/// Tells of each file that was sent, and gives the bytes of all.
 fn tell_sent<A: Allocator + Copy, R: Files<File = File> + Clock>(
     alloc: A,
     rt: &R,
     call: &SpoolCall<'_>,
     paths: &SpoolPaths<A>,
     end: &SpoolEnd<'_, '_, R, A>,
-) {
+) -> u64 {
     let node = end.buffered.node();
+    let mut bytes: u64 = 0;
     for job in node.queue().struck() {
         if let Job::Send {
             source,
@@ -140,8 +180,10 @@ fn tell_sent<A: Allocator + Copy, R: Files<File = File> + Clock>(
             let event = LogEvent::Sends(source.as_bytes(), size);
             log(alloc, rt, call, paths, user.as_bytes(), &event);
             count(alloc, rt, call, paths, user.as_bytes(), Course::Sent, size);
+            bytes = bytes.saturating_add(size);
         }
     }
+    bytes
 }
 
 /// Tells of each job that has failed.
@@ -157,25 +199,51 @@ fn tell_failed<A: Allocator + Copy, R: Files<File = File> + Clock>(
             Job::Send { source, user, .. } => (source, user),
             Job::Request { source, user, .. } => (source, user),
         };
-        let event = LogEvent::Fault(source.as_bytes());
-        log(alloc, rt, call, paths, user.as_bytes(), &event);
+        let source = source.as_str();
+        if let Ok(text) = format!(in alloc; "{source}: given up") {
+            let event = LogEvent::Fault(text.as_bytes());
+            log(alloc, rt, call, paths, user.as_bytes(), &event);
+        }
     }
 }
 
-/// Tells of each file that has come. Whom it belongs to its sender knows.
+/// Tells of each line that stays since no session offers it: one with a wildcard or with a name in quotes, or that is none.
+fn tell_unoffered<A: Allocator + Copy, R: Files<File = File> + Clock>(
+    alloc: A,
+    rt: &R,
+    call: &SpoolCall<'_>,
+    paths: &SpoolPaths<A>,
+    end: &SpoolEnd<'_, '_, R, A>,
+) {
+    for line in end.store.lines() {
+        if line.job.is_some() {
+            continue;
+        }
+        let file = line.file.as_str();
+        if let Ok(text) = format!(in alloc; "{file}: a line that can't be sent stays") {
+            let event = LogEvent::Fault(text.as_bytes());
+            log(alloc, rt, call, paths, b"", &event);
+        }
+    }
+}
+
+/// Tells of each file that has come, and gives the bytes of all. Whom one belongs to its sender knows.
 fn tell_arrived<A: Allocator + Copy, R: Files<File = File> + Clock>(
     alloc: A,
     rt: &R,
     call: &SpoolCall<'_>,
     paths: &SpoolPaths<A>,
     arrived: &[Arrived],
-) {
+) -> u64 {
+    let mut bytes: u64 = 0;
     for file in arrived {
         let name = file.spot.name;
         let event = LogEvent::Receives(name.as_bytes(), Some(file.size));
         log(alloc, rt, call, paths, NOBODY, &event);
         count(alloc, rt, call, paths, NOBODY, Course::Received, file.size);
+        bytes = bytes.saturating_add(file.size);
     }
+    bytes
 }
 
 /// Appends a line to the statistics, if there are any.

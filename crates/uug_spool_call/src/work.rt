@@ -1,20 +1,25 @@
 //! What waits for a system in its spool.
-ghost use Rattle.std.specs.Prelude.{◌≤◌, IfErr};
+ghost use Rattle.std.specs.Prelude.{◌≡◌, ◌≤◌, ◌++◌, IfErr, IfOk, MatchOption, None, Some, codes};
 ghost use Rattle.uug_failure.specs.Faults.{IsFolderFault};
+ghost use Rattle.uug_mailbox.specs.OpenLines.{file_lines};
+ghost use Rattle.uug_spool_call.specs.PublicNames.{behind_public, named_job, named_line, named_lines, public_name};
+ghost use Rattle.uug_talk.specs.Lines.{lines as lines_of_text};
+ghost use Rattle.uug_talk.specs.Name.{name_of};
 ghost use Rattle.uug_talk.specs.declared.mode.TheConstants.{MODE_MAX};
 
+use arrayvec::ArrayVec;
 use std::alloc::{AllocError, Allocator};
 use std::cmp::Ordering;
 use std::rt::Files;
 use uug_failure::RunFault;
 use uug_mailbox::{OpenLine, add_file};
-use uug_session::{JOBS_MAX, Stored};
+use uug_session::{JOBS_MAX, Job, Stored};
 use uug_spool::{
     Command, Fields, Room, SentFile, Spot, data_spot, execution_temp, execution_text, grade_of,
     has_option, read_command, work_order,
 };
 use uug_spool_disk::{SpoolPaths, list_room, read_source, read_spot};
-use uug_talk::{FILE_MAX, Name, split_line};
+use uug_talk::{FILE_MAX, NAME_MAX, Name, split_line};
 
 /// The most bytes of a C. file.
 const COMMANDS_MAX: usize = 1_048_576;
@@ -132,8 +137,8 @@ fn add_commands<A: Allocator + Copy, R: Files>(
     };
     let mut files = Vec::new(alloc);
     add_files(&mut files, alloc, rt, paths, me, text.as_slice(), there)?;
-    let mut lines = Vec::new(alloc);
-    add_file(&mut lines, name, text.as_slice(), there)?;
+    let public = paths.public().as_bytes();
+    let mut lines = lines_in(alloc, name, text.as_slice(), there, public)?;
     let size = size_of(files.as_slice());
     let is_first = work.lines.is_empty();
     if !is_first && (size > *room || work.lines.len().saturating_add(lines.len()) > JOBS_MAX) {
@@ -145,6 +150,112 @@ fn add_commands<A: Allocator + Copy, R: Files>(
     work.lines.append(&mut lines)?;
     work.files.append(&mut files)?;
     Ok(true)
+}
+
+/// The lines of a C. file that are not over, as a session has them.
+fn lines_in<A: Allocator + Copy>(
+    alloc: A,
+    name: &Name,
+    text: &[u8],
+    there: &[Name],
+    public: &[u8],
+) -> Result<Vec<OpenLine, A>, AllocError>
+    ensures { IfOk result (λ lines. lines.items
+        ≡ named_lines public.now (file_lines there.now name.now (lines_of_text text.now))) }
+{
+    let mut lines = Vec::new(alloc);
+    add_file(&mut lines, name, text, there)?;
+    named_lines(alloc, lines.as_slice(), public)
+}
+
+/// The lines, where those that ask for a file name the public folder as a session does: `uucp` writes its path.
+fn named_lines<A: Allocator>(
+    alloc: A,
+    lines: &[OpenLine],
+    public: &[u8],
+) -> Result<Vec<OpenLine, A>, AllocError>
+    ensures { IfOk result (λ named. named.items ≡ named_lines public.now lines.now) }
+{
+    let mut named = Vec::new(alloc);
+    for line in lines {
+        named.push(named_line(line, public))?;
+    }
+    Ok(named)
+}
+
+fn named_line(line: &OpenLine, public: &[u8]) -> OpenLine
+    ensures { result ≡ named_line public.now line.now }
+{
+    let job = match &line.job {
+        Some(job) => Some(named_job(job, public)),
+        None => None,
+    };
+    OpenLine {
+        file: line.file,
+        copy: line.copy,
+        job,
+    }
+}
+
+fn named_job(job: &Job, public: &[u8]) -> Job
+    ensures { result ≡ named_job public.now job.now }
+{
+    match job {
+        Job::Request {
+            source,
+            target,
+            user,
+        } => Job::Request {
+            source: *source,
+            target: public_name(target, public),
+            user: *user,
+        },
+        Job::Send { .. } => *job,
+    }
+}
+
+/// A name in the public folder as a session has it. Each other name stays, and so does one that would get too long.
+fn public_name(name: &Name, public: &[u8]) -> Name
+    ensures { result ≡ public_name public.now name.now }
+{
+    let Some(rest) = behind_public(name.as_bytes(), public) else {
+        return *name;
+    };
+    match home_name(rest) {
+        Some(home) => home,
+        None => *name,
+    }
+}
+
+/// What stands behind the path of the public folder in a name, the slash first, if it is one of its names.
+fn behind_public<'a>(name: &'a [u8], public: &[u8]) -> Option<&'a [u8]>
+    ensures { MatchOption result (behind_public public.now name.now ≡ None)
+        (λ rest. behind_public public.now name.now ≡ Some rest.now) }
+{
+    if !name.starts_with(public) {
+        return None;
+    }
+    let rest = &name[public.len()..];
+    if rest.starts_with(b"/") {
+        Some(rest)
+    } else {
+        None
+    }
+}
+
+/// The name with this behind a `~`, if that is one.
+fn home_name(rest: &[u8]) -> Option<Name>
+    ensures { result ≡ name_of (codes "~" ++ rest.now) }
+{
+    if rest.len() >= NAME_MAX {
+        return None;
+    }
+    let mut path: ArrayVec<u8, NAME_MAX> = ArrayVec::new();
+    path.push(b'~');
+    let Ok(()) = path.try_extend_from_slice(rest) else {
+        unreachable!();
+    };
+    Name::new(path.as_slice()).ok()
 }
 
 /// The bytes of files together.

@@ -1,18 +1,28 @@
 //! What is done to the folders of a spool on a disk.
-ghost use Rattle.std.specs.Prelude.{◌≡◌, ◌<◌, ◌≤◌, IsSome, None, OnErr, OnOk};
+ghost use Rattle.std.specs.Prelude.{◌≡◌, ◌≢◌, ◌<◌, ◌≤◌, IsSome, None, Ok, OnErr, OnOk};
+ghost use Rattle.uug_spool.specs.SpoolNames.{spot_of};
+ghost use Rattle.uug_spool.specs.declared.spool_names.Room.TheVariants as rooms;
+ghost use Rattle.uug_spool.specs.declared.spool_names.Spot.{Spot};
 ghost use Rattle.uug_spool.specs.Operations.{HasFault};
 
 use crate::spool_paths::SpoolPaths;
 use std::alloc::Allocator;
 use std::fs::{File, OpenFile, OpenOptions};
 use std::io::{ErrorKind, Write};
+use std::os::unix::fs::OpenOptionsExt;
 use std::rt::Files;
 use std::{fs, io};
 use uug_failure::{Cause, Faults, Resource, SystemFailure};
-use uug_spool::{Disk, DiskFailed, Room, Spot};
+use uug_spool::{Disk, DiskFailed, Room, Spot, spot_of};
 
 /// The name, in the folder of what is preserved, of the file that tells of jobs that have failed.
 const TOLD: &str = "failed";
+
+/// The mode of a file that everybody may read, and write where the mask of the process lets them.
+const PUBLIC_MODE: u32 = 0o666;
+
+/// The mode of each other file.
+const PRIVATE_MODE: u32 = 0o600;
 
 /// A file that has come into its place.
 #[derive(Clone, Copy)]
@@ -157,7 +167,7 @@ fn unless_gone(answer: io::Result<()>) -> io::Result<()> {
 }
 
 /// Makes a file, and writes it.
-fn make_file<A: Allocator + Copy, R: Files>(
+fn make_file<A: Allocator + Copy, R: Files<File = File>>(
     alloc: A,
     rt: &R,
     paths: &SpoolPaths<A>,
@@ -165,14 +175,38 @@ fn make_file<A: Allocator + Copy, R: Files>(
     bytes: &[u8],
 ) -> io::Result<()> {
     let path = paths.file(alloc, spot)?;
-    let mut file = match File::create_new(rt, path.as_str()) {
+    let mode = mode_of(spot);
+    let mut file = match new_file(rt, path.as_str(), mode) {
         Ok(file) => file,
         Err(error) => {
             make_way(alloc, rt, paths, spot.room, path.as_str(), error)?;
-            File::create_new(rt, path.as_str())?
+            new_file(rt, path.as_str(), mode)?
         }
     };
     file.write_all(bytes)
+}
+
+/// The mode of a file before the mask of the process: what goes into the public folder everybody may read, and a mail nobody
+/// else.
+fn mode_of(spot: &Spot) -> u32
+    ensures public { (target : Spot) → spot.now.room ≡ rooms.Temporary → spot_of spot.now.name ≡ Ok target
+        → target.room ≡ rooms.Public → result ≡ PUBLIC_MODE }
+    ensures private { (target : Spot) → spot_of spot.now.name ≡ Ok target → target.room ≢ rooms.Public
+        → result ≡ PRIVATE_MODE }
+{
+    match (spot.room, spot_of(&spot.name)) {
+        (Room::Temporary, Ok(target)) if target.room == Room::Public => PUBLIC_MODE,
+        _ => PRIVATE_MODE,
+    }
+}
+
+/// Makes a file that is not there yet.
+fn new_file<R: Files<File = File>>(rt: &R, path: &str, mode: u32) -> io::Result<File> {
+    OpenOptions::new()
+        .write(true)
+        .create_new(true)
+        .mode(mode)
+        .open(rt, path)
 }
 
 /// Takes away what kept a file from being made: that there is one of its name, or that its folder lacks.

@@ -1,4 +1,5 @@
 //! Where the folders of a spool are.
+ghost use Rattle.std.specs.Prelude.{◌≡◌, IfOk, string_bytes};
 
 use std::alloc::{AllocError, Allocator};
 use uug_failure::EndDir;
@@ -15,7 +16,11 @@ pub struct SpoolPaths<A: Allocator> {
 
 impl<A: Allocator + Copy> SpoolPaths<A> {
     /// The spool at this path, this system's folders, and the public folder at that path.
-    pub fn new(alloc: A, spool: &str, system: Name, public: &str) -> Result<Self, AllocError> {
+    pub fn new(alloc: A, spool: &str, system: Name, public: &str) -> Result<Self, AllocError>
+        ensures spool { IfOk result (λ paths. string_bytes paths.spool ≡ spool.now) }
+        ensures system { IfOk result (λ paths. paths.system ≡ system) }
+        ensures public { IfOk result (λ paths. string_bytes paths.public ≡ public.now) }
+    {
         Ok(SpoolPaths {
             spool: String::from_str(alloc, spool)?,
             system,
@@ -26,13 +31,24 @@ impl<A: Allocator + Copy> SpoolPaths<A> {
 
 impl<A: Allocator> SpoolPaths<A> {
     /// The path of the spool.
-    pub fn spool(&self) -> &str {
+    pub fn spool(&self) -> &str
+        ensures { result.now ≡ string_bytes self.now.spool }
+    {
         self.spool.as_str()
     }
 
     /// The name of the system, which is that of its folder.
-    pub fn system(&self) -> &Name {
+    pub fn system(&self) -> &Name
+        ensures { result.now ≡ self.now.system }
+    {
         &self.system
+    }
+
+    /// The path of the public folder.
+    pub fn public(&self) -> &str
+        ensures { result.now ≡ string_bytes self.now.public }
+    {
+        self.public.as_str()
     }
 
     /// The spool, as what a failure is of.

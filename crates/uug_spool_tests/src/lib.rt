@@ -19,3 +19,5 @@ mod memory;
 mod names;
 #[cfg(test)]
 mod statuses;
+#[cfg(test)]
+mod stops;

@@ -3,3 +3,4 @@ pub mod NumberRemarks
 pub mod Callers
 pub mod UnreadRemarks
 pub mod LineEnds
+pub mod SpoolCalls

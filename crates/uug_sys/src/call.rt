@@ -7,9 +7,11 @@ ghost use Rattle.uug_task.specs.Tasks.{IsTask};
 use crate::answer::answer_at;
 use crate::failed_remark::remark_failed;
 use crate::failing_line::{FailingLine, remark_failure};
+use crate::hailed_line::HailedLine;
 use crate::number_remark::remark_numbers;
 use crate::numbers::{meet, read_numbers};
 use crate::parts::{failure_of, read_parts};
+use crate::spool_call::{call_over_spool, talk_in_spool};
 use crate::waking_line::WakingLine;
 use std::alloc::{AllocError, Allocator};
 use std::fs::File;
@@ -70,6 +72,11 @@ where
     let Some(terms) = read_terms(task) else {
         return Err(ToolFault::Usage);
     };
+    if task.is_spool {
+        return call_over_spool(
+            alloc, rt, task, terms, streams, observer, output, remark, why,
+        );
+    }
     let lock = match lock_and_look(alloc, rt, task) {
         Ok(lock) => lock,
         Err(fault) => return Err(fault.tell(why)),
@@ -121,7 +128,7 @@ fn look<A: Allocator + Copy, R: Files>(
 }
 
 /// The end opens its line, and talks over it.
-fn talk_at<A, R, W, O, B>(
+pub(crate) fn talk_at<A, R, W, O, B>(
     alloc: A,
     rt: &R,
     task: &CallTask<'_>,
@@ -406,24 +413,57 @@ where
         }
     };
     let line = TimedLine::new(rt, SessionLine::new(line, station.pace));
-    let line = FailingLine::new(line);
+    let line = HailedLine::new(FailingLine::new(line));
     let mut line = GreetedLine::new(alloc, LineMonitor::new(line, observer));
-    let result = match lock_again(alloc, rt, task, held) {
-        Ok(lock) => {
-            let result = talk_locked(
-                alloc, rt, &*task, &lock, station, &mut line, output, remark, why,
-            );
-            drop(lock);
-            result
-        }
-        Err(fault) => Err(fault.tell(why)),
+    let result = if task.is_spool {
+        talk_in_spool(alloc, rt, &*task, station, &mut line, output, why)
+    } else {
+        talk_in_folder(
+            alloc, rt, &*task, station, held, &mut line, output, remark, why,
+        )
     };
     if let Ok(1) = result {
-        let failure = line.line().line().failure();
+        let failure = line.line().line().line().failure();
         // A remark for which there is no memory is left out.
         let _ = remark_failure(alloc, remark, task.line, failure);
     }
     (result, line.into_line().into_observer())
+}
+
+/// The end talks over its line with its folder locked.
+fn talk_in_folder<A, R, L, O, B>(
+    alloc: A,
+    rt: &R,
+    task: &CallTask<'_>,
+    station: Station,
+    held: Option<DirLock<A>>,
+    line: &mut GreetedLine<L, A>,
+    output: &mut O,
+    remark: &mut String<B>,
+    why: &mut Option<SystemFailure>,
+) -> Result<u8, ToolFault>
+where
+    A: Allocator + Copy,
+    R: Files<File = File> + Eprint + Alloc + Clone + Drop,
+    L: EndLine,
+    O: Output,
+    B: Allocator,
+    ensures status { IfOk result (λ status. status ≤ 1) }
+    ensures write { result ≡ Err ToolFault.Write
+        → CountsFault (O.fault_count output.old) (O.fault_count output.new) }
+    ensures no_other { IfErr result IsCallFault }
+    ensures no_usage { result ≢ Err ToolFault.Usage }
+    ensures why { result ≡ Err ToolFault.Device
+        → IsSome why.new ⊎ (0 < L.fault_count line.new.line) }
+{
+    match lock_again(alloc, rt, task, held) {
+        Ok(lock) => {
+            let result = talk_locked(alloc, rt, task, &lock, station, line, output, remark, why);
+            drop(lock);
+            result
+        }
+        Err(fault) => Err(fault.tell(why)),
+    }
 }
 
 /// The lock on the folder of an end, also of one that let it go while it waited.

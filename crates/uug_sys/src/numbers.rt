@@ -86,7 +86,7 @@ pub(crate) fn meet<A: Allocator + Copy, R: Files, L: EndLine>(
 }
 
 /// Lets a called end say its first words, and hear its caller's number, for so many seconds.
-fn meet_caller<A: Allocator + Copy, L: EndLine>(
+pub(crate) fn meet_caller<A: Allocator + Copy, L: EndLine>(
     alloc: A,
     place: &Place,
     line: &mut GreetedLine<L, A>,

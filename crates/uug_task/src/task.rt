@@ -71,6 +71,12 @@ pub struct CallTask<'a> {
     pub log: Option<&'a str>,
     /// So many bytes at most have the files together of the jobs that it offers in a session.
     pub most: u32,
+    /// Whether its folder is a spool of Taylor UUCP.
+    pub is_spool: bool,
+    /// The public folder of a spool, where one is named.
+    pub public: Option<&'a str>,
+    /// The statistics of a spool, where they are named.
+    pub stats: Option<&'a str>,
 }
 
 /// Where the report of an end goes.

@@ -142,6 +142,9 @@ pub record IsEndIn (entries : Entries) (task : CallTask) : Type 0 where
   pub report : IsWordIn entries (codes "report") task.report
   pub log : IsWordIn entries (codes "log") task.log
   pub most : task.most ≡ number_or_zero entries (codes "most")
+  pub is_spool : task.is_spool ≡ is_given entries (codes "spool")
+  pub public : IsWordIn entries (codes "public") task.public
+  pub stats : IsWordIn entries (codes "stats") task.stats
 
 pub record AsksForPair (tool : Text) (entries : Entries) (task : PairTask) : Type 0 where
   pub pairs : tool ≡ codes "pair"

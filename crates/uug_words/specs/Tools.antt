@@ -100,6 +100,8 @@ end_tool name = tool name
     ∷ folder_rule (codes "locks") (codes "/var/lock")
     ∷ word_rule (codes "report") ∷ word_rule (codes "log")
     ∷ number_rule (codes "most") (codes "67108864")
+    ∷ flag_rule (codes "spool") ∷ word_rule (codes "public")
+    ∷ word_rule (codes "stats")
     ∷ verbose_rule ∷ [])
 
 -- with how long it waits to be called, and how often

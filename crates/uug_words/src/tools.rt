@@ -187,6 +187,9 @@ fn end_command<'a>(alloc: Global, name: &'a str, about: &'a str) -> Result<Comma
         .arg(named(alloc, "report", "FILE", help::REPORT))?
         .arg(named(alloc, "log", "FILE", help::LOG))?
         .arg(number(alloc, "most", "BYTES", help::MOST, MOST))?
+        .arg(flag(alloc, "spool", help::SPOOL))?
+        .arg(named(alloc, "public", "FOLDER", help::PUBLIC))?
+        .arg(named(alloc, "stats", "FILE", help::STATS))?
         .arg(verbose(
             alloc,
             "Says on standard error how each job goes, and what was lost on the line",

@@ -1,23 +1,16 @@
 -- A run that is drawn as it goes on.
-use Rattle.std.specs.Prelude.{ℕ, Bool, true, false, List, [], ◌∷◌, ◌++◌, Option, Some, None}
+use Rattle.std.specs.Prelude.{ℕ, Bool, true, false, Option, Some, None}
 use Rattle.uug_line.specs.declared.event.Event.{Event}
-use Rattle.uug_line.specs.Belongings.{SetupValue}
-use Rattle.uug_line.specs.Simulator.{IsBehind, SimulatorValue}
+use Rattle.uug_line.specs.WholeReport.{WholeReport}
 use Rattle.uug_ladder.specs.declared.drawn_run.Progress.{Progress}
 use Rattle.uug_ladder.specs.declared.moment.Moment.{Moment}
 use Rattle.uug_ladder.specs.Drawing.{DrawingValue, drawing_shown, is_fooled, stepped}
 use Rattle.uug_ladder.specs.Moments.{Front, moment_told}
 
--- an event happens to a run, and some run is left
-abbrev pub Steps : Event → (before after : Option SimulatorValue) → Type 0
-Steps event (Some before) (Some after) =
-    (setup : SetupValue) (events : List Event) → IsBehind setup events before → IsBehind setup (events ++ event ∷ []) after
-Steps event before after = ⊥
-
 -- what both ends of a run have done by now
-abbrev pub moment_now : Option SimulatorValue → Option Moment
+abbrev pub moment_now : Option WholeReport → Option Moment
 moment_now None = None
-moment_now (Some run) = moment_told run.report.told
+moment_now (Some report) = moment_told report.told
 
 -- a drawing, and whether an end was fooled, so that nothing more is drawn
 pub record DrawnSoFar : Type 0 where

@@ -21,6 +21,6 @@ returns-clause-drawn g c =
 
 pub returns-clause-run : goal.returns-clause-run
 returns-clause-run g c =
-    run_whole (setup_of c.args.setup) c.args.events.now c.loop-number.number c.loop-number.progress.run c.in-Some.run'
-    (progress_shown c.loop-number.progress) c.into_report.result c.loop-number-test.false c.in-Some.is c.into_report.ensures
-    c.loop-number.invariant
+    run_whole (setup_of c.args.setup) c.args.events.now c.loop-number.number c.loop-number.progress.run
+    (progress_shown c.loop-number.progress) c.into_report.result c.in-Some.report c.loop-number-test.false c.into_report.ensures
+    c.in-Some.is c.loop-number.invariant

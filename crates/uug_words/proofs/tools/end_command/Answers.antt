@@ -21,4 +21,7 @@ returns c =
     let report = adds locks c.in_ok-arg-15.ensures c.named.ensures in
     let log = adds report c.in_ok-arg-16.ensures c.named-2.ensures in
     let most = adds log c.in_ok-arg-17.ensures c.number-3.ensures in
-    IfOk-weaker c.arg-18.result _ _ (λ made step. adds most step c.verbose.ensures) c.arg-18.ensures
+    let spool = adds most c.in_ok-arg-18.ensures c.flag-6.ensures in
+    let public = adds spool c.in_ok-arg-19.ensures c.named-3.ensures in
+    let stats = adds public c.in_ok-arg-20.ensures c.named-4.ensures in
+    IfOk-weaker c.arg-21.result _ _ (λ made step. adds stats step c.verbose.ensures) c.arg-21.ensures

@@ -1,5 +1,7 @@
 use Rattle.std.proofs.Common.{◌∙◌, List, ap, subst, sym}
 use Rattle.uug_session.specs.Node.{node_of}
+use Rattle.uug_session.specs.Phases.{phase_at}
+use Rattle.uug_session.specs.declared.node.Node.{Node}
 use Rattle.uug_line.specs.JournalValue.{journal_value}
 use Rattle.uug_line.specs.LineEndValue.{live_end_value, told_of}
 use Rattle.uug_line.specs.OfSomeRun.{IsOfSomeRun}
@@ -13,12 +15,14 @@ use Rattle.uug_line.proofs.running.RunSoFar.into_report.Goals as goal
 pub invariant_of-result : goal.invariant_of-result
 invariant_of-result g c =
     let run = c.args.self in
-    let caller = run.caller.node in
-    let called = run.called.node in
+    let caller = run.caller.node.value in
+    let called = run.called.node.value in
     let sessions = one_more_shown run.past.items c.push.new.self.items c.into_report.result c.into_report-2.result
     (told_of (live_end_value run.caller)) (told_of (live_end_value run.called)) c.in_ok-push.ensures.items
-    (c.into_report.ensures ∙ ap (told_by (journal_value run.caller.journal)) c.phase-caller_phase.ensures)
-    (c.into_report-2.ensures ∙ ap (told_by (journal_value run.called.journal)) c.phase-called_phase.ensures) in (
+    (c.into_report.ensures ∙ ap (told_by (journal_value run.caller.journal)) c.phase-caller_phase.ensures
+    ∙ ap (λ (n : Node _ _). told_by (journal_value run.caller.journal) (phase_at (node_of n).engine.stage (node_of n).engine.link.phase)) c.deref.ensures)
+    (c.into_report-2.ensures ∙ ap (told_by (journal_value run.called.journal)) c.phase-called_phase.ensures
+    ∙ ap (λ (n : Node _ _). told_by (journal_value run.called.journal) (phase_at (node_of n).engine.stage (node_of n).engine.link.phase)) c.deref-2.ensures) in (
       subst (λ (told : List (AtBoth SpelledEnd)). IsOfSomeRun (record {
         told = record {
           sessions = told;

@@ -1,0 +1,29 @@
+-- Public folders, and names in them, that are known, so that a wrong definition does not check.
+use Rattle.std.proofs.Common.{◌≡◌, codes, Some, None, refl}
+use Rattle.std.specs.Path.{rsplit_once}
+use Rattle.uug_conversation.specs.declared.job.Job.TheVariants.{Request, Send}
+use Rattle.uug_spool_call.specs.PublicNames.{named_job, public_beside, public_name, without_slash}
+
+record ArePublic : Type 0 where
+  debian : public_beside (codes "/var/spool/uucp") ≡ codes "/var/spool/uucppublic"
+  top : public_beside (codes "/uucp") ≡ codes "/uucppublic"
+  relative : public_beside (codes "spool") ≡ codes "spool/../uucppublic"
+  slash_last : public_beside (codes "/var/spool/") ≡ codes "/var/spool//../uucppublic"
+  named : without_slash (codes "/srv/pub/") ≡ codes "/srv/pub"
+  named_plain : without_slash (codes "/srv/pub") ≡ codes "/srv/pub"
+
+public : ArePublic
+unfolding rsplit_once
+public = record { debian = refl; top = refl; relative = refl; slash_last = refl; named = refl; named_plain = refl }
+
+record AreNamed : Type 0 where
+  inside : public_name (codes "/srv/pub") (codes "/srv/pub/x") ≡ codes "~/x"
+  itself : public_name (codes "/srv/pub") (codes "/srv/pub/") ≡ codes "~/"
+  beside : public_name (codes "/srv/pub") (codes "/srv/public/x") ≡ codes "/srv/public/x"
+  elsewhere : public_name (codes "/srv/pub") (codes "/tmp/x") ≡ codes "/tmp/x"
+  asked : named_job (codes "/srv/pub") (Request (codes "~/x") (codes "/srv/pub/x") (codes "me")) ≡ Request (codes "~/x") (codes "~/x") (codes "me")
+  sent : named_job (codes "/srv/pub") (Send (codes "/srv/pub/x") (codes "/srv/pub/x") (codes "me") None)
+      ≡ Send (codes "/srv/pub/x") (codes "/srv/pub/x") (codes "me") None
+
+named : AreNamed
+named = record { inside = refl; itself = refl; beside = refl; elsewhere = refl; asked = refl; sent = refl }

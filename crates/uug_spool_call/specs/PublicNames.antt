@@ -1,0 +1,65 @@
+-- The public folder, and how names in it are written in the jobs of a spool (that it stands beside the spool, and that a job has its path, is Taylor UUCP's; the rest is this project's profile).
+use Rattle.std.specs.Borrow.{Bor}
+use Rattle.std.specs.List.{ends_with, starts_with}
+use Rattle.std.specs.Option.{option_map, unwrap_or}
+use Rattle.std.specs.Path.{rsplit_once, slash}
+use Rattle.std.specs.Prelude.{◌&&◌, ◌==◌, ◌-◌, ℕ, List, ◌++◌, length, take, drop, map, codes, nat_eq, Option, Some, None, if◌then◌else◌}
+use Rattle.uug_conversation.specs.declared.job.Job.{Job}
+use Rattle.uug_conversation.specs.declared.job.Job.TheVariants.{Request, Send}
+use Rattle.uug_mailbox.specs.declared.open_line.OpenLine.{OpenLine}
+use Rattle.uug_talk.specs.Name.{name_of}
+
+-- ---- where it is
+
+abbrev pub without_slash : (path : List ℕ) → List ℕ
+without_slash path = if ends_with nat_eq path (codes "/") then take (length path - 1) path else path
+
+abbrev pub folder_by : (parts : Option (List ℕ × List ℕ)) → Option (List ℕ)
+folder_by None = None
+folder_by (Some parts) = if length parts.1 == 0 then None else Some parts.0
+
+-- the folder in which a spool stands, where its path is whole and ends in a name
+abbrev pub folder_of : (spool : List ℕ) → Option (List ℕ)
+folder_of spool = if starts_with nat_eq spool (codes "/") then folder_by (rsplit_once slash spool) else None
+
+abbrev pub public_in : (spool : List ℕ) (folder : Option (List ℕ)) → List ℕ
+public_in spool None = spool ++ codes "/../uucppublic"
+public_in spool (Some folder) = folder ++ codes "/uucppublic"
+
+-- that beside a spool
+abbrev pub public_beside : (spool : List ℕ) → List ℕ
+public_beside spool = public_in spool (folder_of spool)
+
+-- the one that is named, else that beside the spool
+abbrev pub public_path : (spool : List ℕ) (named : Option (Bor (List ℕ))) → List ℕ
+public_path spool None = public_beside spool
+public_path spool (Some named) = without_slash named.now
+
+-- ---- names in it
+
+-- what stands behind its path in a name, the slash first
+abbrev pub behind_public : (public name : List ℕ) → Option (List ℕ)
+behind_public public name =
+    let rest = drop (length public) name in
+    if starts_with nat_eq name public && starts_with nat_eq rest (codes "/") then Some rest else None
+
+abbrev pub named_by : (name : List ℕ) (behind : Option (List ℕ)) → List ℕ
+named_by name None = name
+named_by name (Some rest) = unwrap_or (name_of (codes "~" ++ rest)) name
+
+-- A session has ~ in the place of its path. Each other name stays, and so does one that would get too long.
+abbrev pub public_name : (public name : List ℕ) → List ℕ
+public_name public name = named_by name (behind_public public name)
+
+-- ---- the jobs
+
+-- a file that is asked for comes under such a name
+abbrev pub named_job : (public : List ℕ) → Job → Job
+named_job public (Request source target user) = Request source (public_name public target) user
+named_job public (Send source target user temp) = Send source target user temp
+
+abbrev pub named_line : (public : List ℕ) → OpenLine → OpenLine
+named_line public line = record { file = line.file; copy = line.copy; job = option_map (named_job public) line.job }
+
+abbrev pub named_lines : (public : List ℕ) → List OpenLine → List OpenLine
+named_lines public lines = map (named_line public) lines

@@ -1,0 +1,56 @@
+-- A call over a spool: what it is told, and what comes of one that has no lock or no line (this project's profile).
+use Rattle.std.specs.Prelude.{◌≡◌, ℕ, Bool, true, false, List, Option, Some, None, Result, Err}
+use Rattle.uug_failure.specs.Failures.{fault_of_run, told_by}
+use Rattle.uug_failure.specs.declared.failure.Cause.{Cause}
+use Rattle.uug_failure.specs.declared.failure.Cause.TheVariants.{InUse}
+use Rattle.uug_failure.specs.declared.failure.Resource.{Resource}
+use Rattle.uug_failure.specs.declared.failure.Resource.TheVariants.{Line}
+use Rattle.uug_failure.specs.declared.failure.SystemFailure.{SystemFailure}
+use Rattle.uug_failure.specs.declared.run_fault.RunFault.{RunFault}
+use Rattle.uug_failure.specs.declared.run_fault.RunFault.TheVariants.{System, Tool}
+use Rattle.uug_spool_call.specs.declared.spool_call.SpoolCall.{SpoolCall}
+use Rattle.uug_stream.specs.declared.fault.ToolFault.{ToolFault}
+use Rattle.uug_stream.specs.declared.fault.ToolFault.TheVariants.{Device}
+use Rattle.uug_task.specs.Tasks.{thinning_with}
+use Rattle.uug_task.specs.declared.task.CallTask.{CallTask}
+
+-- a call is told what its task says
+pub record IsCallOf (task : CallTask) (call : SpoolCall) : Type 0 where
+  pub side : call.side ≡ task.side
+  pub spool : call.spool ≡ task.dir
+  pub public : call.public ≡ task.public
+  pub log : call.log ≡ task.log
+  pub stats : call.stats ≡ task.stats
+  pub port : call.port ≡ task.line
+  pub is_lenient : call.is_lenient ≡ task.is_lenient
+  pub thinning : call.thinning ≡ thinning_with task.is_every_ack
+  pub most : call.most ≡ task.most
+
+-- ---- where there is no lock
+
+-- It gives up with the fault of the lock, and says which call of the system that was. Nothing is printed.
+pub record GivesUp (fault : RunFault) (result : Result ℕ ToolFault) (why why_after : Option SystemFailure)
+    (written written_after : Option (List ℕ)) : Type 0 where
+  pub answers : result ≡ Err (fault_of_run fault)
+  pub tells : why_after ≡ told_by fault why
+  pub prints : written_after ≡ written
+
+abbrev pub is_in_use : Cause → Bool
+is_in_use InUse = true
+is_in_use cause = false
+
+-- whether it is another run that has it
+abbrev pub is_locked : RunFault → Bool
+is_locked (System failure) = is_in_use failure.cause
+is_locked (Tool fault) = false
+
+-- ---- where there is no line
+
+abbrev pub line_fault_of : Resource → Cause → Option Bool
+line_fault_of Line cause = Some (is_in_use cause)
+line_fault_of resource cause = None
+
+-- Whether a call that ended so came to no line, and then whether another run has that.
+abbrev pub line_fault : Result ℕ ToolFault → (why : Option SystemFailure) → Option Bool
+line_fault (Err Device) (Some failure) = line_fault_of failure.resource failure.cause
+line_fault result why = None

@@ -1,0 +1,214 @@
+# Two nodes of Debian's `uucp`, alpha and beta, each with its own settings, spool and stand-in for `rmail`, and sessions between
+# them over a slow line. Needs `work`, `root` and `program`; `rate` is the bytes of a second. What is started is in `started`.
+# shellcheck shell=bash disable=SC2034,SC2154
+
+as_uucp() {
+    runuser -u uucp -- "$@"
+}
+
+other() {
+    [ "$1" = alpha ] && echo beta || echo alpha
+}
+
+# node NAME: the folders and settings of a node
+node() {
+    local here=$work/$1
+    mkdir -p "$here"/{spool,pub,log,lock,bin}
+    cat >"$here/config" <<END
+nodename $1
+spool $here/spool
+pubdir $here/pub
+lockdir $here/lock
+logfile $here/log/Log
+statfile $here/log/Stats
+debugfile $here/log/Debug
+sysfile $here/sys
+portfile $here/port
+END
+    cat >"$here/sys" <<END
+system $(other "$1")
+time any
+port gate
+chat ""
+protocol g
+protocol-parameter g packet-size 1024
+protocol-parameter g window 7
+commands rmail
+command-path $here/bin
+remote-send ~
+remote-receive ~
+local-send /
+END
+    cat >"$here/port" <<END
+port gate
+type pipe
+command /usr/bin/socat - UNIX-CONNECT:$work/near
+END
+    printf '#!/bin/sh\n/bin/cat >>%s/mails\n' "$here" >"$here/bin/rmail"
+    chmod 755 "$here/bin/rmail"
+    : >"$here/mails"
+    : >"$here/sent"
+    chmod 777 "$here/pub"
+    chown -R uucp:uucp "$here"
+}
+
+# new_nodes: both, with nothing queued
+new_nodes() {
+    rm -rf "$work"/{alpha,beta}
+    node alpha
+    node beta
+    sessions=0
+    cuts=0
+}
+
+# mail FROM ID SIZE: queues a mail, as postfix does
+mail() {
+    local here=$work/$1
+    echo "mail-$1-$2" >>"$here/sent"
+    { echo "mail-$1-$2"; seq -f "of $1 $2, line %g" 1000 | head -c "$3"; echo; } |
+        as_uucp uux -I "$here/config" -r -n -z "-asender@$1" - "$(other "$1")!rmail" "(user@$(other "$1"))"
+}
+
+# queued NODE: how many C. files wait there
+queued() {
+    find "$work/$1/spool/$(other "$1")/C." -type f -name 'C.*' 2>/dev/null | wc -l
+}
+
+run_uuxqt() {
+    (cd / && as_uucp /usr/sbin/uuxqt -I "$work/$1/config")
+}
+
+# ours CALL|ANSWER NODE LINE: the program's words at a node
+ours() {
+    exec runuser -u uucp -- "$program" "$1" "$3" "$work/$2/spool" --spool --me "$2" --peer "$(other "$2")" \
+        --public "$work/$2/pub" --locks "$work/$2/lock" --log "$work/$2/log/Log" --stats "$work/$2/log/Stats" \
+        --size 1024 --timeout 5 >>"$work/$2.out" 2>>"$work/$2.err"
+}
+
+# listen_taylor NODE: uucico answers at the socket far
+listen_taylor() {
+    (cd / && exec socat "UNIX-LISTEN:$work/far,mode=666" "EXEC:runuser -u uucp -- /usr/sbin/uucico -q -I $work/$1/config") \
+        2>>"$work/socat.err" &
+    answerer=$!
+    started+=("$answerer")
+    wait_for "$work/far"
+}
+
+listen_ours() {
+    ours answer "$1" "unix:$work/far" &
+    answerer=$!
+    started+=("$answerer")
+    wait_for "$work/far"
+    chmod 666 "$work/far"
+}
+
+# relay: a slow line from the socket near to the socket far
+relay() {
+    python3 "$root/tests/slow_relay.py" "$work/near" "$work/far" "$rate" 120 >>"$work/relay.out" 2>&1 &
+    relay=$!
+    started+=("$relay")
+    wait_for "$work/near"
+    chmod 666 "$work/near"
+}
+
+# end_all PID..: ends those that still run, and waits for them
+end_all() {
+    local pid
+    {
+        for pid in "$@"; do
+            kill -9 "$pid"
+            wait "$pid"
+        done
+    } 2>/dev/null
+}
+
+# tree PID: it and those that it started
+tree() {
+    local child
+    echo "$1"
+    for child in $(pgrep -P "$1"); do
+        tree "$child"
+    done
+}
+
+# cut WHO: at a random moment the line goes (`line`), or the end that calls or is called is killed (`caller`, `called`)
+cut() {
+    local victim
+    sleep "$((RANDOM % 6)).$((RANDOM % 10))"
+    case $1 in
+    line) victim=$(tree "$relay") ;;
+    caller) victim=$(tree "$caller") ;;
+    called) victim=$(tree "$answerer") ;;
+    esac
+    # shellcheck disable=SC2086
+    [ ! -d "/proc/$caller" ] || { kill -9 $victim 2>/dev/null && cuts=$((cuts + 1)); }
+}
+
+# session PART [COMMAND..]: one session, and the command while it runs. The program is at beta: it calls uucico (`we-call`), or is
+# called by it (`we-answer`), or calls the program at alpha (`both`).
+session() {
+    local i
+    rm -f "$work"/{near,far}
+    case $1 in
+    we-call) listen_taylor alpha ;;
+    we-answer) listen_ours beta ;;
+    both) listen_ours alpha ;;
+    esac
+    relay
+    case $1 in
+    we-answer) (cd / && exec runuser -u uucp -- /usr/sbin/uucico -q -D -f -I "$work/alpha/config" -S beta) & ;;
+    *) ours call beta "unix:$work/near" & ;;
+    esac
+    caller=$!
+    started+=("$caller")
+    shift
+    [ $# -eq 0 ] || "$@"
+    for ((i = 0; i < 600; i++)); do
+        [ -d "/proc/$caller" ] || [ -d "/proc/$answerer" ] || break
+        sleep 0.1
+        # an end that waits for a caller who is gone
+        [ "$i" -lt 300 ] || [ -d "/proc/$caller" ] || break
+    done
+    # shellcheck disable=SC2046
+    end_all $(tree "$caller") $(tree "$answerer") "$relay"
+    sessions=$((sessions + 1))
+}
+
+# finish PART COUNT: sessions until nothing is queued, so many at most
+finish() {
+    local i
+    for ((i = 0; i < $2; i++)); do
+        [ "$(queued alpha)$(queued beta)" != 00 ] || return
+        session "$1"
+        run_uuxqt alpha
+        run_uuxqt beta
+    done
+}
+
+# count_mails: sets `lost` and `twice`, and names what is so; the mails of `killed` may have come or not, and `spared` counts those
+count_mails() {
+    local node id
+    lost=0
+    twice=0
+    spared=0
+    run_uuxqt alpha
+    run_uuxqt beta
+    for node in alpha beta; do
+        while read -r id; do
+            case $(grep -cx "$id" "$work/$(other "$node")/mails") in
+            0) [[ " ${killed:-} " == *" $id "* ]] || { lost=$((lost + 1)); echo "  lost: $id"; } ;;
+            1) [[ " ${killed:-} " != *" $id "* ]] || spared=$((spared + 1)) ;;
+            *) twice=$((twice + 1)); echo "  twice: $id" ;;
+            esac
+        done <"$work/$node/sent"
+    done
+}
+
+# judge ROW: each mail came once, and nothing is queued
+judge() {
+    local left
+    count_mails
+    left=$(($(queued alpha) + $(queued beta)))
+    echo "$1: $(cat "$work"/{alpha,beta}/sent | wc -l) mails, $sessions sessions, $cuts cut, $lost lost, $twice twice, $left queued"
+    [ "$lost$left" = 00 ] && [ "$twice" = 0 ] || bad=1
+}
