@@ -18,25 +18,10 @@ trap 'kill "${started[@]}" 2>/dev/null; rm -rf "$work"' EXIT
 sizes=${SIZES:-64 1024 4096}
 mails=5
 
-as_uucp() {
-    runuser -u uucp -- "$@"
-}
-
 # taylor ME OTHER SIZE: the folders and settings of a Taylor end; it calls through the socket near
 taylor() {
     local here=$work/$1
-    mkdir -p "$here"/{spool,pub,log}
-    cat >"$here/config" <<END
-nodename $1
-spool $here/spool
-pubdir $here/pub
-lockdir $here
-logfile $here/log/Log
-statfile $here/log/Stats
-debugfile $here/log/Debug
-sysfile $here/sys
-portfile $here/port
-END
+    taylor_settings "$1" "$here" "$work/near"
     cat >"$here/sys" <<END
 system $2
 time any
@@ -45,11 +30,6 @@ chat ""
 protocol g
 protocol-parameter g packet-size $3
 protocol-parameter g window 3
-END
-    cat >"$here/port" <<END
-port gate
-type pipe
-command /usr/bin/socat - UNIX-CONNECT:$work/near
 END
 }
 

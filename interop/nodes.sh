@@ -2,10 +2,6 @@
 # them over a slow line. Needs `work`, `root` and `program`; `rate` is the bytes of a second. What is started is in `started`.
 # shellcheck shell=bash disable=SC2034,SC2154
 
-as_uucp() {
-    runuser -u uucp -- "$@"
-}
-
 other() {
     [ "$1" = alpha ] && echo beta || echo alpha
 }
@@ -13,18 +9,8 @@ other() {
 # node NAME: the folders and settings of a node
 node() {
     local here=$work/$1
-    mkdir -p "$here"/{spool,pub,log,lock,bin}
-    cat >"$here/config" <<END
-nodename $1
-spool $here/spool
-pubdir $here/pub
-lockdir $here/lock
-logfile $here/log/Log
-statfile $here/log/Stats
-debugfile $here/log/Debug
-sysfile $here/sys
-portfile $here/port
-END
+    taylor_settings "$1" "$here" "$work/near"
+    mkdir -p "$here/bin"
     cat >"$here/sys" <<END
 system $(other "$1")
 time any
@@ -38,11 +24,6 @@ command-path $here/bin
 remote-send ~
 remote-receive ~
 local-send /
-END
-    cat >"$here/port" <<END
-port gate
-type pipe
-command /usr/bin/socat - UNIX-CONNECT:$work/near
 END
     printf '#!/bin/sh\n/bin/cat >>%s/mails\n' "$here" >"$here/bin/rmail"
     chmod 755 "$here/bin/rmail"

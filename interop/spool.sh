@@ -7,6 +7,8 @@
 #     hub        three systems call one run of the program, one after the other
 #     programs   files both ways, a file that is too long, `uustat` and `uulog`
 #     gone       `uustat -k` while its job waits, and then in a session
+#     asked      uucico asks for files of the program's public folder, and for others
+#     unread     data that the program can't read, at a place whose time is another
 #     full       the program's spool is on a disk that is full
 #     folders    each folder of the program's node in turn can't be written, or not even be seen
 #     anew       mail while sessions are cut; then alpha's spool is made anew, so that its numbers begin anew
@@ -85,7 +87,7 @@ hub_node() {
     printf 'system %s\ntime any\ncommands rmail\ncommand-path %s\n' "$1" "$work/beta/bin" >>"$work/beta/sys"
 }
 
-# hub: three systems call one run of the program, one after the other; the first is locked at its first call
+# hub: three systems call one run of the program, one after the other; the first is locked at its first call, and hears that
 hub() {
     local name lost=0 hub
     rm -rf "$work"/{alpha,beta,gamma,delta,near}
@@ -97,7 +99,7 @@ hub() {
         seq 300 | as_uucp uux -I "$work/beta/config" -r -n -z - "$name!rmail" "(user@$name)"
     done
     printf '%10d\n' $$ >"$work/beta/lock/LCK..alpha"
-    runuser -u uucp -- "$program" answer "unix:$work/near" "$work/beta/spool" --spool --me beta --peer '*' \
+    runuser -u uucp -- "$program" answer "unix:$work/near" "$work/beta/spool" --spool --me beta \
         --public "$work/beta/pub" --locks "$work/beta/lock" --log "$work/beta/log/Log" --timeout 5 --sessions 3 --wait 60 \
         >"$work/beta.out" 2>>"$work/beta.err" &
     hub=$!
@@ -114,6 +116,7 @@ hub() {
         run_uuxqt "$name"
         [ "$(wc -l <"$work/$name/mails")" = 300 ] || lost=$((lost + 1))
     done
+    is "the first hears that it is locked" grep -q 'Handshake failed (LCK)' "$work/alpha/log/Log"
     echo "hub: 3 systems, $(grep -c '^called done pending 0 struck 2 failed 0$' "$work/beta.out") sessions, $(grep -c 'already locked' "$work/beta/log/Log") locked, $lost nodes without their mail"
     [ "$lost" = 0 ] || bad=1
 }
@@ -162,9 +165,10 @@ programs() {
     rate=$slow
 }
 
-# too_long PART: a file of a byte more than a session takes, each way: it is over, and its user has mail
+# too_long PART: a file of a byte more than a session takes, each way, and a mail: it is over, and its user has mail
 too_long() {
     local node
+    head -c 1048577 /dev/zero | as_uucp uux -I "$work/beta/config" -r -n -z -asender@beta - 'alpha!rmail' '(user@alpha)'
     for node in alpha beta; do
         head -c 1048577 /dev/zero >"$work/$node/pub/long-$node"
         chmod 666 "$work/$node/pub/long-$node"
@@ -173,10 +177,57 @@ too_long() {
     session "$1"
     run_uuxqt beta
     is "what is too long is over" [ "$(queued alpha)$(queued beta)" = 00 ]
-    is "it is kept" [ "$(find "$work/beta/spool/.Preserve" -name 'D.*' -size +1024k | wc -l)" = 1 ]
-    is "its user has mail" grep -q '^Subject: UUCP failed' "$work/beta/mails"
+    is "it is kept" [ "$(find "$work/beta/spool/.Preserve" -name 'D.*' -size +1024k | wc -l)" = 2 ]
+    is "its user has mail" grep -q '^To: uucp' "$work/beta/mails"
+    is "and who asks for a command" grep -q '^To: sender@beta' "$work/beta/mails"
     is "uucico says why" grep -q 'ERROR: .*long-alpha: .*final location' "$work/alpha/log/Log"
     is "none of it came" [ ! -e "$work/beta/pub/long-alpha" ]
+}
+
+# asked PART: alpha asks for files of beta's public folder, of which one is not for everybody and one is a link, and for another
+asked() {
+    local file
+    rate=$fast
+    new_nodes
+    seq 4000 >"$work/beta/pub/open"
+    seq 4000 >"$work/beta/pub/shut"
+    ln -s /etc/hostname "$work/beta/pub/link"
+    chmod 644 "$work/beta/pub/open"
+    chmod 600 "$work/beta/pub/shut"
+    # whom it calls itself it knows, also without a folder
+    [ "$1" = we-call ] || as_uucp mkdir -p "$work/beta/spool/alpha/C."
+    # shellcheck disable=SC2088
+    for file in '~/open' '~/shut' '~/link' /etc/hostname; do
+        program_of alpha uucp -r "beta!$file" "$work/alpha/pub/$(basename "$file")"
+    done
+    session "$1"
+    run_uuxqt alpha
+    is "what everybody may read came" same_file open
+    is "nothing else came" [ ! -e "$work/alpha/pub/shut" -a ! -e "$work/alpha/pub/link" -a ! -e "$work/alpha/pub/hostname" ]
+    judge "asked, $1"
+    rate=$slow
+}
+
+# unread PART: beta can't read the data of a mail: the others go, and this one does once it can be read
+unread() {
+    local data begun
+    rate=$fast
+    new_nodes
+    mail beta 1 500
+    data=$(find "$work/beta/spool/alpha/D." -type f)
+    chown root:root "$data"
+    chmod 600 "$data"
+    mail beta 2 500
+    mail alpha 1 500
+    begun=$(TZ=Asia/Tokyo date +%Y-%m-%d)
+    TZ=Asia/Tokyo session "$1"
+    is "the others went" [ "$(queued alpha)$(queued beta)" = 01 ]
+    is "the log says why" grep -q "^uucico alpha - .*${data##*/} is put off: permission denied" "$work/beta/log/Log"
+    is "the log has the time of the place" grep -q "^uucico alpha - ($begun $(TZ=Asia/Tokyo date +%H):" "$work/beta/log/Log"
+    chown uucp:uucp "$data"
+    finish "$1" 2
+    judge "unread, $1"
+    rate=$slow
 }
 
 # last_job: the job of beta that is taken last
@@ -315,6 +366,8 @@ try() {
             case $1 in
             programs) programs $role ;;
             gone) gone $role ;;
+            asked) asked $role ;;
+            unread) unread $role ;;
             full) full $role ;;
             folders) folders $role ;;
             anew) anew $role ;;
@@ -324,7 +377,7 @@ try() {
     esac
 }
 
-for part in ${PARTS:-hub programs gone full folders anew we-call we-answer both}; do
+for part in ${PARTS:-hub programs gone asked unread full folders anew we-call we-answer both}; do
     try "$part"
 done
 [ "$bad" = 0 ]

@@ -24,25 +24,11 @@ all_sizes=${SIZES:-0 1 63 64 65 4096 1048576}
 # Not 4096:7: uucico stores wrong bytes where more than 16,384 may be on their way to it (docs/INTEROP.md).
 terms=${TERMS_LIST-64:3 64:7 1024:3 1024:7 2048:7 4096:3}
 
-as_uucp() {
-    runuser -u uucp -- "$@"
-}
-
 # set_up SIZE WINDOW: Taylor's folders and settings, and a folder of ours
 set_up() {
     rm -rf "$work/taylor" "$work/ours"
-    mkdir -p "$work"/taylor/{spool,pub,log} "$work"/ours/{send,got}
-    cat >"$work/taylor/config" <<END
-nodename taylor
-spool $work/taylor/spool
-pubdir $work/taylor/pub
-lockdir $work/taylor
-logfile $work/taylor/log/Log
-statfile $work/taylor/log/Stats
-debugfile $work/taylor/log/Debug
-sysfile $work/taylor/sys
-portfile $work/taylor/port
-END
+    taylor_settings taylor "$work/taylor" "$work/line"
+    mkdir -p "$work"/ours/{send,got}
     cat >"$work/taylor/sys" <<END
 system ours
 time any
@@ -55,11 +41,6 @@ remote-send ~
 remote-receive ~
 local-send ~
 local-receive ~
-END
-    cat >"$work/taylor/port" <<END
-port gate
-type pipe
-command /usr/bin/socat - UNIX-CONNECT:$work/line
 END
     local size
     began=$SECONDS

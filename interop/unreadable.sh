@@ -16,25 +16,11 @@ trap 'kill "${started[@]}" 2>/dev/null; rm -rf "$work"' EXIT
 
 cases=${CASES:-wildcard execution long_path long_request high_byte long_file}
 
-as_uucp() {
-    runuser -u uucp -- "$@"
-}
-
 # set_up: Taylor's folders and settings, and a folder of ours
 set_up() {
     rm -rf "$work/taylor" "$work/ours" "$work/line"
-    mkdir -p "$work"/taylor/{spool,pub,log} "$work"/ours/{send,got}
-    cat >"$work/taylor/config" <<END
-nodename taylor
-spool $work/taylor/spool
-pubdir $work/taylor/pub
-lockdir $work/taylor
-logfile $work/taylor/log/Log
-statfile $work/taylor/log/Stats
-debugfile $work/taylor/log/Debug
-sysfile $work/taylor/sys
-portfile $work/taylor/port
-END
+    taylor_settings taylor "$work/taylor" "$work/line"
+    mkdir -p "$work"/ours/{send,got}
     cat >"$work/taylor/sys" <<END
 system ours
 time any
@@ -45,11 +31,6 @@ remote-send ~
 remote-receive ~
 local-send ~
 local-receive ~
-END
-    cat >"$work/taylor/port" <<END
-port gate
-type pipe
-command /usr/bin/socat - UNIX-CONNECT:$work/line
 END
     echo "the mail" >"$work/taylor/pub/mail"
     echo "a file" | tee "$work/taylor/pub/file" >"$work/taylor/pub/caf"$'\xe9'

@@ -279,6 +279,9 @@ row "a call to a port that is none" 2 "uucpair: bad usage$line_feed" "" call tcp
 row "a call to a socket without a path" 2 "uucpair: bad usage$line_feed" "" call unix: a --me a --peer b </dev/null
 row "a call over a line without a name" 2 "uucpair: bad usage$line_feed" "" call "" a --me a --peer b </dev/null
 row "an answer with a name that is none" 2 "uucpair: bad usage$line_feed" "" answer l a --me "a b" --peer b </dev/null
+row "an answer without the name of the other end" 2 \
+    "uucpair: bad usage${line_feed}uucpair: the name of the other end is missing: --peer$line_feed" "" answer l a --me a </dev/null
+row "a call without the name of the other end" 2 "error: " "" call l a --spool --me a </dev/null
 row "a word that is no text" 2 "uucpair: bad usage$line_feed" "" $'\377' </dev/null
 row "help" 2 "Tools for the" "" --help </dev/null
 helps "help on scan" "scan    Reads bytes"
@@ -364,6 +367,30 @@ row "a spool whose line is not there" 3 \
 fault=
 grep -qx '2 1 [0-9]* 600 Dial failed b' "$a/.Status/b" || fault="the status is $(cat "$a/.Status/b")"
 report "the status of a call that nobody answered" "$fault"
+printf '%10d\n' $$ >"$a/LCK..b"
+cp "$a/.Status/b" "$work/status"
+row "a spool whose other system is locked" 1 "uucpair: system b is locked by $a/LCK..b$line_feed" "" \
+    call unix:"$socket" "$a" --spool --me a --peer b --locks "$a" </dev/null
+holds "the status of a system that is locked" "$a/.Status/b" "$(cat "$work/status")$line_feed"
+row "a spool whose folder of locks is a file" 3 \
+    "uucpair: device fault${line_feed}uucpair: $a/LCK..b: not a directory$line_feed" "" \
+    call unix:"$socket" "$a" --spool --me a --peer b --locks "$a/LCK..b" </dev/null
+row "a spool whose folder of locks is not there" 3 \
+    "uucpair: device fault${line_feed}uucpair: $a/none: no such file or directory$line_feed" "" \
+    call unix:"$socket" "$a" --spool --me a --peer b --locks "$a/none" </dev/null
+# hears NAME WORDS [OPTION]..: what a caller `b` hears of an end over a spool
+hears() {
+    local name=$1 words=$2 heard
+    shift 2
+    heard=$(printf '\020Sb\0' | "$program" answer - "$a" --spool --me a --timeout 1 --locks "$a" --report "$work/report" "$@" 2>/dev/null | tr '\020\0' '<>') || true
+    report "$name" "$([ "$heard" = "$words" ] || echo "heard: $heard")"
+}
+mkdir -p "$a/b"
+hears "a caller of a hub whose system is locked" "<Shere=a><RLCK>"
+hears "a caller of an end whose system is locked" "<Shere=a><RLCK>" --peer b
+rm "$a/LCK..b"
+rm -r "$a/b"
+hears "a caller of a hub that knows no such system" "<Shere=a><RYou are unknown to me>"
 folders "send x y"
 row "a pair with a bad job" 2 "uucpair: bad jobs at line 1$line_feed" "" pair "$socket" "$a" "$b" </dev/null
 holds "the bad job" "$a/jobs" "send x y$line_feed"

@@ -328,7 +328,9 @@ call_of "" a
 mistake "no line" 2 "${usage}the line has no name" "${call[@]}"
 no_name="is no name of a system: 1 to 200 printing characters without a space"
 mistake "a name with a blank" 2 "${usage}\"Foo bar\" $no_name" call unix:s a --me "Foo bar" --peer beta
-mistake "an empty name" 2 "${usage}\"\" $no_name" call unix:s a --me alpha --peer ""
+mistake "an empty name" 2 "${usage}\"\" $no_name" call unix:s a --me "" --peer beta
+mistake "an empty name of the other end" 2 "${usage}the name of the other end is missing: --peer" \
+    call unix:s a --me alpha --peer ""
 mistake "a name with a control character" 2 "${usage}\"b\\x07\" $no_name" call unix:s a --me alpha --peer $'b\a'
 mistake "two mistakes, of which the first is told" 2 "${usage}timeout 601 is not 1 to 600" \
     call tcp:x a --me "Foo bar" --peer beta --timeout 601

@@ -250,13 +250,13 @@ report "two sessions of a caller" "$fault"
 
 # ---- the other end dies
 
-# hangs_up LINE SIDE PENDING: sets `fault` to what is not so of an end on this side that is left alone. If it says anything it
-# is what the system says of the line.
+# hangs_up LINE SIDE JOBS: sets `fault` to what is not so of an end on this side that is left alone; JOBS is a pattern of those that
+# pend and are struck. If it says anything it is what the system says of the line.
 hangs_up() {
     local line=$1
     fault=
     [ "$status" -eq 1 ] || fault="status $status;"
-    [ "$(head -n 1 "$work/printed")" = "$2 hungup pending $3 struck 0 failed 0" ] || fault="$fault printed $(cat "$work/printed");"
+    [[ "$(head -n 1 "$work/printed")" =~ ^$2\ hungup\ pending\ $3\ failed\ 0$ ]] || fault="$fault printed $(cat "$work/printed");"
     ! grep -qvxE "uucpair: $line: (connection reset|broken pipe|error 5)" "$work/said" || fault="$fault said $(cat "$work/said")"
 }
 
@@ -300,7 +300,7 @@ alone_calling() {
     call_with "$line" x one --locks "$work" || status=$?
     mv "$work/called" "$work/printed"
     mv "$work/call.said" "$work/said"
-    hangs_up "$line" caller 1
+    hangs_up "$line" caller "1 struck 0"
     end_of "$partner" 5
     [ "$status" -eq 137 ] || fault="$fault the other end: $(cat "$work/dying")"
     report "a call over $1, $2" "$fault"
@@ -324,7 +324,7 @@ alone_called() {
         call_with "$line" x one || true
     fi
     end_of "$answerer" 20
-    hangs_up "$line" called 0
+    hangs_up "$line" called "0 struck 0"
     if [ "$1" != pty ]; then
         [ "$(tail -n +2 "$work/printed")" = "$done_line" ] && has_got x one || fault="$fault the next call: $(cat "$work/printed")"
     fi
@@ -340,13 +340,18 @@ for kind in unix tcp pty; do
     done
 done
 
-# slowly: sets `slow` to the words of ends that take a while for the file that each has for the other.
+# slowly: sets `slow` to the words of ends that take a while for the file that each has for the other, eight times.
 slowly() {
+    local number
     folders
     head -c 1000000 /dev/urandom >"$work/near/send/x"
     head -c 1000000 /dev/urandom >"$work/far/send/y"
-    echo "send x ~/x me" >"$work/near/jobs"
-    echo "send y ~/y me" >"$work/far/jobs"
+    : >"$work/near/jobs"
+    : >"$work/far/jobs"
+    for number in {1..8}; do
+        echo "send x ~/x$number me" >>"$work/near/jobs"
+        echo "send y ~/y$number me" >>"$work/far/jobs"
+    done
     : >"$work/caller.said"
     : >"$work/called.said"
     slow=(--timeout 2 --size 32 --window 1)
@@ -370,7 +375,7 @@ killed() {
     end_of "$left" 20
     mv "$work/$2" "$work/printed"
     grep -vE "^uucpair: ([0-9]+ s: |wrote |read |[0-9]+ timeouts|heard last )" "$work/$2.said" >"$work/said" || true
-    hangs_up "$line" "$2" 1
+    hangs_up "$line" "$2" "[1-8] struck [0-7]"
     report "the $2 end over $1 whose partner is killed, $3" "$fault"
 }
 

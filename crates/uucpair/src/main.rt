@@ -1,16 +1,17 @@
 //! The program `uucpair`: tools for the 'g' packet protocol of UUCP, on standard input and output.
 #![tactic(auto)]
 
-mod input_task;
+mod ends;
 mod program;
-mod stop;
+mod terminals;
 
-use program::Terminals;
 use std::io::IsTerminal;
 use std::process::ExitCode;
+use terminals::Terminals;
 use uug_port::{StandardStreams, hold_descriptors};
+use uug_stop::end;
 
-fn terminals(rt: &HostRuntime) -> Terminals {
+fn terminals_of(rt: &HostRuntime) -> Terminals {
     Terminals {
         input: rt.stdin().is_terminal(),
         errors: rt.stderr().is_terminal(),
@@ -19,13 +20,13 @@ fn terminals(rt: &HostRuntime) -> Terminals {
 
 fn main(rt: HostRuntime) -> ExitCode {
     let held = hold_descriptors(&rt);
-    let terminals = terminals(&rt);
+    let terminals = terminals_of(&rt);
     let standard = StandardStreams {
         input: rt.stdin(),
         output: rt.stdout(),
         errors: rt.stderr(),
     };
-    let status = program::end(&rt, program::run(&rt, terminals, standard));
+    let status = end(&rt, program::run(&rt, terminals, standard));
     drop(held);
     ExitCode::from(status)
 }

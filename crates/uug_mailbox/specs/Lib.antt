@@ -1,4 +1,7 @@
 pub mod Code
+pub mod Executions
+pub mod HeldLines
+pub mod MailDates
 pub mod Offers
 pub mod OpenLines
 pub mod OverOrder

@@ -4,7 +4,10 @@
 #![tactic(auto)]
 
 mod command_file;
+mod execution;
+mod held;
 pub mod laws;
+mod mail_date;
 mod marks;
 mod offer;
 mod open_line;
@@ -14,6 +17,9 @@ mod spool_folder;
 mod work_store;
 
 pub use command_file::{add_file, queue_of};
+pub use execution::{Execution, addressee, is_told_with_data, read_execution};
+pub use held::held_lines;
+pub use mail_date::{day_word, month_word};
 pub use marks::{Came, Marks};
 pub use offer::{NotOffered, Offer, read_offer};
 pub use open_line::{OpenLine, Outcome};

@@ -3,10 +3,15 @@ use Rattle.std.specs.Borrow.{Bor}
 use Rattle.std.specs.List.{ends_with, starts_with}
 use Rattle.std.specs.Option.{option_map, unwrap_or}
 use Rattle.std.specs.Path.{rsplit_once, slash}
-use Rattle.std.specs.Prelude.{◌&&◌, ◌==◌, ◌-◌, ℕ, List, ◌++◌, length, take, drop, map, codes, nat_eq, Option, Some, None, if◌then◌else◌}
+use Rattle.std.specs.Prelude.{◌&&◌, ◌==◌, ◌-◌, ℕ, Bool, true, false, List, ◌++◌, length, take, drop, map, codes, nat_eq, Option, Some, None, Result, Ok, Err, if◌then◌else◌}
 use Rattle.uug_conversation.specs.declared.job.Job.{Job}
 use Rattle.uug_conversation.specs.declared.job.Job.TheVariants.{Request, Send}
 use Rattle.uug_mailbox.specs.declared.open_line.OpenLine.{OpenLine}
+use Rattle.uug_spool.specs.SpoolNames.{spot_of}
+use Rattle.uug_spool.specs.declared.spool_names.Barred.{Barred}
+use Rattle.uug_spool.specs.declared.spool_names.Room.{Room}
+use Rattle.uug_spool.specs.declared.spool_names.Room.TheVariants as rooms
+use Rattle.uug_spool.specs.declared.spool_names.Spot.{Spot}
 use Rattle.uug_talk.specs.Name.{name_of}
 
 -- ---- where it is
@@ -50,6 +55,20 @@ named_by name (Some rest) = unwrap_or (name_of (codes "~" ++ rest)) name
 -- A session has ~ in the place of its path. Each other name stays, and so does one that would get too long.
 abbrev pub public_name : (public name : List ℕ) → List ℕ
 public_name public name = named_by name (behind_public public name)
+
+-- ---- the files in it
+
+abbrev pub is_room : Room → Bool
+is_room rooms.Public = true
+is_room _ = false
+
+abbrev pub is_public : Result Spot Barred → Bool
+is_public (Ok spot) = is_room spot.room
+is_public (Err why) = false
+
+-- one is given under its name where a file of that name would come there
+abbrev pub is_given : (name : List ℕ) → Bool
+is_given name = is_public (spot_of name)
 
 -- ---- the jobs
 

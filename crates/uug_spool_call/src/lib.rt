@@ -3,6 +3,7 @@
 
 mod arrivals;
 mod notices;
+mod public_files;
 mod session;
 mod spool_call;
 mod spool_end;

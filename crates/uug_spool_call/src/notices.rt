@@ -7,9 +7,11 @@ use std::fs::File;
 use std::rt::Files;
 use std::time::Clock;
 use uug_folder::write_notices;
-use uug_session::{Job, Spool};
-use uug_spool::{Disk, DiskFailed, Room, Spot, far_name, next_sequence};
-use uug_spool_disk::{SpoolDisk, SpoolPaths, is_there, read_clock};
+use uug_log::LocalClock;
+use uug_mailbox::{addressee, day_word, is_told_with_data, month_word};
+use uug_session::Job;
+use uug_spool::{Disk, DiskFailed, Moment, Room, Spot, far_name, next_sequence};
+use uug_spool_disk::{SpoolDisk, SpoolPaths, is_there};
 use uug_talk::Name;
 
 /// The grade in the names of this mail.
@@ -18,33 +20,50 @@ const GRADE: u8 = b'M';
 /// So many numbers in a row may be in use.
 const NUMBERS_IN_USE_MAX: u32 = 10_000;
 
-/// Mails to each whose job has failed.
+/// Mails to each whose job has failed. Where a command and its data have, it is one mail.
 pub(crate) fn mail_failed<A: Allocator + Copy, R: Files<File = File> + Clock>(
     alloc: A,
     rt: &R,
+    clock: &LocalClock,
     me: &Name,
     paths: &SpoolPaths<A>,
     end: &SpoolEnd<'_, '_, R, A>,
 ) {
     let mut number = *b"0000";
-    for job in end.buffered.node().queue().failed() {
+    let failed = end.buffered.node().queue().failed();
+    for job in failed {
+        if is_told_with_data(end.executions.as_slice(), failed, job) {
+            continue;
+        }
         let Some(names) = free_names(alloc, rt, me, paths, &mut number) else {
             return;
         };
-        let (data, execution) = names;
-        let Ok(text) = mail_text(alloc, rt, me, paths, end.buffered.node().spool(), job) else {
-            return;
-        };
-        let Ok(command) = command_text(alloc, me, &data.name, user_of(job)) else {
-            return;
-        };
-        let mut disk = SpoolDisk::new(alloc, rt, paths);
-        if put(&mut disk, &data, text.as_bytes()).is_err()
-            || put(&mut disk, &execution, command.as_bytes()).is_err()
-        {
+        if mail_job(alloc, rt, clock, me, paths, end, job, &names).is_none() {
             return;
         }
     }
+}
+
+/// Mails that a job has failed, under these names: to who asks for its command, else to its user.
+fn mail_job<A: Allocator + Copy, R: Files<File = File> + Clock>(
+    alloc: A,
+    rt: &R,
+    clock: &LocalClock,
+    me: &Name,
+    paths: &SpoolPaths<A>,
+    end: &SpoolEnd<'_, '_, R, A>,
+    job: &Job,
+    names: &(Spot, Spot),
+) -> Option<()> {
+    let (data, execution) = names;
+    let to = addressee(end.executions.as_slice(), job);
+    let notice = write_notices(alloc, end.buffered.node().spool(), &[*job]).ok()?;
+    let moment = clock.now(rt);
+    let text = mail_text(alloc, &moment, me, paths, &to, notice.as_str()).ok()?;
+    let command = command_text(alloc, me, &data.name, &to).ok()?;
+    let mut disk = SpoolDisk::new(alloc, rt, paths);
+    put(&mut disk, data, text.as_bytes()).ok()?;
+    put(&mut disk, execution, command.as_bytes()).ok()
 }
 
 /// The places of the next mail: names that no file has, of this number or one behind it.
@@ -88,14 +107,6 @@ fn put<D: Disk>(disk: &mut D, place: &Spot, bytes: &[u8]) -> Result<(), DiskFail
     Ok(())
 }
 
-/// Whom a job belongs to.
-fn user_of(job: &Job) -> &Name {
-    match job {
-        Job::Send { user, .. } => user,
-        Job::Request { user, .. } => user,
-    }
-}
-
 /// The execution file that has the mail delivered.
 fn command_text<A: Allocator>(
     alloc: A,
@@ -114,33 +125,24 @@ fn two_digits(number: u8) -> (u8, u8) {
     (number / 10 % 10, number % 10)
 }
 
-/// What is mailed of a job that has failed.
-fn mail_text<A: Allocator + Copy, R: Clock, S: Spool>(
+/// What is mailed to somebody, at this moment, of a job that has failed.
+fn mail_text<A: Allocator + Copy>(
     alloc: A,
-    rt: &R,
+    moment: &Moment,
     me: &Name,
     paths: &SpoolPaths<A>,
-    spool: &S,
-    job: &Job,
+    to: &Name,
+    notice: &str,
 ) -> Result<String<A>, AllocError> {
-    let now = read_clock(rt);
-    let (day, month) = now.words();
-    let moment = now.moment;
+    let (day, month) = (day_word(moment), month_word(moment.month));
     let (date, year) = (moment.day, moment.year);
-    let (hour, minute, second) = (
-        two_digits(moment.hour),
-        two_digits(moment.minute),
-        two_digits(moment.second),
-    );
-    let (h, hh) = hour;
-    let (m, mm) = minute;
-    let (s, ss) = second;
+    let (h, hh) = two_digits(moment.hour);
+    let (m, mm) = two_digits(moment.minute);
+    let (s, ss) = two_digits(moment.second);
     let me = me.as_str();
-    let user = user_of(job).as_str();
+    let user = to.as_str();
     let system = paths.system().as_str();
     let saved = paths.spool();
-    let notice = write_notices(alloc, spool, &[*job])?;
-    let notice = notice.as_str();
     format!(in alloc;
         "From uucp {day} {month} {date} {h}{hh}:{m}{mm}:{s}{ss} {year} remote from {me}\nTo: {user}\nSubject: UUCP failed\n\nMessage from UUCP on {me}\n\nThis job for {system} was given up:\n{notice}\nThe data, if it was a copy, is in\n{saved}/.Preserve\n"
     )

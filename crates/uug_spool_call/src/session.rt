@@ -5,7 +5,7 @@ ghost use Rattle.uug_mailbox.specs.OpenLines.{jobs_of};
 ghost use Rattle.uug_mailbox.specs.WorkStores.{lines_of};
 ghost use Rattle.uug_session.specs.Engine.{HasFailed};
 ghost use Rattle.uug_session.specs.Node.{node_of};
-ghost use Rattle.uug_spool_call.specs.Reported.{IsReported};
+ghost use Rattle.uug_spool_call.specs.Reported.{IsReported, status_with};
 ghost use Rattle.uug_stream.specs.Fault.{StopsWriting};
 ghost use Rattle.uug_stream.specs.Streams.{Appends, CountsFault};
 ghost use Rattle.uug_transfer.specs.BufferedNodes.{node_in};
@@ -15,17 +15,19 @@ ghost use Rattle.uug_transfer.specs.Settling.{LosesNoJob, StaysInStore};
 
 use crate::arrivals::finish_arrivals;
 use crate::notices::mail_failed;
+use crate::public_files::add_public;
 use crate::spool_call::{SpoolCall, paths_of};
 use crate::spool_end::SpoolEnd;
-use crate::telling::{begin_call, end_call};
+use crate::telling::{begin_call, end_call, tell_unread};
 use crate::work::read_work;
 use std::alloc::{AllocError, Allocator};
 use std::fs::File;
-use std::rt::Files;
+use std::rt::{Env, Files};
 use std::time::Clock;
 use uug_disk::NoFile;
 use uug_failure::{RunFault, SystemFailure};
 use uug_folder::{add_failed, add_state};
+use uug_log::LocalClock;
 use uug_session::{Node, Place, Side, Spool};
 use uug_spool_disk::SpoolPaths;
 use uug_stream::{Output, ToolFault, write_all};
@@ -45,11 +47,11 @@ pub fn talk_over_spool<A, R, L, O>(
 ) -> Result<u8, ToolFault>
 where
     A: Allocator + Copy,
-    R: Files<File = File> + Clock + Alloc + Clone + Drop,
+    R: Files<File = File> + Clock + Env + Eprint + AllocGlobal + Clone + Drop,
     L: EndLine,
     O: Output,
     ensures status { IfOk result (λ status. status ≤ 1) }
-    // A report is printed whose session is done where the status is 0, and is not where it is 1.
+    // A report is printed whose session is done where the status is 0, and is not where it is 1, or jobs were put off.
     ensures reported { IfOk result (λ status. IsReported call.now.side status
         (O.written output.old) (O.written output.new)) }
     ensures write { result ≡ Err ToolFault.Write
@@ -80,7 +82,7 @@ fn talk_at<A, R, L, O>(
 ) -> Result<u8, ToolFault>
 where
     A: Allocator + Copy,
-    R: Files<File = File> + Clock + Alloc + Clone + Drop,
+    R: Files<File = File> + Clock + Env + Eprint + AllocGlobal + Clone + Drop,
     L: EndLine,
     O: Output,
     ensures status { IfOk result (λ status. status ≤ 1) }
@@ -97,12 +99,23 @@ where
         Ok(end) => end,
         Err(fault) => return Err(fault.tell(why)),
     };
-    let begun = begin_call(alloc, rt, call, paths);
+    let clock = LocalClock::read(rt);
+    let begun = begin_call(alloc, rt, call, paths, &clock);
+    tell_unread(alloc, rt, call, paths, &clock, end.unread.as_slice());
     let session = run_end(alloc, &mut end, line, limits);
-    let answer = answer_of(alloc, call.side, session, end.buffered.node(), output);
+    let is_left = !end.unread.is_empty();
+    let answer = answer_of(
+        alloc,
+        call.side,
+        session,
+        end.buffered.node(),
+        is_left,
+        output,
+    );
     *why = end.failure();
-    end_call(alloc, rt, call, paths, &end, begun);
-    mail_failed(alloc, rt, &place.me, paths, &end);
+    end_call(alloc, rt, call, paths, &clock, &end, begun);
+    mail_failed(alloc, rt, &clock, &place.me, paths, &end);
+    drop(clock);
     drop(end);
     answer
 }
@@ -154,27 +167,31 @@ fn begin<'a, 'p, A: Allocator + Copy, R: Files<File = File> + Alloc + Clone + Dr
     ensures no_other { IfErr result IsFolderFault }
 {
     let came = finish_arrivals(alloc, rt, paths)?;
-    let work = match read_work(alloc, rt, paths, &place.me, u64::from(call.most)) {
+    let most = u64::from(call.most);
+    let mut work = match read_work(alloc, rt, paths, &place.me, most) {
         Ok(work) => work,
         Err(fault) => {
             drop(came);
             return Err(fault);
         }
     };
+    add_public(&mut work.files, alloc, rt, call.side, paths, most)?;
     Ok(SpoolEnd::begin(alloc, rt, call, place, paths, came, work)?)
 }
 
-/// What the program answers when the session has ended so. The report goes to the output, except where memory ran out.
+/// What the program answers when the session has ended so, where jobs were put off that could not be read, or were not. The report
+/// goes to the output, except where memory ran out.
 fn answer_of<S: Spool, A: Allocator + Copy, O: Output>(
     alloc: A,
     side: Side,
     session: Result<(), SessionFault>,
     end: &Node<S, A>,
+    is_left: bool,
     output: &mut O,
 ) -> Result<u8, ToolFault>
     ensures within { IfOk result (λ status. status ≤ 1) }
     ensures status { IfOk result (λ status.
-        status ≡ status_of_phase (phase_of_end (node_of end.now))) }
+        status ≡ status_with is_left (status_of_phase (phase_of_end (node_of end.now)))) }
     ensures appends { OnOk result (Appends (report_of side (node_of end.now))
         (O.written output.old) (O.written output.new)) }
     ensures write { result ≡ Err ToolFault.Write
@@ -188,11 +205,12 @@ fn answer_of<S: Spool, A: Allocator + Copy, O: Output>(
         return Err(ToolFault::Memory);
     }
     let printed = print_report(alloc, side, end, output);
-    let status = if end.phase().is_done() { 0 } else { 1 };
+    let is_done = end.phase().is_done();
+    let status = if is_done && !is_left { 0 } else { 1 };
     match (session, printed) {
         (Err(SessionFault::Line), Err(ToolFault::Memory)) => Err(ToolFault::Memory),
         (Err(SessionFault::Jobs | SessionFault::Number), _) => Err(ToolFault::Device),
-        (Err(SessionFault::Line), _) if status > 0 => Err(ToolFault::Device),
+        (Err(SessionFault::Line), _) if !is_done => Err(ToolFault::Device),
         (_, Err(fault)) => Err(fault),
         (_, Ok(())) => Ok(status),
     }

@@ -30,6 +30,8 @@ pub struct SpoolCall<'a> {
     pub thinning: Thinning,
     /// So many bytes at most have the files together of the jobs that it offers in a session.
     pub most: u32,
+    /// Whether it says on standard error what it puts off.
+    pub is_loud: bool,
 }
 
 /// Where the folders of a system are.

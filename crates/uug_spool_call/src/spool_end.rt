@@ -8,13 +8,13 @@ ghost use Rattle.uug_task.specs.Tasks.{HasBegunAt};
 ghost use Rattle.uug_transfer.specs.BufferedNodes.{node_in, spool_in};
 
 use crate::spool_call::SpoolCall;
-use crate::work::Work;
+use crate::work::{Unread, Work};
 use std::alloc::{AllocError, Allocator};
 use std::fs::File;
 use std::rt::Files;
 use uug_failure::SystemFailure;
 use uug_folder::{FolderSpool, LocalNames};
-use uug_mailbox::{Came, SpoolFolder, WorkStore, queue_of};
+use uug_mailbox::{Came, Execution, SpoolFolder, WorkStore, queue_of};
 use uug_session::{Place, Queue, Spool, Stored};
 use uug_spool_disk::{SpoolDisk, SpoolPaths};
 use uug_talk::Name;
@@ -33,6 +33,10 @@ pub(crate) struct SpoolEnd<'a, 'p, R: Files<File = File>, A: Allocator + Copy> {
     pub(crate) store: WorkStore<SpoolDisk<'a, 'p, R, A>, A>,
     /// The names of the C. files in which they stand.
     pub(crate) names: Vec<Name, A>,
+    /// The commands that their lines have run.
+    pub(crate) executions: Vec<Execution, A>,
+    /// What is put off since it can't be read.
+    pub(crate) unread: Vec<Unread, A>,
 }
 
 impl<'a, 'p, R: Files<File = File>, A: Allocator + Copy> SpoolEnd<'a, 'p, R, A> {
@@ -49,6 +53,8 @@ impl<'a, 'p, R: Files<File = File>, A: Allocator + Copy> SpoolEnd<'a, 'p, R, A> 
         ensures calm { IfOk result (λ end. end.store.disk.faults.count ≡ 0) }
         ensures lines { IfOk result (λ end. lines_of end.store ≡ work.lines.items) }
         ensures names { IfOk result (λ end. end.names ≡ work.names) }
+        ensures executions { IfOk result (λ end. end.executions ≡ work.executions) }
+        ensures unread { IfOk result (λ end. end.unread ≡ work.unread) }
         ensures begun { IfOk result (λ end. HasBegunAt call.now.side place
             (at_start (take JOBS_MAX (jobs_of work.lines.items)) [] []) (node_in end.buffered)) }
     {
@@ -64,6 +70,8 @@ impl<'a, 'p, R: Files<File = File>, A: Allocator + Copy> SpoolEnd<'a, 'p, R, A> 
             names,
             lines,
             files,
+            executions,
+            unread,
         } = work;
         let spool = files_over(alloc, rt, call, paths, came, files);
         match at_line(alloc, call, place, queue, spool) {
@@ -71,10 +79,14 @@ impl<'a, 'p, R: Files<File = File>, A: Allocator + Copy> SpoolEnd<'a, 'p, R, A> 
                 buffered,
                 store: WorkStore::new(alloc, SpoolDisk::new(alloc, rt, paths), lines),
                 names,
+                executions,
+                unread,
             }),
             Err(AllocError) => {
                 drop(lines);
                 drop(names);
+                drop(executions);
+                drop(unread);
                 Err(AllocError)
             }
         }

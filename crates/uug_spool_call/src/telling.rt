@@ -2,19 +2,23 @@
 
 use crate::spool_call::{SpoolCall, paths_of};
 use crate::spool_end::SpoolEnd;
+use crate::work::Unread;
 use std::alloc::{AllocError, Allocator};
 use std::fs::File;
-use std::rt::Files;
+use std::rt::{Env, Files};
 use std::time::Clock;
+use uug_failure::{Resource, SystemFailure};
+use uug_log::{LocalClock, words_of};
 use uug_mailbox::{remove_markers, settle_file};
+use uug_reason::reason_line;
 use uug_session::{End, Job, Phase, Side, Spool};
 use uug_spool::{
     Amount, CallState, Course, LogEvent, LogHead, StatsHead, Status, log_line, stats_line,
     status_failed,
 };
 use uug_spool_disk::{
-    Arrived, SpoolDisk, SpoolPaths, append_line, process_number, read_clock, read_status_file,
-    write_status_file,
+    Arrived, SpoolDisk, SpoolPaths, append_line, process_number, read_status_file,
+    seconds_since_1970, write_status_file,
 };
 use uug_talk::Name;
 
@@ -30,8 +34,9 @@ pub(crate) fn begin_call<A: Allocator + Copy, R: Files<File = File> + Clock>(
     rt: &R,
     call: &SpoolCall<'_>,
     paths: &SpoolPaths<A>,
+    clock: &LocalClock,
 ) -> u32 {
-    let now = read_clock(rt);
+    let now = seconds_since_1970(rt);
     let port = call.port.as_bytes();
     match call.side {
         Side::Caller => {
@@ -42,18 +47,26 @@ pub(crate) fn begin_call<A: Allocator + Copy, R: Files<File = File> + Clock>(
             let status = Status {
                 state: CallState::Talking,
                 tries,
-                time: now.seconds,
+                time: now,
                 wait: 0,
             };
             let _ = write_status_file(alloc, rt, paths, &status);
-            log(alloc, rt, call, paths, b"", &LogEvent::Calls(port));
+            log(alloc, rt, call, paths, clock, b"", &LogEvent::Calls(port));
         }
         Side::Called => {
             let login = paths.system().as_bytes();
-            log(alloc, rt, call, paths, b"", &LogEvent::Called(login, port));
+            log(
+                alloc,
+                rt,
+                call,
+                paths,
+                clock,
+                b"",
+                &LogEvent::Called(login, port),
+            );
         }
     }
-    now.seconds
+    now
 }
 
 /// Tells that a system was to be called over a line that could not be opened: another run has it, or nobody answers there.
@@ -71,22 +84,53 @@ pub fn tell_no_line<A: Allocator + Copy, R: Files<File = File> + Clock>(
     };
     if let Ok(paths) = paths_of(alloc, call, system) {
         let before = read_status_file(alloc, rt, &paths);
-        let status = status_failed(state, before, read_clock(rt).seconds);
+        let status = status_failed(state, before, seconds_since_1970(rt));
         let _ = write_status_file(alloc, rt, &paths, &status);
     }
 }
 
 /// Tells that a system has called with which another run talks.
-pub fn tell_locked<A: Allocator + Copy, R: Files<File = File> + Clock>(
+pub fn tell_locked<A: Allocator + Copy, R: Files<File = File> + Clock + Env + AllocGlobal>(
     alloc: A,
     rt: &R,
     call: &SpoolCall<'_>,
     system: Name,
 ) {
     if let Ok(paths) = paths_of(alloc, call, system) {
+        let clock = LocalClock::read(rt);
         let event = LogEvent::Fault(b"System already locked");
-        log(alloc, rt, call, &paths, b"", &event);
+        log(alloc, rt, call, &paths, &clock, b"", &event);
     }
+}
+
+/// Tells, in the log and to a person who listens, of each file that can't be read: what it is for is put off.
+pub(crate) fn tell_unread<A: Allocator + Copy, R: Files<File = File> + Clock + Eprint>(
+    alloc: A,
+    rt: &R,
+    call: &SpoolCall<'_>,
+    paths: &SpoolPaths<A>,
+    clock: &LocalClock,
+    unread: &[Unread],
+) {
+    for one in unread {
+        let Ok(line) = unread_line(alloc, one) else {
+            continue;
+        };
+        let line = line.as_str();
+        if call.is_loud {
+            let _ = eprint!(rt; "{line}");
+        }
+        let event = LogEvent::Fault(words_of(line).as_bytes());
+        log(alloc, rt, call, paths, clock, b"", &event);
+    }
+}
+
+/// The line that says which file can't be read, and why.
+fn unread_line<A: Allocator + Copy>(alloc: A, one: &Unread) -> Result<String<A>, AllocError> {
+    let name = one.name.as_str();
+    let what = format!(in alloc; "{name} is put off")?;
+    let failure = SystemFailure::on(Resource::Input, one.cause);
+    reason_line(alloc, what.as_str(), "", "", "", failure)
 }
 
 /// Appends a line to the log, if there is one.
@@ -95,6 +139,7 @@ fn log<A: Allocator + Copy, R: Files<File = File> + Clock>(
     rt: &R,
     call: &SpoolCall<'_>,
     paths: &SpoolPaths<A>,
+    clock: &LocalClock,
     user: &[u8],
     event: &LogEvent<'_>,
 ) {
@@ -105,7 +150,7 @@ fn log<A: Allocator + Copy, R: Files<File = File> + Clock>(
         program: PROGRAM,
         system: paths.system().as_bytes(),
         user,
-        moment: read_clock(rt).moment,
+        moment: clock.now(rt),
         process: process_number(alloc, rt),
     };
     if let Ok(line) = log_line(alloc, &head, event) {
@@ -119,20 +164,21 @@ pub(crate) fn end_call<A: Allocator + Copy, R: Files<File = File> + Clock>(
     rt: &R,
     call: &SpoolCall<'_>,
     paths: &SpoolPaths<A>,
+    clock: &LocalClock,
     end: &SpoolEnd<'_, '_, R, A>,
     begun: u32,
 ) {
     let phase = end.buffered.node().phase();
     tidy(alloc, rt, paths, end, phase);
-    let sent = tell_sent(alloc, rt, call, paths, end);
-    tell_failed(alloc, rt, call, paths, end);
-    tell_unoffered(alloc, rt, call, paths, end);
+    let sent = tell_sent(alloc, rt, call, paths, clock, end);
+    tell_failed(alloc, rt, call, paths, clock, end);
+    tell_unoffered(alloc, rt, call, paths, clock, end);
     let folder = end.buffered.node().spool().files().folder();
-    let taken = tell_arrived(alloc, rt, call, paths, folder.disk.arrived());
+    let taken = tell_arrived(alloc, rt, call, paths, clock, folder.disk.arrived());
     tell_status(alloc, rt, call, paths, phase);
-    let seconds = read_clock(rt).seconds.saturating_sub(begun);
+    let seconds = seconds_since_1970(rt).saturating_sub(begun);
     let over = LogEvent::Over(u64::from(seconds), sent.saturating_add(taken));
-    log(alloc, rt, call, paths, b"", &over);
+    log(alloc, rt, call, paths, clock, b"", &over);
 }
 
 /// After a session that is done the markers of the last files go, and each C. file none of whose lines is open.
@@ -160,6 +206,7 @@ fn tell_sent<A: Allocator + Copy, R: Files<File = File> + Clock>(
     rt: &R,
     call: &SpoolCall<'_>,
     paths: &SpoolPaths<A>,
+    clock: &LocalClock,
     end: &SpoolEnd<'_, '_, R, A>,
 ) -> u64 {
     let node = end.buffered.node();
@@ -178,8 +225,17 @@ fn tell_sent<A: Allocator + Copy, R: Files<File = File> + Clock>(
                 None => 0,
             };
             let event = LogEvent::Sends(source.as_bytes(), size);
-            log(alloc, rt, call, paths, user.as_bytes(), &event);
-            count(alloc, rt, call, paths, user.as_bytes(), Course::Sent, size);
+            log(alloc, rt, call, paths, clock, user.as_bytes(), &event);
+            count(
+                alloc,
+                rt,
+                call,
+                paths,
+                clock,
+                user.as_bytes(),
+                Course::Sent,
+                size,
+            );
             bytes = bytes.saturating_add(size);
         }
     }
@@ -192,6 +248,7 @@ fn tell_failed<A: Allocator + Copy, R: Files<File = File> + Clock>(
     rt: &R,
     call: &SpoolCall<'_>,
     paths: &SpoolPaths<A>,
+    clock: &LocalClock,
     end: &SpoolEnd<'_, '_, R, A>,
 ) {
     for job in end.buffered.node().queue().failed() {
@@ -202,7 +259,7 @@ fn tell_failed<A: Allocator + Copy, R: Files<File = File> + Clock>(
         let source = source.as_str();
         if let Ok(text) = format!(in alloc; "{source}: given up") {
             let event = LogEvent::Fault(text.as_bytes());
-            log(alloc, rt, call, paths, user.as_bytes(), &event);
+            log(alloc, rt, call, paths, clock, user.as_bytes(), &event);
         }
     }
 }
@@ -213,16 +270,18 @@ fn tell_unoffered<A: Allocator + Copy, R: Files<File = File> + Clock>(
     rt: &R,
     call: &SpoolCall<'_>,
     paths: &SpoolPaths<A>,
+    clock: &LocalClock,
     end: &SpoolEnd<'_, '_, R, A>,
 ) {
     for line in end.store.lines() {
-        if line.job.is_some() {
+        // One whose data can't be read was told already.
+        if line.job.is_some() || line.copy.is_some() {
             continue;
         }
         let file = line.file.as_str();
         if let Ok(text) = format!(in alloc; "{file}: a line that can't be sent stays") {
             let event = LogEvent::Fault(text.as_bytes());
-            log(alloc, rt, call, paths, b"", &event);
+            log(alloc, rt, call, paths, clock, b"", &event);
         }
     }
 }
@@ -233,14 +292,24 @@ fn tell_arrived<A: Allocator + Copy, R: Files<File = File> + Clock>(
     rt: &R,
     call: &SpoolCall<'_>,
     paths: &SpoolPaths<A>,
+    clock: &LocalClock,
     arrived: &[Arrived],
 ) -> u64 {
     let mut bytes: u64 = 0;
     for file in arrived {
         let name = file.spot.name;
         let event = LogEvent::Receives(name.as_bytes(), Some(file.size));
-        log(alloc, rt, call, paths, NOBODY, &event);
-        count(alloc, rt, call, paths, NOBODY, Course::Received, file.size);
+        log(alloc, rt, call, paths, clock, NOBODY, &event);
+        count(
+            alloc,
+            rt,
+            call,
+            paths,
+            clock,
+            NOBODY,
+            Course::Received,
+            file.size,
+        );
         bytes = bytes.saturating_add(file.size);
     }
     bytes
@@ -252,6 +321,7 @@ fn count<A: Allocator + Copy, R: Files<File = File> + Clock>(
     rt: &R,
     call: &SpoolCall<'_>,
     paths: &SpoolPaths<A>,
+    clock: &LocalClock,
     user: &[u8],
     course: Course,
     size: u64,
@@ -262,7 +332,7 @@ fn count<A: Allocator + Copy, R: Files<File = File> + Clock>(
     let head = StatsHead {
         user,
         system: paths.system().as_bytes(),
-        moment: read_clock(rt).moment,
+        moment: clock.now(rt),
         port: call.port.as_bytes(),
     };
     let amount = Amount {
@@ -282,7 +352,7 @@ fn tell_status<A: Allocator + Copy, R: Files<File = File> + Clock>(
     paths: &SpoolPaths<A>,
     phase: Phase,
 ) {
-    let time = read_clock(rt).seconds;
+    let time = seconds_since_1970(rt);
     let status = match (state_of(phase), call.side) {
         (CallState::Complete, _) => Status {
             state: CallState::Complete,

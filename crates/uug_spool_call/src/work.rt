@@ -1,6 +1,7 @@
 //! What waits for a system in its spool.
-ghost use Rattle.std.specs.Prelude.{◌≡◌, ◌≤◌, ◌++◌, IfErr, IfOk, MatchOption, None, Some, codes};
+ghost use Rattle.std.specs.Prelude.{◌≡◌, ◌≤◌, ◌++◌, IfErr, IfOk, MatchOption, None, Some, codes, map};
 ghost use Rattle.uug_failure.specs.Faults.{IsFolderFault};
+ghost use Rattle.uug_mailbox.specs.HeldLines.{held_lines};
 ghost use Rattle.uug_mailbox.specs.OpenLines.{file_lines};
 ghost use Rattle.uug_spool_call.specs.PublicNames.{behind_public, named_job, named_line, named_lines, public_name};
 ghost use Rattle.uug_talk.specs.Lines.{lines as lines_of_text};
@@ -11,8 +12,8 @@ use arrayvec::ArrayVec;
 use std::alloc::{AllocError, Allocator};
 use std::cmp::Ordering;
 use std::rt::Files;
-use uug_failure::RunFault;
-use uug_mailbox::{OpenLine, add_file};
+use uug_failure::{Cause, RunFault};
+use uug_mailbox::{Execution, OpenLine, add_file, held_lines, read_execution};
 use uug_session::{JOBS_MAX, Job, Stored};
 use uug_spool::{
     Command, Fields, Room, SentFile, Spot, data_spot, execution_temp, execution_text, grade_of,
@@ -27,6 +28,13 @@ const COMMANDS_MAX: usize = 1_048_576;
 /// Only this system may read the text of a command that is run with a file.
 const TEXT_MODE: u16 = 0o600;
 
+/// A C. file, or the data of a job, that can't be read now, and why.
+#[derive(Clone, Copy)]
+pub(crate) struct Unread {
+    pub(crate) name: Name,
+    pub(crate) cause: Cause,
+}
+
 /// What waits for a system: the lines of its C. files that are not over, and the files that these send.
 #[derive(Drop)]
 pub(crate) struct Work<A: Allocator> {
@@ -34,6 +42,23 @@ pub(crate) struct Work<A: Allocator> {
     pub(crate) names: Vec<Name, A>,
     pub(crate) lines: Vec<OpenLine, A>,
     pub(crate) files: Vec<Stored<A>, A>,
+    /// The commands that these lines have run.
+    pub(crate) executions: Vec<Execution, A>,
+    /// What is put off since it can't be read.
+    pub(crate) unread: Vec<Unread, A>,
+}
+
+impl<A: Allocator + Copy> Work<A> {
+    /// Nothing.
+    fn none(alloc: A) -> Self {
+        Work {
+            names: Vec::new(alloc),
+            lines: Vec::new(alloc),
+            files: Vec::new(alloc),
+            executions: Vec::new(alloc),
+            unread: Vec::new(alloc),
+        }
+    }
 }
 
 /// Reads what waits for a system, C. file after C. file, as long as the files have so many bytes together at most; the first C.
@@ -49,11 +74,7 @@ pub(crate) fn read_work<A: Allocator + Copy, R: Files + Alloc + Clone + Drop>(
 {
     let names = work_names(alloc, rt, paths)?;
     let there = data_names(alloc, rt, paths)?;
-    let mut work = Work {
-        names: Vec::new(alloc),
-        lines: Vec::new(alloc),
-        files: Vec::new(alloc),
-    };
+    let mut work = Work::none(alloc);
     let mut room = most;
     for name in names.as_slice() {
         let fits = add_commands(
@@ -115,7 +136,8 @@ fn data_names<A: Allocator + Copy, R: Files + Alloc + Clone + Drop>(
     Ok(names)
 }
 
-/// Adds the lines and the files of a C. file, if there is room for them. One that is gone by now is none.
+/// Adds the lines and the files of a C. file, if there is room for them. One that is gone by now is none, and one that can't be read
+/// is put off.
 fn add_commands<A: Allocator + Copy, R: Files>(
     work: &mut Work<A>,
     alloc: A,
@@ -132,40 +154,98 @@ fn add_commands<A: Allocator + Copy, R: Files>(
         room: Room::Commands,
         name: *name,
     };
-    let Some(text) = read_spot(alloc, rt, paths, &spot, COMMANDS_MAX)? else {
-        return Ok(true);
+    let text = match read_spot(alloc, rt, paths, &spot, COMMANDS_MAX) {
+        Ok(Some(text)) => text,
+        Ok(None) => return Ok(true),
+        Err(fault) => {
+            put_off(&mut work.unread, name, fault)?;
+            return Ok(true);
+        }
     };
-    let mut files = Vec::new(alloc);
-    add_files(&mut files, alloc, rt, paths, me, text.as_slice(), there)?;
+    let mut more = Work::none(alloc);
+    add_files(&mut more, alloc, rt, paths, me, text.as_slice(), there)?;
+    let unread = names_of(alloc, more.unread.as_slice())?;
     let public = paths.public().as_bytes();
-    let mut lines = lines_in(alloc, name, text.as_slice(), there, public)?;
-    let size = size_of(files.as_slice());
+    more.lines = lines_in(
+        alloc,
+        name,
+        text.as_slice(),
+        there,
+        unread.as_slice(),
+        public,
+    )?;
+    let size = size_of(more.files.as_slice());
     let is_first = work.lines.is_empty();
-    if !is_first && (size > *room || work.lines.len().saturating_add(lines.len()) > JOBS_MAX) {
+    if !is_first && (size > *room || work.lines.len().saturating_add(more.lines.len()) > JOBS_MAX) {
         return Ok(false);
     }
     *room = room.saturating_sub(size);
-    work.names.reserve(1)?;
-    work.names.push_reserved(*name);
-    work.lines.append(&mut lines)?;
-    work.files.append(&mut files)?;
+    more.names.reserve(1)?;
+    more.names.push_reserved(*name);
+    append(work, &mut more)?;
     Ok(true)
 }
 
-/// The lines of a C. file that are not over, as a session has them.
+/// Appends what waits in one C. file to what waits in those before.
+fn append<A: Allocator>(work: &mut Work<A>, more: &mut Work<A>) -> Result<(), AllocError> {
+    work.names.append(&mut more.names)?;
+    work.lines.append(&mut more.lines)?;
+    work.files.append(&mut more.files)?;
+    work.executions.append(&mut more.executions)?;
+    work.unread.append(&mut more.unread)?;
+    Ok(())
+}
+
+/// Puts a file off that the system did not let be read. Where memory was refused nothing goes on.
+fn put_off<A: Allocator>(
+    unread: &mut Vec<Unread, A>,
+    name: &Name,
+    fault: RunFault,
+) -> Result<(), RunFault>
+    requires { IsFolderFault fault }
+    ensures { IfErr result IsFolderFault }
+{
+    match fault {
+        RunFault::System(failure) => {
+            unread.reserve(1)?;
+            unread.push_reserved(Unread {
+                name: *name,
+                cause: failure.cause,
+            });
+            Ok(())
+        }
+        RunFault::Tool(fault) => Err(RunFault::Tool(fault)),
+    }
+}
+
+/// The names of these files.
+fn names_of<A: Allocator>(alloc: A, unread: &[Unread]) -> Result<Vec<Name, A>, AllocError>
+    ensures { IfOk result (λ names. names.items ≡ map (λ one. one.name) unread.now) }
+{
+    let mut names = Vec::new(alloc);
+    for one in unread {
+        names.push(one.name)?;
+    }
+    Ok(names)
+}
+
+/// The lines of a C. file that are not over, as a session has them. One whose copy is among the data that can't be read has no
+/// job.
 fn lines_in<A: Allocator + Copy>(
     alloc: A,
     name: &Name,
     text: &[u8],
     there: &[Name],
+    unread: &[Name],
     public: &[u8],
 ) -> Result<Vec<OpenLine, A>, AllocError>
-    ensures { IfOk result (λ lines. lines.items
-        ≡ named_lines public.now (file_lines there.now name.now (lines_of_text text.now))) }
+    ensures { IfOk result (λ lines. lines.items ≡ held_lines unread.now
+        (named_lines public.now (file_lines there.now name.now (lines_of_text text.now)))) }
 {
     let mut lines = Vec::new(alloc);
     add_file(&mut lines, name, text, there)?;
-    named_lines(alloc, lines.as_slice(), public)
+    let named = named_lines(alloc, lines.as_slice(), public)?;
+    held_lines(alloc, named.as_slice(), unread)
 }
 
 /// The lines, where those that ask for a file name the public folder as a session does: `uucp` writes its path.
@@ -259,7 +339,7 @@ fn home_name(rest: &[u8]) -> Option<Name>
 }
 
 /// The bytes of files together.
-fn size_of<A: Allocator>(files: &[Stored<A>]) -> u64 {
+pub(crate) fn size_of<A: Allocator>(files: &[Stored<A>]) -> u64 {
     let mut size: u64 = 0;
     for file in files {
         size = size.saturating_add(file.bytes.len() as u64);
@@ -267,9 +347,9 @@ fn size_of<A: Allocator>(files: &[Stored<A>]) -> u64 {
     size
 }
 
-/// Adds the files that the lines of a C. file send.
+/// Adds the files that the lines of a C. file send, and the commands that they have run.
 fn add_files<A: Allocator + Copy, R: Files>(
-    files: &mut Vec<Stored<A>, A>,
+    work: &mut Work<A>,
     alloc: A,
     rt: &R,
     paths: &SpoolPaths<A>,
@@ -281,51 +361,81 @@ fn add_files<A: Allocator + Copy, R: Files>(
 {
     let mut rest = text;
     while let Some((line, behind)) = split_line(rest) {
-        match read_command(line) {
-            Ok(Command::Send(fields, file)) => {
-                add_sent(files, alloc, rt, paths, &fields, &file, there)?;
-            }
-            Ok(Command::Execute(fields, file, command)) => {
-                add_sent(files, alloc, rt, paths, &fields, &file, there)?;
-                add_text(files, alloc, me, &fields, &file, command)?;
-            }
-            _ => (),
-        }
+        add_line(work, alloc, rt, paths, me, line, there)?;
         rest = behind;
     }
     Ok(())
 }
 
-/// Adds the file that a line sends, if it can be read: its copy, or the file that a person named.
+/// Adds the files that a line sends, and the command that it has run.
+fn add_line<A: Allocator + Copy, R: Files>(
+    work: &mut Work<A>,
+    alloc: A,
+    rt: &R,
+    paths: &SpoolPaths<A>,
+    me: &Name,
+    line: &[u8],
+    there: &[Name],
+) -> Result<(), RunFault>
+    ensures { IfErr result IsFolderFault }
+{
+    match read_command(line) {
+        Ok(Command::Send(fields, file)) => {
+            let _ = add_sent(work, alloc, rt, paths, &fields, &file, there)?;
+        }
+        Ok(Command::Execute(fields, file, command)) => {
+            // Without its data an execution file would wait at the other system for ever.
+            if add_sent(work, alloc, rt, paths, &fields, &file, there)? {
+                add_text(&mut work.files, alloc, me, &fields, &file, command)?;
+            }
+            if let Some(execution) = read_execution(line) {
+                work.executions.reserve(1)?;
+                work.executions.push_reserved(execution);
+            }
+        }
+        _ => (),
+    }
+    Ok(())
+}
+
+/// Adds the file that a line sends: its copy, or the file that a person named. A copy that can't be read is put off; what a person
+/// named is gone then, as far as this system is concerned. Whether there is one.
 fn add_sent<A: Allocator + Copy, R: Files>(
-    files: &mut Vec<Stored<A>, A>,
+    work: &mut Work<A>,
     alloc: A,
     rt: &R,
     paths: &SpoolPaths<A>,
     fields: &Fields<'_>,
     file: &SentFile<'_>,
     there: &[Name],
-) -> Result<(), RunFault>
+) -> Result<bool, RunFault>
     ensures { IfErr result IsFolderFault }
 {
     let Ok(name) = Name::new(file.temp) else {
-        return Ok(());
+        return Ok(false);
     };
     let found = if !has_option(fields.options, b'C') {
-        read_source(alloc, rt, fields.source, FILE_MAX)
+        Ok(read_source(alloc, rt, fields.source, FILE_MAX))
     } else if there
         .iter()
         .any(|other| other.as_bytes() == name.as_bytes())
     {
-        read_spot(alloc, rt, paths, &data_spot(&name), FILE_MAX)?
+        read_spot(alloc, rt, paths, &data_spot(&name), FILE_MAX)
     } else {
-        None
+        Ok(None)
     };
-    if let Some(bytes) = found {
-        files.reserve(1)?;
-        files.push_reserved(stored(name, file.mode, bytes));
+    match found {
+        Ok(Some(bytes)) => {
+            work.files.reserve(1)?;
+            work.files.push_reserved(stored(name, file.mode, bytes));
+            Ok(true)
+        }
+        Ok(None) => Ok(false),
+        Err(fault) => {
+            put_off(&mut work.unread, &name, fault)?;
+            Ok(false)
+        }
     }
-    Ok(())
 }
 
 /// Adds the execution file of a line that has a command run.
@@ -347,7 +457,7 @@ fn add_text<A: Allocator + Copy>(
 }
 
 /// A file to give.
-fn stored<A: Allocator>(name: Name, mode: u16, bytes: Vec<u8, A>) -> Stored<A>
+pub(crate) fn stored<A: Allocator>(name: Name, mode: u16, bytes: Vec<u8, A>) -> Stored<A>
     requires { mode ≤ MODE_MAX }
 {
     Stored { name, mode, bytes }

@@ -3,14 +3,18 @@ ghost use Rattle.std.specs.Prelude.{◌<◌, ◌≤◌, IfErr, IfOk, IfSome, len
 ghost use Rattle.uug_failure.specs.Faults.{IsFolderFault};
 
 use crate::spool_paths::SpoolPaths;
-use std::alloc::Allocator;
-use std::fs::{DirEntry, File, ReadDir};
+use std::alloc::{AllocError, Allocator};
+use std::fs::{DirEntry, File, OpenFile, ReadDir};
 use std::io::{ErrorKind, Read};
+use std::os::unix::fs::MetadataExt;
 use std::rt::Files;
 use std::{fs, io};
 use uug_failure::{Resource, RunFault};
 use uug_spool::{Room, Spot};
 use uug_talk::Name;
+
+/// What stands in the mode of a file that everybody may read.
+const ALL_MAY_READ: u32 = 0o004;
 
 /// The names in a room that a session can say. A folder that lacks has none.
 pub fn list_room<A: Allocator + Copy, R: Files + Alloc + Clone + Drop>(
@@ -89,6 +93,21 @@ pub fn is_there<A: Allocator + Copy, R: Files>(
     Ok(fs::symlink_metadata(rt, path.as_str()).is_ok())
 }
 
+/// Whether the spool has a folder of the system.
+pub fn is_known<A: Allocator + Copy, R: Files>(
+    alloc: A,
+    rt: &R,
+    paths: &SpoolPaths<A>,
+) -> Result<bool, AllocError> {
+    let spool = paths.spool();
+    let system = paths.system().as_str();
+    let path = format!(in alloc; "{spool}/{system}")?;
+    match fs::metadata(rt, path.as_str()) {
+        Ok(metadata) => Ok(metadata.is_dir()),
+        Err(_) => Ok(false),
+    }
+}
+
 /// The bytes of a file of the spool, unless there is none, or it has more than so many.
 pub fn read_spot<A: Allocator + Copy, R: Files>(
     alloc: A,
@@ -126,6 +145,47 @@ pub fn read_source<A: Allocator, R: Files>(
     match read_file(alloc, rt, path, most) {
         Ok(found) => found,
         Err(_) => None,
+    }
+}
+
+/// The bytes of the file of this name in the public folder, if it is a regular one that everybody may read, and has so many at
+/// most. A link is none: it may lead elsewhere.
+pub fn read_public<A: Allocator + Copy, R: Files<File = File>>(
+    alloc: A,
+    rt: &R,
+    paths: &SpoolPaths<A>,
+    name: &Name,
+    most: usize,
+) -> Result<Option<Vec<u8, A>>, AllocError>
+    requires { most < u64.MAX }
+    ensures within { IfOk result (λ found. IfSome found (λ bytes. length bytes.items ≤ most)) }
+{
+    let spot = Spot {
+        room: Room::Public,
+        name: *name,
+    };
+    let path = paths.file(alloc, &spot)?;
+    let Some(file) = open_plain(rt, path.as_str()) else {
+        return Ok(None);
+    };
+    match read_within(alloc, file, most) {
+        Ok(found) => Ok(found),
+        Err(_) => Ok(None),
+    }
+}
+
+/// Opens a regular file that everybody may read. What another one has put in its place meanwhile, as a link, is none.
+fn open_plain<R: Files<File = File>>(rt: &R, path: &str) -> Option<File> {
+    let seen = fs::symlink_metadata(rt, path).ok()?;
+    if !seen.is_file() || seen.mode() & ALL_MAY_READ == 0 {
+        return None;
+    }
+    let file = File::open(rt, path).ok()?;
+    let opened = file.metadata().ok()?;
+    if opened.dev() == seen.dev() && opened.ino() == seen.ino() {
+        Some(file)
+    } else {
+        None
     }
 }
 

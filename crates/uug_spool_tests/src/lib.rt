@@ -18,6 +18,8 @@ mod memory;
 #[cfg(test)]
 mod names;
 #[cfg(test)]
+mod notices;
+#[cfg(test)]
 mod statuses;
 #[cfg(test)]
 mod stops;

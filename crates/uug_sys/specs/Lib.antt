@@ -3,4 +3,5 @@ pub mod NumberRemarks
 pub mod Callers
 pub mod UnreadRemarks
 pub mod LineEnds
+pub mod SpoolLocks
 pub mod SpoolCalls

@@ -1,16 +1,13 @@
--- A call over a spool: what it is told, and what comes of one that has no lock or no line (this project's profile).
-use Rattle.std.specs.Prelude.{◌≡◌, ℕ, Bool, true, false, List, Option, Some, None, Result, Err}
-use Rattle.uug_failure.specs.Failures.{fault_of_run, told_by}
+-- A call over a spool: what it is told, and what comes of one that has no line (this project's profile).
+use Rattle.std.specs.Prelude.{◌≡◌, ℕ, Bool, Option, Some, None, Result, Err}
 use Rattle.uug_failure.specs.declared.failure.Cause.{Cause}
-use Rattle.uug_failure.specs.declared.failure.Cause.TheVariants.{InUse}
 use Rattle.uug_failure.specs.declared.failure.Resource.{Resource}
 use Rattle.uug_failure.specs.declared.failure.Resource.TheVariants.{Line}
 use Rattle.uug_failure.specs.declared.failure.SystemFailure.{SystemFailure}
-use Rattle.uug_failure.specs.declared.run_fault.RunFault.{RunFault}
-use Rattle.uug_failure.specs.declared.run_fault.RunFault.TheVariants.{System, Tool}
 use Rattle.uug_spool_call.specs.declared.spool_call.SpoolCall.{SpoolCall}
 use Rattle.uug_stream.specs.declared.fault.ToolFault.{ToolFault}
 use Rattle.uug_stream.specs.declared.fault.ToolFault.TheVariants.{Device}
+use Rattle.uug_sys.specs.SpoolLocks.{is_in_use}
 use Rattle.uug_task.specs.Tasks.{thinning_with}
 use Rattle.uug_task.specs.declared.task.CallTask.{CallTask}
 
@@ -25,24 +22,7 @@ pub record IsCallOf (task : CallTask) (call : SpoolCall) : Type 0 where
   pub is_lenient : call.is_lenient ≡ task.is_lenient
   pub thinning : call.thinning ≡ thinning_with task.is_every_ack
   pub most : call.most ≡ task.most
-
--- ---- where there is no lock
-
--- It gives up with the fault of the lock, and says which call of the system that was. Nothing is printed.
-pub record GivesUp (fault : RunFault) (result : Result ℕ ToolFault) (why why_after : Option SystemFailure)
-    (written written_after : Option (List ℕ)) : Type 0 where
-  pub answers : result ≡ Err (fault_of_run fault)
-  pub tells : why_after ≡ told_by fault why
-  pub prints : written_after ≡ written
-
-abbrev pub is_in_use : Cause → Bool
-is_in_use InUse = true
-is_in_use cause = false
-
--- whether it is another run that has it
-abbrev pub is_locked : RunFault → Bool
-is_locked (System failure) = is_in_use failure.cause
-is_locked (Tool fault) = false
+  pub is_loud : call.is_loud ≡ task.is_loud
 
 -- ---- where there is no line
 

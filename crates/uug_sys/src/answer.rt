@@ -10,7 +10,7 @@ use std::alloc::Allocator;
 use std::fs::File;
 use std::io;
 use std::net::Net;
-use std::rt::Files;
+use std::rt::{Env, Files};
 use std::time::Clock;
 use uug_failure::{Cause, Resource, SystemFailure};
 use uug_port::{Deadline, Listener, Listening, SilentLine, SystemLine};
@@ -46,7 +46,7 @@ pub(crate) fn answer_at<A, R, T, W, O, B>(
 ) -> Result<u8, ToolFault>
 where
     A: Allocator + Copy,
-    R: Files<File = File> + Net + Clock + Eprint + Alloc + Clone + Drop,
+    R: Files<File = File> + Net + Clock + Env + Eprint + AllocGlobal + Clone + Drop,
     T: Listener + Drop,
     W: SessionObserver + Drop,
     O: Output,
@@ -83,7 +83,7 @@ fn answer_calls<A, R, T, W, O, B>(
 ) -> Result<u8, ToolFault>
 where
     A: Allocator + Copy,
-    R: Files<File = File> + Net + Clock + Eprint + Alloc + Clone + Drop,
+    R: Files<File = File> + Net + Clock + Env + Eprint + AllocGlobal + Clone + Drop,
     T: Listener + Drop,
     W: SessionObserver + Drop,
     O: Output,
@@ -147,7 +147,7 @@ fn next_served<'a, 'p, A, R, T, W, B>(
 ) -> (Served<A>, Doorkeeper<'a, 'p, W, T, R, A>)
 where
     A: Allocator + Copy,
-    R: Files<File = File> + Net + Clock + Eprint + Alloc + Clone + Drop,
+    R: Files<File = File> + Net + Clock + Env + Eprint + AllocGlobal + Clone + Drop,
     T: Listener + Drop,
     W: SessionObserver + Drop,
     B: Allocator,
@@ -197,7 +197,7 @@ fn serve<'a, 'p, A, R, L, T, W, B>(
 ) -> (Served<A>, Doorkeeper<'a, 'p, W, T, R, A>)
 where
     A: Allocator + Copy,
-    R: Files<File = File> + Net + Clock + Eprint + Alloc + Clone + Drop,
+    R: Files<File = File> + Net + Clock + Env + Eprint + AllocGlobal + Clone + Drop,
     L: SystemLine + Drop,
     T: Listener + Drop,
     W: SessionObserver + Drop,

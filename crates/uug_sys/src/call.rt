@@ -19,7 +19,7 @@ use std::io;
 use std::io::ErrorKind;
 use std::net::{Net, TcpListener, TcpStream};
 use std::os::fd::AsRawFd;
-use std::rt::Files;
+use std::rt::{Env, Files};
 use std::time::{Clock, Duration};
 use uug_disk::{DirLock, lock_device, lock_dir, open_jobs, see_folders};
 use uug_failure::{Cause, Resource, RunFault, SystemFailure};
@@ -53,8 +53,9 @@ where
     R: Files<File = File>
         + Net<Stream = TcpStream, Listener = TcpListener>
         + Clock
+        + Env
         + Eprint
-        + Alloc
+        + AllocGlobal
         + Clone
         + Drop,
     W: SessionObserver + Drop,
@@ -145,8 +146,9 @@ where
     R: Files<File = File>
         + Net<Stream = TcpStream, Listener = TcpListener>
         + Clock
+        + Env
         + Eprint
-        + Alloc
+        + AllocGlobal
         + Clone
         + Drop,
     W: SessionObserver + Drop,
@@ -261,8 +263,9 @@ where
     R: Files<File = File>
         + Net<Stream = TcpStream, Listener = TcpListener>
         + Clock
+        + Env
         + Eprint
-        + Alloc
+        + AllocGlobal
         + Clone
         + Drop,
     W: SessionObserver + Drop,
@@ -308,7 +311,7 @@ fn talk_when_called<A, R, W, O, B>(
 ) -> Result<u8, ToolFault>
 where
     A: Allocator + Copy,
-    R: Files<File = File> + Eprint + Clock + Alloc + Clone + Drop,
+    R: Files<File = File> + Env + Eprint + Clock + AllocGlobal + Clone + Drop,
     W: SessionObserver + Drop,
     O: Output,
     B: Allocator,
@@ -392,7 +395,7 @@ pub(crate) fn talk_over<A, R, L, W, O, B>(
 ) -> (Result<u8, ToolFault>, W)
 where
     A: Allocator + Copy,
-    R: Files<File = File> + Eprint + Clock + Alloc + Clone + Drop,
+    R: Files<File = File> + Env + Eprint + Clock + AllocGlobal + Clone + Drop,
     L: SystemLine + Drop,
     W: SessionObserver + Drop,
     O: Output,

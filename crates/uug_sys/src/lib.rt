@@ -14,6 +14,7 @@ mod number_remark;
 mod numbers;
 mod parts;
 mod spool_call;
+mod spool_lock;
 mod system_observer;
 mod tellers;
 mod unread_remark;

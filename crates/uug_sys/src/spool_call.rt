@@ -1,23 +1,28 @@
 //! One end over a spool of Taylor UUCP: who holds the lock of the other system.
-ghost use Rattle.std.specs.Prelude.{◌≡◌, ◌≢◌, ◌<◌, ◌≤◌, ◌⊎◌, IfErr, IfOk, IsSome, Ok, OnErr, Some, codes, false, string_bytes, true};
+ghost use Rattle.std.specs.Prelude.{◌≡◌, ◌≢◌, ◌<◌, ◌≤◌, ◌⊎◌, IfErr, IfOk, IsSome, OnErr, codes, false, string_bytes, true};
 ghost use Rattle.uug_failure.specs.Faults.{IsCallFault, IsFolderFault};
 ghost use Rattle.uug_spool.specs.SpoolNames.{is_system_name};
 ghost use Rattle.uug_spool_call.specs.Reported.{IsReported};
 ghost use Rattle.uug_stream.specs.Streams.{CountsFault};
 ghost use Rattle.uug_sys.specs.Callers.{other_than};
-ghost use Rattle.uug_sys.specs.SpoolCalls.{GivesUp, IsCallOf, is_in_use, is_locked, line_fault};
+ghost use Rattle.uug_sys.specs.SpoolCalls.{IsCallOf, line_fault};
+ghost use Rattle.uug_sys.specs.SpoolLocks.{CallsLater, GivesUp, Says, is_locked, lock_words};
+ghost use Rattle.uug_transfer.specs.Writing.{TakesFront};
 
 use crate::call::talk_at;
 use crate::hailed_line::HailedLine;
 use crate::numbers::meet_caller;
+use crate::spool_lock::{
+    is_held, is_in_use, is_locked, lock_system, lock_words, remark_locked, say,
+};
 use std::alloc::{AllocError, Allocator};
 use std::fs;
 use std::fs::File;
 use std::net::{Net, TcpListener, TcpStream};
-use std::rt::Files;
+use std::rt::{Env, Files};
 use std::time::Clock;
-use uug_disk::{DeviceLock, lock_device};
-use uug_failure::{Cause, Resource, RunFault, SystemFailure};
+use uug_disk::DeviceLock;
+use uug_failure::{Resource, RunFault, SystemFailure};
 use uug_port::{SilentLine, StandardStreams};
 use uug_session::Side;
 use uug_spool::is_system_name;
@@ -29,31 +34,6 @@ use uug_transfer::{EndLine, GreetedLine, LineMonitor, SessionObserver};
 
 /// What stands in a system's place where any may call that the spool knows.
 const ANY: &str = "*";
-
-/// The lock of the other system, which uucico heeds too.
-fn lock_system<A: Allocator + Copy, R: Files<File = File>>(
-    alloc: A,
-    rt: &R,
-    locks: &str,
-    system: &str,
-) -> Result<DeviceLock<A>, RunFault>
-    ensures { IfErr result IsFolderFault }
-{
-    got(lock_device(alloc, rt, locks, system))
-}
-
-/// The lock, if the end has got it. Where the system makes none another run may talk with the other system.
-fn got<L>(answer: Result<Option<L>, RunFault>) -> Result<L, RunFault>
-    requires fault { IfErr answer IsFolderFault }
-    ensures lock { IfOk result (λ lock. answer ≡ Ok (Some lock)) }
-    ensures no_other { IfErr result IsFolderFault }
-{
-    match answer {
-        Ok(Some(lock)) => Ok(lock),
-        Ok(None) => Err(RunFault::System(SystemFailure::on(Resource::Line, Cause::InUse))),
-        Err(fault) => Err(fault),
-    }
-}
 
 /// Runs an end over a spool. One that calls locks the other system before it does.
 pub(crate) fn call_over_spool<A, R, W, O, B>(
@@ -72,8 +52,9 @@ where
     R: Files<File = File>
         + Net<Stream = TcpStream, Listener = TcpListener>
         + Clock
+        + Env
         + Eprint
-        + Alloc
+        + AllocGlobal
         + Clone
         + Drop,
     W: SessionObserver + Drop,
@@ -103,7 +84,7 @@ where
     )
 }
 
-/// An end calls that has the lock of the other system. Where it has not got it nothing is done.
+/// An end calls that has the lock of the other system.
 fn call_locked<A, R, W, O, B>(
     alloc: A,
     rt: &R,
@@ -121,8 +102,9 @@ where
     R: Files<File = File>
         + Net<Stream = TcpStream, Listener = TcpListener>
         + Clock
+        + Env
         + Eprint
-        + Alloc
+        + AllocGlobal
         + Clone
         + Drop,
     W: SessionObserver + Drop,
@@ -135,19 +117,21 @@ where
     ensures no_other { IfErr result IsCallFault }
     ensures no_usage { result ≢ Err ToolFault.Usage }
     ensures why { result ≡ Err ToolFault.Device → IsSome why.new }
-    ensures not_locked { IfErr lock (λ fault. GivesUp fault result why.old why.new
-        (O.written output.old) (O.written output.new)) }
-    ensures no_remark { OnErr lock (string_bytes remark.new ≡ string_bytes remark.old) }
+    ensures calls_later { IfErr lock (λ fault. is_locked fault ≡ true → CallsLater task.now
+        result why.old why.new (string_bytes remark.old) (string_bytes remark.new)) }
+    ensures gives_up { IfErr lock (λ fault. is_locked fault ≡ false
+        → GivesUp fault result why.old why.new) }
+    ensures silent { OnErr lock (O.written output.new ≡ O.written output.old) }
 {
     let Terms { line, station } = terms;
+    let place = station.place;
     let lock = match lock {
         Ok(lock) => lock,
         Err(fault) => {
             drop(observer);
-            return Err(fault.tell(why));
+            return call_later(alloc, rt, task, place.peer, fault, remark, why);
         }
     };
-    let place = station.place;
     let terms = Terms { line, station };
     let result = talk_at(
         alloc, rt, task, terms, streams, None, observer, output, remark, why,
@@ -157,6 +141,38 @@ where
     }
     lock.release(rt);
     result
+}
+
+/// What comes of a call of a system whose lock the end has not got. Where another run has it the system is to be called later.
+fn call_later<A, R, B>(
+    alloc: A,
+    rt: &R,
+    task: &CallTask<'_>,
+    system: Name,
+    fault: RunFault,
+    remark: &mut String<B>,
+    why: &mut Option<SystemFailure>,
+) -> Result<u8, ToolFault>
+where
+    A: Allocator + Copy,
+    R: Files<File = File> + Clock + Env + AllocGlobal,
+    B: Allocator,
+    requires fault { IsFolderFault fault }
+    ensures status { IfOk result (λ status. status ≤ 1) }
+    ensures no_other { IfErr result IsCallFault }
+    ensures no_write { result ≢ Err ToolFault.Write }
+    ensures no_usage { result ≢ Err ToolFault.Usage }
+    ensures why { result ≡ Err ToolFault.Device → IsSome why.new }
+    ensures calls_later { is_locked fault ≡ true → CallsLater task.now result why.old why.new
+        (string_bytes remark.old) (string_bytes remark.new) }
+    ensures gives_up { is_locked fault ≡ false → GivesUp fault result why.old why.new }
+{
+    if !is_locked(&fault) {
+        return Err(fault.tell(why));
+    }
+    tell_locked(alloc, rt, &said_of(task), system);
+    remark_locked(alloc, remark, task.locks, task.peer)?;
+    Ok(1)
 }
 
 /// Whether a call that ended so came to no line, and then whether another run has that.
@@ -170,12 +186,6 @@ fn line_fault(answer: Result<u8, ToolFault>, why: Option<SystemFailure>) -> Opti
         },
         _ => None,
     }
-}
-
-fn is_in_use(cause: Cause) -> bool
-    ensures { result ≡ is_in_use cause }
-{
-    matches!(cause, Cause::InUse)
 }
 
 /// Whether the spool is there: the folders in one that lacks would be made.
@@ -200,7 +210,7 @@ pub(crate) fn talk_in_spool<A, R, L, W, O>(
 ) -> Result<u8, ToolFault>
 where
     A: Allocator + Copy,
-    R: Files<File = File> + Clock + Alloc + Clone + Drop,
+    R: Files<File = File> + Clock + Env + Eprint + AllocGlobal + Clone + Drop,
     L: EndLine,
     W: SessionObserver,
     O: Output,
@@ -220,7 +230,7 @@ where
     match system_at(alloc, rt, task, &station, line) {
         Ok(Some(system)) => {
             station.place.peer = system;
-            let lock = lock_system(alloc, rt, task.locks, system.as_str());
+            let lock = lock_caller(alloc, rt, task, &station, line);
             talk_locked(alloc, rt, task, &station, lock, line, output, why)
         }
         // One that has said something else is heard no more: it could say a name later.
@@ -229,8 +239,33 @@ where
     }
 }
 
-/// The end talks with a system that has called and whose lock it has. Where it has not got that nothing is read or written at the
-/// line: where another run has it this caller is hung up, and the next one may be let in.
+/// The lock of the system that has called. Where another run has it the caller is heard before it is told so: one whose words are
+/// not read may not read ours.
+fn lock_caller<A, R, L, W>(
+    alloc: A,
+    rt: &R,
+    task: &CallTask<'_>,
+    station: &Station,
+    line: &mut GreetedLine<LineMonitor<HailedLine<L>, W>, A>,
+) -> Result<DeviceLock<A>, RunFault>
+where
+    A: Allocator + Copy,
+    R: Files<File = File>,
+    L: EndLine,
+    W: SessionObserver,
+    ensures { IfErr result IsFolderFault }
+{
+    let system = station.place.peer;
+    let lock = lock_system(alloc, rt, task.locks, system.as_str());
+    if task.peer != ANY && is_held(&lock) {
+        // Where any may call it was heard already.
+        let _ = meet_caller(alloc, &station.place, line, station.limits().greeting);
+    }
+    lock
+}
+
+/// The end talks with a system that has called and whose lock it has. Where another run has that the caller hears `RLCK` and is
+/// hung up, and the next one may be let in; where there is none nothing is written at the line. Nothing is read there.
 fn talk_locked<A, R, L, O>(
     alloc: A,
     rt: &R,
@@ -243,7 +278,7 @@ fn talk_locked<A, R, L, O>(
 ) -> Result<u8, ToolFault>
 where
     A: Allocator + Copy,
-    R: Files<File = File> + Clock + Alloc + Clone + Drop,
+    R: Files<File = File> + Clock + Env + Eprint + AllocGlobal + Clone + Drop,
     L: EndLine,
     O: Output,
     requires lock { IfErr lock IsFolderFault }
@@ -257,9 +292,18 @@ where
     ensures why { result ≡ Err ToolFault.Device
         → IsSome why.new ⊎ (0 < L.fault_count line.new) }
     ensures gives_up { IfErr lock (λ fault. is_locked fault ≡ false
-        → GivesUp fault result why.old why.new (O.written output.old) (O.written output.new)) }
+        → GivesUp fault result why.old why.new) }
+    ensures silent { IfErr lock (λ fault. is_locked fault ≡ false
+        → O.written output.new ≡ O.written output.old) }
     ensures unread { OnErr lock (L.received line.new ≡ L.received line.old) }
-    ensures unwritten { OnErr lock (L.taken line.new ≡ L.taken line.old) }
+    ensures unwritten { IfErr lock (λ fault. is_locked fault ≡ false
+        → L.taken line.new ≡ L.taken line.old) }
+    ensures says { IfErr lock (λ fault. is_locked fault ≡ true → IfOk result (λ _.
+        Says (lock_words station.now.place.me) (L.taken line.old) (L.taken line.new)
+        (L.writes line.old) (L.writes line.new)
+        (L.fault_count line.old) (L.fault_count line.new))) }
+    ensures nothing_else { OnErr lock (TakesFront (lock_words station.now.place.me)
+        (L.taken line.old) (L.taken line.new)) }
 {
     match lock {
         Ok(lock) => {
@@ -267,23 +311,26 @@ where
             lock.release(rt);
             result
         }
-        Err(fault) => talk_unlocked(alloc, rt, task, station, fault, output, why),
+        Err(fault) => talk_unlocked(alloc, rt, task, station, fault, line, output, why),
     }
 }
 
-/// What comes of a system that has called and whose lock the end has not got.
-fn talk_unlocked<A, R, O>(
+/// What comes of a system that has called and whose lock the end has not got. Where another run has it that is said: behind the
+/// words with which each session begins, which a greeted line takes as said already.
+fn talk_unlocked<A, R, L, O>(
     alloc: A,
     rt: &R,
     task: &CallTask<'_>,
     station: &Station,
     fault: RunFault,
+    line: &mut L,
     output: &mut O,
     why: &mut Option<SystemFailure>,
 ) -> Result<u8, ToolFault>
 where
     A: Allocator + Copy,
-    R: Files<File = File> + Clock + Alloc + Clone + Drop,
+    R: Files<File = File> + Clock + Env + Eprint + AllocGlobal + Clone + Drop,
+    L: EndLine,
     O: Output,
     requires fault { IsFolderFault fault }
     ensures status { IfOk result (λ status. status ≤ 1) }
@@ -294,25 +341,24 @@ where
     ensures no_other { IfErr result IsCallFault }
     ensures no_usage { result ≢ Err ToolFault.Usage }
     ensures why { result ≡ Err ToolFault.Device → IsSome why.new }
-    ensures gives_up { is_locked fault ≡ false → GivesUp fault result why.old why.new
-        (O.written output.old) (O.written output.new) }
+    ensures gives_up { is_locked fault ≡ false → GivesUp fault result why.old why.new }
+    ensures silent { is_locked fault ≡ false → O.written output.new ≡ O.written output.old }
+    ensures unread { L.received line.new ≡ L.received line.old }
+    ensures unwritten { is_locked fault ≡ false → L.taken line.new ≡ L.taken line.old }
+    ensures says { is_locked fault ≡ true → IfOk result (λ _.
+        Says (lock_words station.now.place.me) (L.taken line.old) (L.taken line.new)
+        (L.writes line.old) (L.writes line.new)
+        (L.fault_count line.old) (L.fault_count line.new)) }
+    ensures nothing_else { TakesFront (lock_words station.now.place.me)
+        (L.taken line.old) (L.taken line.new) }
 {
-    if is_locked(&fault) {
-        tell_locked(alloc, rt, &said_of(task), station.place.peer);
-        talk_to_nobody(alloc, rt, task, station, output, why)
-    } else {
-        Err(fault.tell(why))
+    if !is_locked(&fault) {
+        return Err(fault.tell(why));
     }
-}
-
-/// Whether a lock was not got since another run has it.
-fn is_locked(fault: &RunFault) -> bool
-    ensures { result ≡ is_locked fault.now }
-{
-    match fault {
-        RunFault::System(failure) => is_in_use(failure.cause),
-        RunFault::Tool(_) => false,
-    }
+    tell_locked(alloc, rt, &said_of(task), station.place.peer);
+    let words = lock_words(alloc, &station.place.me)?;
+    let _ = say(line, words.as_slice());
+    talk_to_nobody(alloc, rt, task, station, output, why)
 }
 
 /// The session of an end that has heard no caller's name, or only that of one with which another run talks, whose folders are not
@@ -327,7 +373,7 @@ fn talk_to_nobody<A, R, O>(
 ) -> Result<u8, ToolFault>
 where
     A: Allocator + Copy,
-    R: Files<File = File> + Clock + Alloc + Clone + Drop,
+    R: Files<File = File> + Clock + Env + Eprint + AllocGlobal + Clone + Drop,
     O: Output,
     ensures status { IfOk result (λ status. status ≤ 1) }
     ensures write { result ≡ Err ToolFault.Write
@@ -355,7 +401,7 @@ fn talk_with<A, R, L, O>(
 ) -> Result<u8, ToolFault>
 where
     A: Allocator + Copy,
-    R: Files<File = File> + Clock + Alloc + Clone + Drop,
+    R: Files<File = File> + Clock + Env + Eprint + AllocGlobal + Clone + Drop,
     L: EndLine,
     O: Output,
     ensures status { IfOk result (λ status. status ≤ 1) }
@@ -500,5 +546,6 @@ fn said_of<'a>(task: &CallTask<'a>) -> SpoolCall<'a>
         is_lenient: task.is_lenient,
         thinning: task.thinning(),
         most: task.most,
+        is_loud: task.is_loud,
     }
 }

@@ -3,8 +3,9 @@ use Rattle.std.proofs.Common.{◌≡◌, true, false, List, [], ◌∷◌, Optio
 use Rattle.std.specs.Option.{option_map, option_map_or}
 use Rattle.clap.specs.Words.{Text, first_of, is_simple, subcommand_of, takes}
 use Rattle.clap.proofs.OnLiterals.{clap_on_literals}
-use Rattle.uug_words.specs.Asked.{Entries, drawn, is_given, manner_in, number_in, number_or_one, number_or_zero, size_in, text_in, usual_size}
+use Rattle.uug_words.specs.Asked.{Entries, drawn, is_given, manner_in, number_in, number_or_one, number_or_zero, peer_in, size_in, text_in, usual_size}
 use Rattle.uug_words.specs.Tools.{uucpair}
+use Rattle.uug_conversation.specs.declared.side.Side.TheVariants.{Called}
 use Rattle.uug_ladder.specs.declared.play.Drawn.TheVariants.{AsPicture}
 
 -- the parser gives the matches of these tools exactly
@@ -69,7 +70,7 @@ answer_has_folder : text_in (entries_of answer_words) (codes "DIR") ≡ codes "d
 unfolding clap_on_literals
 answer_has_folder = refl
 
-answer_has_peer : text_in (entries_of answer_words) (codes "peer") ≡ codes "b"
+answer_has_peer : peer_in Called (entries_of answer_words) ≡ codes "b"
 unfolding clap_on_literals
 answer_has_peer = refl
 
@@ -140,6 +141,34 @@ sized_words = codes "uucpair" ∷ codes "answer" ∷ codes "-" ∷ codes "dir" �
 sized_has_size : size_in (entries_of sized_words) ≡ 64
 unfolding clap_on_literals
 sized_has_size = refl
+
+-- ---- uucpair answer - spool --spool --me a
+
+abbrev hub_words : List Text
+hub_words = codes "uucpair" ∷ codes "answer" ∷ codes "-" ∷ codes "spool" ∷ codes "--spool" ∷ codes "--me" ∷ codes "a" ∷ []
+
+hub_is_taken : takes uucpair hub_words ≡ true
+unfolding clap_on_literals
+hub_is_taken = refl
+
+hub_lets_in_any : peer_in Called (entries_of hub_words) ≡ codes "*"
+unfolding clap_on_literals
+hub_lets_in_any = refl
+
+-- ---- uucpair answer - dir --me a
+
+abbrev alone_words : List Text
+alone_words = codes "uucpair" ∷ codes "answer" ∷ codes "-" ∷ codes "dir" ∷ codes "--me" ∷ codes "a" ∷ []
+
+alone_has_no_peer : peer_in Called (entries_of alone_words) ≡ []
+unfolding clap_on_literals
+alone_has_no_peer = refl
+
+-- ---- uucpair call - spool --spool --me a
+
+call_wants_a_peer : takes uucpair (codes "uucpair" ∷ codes "call" ∷ codes "-" ∷ codes "spool" ∷ codes "--spool" ∷ codes "--me" ∷ codes "a" ∷ []) ≡ false
+unfolding clap_on_literals
+call_wants_a_peer = refl
 
 -- ---- the packet size of an end that is told none
 

@@ -1,12 +1,13 @@
 -- How a tool comes about by the calls that build it.
-use Rattle.std.proofs.Common.{arith, ◌≡◌, ◌∙◌, ◌++◌, ◌||◌, ◌&&◌, Bool, true, false, not, List, [], ◌∷◌, ap, ap₂, refl}
+use Rattle.std.proofs.Common.{arith, ◌≡◌, ◌∙◌, ◌++◌, ◌||◌, ◌&&◌, Bool, true, false, not, List, [], ◌∷◌, ap, ap₂, append_assoc, refl, subst, sym}
 use Rattle.std.proofs.lemmas.Bool.Decides.{nat_tests}
+use Rattle.std.proofs.lemmas.List.{append-nil}
 use Rattle.std.specs.Borrow.{Bor}
 use Rattle.clap.specs.Words.{AddsArg, AddsConflicts, AddsSubcommand, App, Rule, Shape, Text, app_of, rule_of, with_subcommand}
 use Rattle.clap.specs.Walk.{is_empty, is_free_arg}
 use Rattle.clap.specs.declared.builder.arg.Arg.{Arg}
 use Rattle.clap.specs.declared.builder.command.Command.{Command}
-use Rattle.uug_words.specs.Tools.{IsArg, IsTool, excluding}
+use Rattle.uug_words.specs.Tools.{IsArg, IsTool, excluding, with_arguments}
 
 abbrev pub with_argument : Shape → Rule → Shape
 with_argument tool rule = record tool { rules = tool.rules ++ rule ∷ [] }
@@ -18,6 +19,29 @@ adds is step of = record {
   tool_is = ap (λ (made : App). made.top) (step.shape of.local) ∙ ap₂ with_argument is.tool_is of.rule_is;
   local = step.globals ∙ ap₂ (λ a b. a || b) is.local of.local;
 }
+
+-- ---- behind those of a tool that is not known
+
+abbrev with_rules : Shape → List Rule → Shape
+with_rules tool rules = record tool { rules = rules }
+
+-- it is that tool, with these arguments behind its own
+pub record IsWith (before : Shape) (rules : List Rule) (made : Command) : Type 0 where
+  pub is : IsTool (with_arguments before rules) made
+
+pub adds_none : {made : Command} {before : Shape} → IsTool before made → IsWith before [] made
+adds_none {made} {before} is = record {
+  is = subst (λ (tool : Shape). IsTool tool made) (ap (with_rules before) (sym (append-nil before.rules))) is;
+}
+
+pub adds_behind : {old new : Command} {added : Arg} {before : Shape} {rules : List Rule} {rule : Rule} → IsWith before rules old
+    → AddsArg old added new → IsArg rule added → IsWith before (rules ++ rule ∷ []) new
+adds_behind {old} {new} {added} {before} {rules} {rule} had step of = record {
+  is = subst (λ (tool : Shape). IsTool tool new) (ap (with_rules before) (append_assoc before.rules rules (rule ∷ [])))
+      (adds had.is step of);
+}
+
+-- ---- tools, and rules between arguments
 
 -- one more tool
 pub adds_tool : {old new sub : Command} {app : App} {tool : Shape} → app_of old ≡ app → AddsSubcommand old sub new → IsTool tool sub

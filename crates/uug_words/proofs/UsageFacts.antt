@@ -2,11 +2,13 @@
 use Rattle.std.proofs.Common.{◌≡◌, [], ◌∷◌, ◌++◌, codes, Some, None, refl}
 use Rattle.std.specs.Fmt.{digits}
 use Rattle.std.specs.Path.{rsplit_once}
-use Rattle.uug_words.specs.UsageWords.{line_words, name_words, pair_words, range_words}
+use Rattle.uug_words.specs.UsageWords.{line_words, name_words, pair_words, peer_words, range_words}
 
 record AreSaid : Type 0 where
   range : range_words (codes "window") (Some 8) (codes "1 to 7") ≡ codes "window 8 is not 1 to 7"
   name : name_words (codes "Foo bar") ≡ codes "\"Foo bar\" is no name of a system: 1 to 200 printing characters without a space"
+  no_peer : peer_words [] ≡ codes "the name of the other end is missing: --peer"
+  peer : peer_words (codes "a b") ≡ name_words (codes "a b")
   port : line_words (codes "tcp:h:x") ≡ codes "tcp:h:x has no port of 0 to 65535"
   alone : line_words (codes "tcp:h") ≡ codes "tcp:h has no port of 0 to 65535"
   host : line_words (codes "tcp::5") ≡ codes "tcp::5 has no host"
@@ -17,4 +19,4 @@ record AreSaid : Type 0 where
 
 said : AreSaid
 unfolding digits rsplit_once
-said = record { range = refl; name = refl; port = refl; alone = refl; host = refl; path = refl; empty = refl; lost = refl; changed = refl }
+said = record { range = refl; name = refl; no_peer = refl; peer = refl; port = refl; alone = refl; host = refl; path = refl; empty = refl; lost = refl; changed = refl }

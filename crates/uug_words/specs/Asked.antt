@@ -120,12 +120,27 @@ abbrev pub tool_at : Side → Text
 tool_at Caller = codes "call"
 tool_at Called = codes "answer"
 
+-- what stands in a system's place where any may call that the spool knows
+abbrev pub any_name : Text
+any_name = codes "*"
+
+-- The name of the other end, by the one that is given: where an end that is called over a spool is given none, any may call that
+-- the spool knows.
+abbrev pub peer_by : Side → (is_spool : Bool) → (given : Option Text) → Text
+peer_by side is_spool (Some name) = name
+peer_by Called true None = any_name
+peer_by Called false None = []
+peer_by Caller is_spool None = []
+
+abbrev pub peer_in : Side → Entries → Text
+peer_in side entries = peer_by side (is_given entries (codes "spool")) (first_of (codes "peer") entries)
+
 -- what one end is run over
 pub record IsEndIn (entries : Entries) (task : CallTask) : Type 0 where
   pub line : task.line.now ≡ text_in entries (codes "LINE")
   pub dir : task.dir.now ≡ text_in entries (codes "DIR")
   pub me : task.me.now ≡ text_in entries (codes "me")
-  pub peer : task.peer.now ≡ text_in entries (codes "peer")
+  pub peer : task.peer.now ≡ peer_in task.side entries
   pub window : task.window ≡ number_or_zero entries (codes "window")
   pub size : task.size ≡ size_in entries
   pub seconds : task.seconds ≡ number_or_zero entries (codes "timeout")

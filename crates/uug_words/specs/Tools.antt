@@ -86,27 +86,46 @@ pair_tool = tool (codes "pair")
     (path_rule (codes "SOCKET") ∷ path_rule (codes "DIR_A") ∷ path_rule (codes "DIR_B")
     ∷ every_rule (codes "drop-every") ∷ every_rule (codes "flip-every") ∷ [])
 
--- `call`, and `answer` without the options of its own
-abbrev pub end_tool : (name : Text) → Shape
-end_tool name = tool name
-    (path_rule (codes "LINE") ∷ path_rule (codes "DIR")
-    ∷ name_rule (codes "me") ∷ name_rule (codes "peer")
-    ∷ number_rule (codes "window") (codes "7")
+-- a tool with these arguments behind its own
+abbrev pub with_arguments : Shape → List Rule → Shape
+with_arguments before arguments = record before { rules = before.rules ++ arguments }
+
+-- where an end at a line is, and what it is called
+abbrev pub end_rules : List Rule
+end_rules = path_rule (codes "LINE") ∷ path_rule (codes "DIR") ∷ name_rule (codes "me") ∷ []
+
+-- how it talks
+abbrev pub talk_rules : List Rule
+talk_rules =
+    number_rule (codes "window") (codes "7")
     ∷ every_rule (codes "size")
     ∷ number_rule (codes "timeout") (codes "10")
     ∷ every_rule (codes "speed")
     ∷ flag_rule (codes "no-quiet") ∷ flag_rule (codes "fill-commands")
-    ∷ flag_rule (codes "strict") ∷ flag_rule (codes "every-ack") ∷ flag_rule (codes "number")
+    ∷ flag_rule (codes "strict") ∷ flag_rule (codes "every-ack") ∷ []
+
+-- what it keeps, and where
+abbrev pub file_rules : List Rule
+file_rules =
+    flag_rule (codes "number")
     ∷ folder_rule (codes "locks") (codes "/var/lock")
     ∷ word_rule (codes "report") ∷ word_rule (codes "log")
     ∷ number_rule (codes "most") (codes "67108864")
     ∷ flag_rule (codes "spool") ∷ word_rule (codes "public")
     ∷ word_rule (codes "stats")
-    ∷ verbose_rule ∷ [])
+    ∷ verbose_rule ∷ []
 
--- with how long it waits to be called, and how often
+-- one end at a line: where it is, what it and the other one are called, and the options
+abbrev pub end_tool : (name : Text) → (peer : Rule) → Shape
+end_tool name peer = with_arguments (with_arguments (tool name (end_rules ++ peer ∷ [])) talk_rules) file_rules
+
+abbrev pub call_tool : Shape
+call_tool = end_tool (codes "call") (name_rule (codes "peer"))
+
+-- An end that is called may be told no name of the other one. It may be told how long it waits to be called, and how often.
 abbrev pub answer_tool : Shape
-answer_tool = let end = end_tool (codes "answer") in record end { rules = end.rules ++ every_rule (codes "wait") ∷ number_rule (codes "sessions") (codes "1") ∷ [] }
+answer_tool = with_arguments (end_tool (codes "answer") (word_rule (codes "peer")))
+    (every_rule (codes "wait") ∷ number_rule (codes "sessions") (codes "1") ∷ [])
 
 abbrev pub queue_tool : Shape
 queue_tool = tool (codes "queue")
@@ -114,7 +133,7 @@ queue_tool = tool (codes "queue")
     ∷ word_rule (codes "user") ∷ [])
 
 abbrev pub tools : List Shape
-tools = scan_tool ∷ play_tool ∷ pair_tool ∷ end_tool (codes "call") ∷ answer_tool ∷ queue_tool ∷ []
+tools = scan_tool ∷ play_tool ∷ pair_tool ∷ call_tool ∷ answer_tool ∷ queue_tool ∷ []
 
 -- ---- the program
 

@@ -21,6 +21,10 @@ range_words option None range = []
 abbrev pub name_words : List ℕ → List ℕ
 name_words name = codes "\"" ++ (escaped name ++ codes "\" is no name of a system: 1 to 200 printing characters without a space")
 
+-- of the other end's name, which an end may be told none of
+abbrev pub peer_words : List ℕ → List ℕ
+peer_words name = if length name == 0 then codes "the name of the other end is missing: --peer" else name_words name
+
 -- what stands behind the last colon is a port
 abbrev pub is_port_behind : Option (List ℕ × List ℕ) → Bool
 is_port_behind (Some parts) = is_some (port_of parts.1)
@@ -49,7 +53,7 @@ part_words task Size = range_words (codes "size") (Some task.size) (codes "32, 6
 part_words task Most = range_words (codes "most") (Some task.most) (codes "1048576 or more")
 part_words task Line = line_words task.line.now
 part_words task Me = name_words task.me.now
-part_words task Peer = name_words task.peer.now
+part_words task Peer = peer_words task.peer.now
 part_words task Turns = range_words (codes "sessions") (Some task.sessions) (codes "1: only at a socket there may be more")
 
 -- nothing is said of a task that may be run, and of another what is wrong first

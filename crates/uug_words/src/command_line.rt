@@ -2,7 +2,7 @@
 ghost use Rattle.std.specs.Prelude.{◌≡◌, IfErr, IfOk, codes, map, true};
 ghost use Rattle.clap.specs.Words.{Text, kind_of, takes};
 ghost use Rattle.clap.specs.declared.error.kind.ErrorKind.TheVariants.{OutOfMemory};
-ghost use Rattle.uug_words.specs.Asked.{Asks, AsksIn, IsEndIn, IsFileIn, IsPairIn, IsQueueIn, IsToolName, IsWordIn, NamesScan, entries_of, is_given, number_in, size_in, text_in, usual_size};
+ghost use Rattle.uug_words.specs.Asked.{Asks, AsksIn, IsEndIn, IsFileIn, IsPairIn, IsQueueIn, IsToolName, IsWordIn, NamesScan, entries_of, is_given, number_in, peer_in, size_in, text_in, usual_size};
 ghost use Rattle.uug_words.specs.Tools.{uucpair};
 
 use crate::tools::command;
@@ -22,6 +22,9 @@ const SIZE: u32 = 1_024;
 const SIZE_SLOW: u32 = 256;
 
 const SLOW: u32 = 1_200;
+
+/// What stands in the place of the other end's name where any may call that the spool knows.
+const ANY: &str = "*";
 
 /// What the command line asks for.
 #[derive(Clone, Copy, Debug, PartialEq, Eq)]
@@ -118,7 +121,19 @@ fn size(matches: &ArgMatches<'_>) -> u32
     }
 }
 
-/// What one end is run over, as the words behind `call` or `answer` say. All of them are required, or have a default.
+/// The name of the other end. An end that is called over a spool may be told none, and lets in any that the spool knows.
+fn peer<'a>(side: Side, matches: &ArgMatches<'a>) -> &'a str
+    ensures { result.now ≡ peer_in side (entries_of matches.now) }
+{
+    match (side, word(matches, "peer")) {
+        (_, Some(name)) => name,
+        (Side::Called, None) if is_given(matches, "spool") => ANY,
+        (_, None) => "",
+    }
+}
+
+/// What one end is run over, as the words behind `call` or `answer` say. All of them are required, or have a default, but the name
+/// of the other end: without `--spool` a task that lacks it may not be run.
 fn end_task<'a>(side: Side, matches: &ArgMatches<'a>) -> CallTask<'a>
     ensures side { result.side ≡ side }
     ensures says { IsEndIn (entries_of matches.now) result }
@@ -128,7 +143,7 @@ fn end_task<'a>(side: Side, matches: &ArgMatches<'a>) -> CallTask<'a>
         line: text(matches, "LINE"),
         dir: text(matches, "DIR"),
         me: text(matches, "me"),
-        peer: text(matches, "peer"),
+        peer: peer(side, matches),
         window: number(matches, "window").unwrap_or(0),
         size: size(matches),
         seconds: number(matches, "timeout").unwrap_or(0),

@@ -141,6 +141,11 @@ prints
 
 pub const USER: &str = "Who queues it; without it USER, LOGNAME or uucp";
 
+pub const PEER: &str = "The name of the other end";
+
+pub const PEER_OR_ANY: &str =
+    "The name of the other end; with --spool it may be left out, and any may call that has a folder in the spool";
+
 pub const LINE: &str = "-, unix:PATH, tcp:HOST:PORT, or the path of a terminal device";
 
 pub const REPORT: &str =

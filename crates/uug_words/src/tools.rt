@@ -1,7 +1,7 @@
 //! The tools of the program and their arguments, as the parser of the words takes them.
 ghost use Rattle.std.specs.Prelude.{◌≡◌, [], IfOk};
-ghost use Rattle.clap.specs.Words.{app_of};
-ghost use Rattle.uug_words.specs.Tools.{IsArg, IsTool, alone, answer_tool, end_tool, every_rule, excluding, file_rule, flag_rule, folder_rule, name_rule, number_rule, optional_rule, pair_tool, path_rule, play_tool, program, queue_tool, scan_tool, tool, uucpair, verbose_rule, word_rule};
+ghost use Rattle.clap.specs.Words.{Shape, app_of};
+ghost use Rattle.uug_words.specs.Tools.{IsArg, IsTool, alone, answer_tool, call_tool, end_rules, every_rule, excluding, file_rule, file_rules, flag_rule, folder_rule, name_rule, number_rule, optional_rule, pair_tool, path_rule, play_tool, program, queue_tool, scan_tool, talk_rules, tool, uucpair, verbose_rule, with_arguments, word_rule};
 
 use crate::help;
 use clap::{Arg, ArgAction, Command, value_parser};
@@ -32,11 +32,7 @@ pub fn command<'a>(alloc: Global) -> Result<Command<'a>, AllocError>
         .subcommand(scan_command(alloc)?)?
         .subcommand(play_command(alloc)?)?
         .subcommand(pair_command(alloc)?)?
-        .subcommand(end_command(
-            alloc,
-            "call",
-            "Calls another system over a line, and exchanges files with it",
-        )?)?
+        .subcommand(call_command(alloc)?)?
         .subcommand(answer_command(alloc)?)?
         .subcommand(queue_command(alloc)?)
 }
@@ -145,15 +141,50 @@ fn pair_command<'a>(alloc: Global) -> Result<Command<'a>, AllocError>
     .arg(every(alloc, "flip-every", "Changes every Nth packet"))
 }
 
-/// The tool that is one end at a line.
+/// The tool that is one end at a line, where it calls.
+fn call_command<'a>(alloc: Global) -> Result<Command<'a>, AllocError>
+    ensures { IfOk result (IsTool call_tool) }
+{
+    let command = end_command(
+        alloc,
+        "call",
+        "Calls another system over a line, and exchanges files with it",
+    )?
+    .arg(end_name(alloc, "peer", help::PEER))?;
+    with_files(alloc, with_talk(alloc, command)?)
+}
+
+/// The tool that is one end at a line, where it is called.
+fn answer_command<'a>(alloc: Global) -> Result<Command<'a>, AllocError>
+    ensures { IfOk result (IsTool answer_tool) }
+{
+    let command = end_command(
+        alloc,
+        "answer",
+        "Waits for the call of another system over a line, and exchanges files with it",
+    )?
+    .arg(named(alloc, "peer", "NAME", help::PEER_OR_ANY))?;
+    with_files(alloc, with_talk(alloc, command)?)?
+        .arg(whole(alloc, "wait", "SECONDS", help::WAIT))?
+        .arg(number(alloc, "sessions", "N", help::SESSIONS, SESSIONS))
+}
+
+/// The tool that is one end at a line, with where it is and what it is called.
 fn end_command<'a>(alloc: Global, name: &'a str, about: &'a str) -> Result<Command<'a>, AllocError>
-    ensures { IfOk result (IsTool (end_tool name.entry.now)) }
+    ensures { IfOk result (IsTool (tool name.entry.now end_rules)) }
 {
     tool(alloc, name, about, help::END)
         .arg(path(alloc, "LINE", help::LINE))?
         .arg(path(alloc, "DIR", "The folder of this end"))?
-        .arg(end_name(alloc, "me", "The name of this end"))?
-        .arg(end_name(alloc, "peer", "The name of the other end"))?
+        .arg(end_name(alloc, "me", "The name of this end"))
+}
+
+/// This tool, with how an end talks.
+fn with_talk<'a>(alloc: Global, command: Command<'a>) -> Result<Command<'a>, AllocError>
+    ensures { (before : Shape) → IsTool before command.entry
+        → IfOk result (IsTool (with_arguments before talk_rules)) }
+{
+    command
         .arg(number(alloc, "window", "W", help::WINDOW, WINDOW))?
         .arg(whole(alloc, "size", "S", help::SIZE))?
         .arg(number(alloc, "timeout", "SECONDS", help::TIMEOUT, SECONDS))?
@@ -177,7 +208,15 @@ fn end_command<'a>(alloc: Global, name: &'a str, about: &'a str) -> Result<Comma
             alloc,
             "every-ack",
             "Acknowledges each data packet on its own, also those that come at once",
-        ))?
+        ))
+}
+
+/// This tool, with what an end keeps, and where.
+fn with_files<'a>(alloc: Global, command: Command<'a>) -> Result<Command<'a>, AllocError>
+    ensures { (before : Shape) → IsTool before command.entry
+        → IfOk result (IsTool (with_arguments before file_rules)) }
+{
+    command
         .arg(flag(
             alloc,
             "number",
@@ -194,19 +233,6 @@ fn end_command<'a>(alloc: Global, name: &'a str, about: &'a str) -> Result<Comma
             alloc,
             "Says on standard error how each job goes, and what was lost on the line",
         ))
-}
-
-/// The tool that is one end at a line, where it is called.
-fn answer_command<'a>(alloc: Global) -> Result<Command<'a>, AllocError>
-    ensures { IfOk result (IsTool answer_tool) }
-{
-    end_command(
-        alloc,
-        "answer",
-        "Waits for the call of another system over a line, and exchanges files with it",
-    )?
-    .arg(whole(alloc, "wait", "SECONDS", help::WAIT))?
-    .arg(number(alloc, "sessions", "N", help::SESSIONS, SESSIONS))
 }
 
 /// The tool that queues jobs.

@@ -1,6 +1,6 @@
 //! What is wrong with the usage, in words.
 ghost use Rattle.std.specs.Prelude.{◌≡◌, ◌++◌, IfOk, OnOk, is_some, string_bytes};
-ghost use Rattle.uug_words.specs.UsageWords.{IsUsageOf, is_port, lack_words, line_words, name_words, pair_words, part_words, range_words};
+ghost use Rattle.uug_words.specs.UsageWords.{IsUsageOf, is_port, lack_words, line_words, name_words, pair_words, part_words, peer_words, range_words};
 ghost use Rattle.uug_transfer.specs.FaultInjection.{is_in_range};
 ghost use Rattle.uug_transfer.specs.LineNames.{port_of};
 
@@ -89,7 +89,7 @@ fn add_part<A: Allocator>(
         Part::Most => add_range(text, "most", Some(task.most), "1048576 or more"),
         Part::Line => add_line(text, task.line),
         Part::Me => add_name(text, task.me),
-        Part::Peer => add_name(text, task.peer),
+        Part::Peer => add_peer(text, task.peer),
         Part::Turns => add_range(
             text,
             "sessions",
@@ -123,6 +123,18 @@ fn add_name<A: Allocator>(text: &mut String<A>, name: &str) -> Result<(), AllocE
     text.push_str("\"")?;
     add_escaped(text, name.as_bytes())?;
     text.push_str("\" is no name of a system: 1 to 200 printing characters without a space")
+}
+
+/// Appends that this is no name of the other end.
+fn add_peer<A: Allocator>(text: &mut String<A>, name: &str) -> Result<(), AllocError>
+    ensures { OnOk result
+        (string_bytes text.new ≡ string_bytes text.old ++ peer_words name.now) }
+{
+    if name.is_empty() {
+        text.push_str("the name of the other end is missing: --peer")
+    } else {
+        add_name(text, name)
+    }
 }
 
 /// Appends what this lacks to be a line.

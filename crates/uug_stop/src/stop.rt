@@ -1,7 +1,8 @@
+//! Why the program ends before its task is done, and what it says of that.
 ghost use Rattle.std.specs.Prelude.{◌≡◌};
-ghost use Rattle.uucpair.specs.Performed.{IsRefusal};
-ghost use Rattle.uucpair.specs.Stop.{status_of_stop};
-ghost use Rattle.uucpair.specs.declared.stop.Stop.TheVariants.{Fault as stop_for};
+ghost use Rattle.uug_stop.specs.Refused.{IsRefusal};
+ghost use Rattle.uug_stop.specs.Stop.{status_of_stop};
+ghost use Rattle.uug_stop.specs.declared.stop.Stop.TheVariants.{Fault as stop_for};
 
 use clap::error::ErrorKind;
 use std::alloc::AllocError;

@@ -13,9 +13,9 @@ use Rattle.uug_task.specs.declared.task.CallTask.{CallTask}
 use Rattle.uug_words.specs.declared.command_line.PairTask.{PairTask}
 use Rattle.uug_words.specs.declared.command_line.Task.{Task}
 use Rattle.uug_words.specs.declared.command_line.Task.TheVariants.{Scan, ScanVerbose, Play, PlayVerbose, PlaySettled, PlayDrawn, Pair, Call, Queue}
-use Rattle.uucpair.specs.declared.stop.Stop.{Stop}
-use Rattle.uucpair.specs.declared.stop.Stop.TheVariants.{Fault, Remarked, File, Told, CommandLine}
-use Rattle.uucpair.specs.declared.stop.Stop.TheVariants as stops
+use Rattle.uug_stop.specs.declared.stop.Stop.{Stop}
+use Rattle.uug_stop.specs.declared.stop.Stop.TheVariants.{Fault, Remarked, File, Told, CommandLine}
+use Rattle.uug_stop.specs.declared.stop.Stop.TheVariants as stops
 
 -- the status where the program ends before its task is done: usage and help count as bad usage
 abbrev pub status_of_stop : Stop → ℕ
@@ -127,9 +127,10 @@ StopsOnFolders line first second why fault stop = stop ≡ Fault fault
 abbrev pub output_named : (report log : List ℕ) → (number : ℕ) → List ℕ
 output_named report log number = if number == 1 then log else report
 
-abbrev pub StopsOnCause : (output line dir : List ℕ) → SystemFailure → Cause → Stop → Type 0
-StopsOnCause output line dir failure causes.InUse stop = NamesFolder line stop
-StopsOnCause output line dir failure cause stop = SaysReason (reason_line (places output line dir dir) failure) stop
+-- the folders of one end are its own, and that of the locks
+abbrev pub StopsOnCause : (output line dir locks : List ℕ) → SystemFailure → Cause → Stop → Type 0
+StopsOnCause output line dir locks failure causes.InUse stop = NamesFolder line stop
+StopsOnCause output line dir locks failure cause stop = SaysReason (reason_line (places output line dir locks) failure) stop
 
 -- it is said what is wrong with the usage, which this holds of, unless there was no memory for that
 abbrev pub SaysUsage : (List ℕ → Type 0) → Stop → Type 0
@@ -150,7 +151,7 @@ StopsOnPair pair why fault remark stop = StopsOnFolders pair.socket.now pair.dir
 abbrev pub StopsOnEnd : CallTask → (why : Option SystemFailure) → ToolFault → (remark : List ℕ) → Stop → Type 0
 StopsOnEnd call why Usage remark stop = SaysUsage (IsUsageOf call) stop
 StopsOnEnd call why (Jobs line) remark stop = HasLine (Jobs line) remark stop
-StopsOnEnd call (Some failure) Device remark stop = StopsOnCause (output_named (word_or_empty call.report) (word_or_empty call.log) failure.end) call.line.now call.dir.now failure failure.cause stop
+StopsOnEnd call (Some failure) Device remark stop = StopsOnCause (output_named (word_or_empty call.report) (word_or_empty call.log) failure.end) call.line.now call.dir.now call.locks.now failure failure.cause stop
 StopsOnEnd call why fault remark stop = StopsOnFolders call.line.now call.dir.now call.dir.now why fault stop
 
 -- Of what was to be queued the file is named that can't be copied, and it is said what is wrong with the order, and on what a call

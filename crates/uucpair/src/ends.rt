@@ -1,0 +1,272 @@
+//! One end or both are run, with what is said beside their report, and the log.
+ghost use Rattle.std.specs.Prelude.{◌≡◌, ◌≤◌, IfOk, IsSome};
+ghost use Rattle.uug_stop.specs.declared.of_end.TheConstants.{LOG};
+ghost use Rattle.uug_stream.specs.Streams.{CountsFault};
+
+use crate::terminals::Terminals;
+use std::alloc::{AllocError, Global};
+use std::fs::File;
+use std::net::{Net, TcpListener, TcpStream};
+use std::rt::{Env, Files};
+use std::time::Clock;
+use std::{fs, io};
+use uug_conversation::Side;
+use uug_failure::{Cause, Resource, SystemFailure};
+use uug_log::{LogFile, SessionLog, end_text, words_of};
+use uug_pair::pair_run;
+use uug_port::{ReportFile, StandardStreams, SystemOutput};
+use uug_reason::{jobs_remark, reason_line};
+use uug_stop::LOG;
+use uug_stream::{Output, ToolFault};
+use uug_sys::{SystemObserver, call_run};
+use uug_task::{CallTask, ReportPlace};
+use uug_words::PairTask;
+
+/// Runs both ends over one socket.
+pub fn do_pair<R, O>(
+    rt: &R,
+    pair: &PairTask<'_>,
+    output: &mut O,
+    remark: &mut String,
+    why: &mut Option<SystemFailure>,
+) -> Result<u8, ToolFault>
+where
+    R: Files<File = File> + Net + AllocGlobal + Clone + Drop,
+    O: Output,
+    ensures status { IfOk result (λ status. status ≤ 1) }
+    ensures named { result ≡ Err ToolFault.Device → IsSome why.new }
+{
+    let answer = pair_run(
+        rt.alloc(),
+        rt,
+        pair.socket,
+        pair.dir_a,
+        pair.dir_b,
+        pair.drop_every,
+        pair.flip_every,
+        output,
+        why,
+    );
+    remark_jobs(rt, pair.dir_a, answer, remark);
+    if remark.is_empty() {
+        remark_jobs(rt, pair.dir_b, answer, remark);
+    }
+    answer
+}
+
+/// Appends what is wrong with the jobs of this folder, where a line of them is the fault. What can't be said is left out.
+fn remark_jobs<R: Files + AllocGlobal>(
+    rt: &R,
+    dir: &str,
+    answer: Result<u8, ToolFault>,
+    remark: &mut String,
+) {
+    if let Err(ToolFault::Jobs(line)) = answer {
+        if let Ok(said) = read_remark(rt, dir, line) {
+            let _ = remark.push_str(said.as_str());
+        }
+    }
+}
+
+/// What is wrong with this line of the jobs of this folder, which are read again.
+fn read_remark<R: Files + AllocGlobal>(rt: &R, dir: &str, line: usize) -> io::Result<String> {
+    let path = format!(in rt.alloc(); "{dir}/jobs")?;
+    let text = fs::read(rt, path.as_str())?;
+    Ok(jobs_remark(rt.alloc(), dir, text.as_slice(), line)?)
+}
+
+/// Runs one end, and says on standard error how it stands where that is asked for. Its report goes to the file that is named,
+/// else to the output, or where the standard streams are its line to standard error.
+pub fn do_call<R, O>(
+    rt: &R,
+    call: &CallTask<'_>,
+    terminals: Terminals,
+    standard: StandardStreams,
+    output: &mut O,
+    remark: &mut String,
+    why: &mut Option<SystemFailure>,
+) -> Result<u8, ToolFault>
+where
+    R: Files<File = File>
+        + Net<Stream = TcpStream, Listener = TcpListener>
+        + Env
+        + AllocGlobal
+        + Eprint
+        + Clock
+        + Clone
+        + Drop,
+    O: Output,
+    ensures status { IfOk result (λ status. status ≤ 1) }
+    ensures named { result ≡ Err ToolFault.Device → IsSome why.new }
+{
+    match call.report_place() {
+        ReportPlace::File(path) => {
+            do_call_reporting(rt, call, terminals, standard, path, remark, why)
+        }
+        ReportPlace::Errors => {
+            let mut report = SystemOutput::new(standard.errors);
+            do_call_over(rt, call, terminals, standard, &mut report, remark, why)
+        }
+        ReportPlace::Output => do_call_over(rt, call, terminals, standard, output, remark, why),
+    }
+}
+
+/// The same, where the report goes to the file of this path.
+fn do_call_reporting<R>(
+    rt: &R,
+    call: &CallTask<'_>,
+    terminals: Terminals,
+    standard: StandardStreams,
+    path: &str,
+    remark: &mut String,
+    why: &mut Option<SystemFailure>,
+) -> Result<u8, ToolFault>
+where
+    R: Files<File = File>
+        + Net<Stream = TcpStream, Listener = TcpListener>
+        + Env
+        + AllocGlobal
+        + Eprint
+        + Clock
+        + Clone
+        + Drop,
+    ensures status { IfOk result (λ status. status ≤ 1) }
+    ensures named { result ≡ Err ToolFault.Device → IsSome why.new }
+{
+    let file = match ReportFile::open(rt, path) {
+        Ok(file) => file,
+        Err(error) => {
+            *why = Some(SystemFailure::on(Resource::Output, Cause::of(&error)));
+            return Err(ToolFault::Device);
+        }
+    };
+    let mut report = SystemOutput::new(file);
+    match do_call_over(rt, call, terminals, standard, &mut report, remark, why) {
+        Err(ToolFault::Write) => {
+            *why = report.failure();
+            Err(ToolFault::Device)
+        }
+        answer => answer,
+    }
+}
+
+/// The same, where the report goes to this output.
+fn do_call_over<R, O>(
+    rt: &R,
+    call: &CallTask<'_>,
+    terminals: Terminals,
+    standard: StandardStreams,
+    output: &mut O,
+    remark: &mut String,
+    why: &mut Option<SystemFailure>,
+) -> Result<u8, ToolFault>
+where
+    R: Files<File = File>
+        + Net<Stream = TcpStream, Listener = TcpListener>
+        + Env
+        + AllocGlobal
+        + Eprint
+        + Clock
+        + Clone
+        + Drop,
+    O: Output,
+    ensures status { IfOk result (λ status. status ≤ 1) }
+    ensures write { result ≡ Err ToolFault.Write
+        → CountsFault (O.fault_count output.old) (O.fault_count output.new) }
+    ensures named { result ≡ Err ToolFault.Device → IsSome why.new }
+{
+    let log = match open_log(rt, call) {
+        Ok(log) => log,
+        Err(error) => {
+            *why = Some(failure_of_log(&error));
+            return Err(ToolFault::Device);
+        }
+    };
+    let observer = SystemObserver::new(rt.alloc(), rt, call, terminals.errors, log)?;
+    let answer = call_run(
+        rt.alloc(),
+        rt,
+        call,
+        standard,
+        observer,
+        output,
+        remark,
+        why,
+    );
+    remark_jobs(rt, call.dir, answer, remark);
+    log_fault(rt, call, answer, *why);
+    answer
+}
+
+/// The log of one end, where one is named, and the end may be run. The line of its call is in it. An end over a spool writes to
+/// its log itself: it knows who calls.
+fn open_log<'a, R>(rt: &'a R, call: &CallTask<'a>) -> io::Result<Option<SessionLog<'a, R, Global>>>
+where
+    R: Files<File = File> + Env + Clock + AllocGlobal,
+{
+    let Some(path) = call.log else {
+        return Ok(None);
+    };
+    if call.is_spool || !call.may_run() {
+        return Ok(None);
+    }
+    let file = LogFile::open(rt, path)?;
+    let mut log = SessionLog::new(rt.alloc(), rt, file, call.side, call.peer, call.line);
+    if call.side == Side::Caller {
+        log.begin();
+    }
+    Ok(Some(log))
+}
+
+/// That the file of a log can't be opened.
+fn failure_of_log(error: &io::Error) -> SystemFailure
+    ensures end { result.end ≡ LOG }
+    ensures resource { result.resource ≡ Resource.Output }
+{
+    SystemFailure {
+        end: LOG,
+        resource: Resource::Output,
+        cause: Cause::of(error),
+    }
+}
+
+/// Has in the log, where there is one, why one end gave up. What can't be written is left out.
+fn log_fault<R>(
+    rt: &R,
+    call: &CallTask<'_>,
+    answer: Result<u8, ToolFault>,
+    why: Option<SystemFailure>,
+)
+where
+    R: Files<File = File> + Env + Clock + AllocGlobal,
+{
+    let (Some(path), Err(fault)) = (call.log, answer) else {
+        return;
+    };
+    if !call.may_run() {
+        return;
+    }
+    if let (Ok(file), Ok(text)) = (
+        LogFile::open(rt, path),
+        fault_text(rt.alloc(), call, fault, why),
+    ) {
+        let mut log = SessionLog::new(rt.alloc(), rt, file, call.side, call.peer, call.line);
+        log.fault(text.as_str());
+    }
+}
+
+/// Why one end gave up, for its log.
+fn fault_text(
+    alloc: Global,
+    call: &CallTask<'_>,
+    fault: ToolFault,
+    why: Option<SystemFailure>,
+) -> Result<String, AllocError> {
+    let word = format!(in alloc; "{fault}")?;
+    let (ToolFault::Device, Some(failure)) = (fault, why) else {
+        return Ok(word);
+    };
+    let report = call.report.unwrap_or("");
+    let reason = reason_line(alloc, report, call.line, call.dir, call.locks, failure)?;
+    end_text(alloc, word.as_str(), words_of(reason.as_str()))
+}

@@ -1,0 +1,47 @@
+//! Lines of C. files whose data can't be read now.
+ghost use Rattle.std.specs.Prelude.{◌≡◌, IfOk};
+ghost use Rattle.uug_mailbox.specs.HeldLines.{held_line, held_lines, is_held};
+
+use crate::command_file::has_name;
+use crate::open_line::OpenLine;
+use std::alloc::{AllocError, Allocator};
+use uug_talk::Name;
+
+/// Whether a line with this copy has data that can't be read, where that of these names can't.
+fn is_held(unread: &[Name], copy: &Option<Name>) -> bool
+    ensures { result ≡ is_held unread.now copy.now }
+{
+    match copy {
+        Some(copy) => has_name(unread, copy),
+        None => false,
+    }
+}
+
+fn held_line(unread: &[Name], line: &OpenLine) -> OpenLine
+    ensures { result ≡ held_line unread.now line.now }
+{
+    OpenLine {
+        file: line.file,
+        copy: line.copy,
+        job: if is_held(unread, &line.copy) {
+            None
+        } else {
+            line.job
+        },
+    }
+}
+
+/// The lines, where the data of these names can't be read: a line with such a copy stays as it is, and has no job.
+pub fn held_lines<A: Allocator>(
+    alloc: A,
+    lines: &[OpenLine],
+    unread: &[Name],
+) -> Result<Vec<OpenLine, A>, AllocError>
+    ensures { IfOk result (λ held. held.items ≡ held_lines unread.now lines.now) }
+{
+    let mut held = Vec::new(alloc);
+    for line in lines {
+        held.push(held_line(unread, line))?;
+    }
+    Ok(held)
+}

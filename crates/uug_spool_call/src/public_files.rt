@@ -1,0 +1,74 @@
+//! The files of the public folder that the other system may ask for.
+ghost use Rattle.std.specs.Prelude.{◌≡◌};
+ghost use Rattle.uug_spool.specs.SpoolNames.{spot_of};
+ghost use Rattle.uug_spool_call.specs.PublicNames.{is_given};
+
+use crate::work::{size_of, stored};
+use std::alloc::{AllocError, Allocator};
+use std::fs::File;
+use std::rt::Files;
+use uug_session::{Side, Stored};
+use uug_spool::{Room, spot_of};
+use uug_spool_disk::{SpoolPaths, is_known, list_room, read_public};
+use uug_talk::{FILE_MAX, Name};
+
+/// So many names of the public folder are looked at.
+const PUBLIC_NAMES_MAX: usize = 1024;
+
+/// As everybody may read them.
+const GIVEN_MODE: u16 = 0o644;
+
+/// Adds the files of the public folder to those that an end gives, where it calls, or the spool has a folder of the caller: each
+/// that everybody may read, as long as all have so many bytes together at most.
+pub(crate) fn add_public<A: Allocator + Copy, R: Files<File = File> + Alloc + Clone + Drop>(
+    files: &mut Vec<Stored<A>, A>,
+    alloc: A,
+    rt: &R,
+    side: Side,
+    paths: &SpoolPaths<A>,
+    most: u64,
+) -> Result<(), AllocError> {
+    if side == Side::Called && !is_known(alloc, rt, paths)? {
+        return Ok(());
+    }
+    // Without its names there is none to be given.
+    let Ok(names) = list_room(alloc, rt, paths, Room::Public) else {
+        return Ok(());
+    };
+    let mut room = most.saturating_sub(size_of(files.as_slice()));
+    for name in names.iter().take(PUBLIC_NAMES_MAX) {
+        if is_given(name) {
+            add_file(files, alloc, rt, paths, name, &mut room)?;
+        }
+    }
+    Ok(())
+}
+
+/// Whether the file of this name in the public folder may be given. One with the name of a file of the spool is none: that is given
+/// under it.
+fn is_given(name: &Name) -> bool
+    ensures { result ≡ is_given name.now }
+{
+    match spot_of(name) {
+        Ok(spot) => spot.room == Room::Public,
+        Err(_) => false,
+    }
+}
+
+/// Adds a file, if there is room for it.
+fn add_file<A: Allocator + Copy, R: Files<File = File>>(
+    files: &mut Vec<Stored<A>, A>,
+    alloc: A,
+    rt: &R,
+    paths: &SpoolPaths<A>,
+    name: &Name,
+    room: &mut u64,
+) -> Result<(), AllocError> {
+    let most = FILE_MAX.min(usize::try_from(*room).unwrap_or(FILE_MAX));
+    if let Some(bytes) = read_public(alloc, rt, paths, name, most)? {
+        *room = room.saturating_sub(bytes.len() as u64);
+        files.reserve(1)?;
+        files.push_reserved(stored(*name, GIVEN_MODE, bytes));
+    }
+    Ok(())
+}

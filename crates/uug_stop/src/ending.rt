@@ -1,0 +1,103 @@
+//! How the program ends after a task.
+ghost use Rattle.std.specs.Prelude.{◌≡◌, IfErr, IfOk, IsErrAnd, MatchResult, [], string_bytes};
+ghost use Rattle.uug_reason.specs.Reasons.{places, reason_line};
+ghost use Rattle.uug_stop.specs.Stop.{EndsSo, SaysReason, SaysStream, StopsAs, status_of_stop};
+
+use crate::of_end::{stop_of_end, stop_of_pair, stop_of_queue};
+use crate::of_input::{
+    stop_of_drawing, stop_of_drawing_file, stop_of_file, stop_of_script, stop_of_script_file,
+};
+use crate::said::says_reason;
+use crate::stop::Stop;
+use std::alloc::Global;
+use uug_failure::SystemFailure;
+use uug_reason::reason_line;
+use uug_stream::ToolFault;
+use uug_words::Task;
+
+/// Why the program ends where a task gave up.
+fn stop_of(
+    alloc: Global,
+    task: Task<'_>,
+    fault: ToolFault,
+    remark: String,
+    why: Option<SystemFailure>,
+) -> Stop
+    ensures { StopsAs task.entry fault (string_bytes remark) why result }
+{
+    match task {
+        Task::Scan(Some(path))
+        | Task::ScanVerbose(Some(path))
+        | Task::Play(Some(path))
+        | Task::PlaySettled(Some(path)) => stop_of_file(alloc, path, fault, why),
+        Task::PlayVerbose(None) => stop_of_script(fault, remark),
+        Task::PlayDrawn(_, None) => stop_of_drawing(alloc, fault),
+        Task::PlayDrawn(_, Some(path)) => stop_of_drawing_file(alloc, path, fault, why),
+        Task::PlayVerbose(Some(path)) => stop_of_script_file(alloc, path, fault, remark, why),
+        Task::Pair(pair) => stop_of_pair(alloc, &pair, fault, remark, why),
+        Task::Call(call) => stop_of_end(alloc, &call, fault, remark, why),
+        Task::Queue(queue) => stop_of_queue(alloc, queue.dir, queue.file, fault, remark, why),
+        _ => Stop::Fault(fault),
+    }
+}
+
+/// How the program ends after a task that answered this.
+pub fn end_of(
+    alloc: Global,
+    task: Task<'_>,
+    answer: Result<u8, ToolFault>,
+    remark: String,
+    why: Option<SystemFailure>,
+) -> Result<u8, Stop>
+    ensures { EndsSo task.entry answer (string_bytes remark) why result }
+{
+    match answer {
+        Ok(status) => Ok(status),
+        Err(fault) => Err(stop_of(alloc, task, fault, remark, why)),
+    }
+}
+
+/// That a call of the system failed on the standard stream of this name, and why, where there was memory for it.
+fn says_stream(alloc: Global, name: &str, failure: SystemFailure) -> Stop
+    ensures { SaysReason (reason_line (places name.now [] [] []) failure) result }
+{
+    says_reason(reason_line(alloc, name, "", "", "", failure))
+}
+
+/// The same end, with the call of the system that failed on standard input or output, where it is known.
+pub fn with_reason(
+    alloc: Global,
+    ended: Result<u8, Stop>,
+    input: Option<SystemFailure>,
+    output: Option<SystemFailure>,
+) -> Result<u8, Stop>
+    ensures ok { IfOk ended (λ status. result ≡ Ok status) }
+    ensures status { IfErr ended (λ stop.
+        IsErrAnd result (λ ends. status_of_stop ends ≡ status_of_stop stop)) }
+    ensures said { IfErr ended (λ stop. IsErrAnd result (SaysStream stop input output)) }
+{
+    match (ended, input, output) {
+        (Err(Stop::Fault(ToolFault::Read)), Some(failure), _) => {
+            Err(says_stream(alloc, "standard input", failure))
+        }
+        (Err(Stop::Fault(ToolFault::Write)), _, Some(failure)) => {
+            Err(says_stream(alloc, "standard output", failure))
+        }
+        (ended, _, _) => ended,
+    }
+}
+
+/// Says on standard error why the program ends before its task is done, where that can be said, and gives the
+/// program's status.
+pub fn end(rt: &impl Eprint, ended: Result<u8, Stop>) -> u8
+    ensures { MatchResult ended
+        (λ status. result ≡ status) (λ stop. result ≡ status_of_stop stop) }
+{
+    match ended {
+        Ok(status) => status,
+        Err(stop) => {
+            let _ = eprint!(rt; "{stop}");
+            stop.status()
+        }
+    }
+}

@@ -1,0 +1,12 @@
+//! Why the program ends before its task is done: what it says of that, and its status.
+#![tactic(auto)]
+
+mod ending;
+mod of_end;
+mod of_input;
+mod said;
+mod stop;
+
+pub use ending::{end, end_of, with_reason};
+pub use of_end::LOG;
+pub use stop::Stop;

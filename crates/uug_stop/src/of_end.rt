@@ -1,0 +1,133 @@
+//! Why one end or both gave up, and why nothing was queued.
+ghost use Rattle.std.specs.Prelude.{◌≡◌, string_bytes};
+ghost use Rattle.uug_disk.specs.Queued.{word_or_empty};
+ghost use Rattle.uug_stop.specs.Stop.{StopsOnCause, StopsOnEnd, StopsOnFolders, StopsOnPair, StopsOnQueue, output_named};
+ghost use Rattle.uug_stop.specs.declared.of_end.TheConstants.{LOG};
+
+use crate::said::{names_file, names_folder, says_reason, says_usage};
+use crate::stop::Stop;
+use std::alloc::Global;
+use uug_failure::{Cause, SystemFailure};
+use uug_reason::reason_line;
+use uug_stream::ToolFault;
+use uug_task::CallTask;
+use uug_words::{PairTask, pair_remark, usage_remark};
+
+/// The number of its log among the outputs of one end, which are its report and this.
+pub const LOG: usize = 1;
+
+/// Why a task gave up that works in these folders, of which the second may be the first again: the folder is named where
+/// another run holds it, and on what a call of the system failed, and why, where it is known.
+fn stop_of_folders(
+    alloc: Global,
+    line: &str,
+    first: &str,
+    second: &str,
+    fault: ToolFault,
+    why: Option<SystemFailure>,
+) -> Stop
+    ensures { StopsOnFolders line.now first.now second.now why fault result }
+{
+    match (fault, why) {
+        (ToolFault::InUse(0), _) => names_folder(alloc, first),
+        (ToolFault::InUse(_), _) => names_folder(alloc, second),
+        (ToolFault::Device, Some(failure)) => {
+            says_reason(reason_line(alloc, "", line, first, second, failure))
+        }
+        (fault, _) => Stop::Fault(fault),
+    }
+}
+
+/// Why two ends gave up: what is wrong with their usage is said, and with a line of jobs.
+pub(crate) fn stop_of_pair(
+    alloc: Global,
+    pair: &PairTask<'_>,
+    fault: ToolFault,
+    remark: String,
+    why: Option<SystemFailure>,
+) -> Stop
+    ensures { StopsOnPair pair.now why fault (string_bytes remark) result }
+{
+    match fault {
+        ToolFault::Usage => says_usage(pair_remark(alloc, pair.drop_every, pair.flip_every)),
+        ToolFault::Jobs(_) => Stop::Told(fault, remark),
+        fault => stop_of_folders(alloc, pair.socket, pair.dir_a, pair.dir_b, fault, why),
+    }
+}
+
+/// Why the task of one end gave up: what is wrong with it is said, and the line is named where another run holds it, and so is
+/// the folder.
+pub(crate) fn stop_of_end(
+    alloc: Global,
+    call: &CallTask<'_>,
+    fault: ToolFault,
+    remark: String,
+    why: Option<SystemFailure>,
+) -> Stop
+    ensures { StopsOnEnd call.now why fault (string_bytes remark) result }
+{
+    match (fault, why) {
+        (ToolFault::Usage, _) => says_usage(usage_remark(alloc, call)),
+        (ToolFault::Jobs(_), _) => Stop::Told(fault, remark),
+        (ToolFault::Device, Some(failure)) => stop_of_cause(
+            alloc,
+            output_named(call.report, call.log, failure.end),
+            call.line,
+            call.dir,
+            call.locks,
+            failure,
+        ),
+        (fault, why) => stop_of_folders(alloc, call.line, call.dir, call.dir, fault, why),
+    }
+}
+
+/// Why one end gave up for which a call of the system failed. Its folders are its own, and that of the locks.
+fn stop_of_cause(
+    alloc: Global,
+    output: &str,
+    line: &str,
+    dir: &str,
+    locks: &str,
+    failure: SystemFailure,
+) -> Stop
+    ensures { StopsOnCause output.now line.now dir.now locks.now failure failure.cause result }
+{
+    match failure.cause {
+        Cause::InUse => names_folder(alloc, line),
+        _ => says_reason(reason_line(alloc, output, line, dir, locks, failure)),
+    }
+}
+
+/// The file that is this output of one end: its report, or its log.
+fn output_named<'a>(report: Option<&'a str>, log: Option<&'a str>, number: usize) -> &'a str
+    ensures { result.now
+        ≡ output_named (word_or_empty report.entry) (word_or_empty log.entry) number }
+{
+    if number == LOG {
+        log.unwrap_or("")
+    } else {
+        report.unwrap_or("")
+    }
+}
+
+/// Why nothing was queued or listed: the file that can't be copied is named, what is wrong with the order is said, and on what
+/// a call of the system failed, and why, where it is known.
+pub(crate) fn stop_of_queue(
+    alloc: Global,
+    dir: &str,
+    file: Option<&str>,
+    fault: ToolFault,
+    remark: String,
+    why: Option<SystemFailure>,
+) -> Stop
+    ensures { StopsOnQueue dir.now (word_or_empty file.entry) why fault (string_bytes remark) result }
+{
+    match (fault, why) {
+        (ToolFault::Read, _) => names_file(alloc, file.unwrap_or(""), why),
+        (ToolFault::Usage, _) => Stop::Remarked(fault, remark),
+        (ToolFault::Device, Some(failure)) => {
+            says_reason(reason_line(alloc, "", "", dir, dir, failure))
+        }
+        (fault, _) => Stop::Fault(fault),
+    }
+}

@@ -1,0 +1,75 @@
+//! Why a task with an input gave up.
+ghost use Rattle.std.specs.Prelude.{string_bytes};
+ghost use Rattle.uug_stop.specs.Stop.{StopsOnDrawing, StopsOnDrawingFile, StopsOnFile, StopsOnScript, StopsOnScriptFile};
+
+use crate::said::{names_file, says_too_much};
+use crate::stop::Stop;
+use std::alloc::Global;
+use uug_failure::SystemFailure;
+use uug_stream::ToolFault;
+
+/// Why a script was not drawn.
+pub(crate) fn stop_of_drawing(alloc: Global, fault: ToolFault) -> Stop
+    ensures { StopsOnDrawing fault result }
+{
+    match fault {
+        ToolFault::Usage => says_too_much(alloc),
+        fault => Stop::Fault(fault),
+    }
+}
+
+/// The same of the script in the file of this name.
+pub(crate) fn stop_of_drawing_file(
+    alloc: Global,
+    path: &str,
+    fault: ToolFault,
+    why: Option<SystemFailure>,
+) -> Stop
+    ensures { StopsOnDrawingFile path.now why fault result }
+{
+    match fault {
+        ToolFault::Read => names_file(alloc, path, why),
+        fault => stop_of_drawing(alloc, fault),
+    }
+}
+
+/// Why a task gives up that read the file of this name: the file is named where it is the cause.
+pub(crate) fn stop_of_file(
+    alloc: Global,
+    path: &str,
+    fault: ToolFault,
+    why: Option<SystemFailure>,
+) -> Stop
+    ensures { StopsOnFile path.now why fault result }
+{
+    match fault {
+        ToolFault::Read => names_file(alloc, path, why),
+        fault => Stop::Fault(fault),
+    }
+}
+
+/// Why a script was not played, with the remark where it is bad.
+pub(crate) fn stop_of_script(fault: ToolFault, remark: String) -> Stop
+    ensures { StopsOnScript fault (string_bytes remark) result }
+{
+    match fault {
+        ToolFault::Script(_) => Stop::Remarked(fault, remark),
+        fault => Stop::Fault(fault),
+    }
+}
+
+/// The same of the script in the file of this name.
+pub(crate) fn stop_of_script_file(
+    alloc: Global,
+    path: &str,
+    fault: ToolFault,
+    remark: String,
+    why: Option<SystemFailure>,
+) -> Stop
+    ensures { StopsOnScriptFile path.now why fault (string_bytes remark) result }
+{
+    match fault {
+        ToolFault::Read => names_file(alloc, path, why),
+        fault => stop_of_script(fault, remark),
+    }
+}

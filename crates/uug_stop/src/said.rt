@@ -1,0 +1,84 @@
+//! What is said where the program ends before its task is done, where there is memory to say so.
+ghost use Rattle.std.specs.Prelude.{◌≡◌, IfOk, MatchResult, string_bytes};
+ghost use Rattle.uug_stop.specs.Stop.{NamesFile, NamesFileFor, NamesFolder, SaysTooMuch, why_not_read};
+
+use crate::stop::Stop;
+use std::alloc::{AllocError, Global};
+use uug_failure::SystemFailure;
+use uug_reason::reason_line;
+use uug_stream::ToolFault;
+
+/// What is remarked of a script that is too much for a picture.
+const TOO_MUCH: &str = "a picture has at most 1000000 rungs";
+
+/// That a script is too much for a picture, where there is memory to say so.
+pub(crate) fn says_too_much(alloc: Global) -> Stop
+    ensures { SaysTooMuch result }
+{
+    match String::from_str(alloc, TOO_MUCH) {
+        Ok(remark) => Stop::Remarked(ToolFault::Usage, remark),
+        Err(_) => Stop::Fault(ToolFault::Memory),
+    }
+}
+
+/// That a call of the system failed, as this line says, where there was memory for it.
+pub(crate) fn says_reason(reason: Result<String, AllocError>) -> Stop
+    ensures { MatchResult reason (λ line. result ≡ Stop.Told ToolFault.Device line)
+        (λ _. result ≡ Stop.Fault ToolFault.Device) }
+{
+    match reason {
+        Ok(line) => Stop::Told(ToolFault::Device, line),
+        Err(_) => Stop::Fault(ToolFault::Device),
+    }
+}
+
+/// Why the file of this name can't be read, as a line, where it is known.
+fn why_not_read(alloc: Global, path: &str, why: Option<SystemFailure>) -> Result<String, AllocError>
+    ensures { IfOk result (λ line. string_bytes line ≡ why_not_read path.now why) }
+{
+    match why {
+        Some(failure) => reason_line(alloc, path, "", "", "", failure),
+        None => Ok(String::new(alloc)),
+    }
+}
+
+/// That the file of this name can't be read, and why, where there is memory to say so.
+pub(crate) fn names_file(alloc: Global, path: &str, why: Option<SystemFailure>) -> Stop
+    ensures { NamesFile path.now why result }
+{
+    match why_not_read(alloc, path, why) {
+        Ok(reason) => names_file_for(alloc, path, reason),
+        Err(_) => Stop::Fault(ToolFault::Memory),
+    }
+}
+
+/// The same for this reason.
+fn names_file_for(alloc: Global, path: &str, reason: String) -> Stop
+    ensures { NamesFileFor path.now (string_bytes reason) result }
+{
+    match String::from_str(alloc, path) {
+        Ok(name) => Stop::File(name, reason),
+        Err(_) => Stop::Fault(ToolFault::Memory),
+    }
+}
+
+/// That another run holds the folder or the line of this name, where there is memory to say so.
+pub(crate) fn names_folder(alloc: Global, dir: &str) -> Stop
+    ensures { NamesFolder dir.now result }
+{
+    match String::from_str(alloc, dir) {
+        Ok(name) => Stop::InUse(name),
+        Err(_) => Stop::Fault(ToolFault::Memory),
+    }
+}
+
+/// What is wrong with the usage, where there was memory for it.
+pub(crate) fn says_usage(remark: Result<String, AllocError>) -> Stop
+    ensures { MatchResult remark (λ text. result ≡ Stop.Remarked ToolFault.Usage text)
+        (λ _. result ≡ Stop.Fault ToolFault.Usage) }
+{
+    match remark {
+        Ok(remark) => Stop::Remarked(ToolFault::Usage, remark),
+        Err(_) => Stop::Fault(ToolFault::Usage),
+    }
+}

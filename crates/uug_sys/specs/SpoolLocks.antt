@@ -1,0 +1,81 @@
+-- The lock of the other system of an end over a spool, and what is said where another run has it (this project's profile).
+use Rattle.std.specs.Prelude.{◌≡◌, ◌⊎◌, ◌++◌, ◌∷◌, ℕ, Bool, true, false, List, [], Option, Some, None, Result, Ok, Err, MatchResult, codes, ⊤}
+use Rattle.uug_failure.specs.Failures.{fault_of_run, told_by}
+use Rattle.uug_failure.specs.declared.failure.Cause.{Cause}
+use Rattle.uug_failure.specs.declared.failure.Cause.TheVariants.{InUse}
+use Rattle.uug_failure.specs.declared.failure.Resource.TheVariants.{Dir}
+use Rattle.uug_failure.specs.declared.failure.SystemFailure.{SystemFailure}
+use Rattle.uug_failure.specs.declared.run_fault.RunFault.{RunFault}
+use Rattle.uug_failure.specs.declared.run_fault.RunFault.TheVariants.{System, Tool}
+use Rattle.uug_locks.specs.DeviceLocks.{lock_path}
+use Rattle.uug_scan.specs.Detailed.{escaped}
+use Rattle.uug_session.specs.Engine.{HasFailed, faults_max}
+use Rattle.uug_session.specs.Greeting.{called_text}
+use Rattle.uug_stream.specs.declared.fault.ToolFault.{ToolFault}
+use Rattle.uug_stream.specs.declared.fault.ToolFault.TheVariants.{Memory}
+use Rattle.uug_sys.specs.declared.spool_lock.TheConstants.{LOCKS}
+use Rattle.uug_talk.specs.Lines.{ended}
+use Rattle.uug_talk.specs.Texts.{written_text}
+use Rattle.uug_task.specs.declared.task.CallTask.{CallTask}
+use Rattle.uug_transfer.specs.Writing.{TakesFront, also_taken}
+
+-- ---- why there is none
+
+abbrev pub is_in_use : Cause → Bool
+is_in_use InUse = true
+is_in_use cause = false
+
+-- whether it is another run that has it
+abbrev pub is_locked : RunFault → Bool
+is_locked (System failure) = is_in_use failure.cause
+is_locked (Tool fault) = false
+
+abbrev pub is_held : {L : Type 0} → Result L RunFault → Bool
+is_held (Ok lock) = false
+is_held (Err fault) = is_locked fault
+
+-- the system makes none in the folder of the locks
+abbrev pub IsRefusedLock : RunFault → Type 0
+IsRefusedLock (System failure) = (failure.end ≡ LOCKS) × (failure.resource ≡ Dir) × (is_in_use failure.cause ≡ false)
+IsRefusedLock (Tool fault) = fault ≡ Memory
+
+-- ---- what comes of that
+
+-- the end gives up with the fault of the lock, and says which call of the system that was
+pub record GivesUp (fault : RunFault) (result : Result ℕ ToolFault) (why why_after : Option SystemFailure) : Type 0 where
+  pub answers : result ≡ Err (fault_of_run fault)
+  pub tells : why_after ≡ told_by fault why
+
+abbrev pub file_words : (path : List ℕ) → List ℕ
+file_words path = codes " is locked by " ++ ended (escaped path)
+
+-- the system is locked, by this file
+abbrev pub locked_by : (system path : List ℕ) → List ℕ
+locked_by system path = codes "uucpair: system " ++ (escaped system ++ file_words path)
+
+abbrev pub locked_remark : (locks system : List ℕ) → List ℕ
+locked_remark locks system = locked_by system (lock_path locks system)
+
+-- a call is to be made later, which is status 1: it is remarked that the system is locked
+pub record CallsLater (task : CallTask) (result : Result ℕ ToolFault) (why why_after : Option SystemFailure)
+    (remark remark_after : List ℕ) : Type 0 where
+  pub answers : MatchResult result
+      (λ status. (status ≡ 1) × (remark_after ≡ remark ++ locked_remark task.locks.now task.peer.now))
+      (λ fault. fault ≡ Memory)
+  pub tells : why_after ≡ why
+
+-- ---- what a called end says then
+
+-- its name, as at the beginning of each session, and then that the caller's system is locked
+abbrev pub lock_words : (me : List ℕ) → List ℕ
+lock_words me = written_text (called_text me) ++ written_text (codes "RLCK")
+
+-- where a line tells how many bytes each of its writes took: the last one took none
+abbrev pub TakesNone : (writes writes_after : Option (List ℕ)) → Type 0
+TakesNone None after = ⊤
+TakesNone (Some before) after = (since : List ℕ) × (after ≡ Some ((before ++ since) ++ 0 ∷ []))
+
+-- These words are written from the front, and nothing else: all of them, unless a write took none, or failed.
+pub record Says (words : List ℕ) (taken taken_after writes writes_after : Option (List ℕ)) (faults faults_after : ℕ) : Type 0 where
+  pub front : TakesFront words taken taken_after
+  pub all : (taken_after ≡ also_taken words taken) ⊎ (TakesNone writes writes_after ⊎ HasFailed faults_max faults faults_after)

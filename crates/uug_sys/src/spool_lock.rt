@@ -1,0 +1,209 @@
+//! The lock of the other system of an end over a spool, which uucico heeds too: who has it, and what is said where another run has.
+ghost use Rattle.std.specs.Prelude.{◌≡◌, ◌++◌, IfErr, IfOk, None, Ok, OnOk, Some, false, string_bytes};
+ghost use Rattle.uug_failure.specs.Faults.{IsFolderFault};
+ghost use Rattle.uug_sys.specs.SpoolLocks.{IsRefusedLock, Says, file_words, is_held, is_in_use, is_locked, lock_words, locked_by, locked_remark};
+ghost use Rattle.uug_talk.specs.Texts.{written_text};
+
+use std::alloc::{AllocError, Allocator};
+use std::fs::File;
+use std::io::{ErrorKind, Write};
+use std::rt::Files;
+use std::{fs, io};
+use uug_disk::{DeviceLock, lock_device};
+use uug_failure::{Cause, EndDir, Resource, RunFault};
+use uug_locks::lock_path;
+use uug_reason::add_escaped;
+use uug_stream::ToolFault;
+use uug_talk::{Name, TEXT_START};
+use uug_transfer::{EndLine, LineFailed};
+
+/// The number of the folder of the locks among the folders of one end, of which its own is the first.
+const LOCKS: usize = 1;
+
+/// The lock of the other system. One that can't even be looked at, as in a folder that is none, is refused, and not another run's.
+pub(crate) fn lock_system<A: Allocator + Copy, R: Files<File = File>>(
+    alloc: A,
+    rt: &R,
+    locks: &str,
+    system: &str,
+) -> Result<DeviceLock<A>, RunFault>
+    ensures { IfErr result IsFolderFault }
+{
+    let path = lock_path(alloc, locks, system)?;
+    match fs::symlink_metadata(rt, path.as_str()) {
+        Err(error) if error.kind() != ErrorKind::NotFound => {
+            Err(refused(locks, error.kind(), error.raw_os_error()))
+        }
+        _ => got(alloc, rt, locks, lock_device(alloc, rt, locks, system)),
+    }
+}
+
+/// The lock, if the end has got it. Where the system makes none another run may talk with the other system.
+fn got<A: Allocator + Copy, R: Files<File = File>, L>(
+    alloc: A,
+    rt: &R,
+    locks: &str,
+    answer: Result<Option<L>, RunFault>,
+) -> Result<L, RunFault>
+    requires fault { IfErr answer IsFolderFault }
+    ensures lock { IfOk result (λ lock. answer ≡ Ok (Some lock)) }
+    ensures held { IfErr answer (λ fault. result ≡ Err fault) }
+    ensures refused { answer ≡ Ok None → IfErr result IsRefusedLock }
+    ensures no_other { IfErr result IsFolderFault }
+{
+    match answer {
+        Ok(Some(lock)) => Ok(lock),
+        Ok(None) => Err(why_refused(alloc, rt, locks)),
+        Err(fault) => Err(fault),
+    }
+}
+
+/// Why no lock can be made in this folder: why no file can. Where one can be made it is the link to its name that is refused, or
+/// the removal of the lock of a process that is gone.
+fn why_refused<A: Allocator + Copy, R: Files<File = File>>(
+    alloc: A,
+    rt: &R,
+    locks: &str,
+) -> RunFault
+    ensures refused { IsRefusedLock result }
+    ensures no_other { IsFolderFault result }
+{
+    match try_file(alloc, rt, locks) {
+        Ok(()) => refused(locks, ErrorKind::PermissionDenied, None),
+        Err(error) => refused(locks, error.kind(), error.raw_os_error()),
+    }
+}
+
+/// That the system refuses to make a lock in this folder, with an error of this kind and number. Memory that was refused is no
+/// fault of the system's.
+fn refused(locks: &str, kind: ErrorKind, number: Option<i32>) -> RunFault
+    ensures refused { IsRefusedLock result }
+    ensures no_other { IsFolderFault result }
+{
+    if kind == ErrorKind::OutOfMemory && number.is_none() {
+        return RunFault::Tool(ToolFault::Memory);
+    }
+    let locks = EndDir {
+        path: locks,
+        number: LOCKS,
+    };
+    RunFault::System(locks.failure(Resource::Dir, Cause::Refused(kind, number)))
+}
+
+/// Makes a file in this folder, and removes it.
+fn try_file<A: Allocator, R: Files<File = File>>(alloc: A, rt: &R, folder: &str) -> io::Result<()> {
+    let path = format!(in alloc; "{folder}/.part.lock")?;
+    let made = match File::create_new(rt, path.as_str()) {
+        Ok(mut file) => file.write_all(b"\n"),
+        Err(error) if error.kind() == ErrorKind::AlreadyExists => Ok(()),
+        Err(error) => return Err(error),
+    };
+    let _ = fs::remove_file(rt, path.as_str());
+    made
+}
+
+/// Whether a lock was not got since another run has it.
+pub(crate) fn is_locked(fault: &RunFault) -> bool
+    ensures { result ≡ is_locked fault.now }
+{
+    match fault {
+        RunFault::System(failure) => is_in_use(failure.cause),
+        RunFault::Tool(_) => false,
+    }
+}
+
+pub(crate) fn is_in_use(cause: Cause) -> bool
+    ensures { result ≡ is_in_use cause }
+{
+    matches!(cause, Cause::InUse)
+}
+
+/// Whether another run has this lock.
+pub(crate) fn is_held<L>(lock: &Result<L, RunFault>) -> bool
+    ensures { result ≡ is_held lock.now }
+{
+    match lock {
+        Ok(_) => false,
+        Err(fault) => is_locked(fault),
+    }
+}
+
+/// Appends to the remark which system is locked, and by which file.
+pub(crate) fn remark_locked<A: Allocator, B: Allocator>(
+    alloc: A,
+    remark: &mut String<B>,
+    locks: &str,
+    system: &str,
+) -> Result<(), AllocError>
+    ensures { OnOk result (string_bytes remark.new
+        ≡ string_bytes remark.old ++ locked_remark locks.now system.now) }
+{
+    let path = lock_path(alloc, locks, system)?;
+    add_locked(remark, system, path.as_str())
+}
+
+/// Appends that this system is locked, and by which file.
+fn add_locked<A: Allocator>(
+    text: &mut String<A>,
+    system: &str,
+    path: &str,
+) -> Result<(), AllocError>
+    ensures { OnOk result (string_bytes text.new
+        ≡ string_bytes text.old ++ locked_by system.now path.now) }
+{
+    text.push_str("uucpair: system ")?;
+    add_escaped(text, system.as_bytes())?;
+    add_file(text, path)
+}
+
+/// Appends by which file a system is locked.
+fn add_file<A: Allocator>(text: &mut String<A>, path: &str) -> Result<(), AllocError>
+    ensures { OnOk result (string_bytes text.new ≡ string_bytes text.old ++ file_words path.now) }
+{
+    text.push_str(" is locked by ")?;
+    add_escaped(text, path.as_bytes())?;
+    text.push_str("\n")
+}
+
+/// What a called end says whose caller is a system that is locked: its name, and that.
+pub(crate) fn lock_words<A: Allocator>(alloc: A, me: &Name) -> Result<Vec<u8, A>, AllocError>
+    ensures { IfOk result (λ words. words.items ≡ lock_words me.now) }
+{
+    let mut words = Vec::new(alloc);
+    add_text(&mut words, b"Shere=", me.as_bytes())?;
+    add_text(&mut words, b"RLCK", b"")?;
+    Ok(words)
+}
+
+/// Appends a text of a greeting, which has two parts.
+fn add_text<A: Allocator>(
+    words: &mut Vec<u8, A>,
+    front: &[u8],
+    back: &[u8],
+) -> Result<(), AllocError>
+    ensures { OnOk result (words.new.items
+        ≡ words.old.items ++ written_text (front.now ++ back.now)) }
+{
+    words.push(TEXT_START)?;
+    words.extend_from_slice(front)?;
+    words.extend_from_slice(back)?;
+    words.push(0)?;
+    Ok(())
+}
+
+/// Writes these words, up to a write that takes none of them, or fails. The answer is whether all have gone.
+pub(crate) fn say<L: EndLine>(line: &mut L, words: &[u8]) -> Result<bool, LineFailed>
+    ensures says { Says words.now (L.taken line.old) (L.taken line.new)
+        (L.writes line.old) (L.writes line.new) (L.fault_count line.old) (L.fault_count line.new) }
+    ensures unread { L.received line.new ≡ L.received line.old }
+{
+    let mut rest = words;
+    while !rest.is_empty() {
+        let count = line.write(rest)?;
+        if count == 0 {
+            return Ok(false);
+        }
+        rest = &rest[count..];
+    }
+    Ok(true)
+}
