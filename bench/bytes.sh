@@ -4,6 +4,8 @@
 # other end announced, `smallest` with each in the smallest field that holds it, as the program sends them. Commands and
 # answers are filled up with zeros there.
 #
+# No digests are told (`--no-digest`): one costs 86 bytes of its command.
+#
 # A second table is of five mails of 1,500 bytes, each a file D. with the mail and a file X. that says what to do with it:
 # `filled` with commands and answers filled up (`--fill-commands`), `short` with those that end with their zero byte.
 #

@@ -10,6 +10,7 @@ left, ten times at most. A row each for
 
     ours, --size 64    two `uucpair` with packets of 64 bytes
     ours               with those that they announce by themselves
+    .., --no-digest    the same, where no digests are told
     Taylor, 64         Taylor UUCP calls, with packets of 64 bytes both ways and TAYLOR_SEEDS (2); its own limits of errors and
                        noise are lifted
 
@@ -30,7 +31,7 @@ from ends import Ours, Taylor, over_sockets, program_named, read, side_by_side, 
 ONE_IN = 1_000
 SAFE = 64
 SIZES = [0, 1, 31, 32, 33, 63, 64, 65, 127, 128, 129, 500, 1_000, 1_023, 1_024, 1_025, 2_048, 3_000, 4_096, 5_000, 10_000, 20_000]
-KINDS = ["ours, --size 64", "ours", "Taylor, 64"]
+KINDS = ["ours, --size 64", "ours", "ours, --size 64, --no-digest", "ours, --no-digest", "Taylor, 64"]
 CALLS_MAX = 10
 MOST = 300
 LETTERS = "abcdefghijklmnopqrstuvwxyz      ETAOIN.,\n"
@@ -111,6 +112,7 @@ class TaylorEnd(Taylor):
 def run(work, program, kind, seed):
     """What became of the files: how many calls, garbled bytes, files whole, wrong and not there."""
     options = ["--timeout", "2"] + (["--size", "64"] if "64" in kind else [])
+    options += ["--no-digest"] if "--no-digest" in kind else []
     called = OurEnd(program, work, "b", "a", options)
     if kind.startswith("Taylor"):
         caller = TaylorEnd(work, "a", "b", 64, 7, 2)

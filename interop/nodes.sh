@@ -35,6 +35,7 @@ END
 
 # new_nodes: both, with nothing queued
 new_nodes() {
+    umount -q "$work/beta/spool" 2>/dev/null
     rm -rf "$work"/{alpha,beta}
     node alpha
     node beta
@@ -112,11 +113,36 @@ tree() {
     done
 }
 
-# cut WHO: at a random moment the line goes (`line`), or the end that calls or is called is killed (`caller`, `called`)
+# own_disk: beta's spool is on a disk of its own, which writes nothing by itself for minutes
+own_disk() {
+    truncate -s 16M "$work/disk"
+    mkfs.ext4 -qF "$work/disk"
+    mount_disk
+    chown uucp:uucp "$work/beta/spool"
+}
+
+mount_disk() {
+    mount -o loop,commit=300,noauto_da_alloc "$work/disk" "$work/beta/spool"
+}
+
+# cut_power PID..: that of the program: its disk is from now on as it stands at this moment
+cut_power() {
+    kill -STOP "$@" 2>/dev/null || return
+    cp --sparse=always "$work/disk" "$work/disk.cut"
+    kill -9 "$@" 2>/dev/null && cuts=$((cuts + 1))
+}
+
+# cut WHO: at a random moment the line goes (`line`), or the end that calls or is called is killed (`caller`, `called`), or the
+# power of the program (`power`)
 cut() {
     local victim
     sleep "$((RANDOM % 6)).$((RANDOM % 10))"
     case $1 in
+    power)
+        # shellcheck disable=SC2046
+        cut_power $(tree "$of_program")
+        return
+        ;;
     line) victim=$(tree "$relay") ;;
     caller) victim=$(tree "$caller") ;;
     called) victim=$(tree "$answerer") ;;
@@ -142,6 +168,7 @@ session() {
     esac
     caller=$!
     started+=("$caller")
+    [ "$1" = we-answer ] && of_program=$answerer || of_program=$caller
     shift
     [ $# -eq 0 ] || "$@"
     for ((i = 0; i < 600; i++)); do
@@ -152,6 +179,11 @@ session() {
     done
     # shellcheck disable=SC2046
     end_all $(tree "$caller") $(tree "$answerer") "$relay"
+    if [ -e "$work/disk.cut" ]; then
+        umount "$work/beta/spool"
+        mv "$work/disk.cut" "$work/disk"
+        mount_disk
+    fi
     sessions=$((sessions + 1))
 }
 

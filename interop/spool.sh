@@ -12,6 +12,7 @@
 #     full       the program's spool is on a disk that is full
 #     folders    each folder of the program's node in turn can't be written, or not even be seen
 #     anew       mail while sessions are cut; then alpha's spool is made anew, so that its numbers begin anew
+#     power      mail while the power of the program's node is cut: its spool is on a disk, which is then as it stood at that moment
 #     we-call we-answer both   mail both ways, and then mail while sessions are cut: the program is killed with signal 9, or the
 #                line, at random moments
 # MAILS (15) is how many each node sends in a trial of the last three, KILLS (6) how many sessions of a trial are cut, RATE (6000)
@@ -64,6 +65,7 @@ mails() {
     local name=$1 i who
     shift
     new_nodes
+    [ "${1:-}" != power ] || own_disk
     for ((i = 1; i <= mails; i++)); do
         mail alpha "$i" $((30 + RANDOM % 3000))
         mail beta "$i" $((30 + RANDOM % 3000))
@@ -71,6 +73,8 @@ mails() {
     while [ "$sessions" -lt "$sessions_max" ] && [ "$(queued alpha)$(queued beta)" != 00 ]; do
         who=
         [ "$cuts" -ge "$kills" ] || [ $# -eq 0 ] || who=$(shuf -n 1 -e "$@" --random-source=<(yes "$RANDOM"))
+        # what the package's programs have done is on the disk
+        [ "${1:-}" != power ] || sync -f "$work/beta/spool"
         # shellcheck disable=SC2086
         session "$name" ${who:+cut $who}
         run_uuxqt alpha
@@ -361,6 +365,7 @@ try() {
     case $1 in
     hub) hub ;;
     we-call | we-answer | both) trials "$1" ;;
+    power) for role in we-call we-answer both; do mails $role power; done ;;
     *)
         for role in we-call we-answer; do
             case $1 in
@@ -377,7 +382,7 @@ try() {
     esac
 }
 
-for part in ${PARTS:-hub programs gone asked unread full folders anew we-call we-answer both}; do
+for part in ${PARTS:-hub programs gone asked unread full folders anew power we-call we-answer both}; do
     try "$part"
 done
 [ "$bad" = 0 ]

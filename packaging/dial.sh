@@ -8,6 +8,7 @@
 # The device is locked as uucpair, cu and uucico lock theirs. When the call is over it is closed, at which a modem hangs up.
 # The status is that of the call, and 3 where there is no connection; standard error says why.
 set -u
+export LC_ALL=C
 uucpair=/usr/bin/uucpair
 locks=/var/lock
 # Where the cable has but three wires: -crtscts
@@ -52,9 +53,21 @@ stty -F "$device" "$bps" raw -echo cs8 -parenb "$flow" clocal hupcl icrnl || fai
 exec 3<>"$device" || exit 3
 flock -n 3 || fail "is in use"
 
+# Sets `line` to what comes next. It is read byte by byte: a read of a line takes what is there behind it as well, and that is the
+# other end's greeting.
+read_line() {
+    local byte
+    line=
+    while [ "$SECONDS" -lt "$end" ] && IFS= read -r -N 1 -t $((end - SECONDS)) -u 3 byte; do
+        [ "$byte" != $'\n' ] || return 0
+        line+=$byte
+    done
+    return 1
+}
+
 printf '%s\r' "$text" >&3
 end=$((SECONDS + patience))
-while [ "$SECONDS" -lt "$end" ] && IFS= read -r -t $((end - SECONDS)) -u 3 line; do
+while read_line; do
     case $line in
     *"$text"*) ;; # its echo
     *"$answer"*)

@@ -18,8 +18,12 @@ mkfifo "$back" || exit 3
 # No terminal, no character that ends the connection, and nobody who is asked for a password.
 # shellcheck disable=SC2094  # a pipe is read and written at once
 {
-    "$uucpair" call - "$dir" --me "$me" --peer "$peer" "$@" <"$back"
+    exec 3<"$back"
+    "$uucpair" call - "$dir" --me "$me" --peer "$peer" "$@" <&3 3<&-
     echo $? >"$folder/status"
+    # Without a reader ssh would end before it has said what the other end says.
+    exec >&-
+    cat <&3 >/dev/null
 } | ssh -T -e none -o BatchMode=yes "$host" >"$back"
 read -r status <"$folder/status"
 exit "$status"

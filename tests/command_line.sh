@@ -244,7 +244,7 @@ row "a play with an end that is quiet on repeats does not settle" 1 "" \
 row "an end that is quiet twice" 2 "uucpair: bad script at line 2$line_feed" "" \
     play < <(printf 'quiet caller\nquiet caller\n')
 row "an end whose commands are short twice" 2 \
-    "uucpair: bad script at line 2${line_feed}uucpair: the end is set up, numbered, quiet, short or lenient already, or has 1024 jobs$line_feed" "" \
+    "uucpair: bad script at line 2${line_feed}uucpair: the end is set up, numbered, quiet, short, lenient or telling digests already, or has 1024 jobs$line_feed" "" \
     play -v < <(printf 'short caller\nshort caller\n')
 row "an end that is lenient twice" 2 "uucpair: bad script at line 2$line_feed" "" \
     play < <(printf 'lenient called\nlenient called\n')
@@ -436,6 +436,16 @@ folders "send x y u"
 answer_in_the_background --strict
 row "a call of a strict end" 0 "" "caller done pending 0 struck 1 failed 0$line_feed" \
     call "unix:$socket" "$a" --me a --peer b --strict </dev/null
+wait "$answerer" || true
+folders "send x y u"
+answer_in_the_background --no-digest
+row "a call to an end that compares no digests" 0 "" "caller done pending 0 struck 1 failed 0$line_feed" \
+    call "unix:$socket" "$a" --me a --peer b </dev/null
+wait "$answerer" || true
+folders "send x y u"
+answer_in_the_background
+row "a call that tells no digests" 0 "" "caller done pending 0 struck 1 failed 0$line_feed" \
+    call "unix:$socket" "$a" --me a --peer b --no-digest </dev/null
 wait "$answerer" || true
 folders "send ~/x y u"
 answer_in_the_background

@@ -1,5 +1,6 @@
 -- Whose turn it is, turn by turn.
 use Rattle.std.proofs.Common.{◌≡◌, ℕ, Bool, true, false, List, [], ◌∷◌, Option, Some, None, inl, inr, refl, sym, subst, ◌∙◌}
+use Rattle.uug_digest.specs.declared.file_digest.FileDigest.{FileDigest}
 use Rattle.uug_conversation.specs.declared.job.Job.{Job}
 use Rattle.uug_conversation.specs.declared.job.Job.TheVariants as job
 use Rattle.uug_conversation.specs.declared.verdict.Verdict.{Verdict}
@@ -14,6 +15,7 @@ use Rattle.uug_conversation.specs.Exchange.{send_exchange, request_exchange}
 use Rattle.uug_conversation.specs.Holdings.{File, Holdings, to_give}
 use Rattle.uug_conversation.specs.Jobs.{Move, pass, strike, fail}
 use Rattle.uug_conversation.specs.Party.{Party}
+use Rattle.uug_conversation.specs.Told.{told_of}
 use Rattle.uug_conversation.specs.Turns.{other, Said, the_order, the_answer, Turn, plain, moving}
 use Rattle.uug_conversation.specs.declared.side.Side.{Side}
 use Rattle.uug_conversation.specs.declared.side.Side.TheVariants.{Caller, Called}
@@ -29,76 +31,76 @@ by_other t master [] e h = tt
 by_other t master (next ∷ ts) e h = inl (h.0 ∙ e)
 
 -- a turn of the master itself, behind which a command may stand
-by_same : (t : Turn) (ts : List Turn) → ((o : Order) → GoesOn t.said (the_order o)) → BeginsWithCommand t.speaker ts → IsFollowedBy t ts
+by_same : (t : Turn) (ts : List Turn) → ((o : Order) (told : Option FileDigest) → GoesOn t.said (the_order o told)) → BeginsWithCommand t.speaker ts → IsFollowedBy t ts
 by_same t [] g h = tt
-by_same t (next ∷ ts) g h = inr (h.0, subst (λ (s : Said). GoesOn t.said s) (sym h.2) (g h.1))
+by_same t (next ∷ ts) g h = inr (h.0, subst (λ (s : Said). GoesOn t.said s) (sym h.3) (g h.1 h.2))
 
 record AreSides (master slave : Side) : Type 0 where
   to_slave : slave ≡ other master
   to_master : master ≡ other slave
 
-send_alternates : (master slave : Side) (source target user : List ℕ) (temp : Option (List ℕ))
+send_alternates : (master slave : Side) (digests : Bool) (source target user : List ℕ) (temp : Option (List ℕ))
     (file : Option File) (verdict : Verdict) (immovable : Bool) (next : List Move) (rest : List Turn)
     → AreSides master slave → AreMasters master rest
-    → AreMasters master (send_exchange master slave source target user temp file verdict immovable next rest)
-send_alternates master slave source target user temp None verdict immovable next rest s h = h
-send_alternates master slave source target user temp (Some file) Never immovable next rest s h = record {
-  begins = (refl, order.Send source target user temp file.mode, refl);
+    → AreMasters master (send_exchange master slave digests source target user temp file verdict immovable next rest)
+send_alternates master slave digests source target user temp None verdict immovable next rest s h = h
+send_alternates master slave digests source target user temp (Some file) Never immovable next rest s h = record {
+  begins = (refl, order.Send source target user temp file.mode, told_of digests (Some file), refl);
   alternate = (inl s.to_slave, (by_other (moving slave (the_answer answer.SendNever) (fail ∷ next)) master rest s.to_master h.begins, h.alternate));
 }
-send_alternates master slave source target user temp (Some file) Later immovable next rest s h = record {
-  begins = (refl, order.Send source target user temp file.mode, refl);
+send_alternates master slave digests source target user temp (Some file) Later immovable next rest s h = record {
+  begins = (refl, order.Send source target user temp file.mode, told_of digests (Some file), refl);
   alternate = (inl s.to_slave, (by_other (moving slave (the_answer answer.SendLater) (pass ∷ next)) master rest s.to_master h.begins, h.alternate));
 }
-send_alternates master slave source target user temp (Some file) Yes false next rest s h = record {
-  begins = (refl, order.Send source target user temp file.mode, refl);
+send_alternates master slave digests source target user temp (Some file) Yes false next rest s h = record {
+  begins = (refl, order.Send source target user temp file.mode, told_of digests (Some file), refl);
   alternate = (inl s.to_slave, (inl s.to_master, (inl s.to_slave, (by_other (moving slave (the_answer answer.DoneYes) (strike ∷ next)) master rest s.to_master h.begins, h.alternate))));
 }
-send_alternates master slave source target user temp (Some file) Yes true next rest s h = record {
-  begins = (refl, order.Send source target user temp file.mode, refl);
+send_alternates master slave digests source target user temp (Some file) Yes true next rest s h = record {
+  begins = (refl, order.Send source target user temp file.mode, told_of digests (Some file), refl);
   alternate = (inl s.to_slave, (inl s.to_master, (inl s.to_slave, (by_other (moving slave (the_answer answer.DoneNever) (fail ∷ next)) master rest s.to_master h.begins, h.alternate))));
 }
 
-request_alternates : (master slave : Side) (source target user : List ℕ) (file : Option File) (immovable : Bool)
+request_alternates : (master slave : Side) (digests : Bool) (source target user : List ℕ) (file : Option File) (immovable : Bool)
     (next : List Move) (rest : List Turn)
     → AreSides master slave → AreMasters master rest
-    → AreMasters master (request_exchange master slave source target user file immovable next rest)
-request_alternates master slave source target user None immovable next rest s h = record {
-  begins = (refl, order.Request source target user, refl);
+    → AreMasters master (request_exchange master slave digests source target user file immovable next rest)
+request_alternates master slave digests source target user None immovable next rest s h = record {
+  begins = (refl, order.Request source target user, None, refl);
   alternate = (inl s.to_slave, (by_other (moving slave (the_answer answer.GiveNever) (fail ∷ next)) master rest s.to_master h.begins, h.alternate));
 }
-request_alternates master slave source target user (Some file) false next rest s h = record {
-  begins = (refl, order.Request source target user, refl);
-  alternate = (inl s.to_slave, (inr (refl, with_file), (inl s.to_master, (by_same (plain master (the_answer answer.DoneYes)) rest (λ o. after_done) h.begins, h.alternate))));
+request_alternates master slave digests source target user (Some file) false next rest s h = record {
+  begins = (refl, order.Request source target user, None, refl);
+  alternate = (inl s.to_slave, (inr (refl, with_file), (inl s.to_master, (by_same (plain master (the_answer answer.DoneYes)) rest (λ o told. after_done) h.begins, h.alternate))));
 }
-request_alternates master slave source target user (Some file) true next rest s h = record {
-  begins = (refl, order.Request source target user, refl);
-  alternate = (inl s.to_slave, (inr (refl, with_file), (inl s.to_master, (by_same (plain master (the_answer answer.DoneNever)) rest (λ o. after_never) h.begins, h.alternate))));
+request_alternates master slave digests source target user (Some file) true next rest s h = record {
+  begins = (refl, order.Request source target user, None, refl);
+  alternate = (inl s.to_slave, (inr (refl, with_file), (inl s.to_master, (by_same (plain master (the_answer answer.DoneNever)) rest (λ o told. after_never) h.begins, h.alternate))));
 }
 
 exchanges_alternate : (master slave : Side) (own others : Holdings) (jobs : List Job) (rest : List Turn)
     → AreSides master slave → AreMasters master rest → AreMasters master (exchanges master slave own others jobs rest)
 exchanges_alternate master slave own others [] rest s h = h
 exchanges_alternate master slave own others (job.Send source target user temp ∷ jobs) rest s h =
-    send_alternates master slave source target user temp (to_give own (fetched_by source temp)) (others.verdict target)
+    send_alternates master slave own.digests source target user temp (to_give own (fetched_by source temp)) (others.verdict target)
     (others.immovable target) (choice own jobs).failing (exchanges master slave own others jobs rest) s
     (exchanges_alternate master slave own others jobs rest s h)
 exchanges_alternate master slave own others (job.Request source target user ∷ jobs) rest s h =
-    request_alternates master slave source target user (to_give others source) (own.immovable target)
+    request_alternates master slave others.digests source target user (to_give others source) (own.immovable target)
     (choice own jobs).failing (exchanges master slave own others jobs rest) s
     (exchanges_alternate master slave own others jobs rest s h)
 
 last_alternate : AreMasters Called last_turns
-last_alternate = record { begins = (refl, order.HangUp, refl); alternate = (inl refl, (inl refl, (tt, tt))) }
+last_alternate = record { begins = (refl, order.HangUp, None, refl); alternate = (inl refl, (inl refl, (tt, tt))) }
 
 hang_up_alternates : (next : Option Order) (moves : List Move) (a b : Party)
-    → AreMasters Caller (record { speaker = Caller; said = the_order order.HangUp; moves = moves; keeps = [] } ∷ after_hang_up next a b)
-hang_up_alternates None moves a b = record { begins = (refl, order.HangUp, refl); alternate = (inl refl, (inl refl, (tt, tt))) }
+    → AreMasters Caller (record { speaker = Caller; said = the_order order.HangUp None; moves = moves; keeps = [] } ∷ after_hang_up next a b)
+hang_up_alternates None moves a b = record { begins = (refl, order.HangUp, None, refl); alternate = (inl refl, (inl refl, (tt, tt))) }
 hang_up_alternates (Some first) moves a b =
     let h = exchanges_alternate Called Caller b.holdings a.holdings b.jobs last_turns (record { to_slave = refl; to_master = refl }) last_alternate in
     record {
-      begins = (refl, order.HangUp, refl);
-      alternate = (inl refl, (by_same (plain Called (the_answer answer.HangNo)) (exchanges Called Caller b.holdings a.holdings b.jobs last_turns) (λ o. after_no) h.begins, h.alternate));
+      begins = (refl, order.HangUp, None, refl);
+      alternate = (inl refl, (by_same (plain Called (the_answer answer.HangNo)) (exchanges Called Caller b.holdings a.holdings b.jobs last_turns) (λ o told. after_no) h.begins, h.alternate));
     }
 
 whole : (a b : Party) → AreMasters Caller (conversation a b)

@@ -1,5 +1,7 @@
 -- Jobs that were struck and failed before a session change nothing of what an end does in it.
 use Rattle.std.proofs.Common.{◌≡◌, ℕ, Bool, true, false, List, [], ◌∷◌, ◌++◌, length, nat_lt, Option, Some, None, Result, Ok, Err, refl, ap, ap₂, ◌∙◌, append_assoc, append-nil}
+use Rattle.uug_digest.specs.Digests.{told_by_answer, told_by_order}
+use Rattle.uug_digest.specs.declared.file_digest.FileDigest.{FileDigest}
 use Rattle.uug_talk.specs.declared.answer.Answer.{Answer}
 use Rattle.uug_talk.specs.declared.answer.Answer.TheVariants as answer
 use Rattle.uug_talk.specs.declared.error.BadText.{BadText}
@@ -19,7 +21,8 @@ use Rattle.uug_conversation.specs.Choice.{choice, fetched_by}
 use Rattle.uug_conversation.specs.EarlierJobs.{behind, state_behind, reply_behind}
 use Rattle.uug_conversation.specs.Holdings.{File, Kept, Holdings, to_give}
 use Rattle.uug_conversation.specs.Jobs.{Lists, at_start, Move, pass, strike, fail, move_first, moved, moved_once}
-use Rattle.uug_conversation.specs.Machine.{State, commands, order_or_hang_up, goes_on, on_send, on_request, on_hang_up, on_unread, on_order, on_given_file_done, on_last_hang_up, sends_file, on_send_yes, move_held, on_send_answer, on_sent_file_done, on_sent_job_done, on_request_answer, on_hang_up_answer, on_nothing_more, on_text, keeps, on_sent_file, on_asked_file, on_file_of, on_file, on_whole, on_gathered, on_past_limit, on_part, gathered_with, step, comes_early, unless_early, reply_to, opening}
+use Rattle.uug_conversation.specs.Machine.{State, commands, order_or_hang_up, goes_on, on_send, send_verdict, on_request, on_hang_up, on_unread, on_order, on_given_file_done, on_last_hang_up, sends_file, on_send_yes, move_held, on_send_answer, on_sent_file_done, on_sent_job_done, on_request_answer, on_hang_up_answer, on_nothing_more, on_text, keeps, file_verdict, on_sent_file, on_asked_file, on_file_of, on_file, on_whole, on_gathered, on_past_limit, on_part, gathered_with, step, comes_early, unless_early, reply_to, opening}
+use Rattle.uug_conversation.specs.Told.{heard}
 use Rattle.uug_conversation.specs.Turns.{Said, the_answer}
 use Rattle.uug_conversation.specs.declared.side.Side.{Side}
 use Rattle.uug_conversation.specs.declared.side.Side.TheVariants.{Caller, Called}
@@ -51,7 +54,7 @@ moved_behind x y (move ∷ moves) l =
 goes_on_behind : (x y : List Job) (h : Holdings) (l : Lists) (before : List Said) →
     goes_on h (behind x y l) before ≡ reply_behind x y (goes_on h l before)
 goes_on_behind x y h l before =
-    ap (λ z. commands z before (order_or_hang_up (choice h l.ahead).next)) (moved_behind x y (choice h l.ahead).failing l)
+    ap (λ z. commands h z before (order_or_hang_up (choice h l.ahead).next)) (moved_behind x y (choice h l.ahead).failing l)
 
 -- after a move
 goes_on_after : (x y : List Job) (h : Holdings) (move : Move) (l : Lists) (before : List Said) →
@@ -61,35 +64,35 @@ goes_on_after x y h move l before =
 
 -- ---- a slave
 
-send_behind : (x y : List Job) (verdict : Verdict) (target : List ℕ) (mode : ℕ) (l : Lists) →
-    on_send verdict target mode (behind x y l) ≡ reply_behind x y (on_send verdict target mode l)
-send_behind x y Yes target mode l = refl
-send_behind x y Never target mode l = refl
-send_behind x y Later target mode l = refl
+send_behind : (x y : List Job) (verdict : Verdict) (target : List ℕ) (mode : ℕ) (told : Option FileDigest) (l : Lists) →
+    on_send verdict target mode told (behind x y l) ≡ reply_behind x y (on_send verdict target mode told l)
+send_behind x y Yes target mode told l = refl
+send_behind x y Never target mode told l = refl
+send_behind x y Later target mode told l = refl
 
-request_behind : (x y : List Job) (offered : Option File) (l : Lists) →
-    on_request offered (behind x y l) ≡ reply_behind x y (on_request offered l)
-request_behind x y None l = refl
-request_behind x y (Some file) l = refl
+request_behind : (x y : List Job) (digests : Bool) (offered : Option File) (l : Lists) →
+    on_request digests offered (behind x y l) ≡ reply_behind x y (on_request digests offered l)
+request_behind x y digests None l = refl
+request_behind x y digests (Some file) l = refl
 
-hang_up_behind : (x y : List Job) (next : Option Order) (l : Lists) →
-    on_hang_up next (behind x y l) ≡ reply_behind x y (on_hang_up next l)
-hang_up_behind x y None l = refl
-hang_up_behind x y (Some next) l = refl
+hang_up_behind : (x y : List Job) (h : Holdings) (next : Option Order) (l : Lists) →
+    on_hang_up h next (behind x y l) ≡ reply_behind x y (on_hang_up h next l)
+hang_up_behind x y h None l = refl
+hang_up_behind x y h (Some next) l = refl
 
 unread_behind : (x y : List Job) (lenient : Bool) (refusal : Option Answer) (l : Lists) →
     on_unread lenient refusal (behind x y l) ≡ reply_behind x y (on_unread lenient refusal l)
 unread_behind x y true (Some refusal) l = refl
 unread_behind x y _ _ l = refl
 
-order_behind : (x y : List Job) (h : Holdings) (refusal : Option Answer) (read : Result Order BadText) (l : Lists) →
-    on_order h refusal read (behind x y l) ≡ reply_behind x y (on_order h refusal read l)
-order_behind x y h refusal (Ok (order.Send source target user temp mode)) l = send_behind x y (h.verdict target) target mode l
-order_behind x y h refusal (Ok (order.Request source target user)) l = request_behind x y (to_give h source) l
-order_behind x y h refusal (Ok order.HangUp) l =
-    ap (on_hang_up (choice h l.ahead).next) (moved_behind x y (choice h l.ahead).failing l)
-    ∙ hang_up_behind x y (choice h l.ahead).next (moved (choice h l.ahead).failing l)
-order_behind x y h refusal (Err fault) l = unread_behind x y h.lenient refusal l
+order_behind : (x y : List Job) (h : Holdings) (refusal : Option Answer) (told : Option FileDigest) (read : Result Order BadText)
+    (l : Lists) → on_order h refusal told read (behind x y l) ≡ reply_behind x y (on_order h refusal told read l)
+order_behind x y h refusal told (Ok (order.Send source target user temp mode)) l = send_behind x y (send_verdict h target told) target mode told l
+order_behind x y h refusal told (Ok (order.Request source target user)) l = request_behind x y h.digests (to_give h source) l
+order_behind x y h refusal told (Ok order.HangUp) l =
+    ap (on_hang_up h (choice h l.ahead).next) (moved_behind x y (choice h l.ahead).failing l)
+    ∙ hang_up_behind x y h (choice h l.ahead).next (moved (choice h l.ahead).failing l)
+order_behind x y h refusal told (Err fault) l = unread_behind x y h.lenient refusal l
 
 given_file_behind : (x y : List Job) (read : Result Answer BadText) (l : Lists) →
     on_given_file_done read (behind x y l) ≡ reply_behind x y (on_given_file_done read l)
@@ -129,7 +132,7 @@ sent_file_done_behind : (x y : List Job) (h : Holdings) (read : Result Answer Ba
     on_sent_file_done h read (behind x y l) ≡ reply_behind x y (on_sent_file_done h read l)
 sent_file_done_behind x y h (Ok answer.DoneYes) l = goes_on_after x y h strike l []
 sent_file_done_behind x y h (Ok answer.DoneYesMaster) l =
-    ap (λ z. commands z [] order.HangUp) (once_behind x y strike l)
+    ap (λ z. commands h z [] order.HangUp) (once_behind x y strike l)
 sent_file_done_behind x y h (Ok answer.DoneNever) l = goes_on_after x y h fail l []
 sent_file_done_behind x y h (Ok answer.DoneLater) l = goes_on_after x y h pass l []
 sent_file_done_behind x y h _ l = refl
@@ -139,12 +142,12 @@ sent_job_done_behind : (x y : List Job) (h : Holdings) (jobs : List Job) (read :
 sent_job_done_behind x y h (job.Send source target user temp ∷ jobs) read l = sent_file_done_behind x y h read l
 sent_job_done_behind x y h _ read l = refl
 
-request_answer_behind : (x y : List Job) (h : Holdings) (read : Result Answer BadText) (l : Lists) →
-    on_request_answer h read (behind x y l) ≡ reply_behind x y (on_request_answer h read l)
-request_answer_behind x y h (Ok (answer.GiveYes mode)) l = refl
-request_answer_behind x y h (Ok answer.GiveNever) l = goes_on_after x y h fail l []
-request_answer_behind x y h (Ok answer.GiveLater) l = goes_on_after x y h pass l []
-request_answer_behind x y h _ l = refl
+request_answer_behind : (x y : List Job) (h : Holdings) (told : Option FileDigest) (read : Result Answer BadText) (l : Lists) →
+    on_request_answer h told read (behind x y l) ≡ reply_behind x y (on_request_answer h told read l)
+request_answer_behind x y h told (Ok (answer.GiveYes mode)) l = refl
+request_answer_behind x y h told (Ok answer.GiveNever) l = goes_on_after x y h fail l []
+request_answer_behind x y h told (Ok answer.GiveLater) l = goes_on_after x y h pass l []
+request_answer_behind x y h told _ l = refl
 
 hang_up_answer_behind : (x y : List Job) (read : Result Answer BadText) (l : Lists) →
     on_hang_up_answer read (behind x y l) ≡ reply_behind x y (on_hang_up_answer read l)
@@ -161,37 +164,39 @@ nothing_more_behind x y _ l = refl
 
 text_behind : (x y : List Job) (h : Holdings) (awaited : Awaits) (text : List ℕ) (l : Lists) →
     on_text h awaited text (behind x y l) ≡ reply_behind x y (on_text h awaited text l)
-text_behind x y h awaits.Order text l = order_behind x y h (refusal_of text) (order_of text) l
+text_behind x y h awaits.Order text l = order_behind x y h (refusal_of text) (heard h.digests (told_by_order text)) (order_of text) l
 text_behind x y h awaits.GivenFileDone text l = given_file_behind x y (answer_of text) l
 text_behind x y h awaits.LastHangUp text l = last_hang_up_behind x y (answer_of text) l
 text_behind x y h awaits.SendAnswer text l = send_answer_behind x y h (answer_of text) l
 text_behind x y h awaits.SentFileDone text l = sent_job_done_behind x y h l.ahead (answer_of text) l
-text_behind x y h awaits.RequestAnswer text l = request_answer_behind x y h (answer_of text) l
+text_behind x y h awaits.RequestAnswer text l = request_answer_behind x y h (heard h.digests (told_by_answer text)) (answer_of text) l
 text_behind x y h awaits.HangUpAnswer text l = hang_up_answer_behind x y (answer_of text) l
 text_behind x y h awaits.NothingMore text l = nothing_more_behind x y (answer_of text) l
 text_behind x y h _ text l = refl
 
-sent_file_behind : (x y : List Job) (immovable : Bool) (file : Kept) (l : Lists) →
-    on_sent_file immovable file (behind x y l) ≡ reply_behind x y (on_sent_file immovable file l)
-sent_file_behind x y false file l = refl
-sent_file_behind x y true file l = refl
+sent_file_behind : (x y : List Job) (verdict : Verdict) (file : Kept) (l : Lists) →
+    on_sent_file verdict file (behind x y l) ≡ reply_behind x y (on_sent_file verdict file l)
+sent_file_behind x y Yes file l = refl
+sent_file_behind x y Never file l = refl
+sent_file_behind x y Later file l = refl
 
-asked_file_behind : (x y : List Job) (h : Holdings) (immovable : Bool) (file : Kept) (l : Lists) →
-    on_asked_file h immovable file (behind x y l) ≡ reply_behind x y (on_asked_file h immovable file l)
-asked_file_behind x y h false file l = ap (keeps file) (goes_on_after x y h strike l (the_answer answer.DoneYes ∷ []))
-asked_file_behind x y h true file l = goes_on_after x y h fail l (the_answer answer.DoneNever ∷ [])
+asked_file_behind : (x y : List Job) (h : Holdings) (verdict : Verdict) (file : Kept) (l : Lists) →
+    on_asked_file h verdict file (behind x y l) ≡ reply_behind x y (on_asked_file h verdict file l)
+asked_file_behind x y h Yes file l = ap (keeps file) (goes_on_after x y h strike l (the_answer answer.DoneYes ∷ []))
+asked_file_behind x y h Never file l = goes_on_after x y h fail l (the_answer answer.DoneNever ∷ [])
+asked_file_behind x y h Later file l = goes_on_after x y h pass l (the_answer answer.DoneLater ∷ [])
 
-file_of_behind : (x y : List Job) (h : Holdings) (jobs : List Job) (mode : ℕ) (bytes : List ℕ) (l : Lists) →
-    on_file_of h jobs mode bytes (behind x y l) ≡ reply_behind x y (on_file_of h jobs mode bytes l)
-file_of_behind x y h (job.Request source target user ∷ jobs) mode bytes l =
-    asked_file_behind x y h (h.immovable target) (record { name = target; mode = mode; bytes = bytes }) l
-file_of_behind x y h _ mode bytes l = refl
+file_of_behind : (x y : List Job) (h : Holdings) (jobs : List Job) (mode : ℕ) (told : Option FileDigest) (bytes : List ℕ) (l : Lists) →
+    on_file_of h jobs mode told bytes (behind x y l) ≡ reply_behind x y (on_file_of h jobs mode told bytes l)
+file_of_behind x y h (job.Request source target user ∷ jobs) mode told bytes l =
+    asked_file_behind x y h (file_verdict h target told bytes) (record { name = target; mode = mode; bytes = bytes }) l
+file_of_behind x y h _ mode told bytes l = refl
 
 file_behind : (x y : List Job) (h : Holdings) (awaited : Awaits) (bytes : List ℕ) (l : Lists) →
     on_file h awaited bytes (behind x y l) ≡ reply_behind x y (on_file h awaited bytes l)
-file_behind x y h (awaits.SentFile target mode) bytes l =
-    sent_file_behind x y (h.immovable target) (record { name = target; mode = mode; bytes = bytes }) l
-file_behind x y h (awaits.AskedFile mode) bytes l = file_of_behind x y h l.ahead mode bytes l
+file_behind x y h (awaits.SentFile target mode told) bytes l =
+    sent_file_behind x y (file_verdict h target told bytes) (record { name = target; mode = mode; bytes = bytes }) l
+file_behind x y h (awaits.AskedFile mode told) bytes l = file_of_behind x y h l.ahead mode told bytes l
 file_behind x y h awaits.DroppedAskedFile bytes l = goes_on_after x y h fail l (the_answer answer.DoneNever ∷ [])
 file_behind x y h _ bytes l = refl
 

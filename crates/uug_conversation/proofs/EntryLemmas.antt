@@ -23,29 +23,29 @@ use Rattle.uug_conversation.specs.View.{party}
 abbrev OfSilence : (Turn → Type 0) → Type 0
 OfSilence W = (t : Turn) → t.keeps ≡ [] → W t
 
-send_entries : (W : Turn → Type 0) → OfSilence W → (master slave : Side) (source target user : List ℕ) (temp : Option (List ℕ))
+send_entries : (W : Turn → Type 0) → OfSilence W → (master slave : Side) (digests : Bool) (source target user : List ℕ) (temp : Option (List ℕ))
     (file : Option File) (verdict : Verdict) (immovable : Bool) (next : List Move) (rest : List Turn)
     → ((f : File) → file ≡ Some f → W (keeping master target f [])) → EachTurn W rest
-    → EachTurn W (send_exchange master slave source target user temp file verdict immovable next rest)
-send_entries W w master slave source target user temp None verdict immovable next rest h r = r
-send_entries W w master slave source target user temp (Some file) Never immovable next rest h r =
+    → EachTurn W (send_exchange master slave digests source target user temp file verdict immovable next rest)
+send_entries W w master slave digests source target user temp None verdict immovable next rest h r = r
+send_entries W w master slave digests source target user temp (Some file) Never immovable next rest h r =
     (w _ refl, (w _ refl, r))
-send_entries W w master slave source target user temp (Some file) Later immovable next rest h r =
+send_entries W w master slave digests source target user temp (Some file) Later immovable next rest h r =
     (w _ refl, (w _ refl, r))
-send_entries W w master slave source target user temp (Some file) Yes false next rest h r =
+send_entries W w master slave digests source target user temp (Some file) Yes false next rest h r =
     (w _ refl, (w _ refl, (h file refl, (w _ refl, r))))
-send_entries W w master slave source target user temp (Some file) Yes true next rest h r =
+send_entries W w master slave digests source target user temp (Some file) Yes true next rest h r =
     (w _ refl, (w _ refl, (w _ refl, (w _ refl, r))))
 
-request_entries : (W : Turn → Type 0) → OfSilence W → (master slave : Side) (source target user : List ℕ)
+request_entries : (W : Turn → Type 0) → OfSilence W → (master slave : Side) (digests : Bool) (source target user : List ℕ)
     (file : Option File) (immovable : Bool) (next : List Move) (rest : List Turn)
     → ((f : File) (moves : List Move) → file ≡ Some f → W (keeping slave target f moves)) → EachTurn W rest
-    → EachTurn W (request_exchange master slave source target user file immovable next rest)
-request_entries W w master slave source target user None immovable next rest h r =
+    → EachTurn W (request_exchange master slave digests source target user file immovable next rest)
+request_entries W w master slave digests source target user None immovable next rest h r =
     (w _ refl, (w _ refl, r))
-request_entries W w master slave source target user (Some file) false next rest h r =
+request_entries W w master slave digests source target user (Some file) false next rest h r =
     (w _ refl, (w _ refl, (h file (strike ∷ next) refl, (w _ refl, r))))
-request_entries W w master slave source target user (Some file) true next rest h r =
+request_entries W w master slave digests source target user (Some file) true next rest h r =
     (w _ refl, (w _ refl, (w _ refl, (w _ refl, r))))
 
 -- the turns in which the file of a job is kept have the fact
@@ -61,13 +61,13 @@ exchanges_entries W w master slave own others [] rest h r = r
 exchanges_entries W w master slave own others (job.Send source target user temp ∷ jobs) rest h r =
     let first = All-head (OfJob W master slave own others) (job.Send source target user temp) jobs h in
     let later = All-tail (OfJob W master slave own others) (job.Send source target user temp) jobs h in
-    send_entries W w master slave source target user temp (to_give own (fetched_by source temp)) (others.verdict target)
+    send_entries W w master slave own.digests source target user temp (to_give own (fetched_by source temp)) (others.verdict target)
     (others.immovable target) (choice own jobs).failing (exchanges master slave own others jobs rest) first
     (exchanges_entries W w master slave own others jobs rest later r)
 exchanges_entries W w master slave own others (job.Request source target user ∷ jobs) rest h r =
     let first = All-head (OfJob W master slave own others) (job.Request source target user) jobs h in
     let later = All-tail (OfJob W master slave own others) (job.Request source target user) jobs h in
-    request_entries W w master slave source target user (to_give others source) (own.immovable target)
+    request_entries W w master slave others.digests source target user (to_give others source) (own.immovable target)
     (choice own jobs).failing (exchanges master slave own others jobs rest) first
     (exchanges_entries W w master slave own others jobs rest later r)
 

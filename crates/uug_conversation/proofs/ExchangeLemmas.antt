@@ -1,8 +1,11 @@
 -- The exchange of one job in front of what an end accords with: at the master's side, and at the slave's.
-use Rattle.std.proofs.Common.{◌≡◌, ℕ, ◌<◌, Bool, true, false, List, [], ◌∷◌, ◌++◌, Option, Some, None, refl, ap, ◌∙◌}
+use Rattle.std.proofs.Common.{◌≡◌, ℕ, ◌<◌, Bool, true, false, ◌&&◌, List, [], ◌∷◌, ◌++◌, Option, Some, None, Ok, refl, sym, ap, ap₂, subst, ◌∙◌}
+use Rattle.uug_digest.specs.declared.file_digest.FileDigest.{FileDigest}
 use Rattle.uug_talk.specs.Chunks.{Measure}
 use Rattle.uug_talk.specs.declared.answer.Answer.TheVariants as answer
+use Rattle.uug_talk.specs.declared.order.Order.{Order}
 use Rattle.uug_talk.specs.declared.order.Order.TheVariants as order
+use Rattle.uug_talk.specs.Gathering.{OfCommand}
 use Rattle.uug_conversation.specs.declared.awaits.Awaits.{Awaits}
 use Rattle.uug_conversation.specs.declared.awaits.Awaits.TheVariants as awaits
 use Rattle.uug_conversation.specs.declared.job.Job.{Job}
@@ -14,12 +17,13 @@ use Rattle.uug_conversation.specs.Conversation.{exchanges}
 use Rattle.uug_conversation.specs.Exchange.{send_exchange, request_exchange, exchange}
 use Rattle.uug_conversation.specs.Holdings.{File, Kept, Holdings, to_give, kept_as}
 use Rattle.uug_conversation.specs.Jobs.{Lists, Move, pass, strike, fail, moved, moved_once}
-use Rattle.uug_talk.specs.Order.{order_text}
 use Rattle.uug_talk.specs.Unread.{refusal_of}
-use Rattle.uug_conversation.specs.Machine.{State, Reply, between, replies, kind_awaited, on_whole, keeps, chooses, goes_on, on_send, on_request, on_order, sends_file, on_request_answer, on_sent_file, on_asked_file}
+use Rattle.uug_conversation.specs.Machine.{State, Reply, between, replies, kind_awaited, on_whole, keeps, chooses, file_verdict, goes_on, on_send, on_request, on_order, sends_file, on_request_answer, on_sent_file, on_asked_file}
 use Rattle.uug_conversation.specs.ReadBack.{IsReadBack, EachTurn}
-use Rattle.uug_conversation.specs.Turns.{other, Said, the_order, the_answer, the_file, said_messages, all_messages, Turn}
+use Rattle.uug_conversation.specs.Turns.{other, Said, the_order, the_answer, the_giving, the_file, said_messages, all_messages, Turn}
 use Rattle.uug_conversation.specs.declared.side.Side.{Side}
+use Rattle.uug_conversation.specs.Told.{heard, is_too_large, order_said, outcome, told_of, unless_too_large}
+use Rattle.uug_conversation.proofs.ToldLemmas.{fits_given, given_is_taken}
 use Rattle.uug_conversation.proofs.TurnLemmas.{Fits, Open, said_kind, said_bytes, own_says, other_says}
 
 module _ (measure_of : Side → Measure) (positive : (side : Side) → 0 < (measure_of side).size) (me : Side) (h : Holdings) where
@@ -51,16 +55,21 @@ module _ (measure_of : Side → Measure) (positive : (side : Side) → 0 < (meas
       other_says measure_of positive me h said moves keeps ts l w back kind opened r e
       (record { lists_moved = lists_so; kept = keeps_so }) fits
 
+  -- a file that comes as it was told of is kept where it can be put in its place
+  verdict_is : (digests : Bool) (target : List ℕ) (file : File) (immovable : Bool) → h.immovable target ≡ immovable →
+      file_verdict h target (heard h.digests (told_of digests (Some file))) file.bytes ≡ outcome true immovable
+  verdict_is digests target file immovable e = ap₂ outcome (fits_given h.digests digests file) e
+
   -- ---- Send, at the master's
 
   send_offered : (source target user : List ℕ) (temp : Option (List ℕ)) (file : File) →
       to_give h (fetched_by source temp) ≡ Some file → (verdict : Verdict) (immovable : Bool) →
       (passed jobs struck failed : List Job) (ts : List Turn) →
-      EachTurn (λ t. IsReadBack t.said) (send_exchange me (other me) source target user temp (Some file) verdict immovable (choice h jobs).failing ts) →
+      EachTurn (λ t. IsReadBack t.said) (send_exchange me (other me) h.digests source target user temp (Some file) verdict immovable (choice h jobs).failing ts) →
       Masters jobs ts →
       FitsReply (replies (lists passed (job.Send source target user temp ∷ jobs) struck failed) awaits.SendAnswer
-      (the_order (order.Send source target user temp file.mode) ∷ []))
-      (send_exchange me (other me) source target user temp (Some file) verdict immovable (choice h jobs).failing ts)
+      (the_order (order.Send source target user temp file.mode) (told_of h.digests (Some file)) ∷ []))
+      (send_exchange me (other me) h.digests source target user temp (Some file) verdict immovable (choice h jobs).failing ts)
   send_offered source target user temp file e Never immovable passed jobs struck failed ts back rest =
       let l = lists passed (job.Send source target user temp ∷ jobs) struck failed in
       say back.0
@@ -97,50 +106,53 @@ module _ (measure_of : Side → Measure) (positive : (side : Side) → 0 < (meas
   send_as_master : (source target user : List ℕ) (temp : Option (List ℕ)) (found : Option File) →
       to_give h (fetched_by source temp) ≡ found → (verdict : Verdict) (immovable : Bool) →
       (passed jobs struck failed : List Job) (ts : List Turn) →
-      EachTurn (λ t. IsReadBack t.said) (send_exchange me (other me) source target user temp found verdict immovable (choice h jobs).failing ts) →
+      EachTurn (λ t. IsReadBack t.said) (send_exchange me (other me) h.digests source target user temp found verdict immovable (choice h jobs).failing ts) →
       Masters jobs ts →
-      FitsReply (chooses (send_choice source target user temp found (choice h jobs))
+      FitsReply (chooses h (send_choice source target user temp found (choice h jobs))
       (lists passed (job.Send source target user temp ∷ jobs) struck failed) [])
-      (send_exchange me (other me) source target user temp found verdict immovable (choice h jobs).failing ts)
+      (send_exchange me (other me) h.digests source target user temp found verdict immovable (choice h jobs).failing ts)
   send_as_master source target user temp None e verdict immovable passed jobs struck failed ts back rest =
       rest passed struck (failed ++ job.Send source target user temp ∷ [])
   send_as_master source target user temp (Some file) e verdict immovable passed jobs struck failed ts back rest =
-      send_offered source target user temp file e verdict immovable passed jobs struck failed ts back rest
+      subst (λ z. FitsReply (replies (lists passed (job.Send source target user temp ∷ jobs) struck failed) awaits.SendAnswer
+      (the_order (order.Send source target user temp file.mode) (told_of h.digests z) ∷ []))
+      (send_exchange me (other me) h.digests source target user temp (Some file) verdict immovable (choice h jobs).failing ts))
+      (sym e) (send_offered source target user temp file e verdict immovable passed jobs struck failed ts back rest)
 
   -- ---- Request, at the master's
 
-  request_as_master : (source target user : List ℕ) (found : Option File) (immovable : Bool) → h.immovable target ≡ immovable →
+  request_as_master : (digests : Bool) (source target user : List ℕ) (found : Option File) (immovable : Bool) → h.immovable target ≡ immovable →
       (passed jobs struck failed : List Job) (ts : List Turn) →
-      EachTurn (λ t. IsReadBack t.said) (request_exchange me (other me) source target user found immovable (choice h jobs).failing ts) →
+      EachTurn (λ t. IsReadBack t.said) (request_exchange me (other me) digests source target user found immovable (choice h jobs).failing ts) →
       Masters jobs ts →
       FitsReply (replies (lists passed (job.Request source target user ∷ jobs) struck failed) awaits.RequestAnswer
-      (the_order (order.Request source target user) ∷ []))
-      (request_exchange me (other me) source target user found immovable (choice h jobs).failing ts)
-  request_as_master source target user None immovable e passed jobs struck failed ts back rest =
+      (the_order (order.Request source target user) None ∷ []))
+      (request_exchange me (other me) digests source target user found immovable (choice h jobs).failing ts)
+  request_as_master digests source target user None immovable e passed jobs struck failed ts back rest =
       let l = lists passed (job.Request source target user ∷ jobs) struck failed in
       say back.0
       (hear_text {r = goes_on h (moved_once fail l) []} back.1.0 refl (record { not_over = refl; not_bad = refl; not_parted = refl })
       refl refl refl
       (rest passed struck (failed ++ job.Request source target user ∷ [])))
-  request_as_master source target user (Some file) false e passed jobs struck failed ts back rest =
+  request_as_master digests source target user (Some file) false e passed jobs struck failed ts back rest =
       let l = lists passed (job.Request source target user ∷ jobs) struck failed in
       say back.0
-      (hear_text {r = replies l (awaits.AskedFile file.mode) []} back.1.0 refl
+      (hear_text {r = replies l (awaits.AskedFile file.mode (heard h.digests (told_of digests (Some file)))) []} back.1.0 refl
       (record { not_over = refl; not_bad = refl; not_parted = refl })
-      (ap (λ a. on_request_answer h a l) back.1.0.1) refl refl
+      (ap₂ (λ t a. on_request_answer h (heard h.digests t) a l) back.1.0.2 back.1.0.1) refl refl
       (hear_text {r = keeps (kept_as target file) (goes_on h (moved_once strike l) (the_answer answer.DoneYes ∷ []))} back.1.1.0 refl
       (record { not_over = refl; not_bad = refl; not_parted = refl })
-      (ap (λ i. on_asked_file h i (kept_as target file) l) e) refl refl
+      (ap (λ z. on_asked_file h z (kept_as target file) l) (verdict_is digests target file false e)) refl refl
       (say back.1.1.1.0 (rest passed (struck ++ job.Request source target user ∷ []) failed))))
-  request_as_master source target user (Some file) true e passed jobs struck failed ts back rest =
+  request_as_master digests source target user (Some file) true e passed jobs struck failed ts back rest =
       let l = lists passed (job.Request source target user ∷ jobs) struck failed in
       say back.0
-      (hear_text {r = replies l (awaits.AskedFile file.mode) []} back.1.0 refl
+      (hear_text {r = replies l (awaits.AskedFile file.mode (heard h.digests (told_of digests (Some file)))) []} back.1.0 refl
       (record { not_over = refl; not_bad = refl; not_parted = refl })
-      (ap (λ a. on_request_answer h a l) back.1.0.1) refl refl
+      (ap₂ (λ t a. on_request_answer h (heard h.digests t) a l) back.1.0.2 back.1.0.1) refl refl
       (hear_text {r = goes_on h (moved_once fail l) (the_answer answer.DoneNever ∷ [])} back.1.1.0 refl
       (record { not_over = refl; not_bad = refl; not_parted = refl })
-      (ap (λ i. on_asked_file h i (kept_as target file) l) e) refl refl
+      (ap (λ z. on_asked_file h z (kept_as target file) l) (verdict_is digests target file true e)) refl refl
       (say back.1.1.1.0 (rest passed struck (failed ++ job.Request source target user ∷ [])))))
 
   -- ---- all jobs of a master, at its side
@@ -152,33 +164,33 @@ module _ (measure_of : Side → Measure) (positive : (side : Side) → 0 < (meas
       send_as_master source target user temp (to_give h (fetched_by source temp)) refl (others.verdict target)
       (others.immovable target) passed jobs struck failed ts back rest
   job_as_master others (job.Request source target user) jobs ts back rest passed struck failed =
-      request_as_master source target user (to_give others source) (h.immovable target) refl passed jobs struck failed ts back rest
+      request_as_master others.digests source target user (to_give others source) (h.immovable target) refl passed jobs struck failed ts back rest
 
-  behind_send : (master slave : Side) (source target user : List ℕ) (temp : Option (List ℕ)) (found : Option File)
+  behind_send : (master slave : Side) (digests : Bool) (source target user : List ℕ) (temp : Option (List ℕ)) (found : Option File)
       (verdict : Verdict) (immovable : Bool) (next : List Move) (ts : List Turn) →
-      EachTurn (λ t. IsReadBack t.said) (send_exchange master slave source target user temp found verdict immovable next ts) →
+      EachTurn (λ t. IsReadBack t.said) (send_exchange master slave digests source target user temp found verdict immovable next ts) →
       EachTurn (λ t. IsReadBack t.said) ts
-  behind_send master slave source target user temp None verdict immovable next ts back = back
-  behind_send master slave source target user temp (Some file) Never immovable next ts back = back.1.1
-  behind_send master slave source target user temp (Some file) Later immovable next ts back = back.1.1
-  behind_send master slave source target user temp (Some file) Yes false next ts back = back.1.1.1.1
-  behind_send master slave source target user temp (Some file) Yes true next ts back = back.1.1.1.1
+  behind_send master slave digests source target user temp None verdict immovable next ts back = back
+  behind_send master slave digests source target user temp (Some file) Never immovable next ts back = back.1.1
+  behind_send master slave digests source target user temp (Some file) Later immovable next ts back = back.1.1
+  behind_send master slave digests source target user temp (Some file) Yes false next ts back = back.1.1.1.1
+  behind_send master slave digests source target user temp (Some file) Yes true next ts back = back.1.1.1.1
 
-  behind_request : (master slave : Side) (source target user : List ℕ) (found : Option File)
+  behind_request : (master slave : Side) (digests : Bool) (source target user : List ℕ) (found : Option File)
       (immovable : Bool) (next : List Move) (ts : List Turn) →
-      EachTurn (λ t. IsReadBack t.said) (request_exchange master slave source target user found immovable next ts) →
+      EachTurn (λ t. IsReadBack t.said) (request_exchange master slave digests source target user found immovable next ts) →
       EachTurn (λ t. IsReadBack t.said) ts
-  behind_request master slave source target user None immovable next ts back = back.1.1
-  behind_request master slave source target user (Some file) false next ts back = back.1.1.1.1
-  behind_request master slave source target user (Some file) true next ts back = back.1.1.1.1
+  behind_request master slave digests source target user None immovable next ts back = back.1.1
+  behind_request master slave digests source target user (Some file) false next ts back = back.1.1.1.1
+  behind_request master slave digests source target user (Some file) true next ts back = back.1.1.1.1
 
   behind_exchange : (master slave : Side) (own others : Holdings) (j : Job) (next : List Move) (ts : List Turn) →
       EachTurn (λ t. IsReadBack t.said) (exchange master slave own others j next ts) → EachTurn (λ t. IsReadBack t.said) ts
   behind_exchange master slave own others (job.Send source target user temp) next ts back =
-      behind_send master slave source target user temp (to_give own (fetched_by source temp)) (others.verdict target)
+      behind_send master slave own.digests source target user temp (to_give own (fetched_by source temp)) (others.verdict target)
       (others.immovable target) next ts back
   behind_exchange master slave own others (job.Request source target user) next ts back =
-      behind_request master slave source target user (to_give others source) (own.immovable target) next ts back
+      behind_request master slave others.digests source target user (to_give others source) (own.immovable target) next ts back
 
   pub behind_exchanges : (master slave : Side) (own others : Holdings) (jobs : List Job) (ts : List Turn) →
       EachTurn (λ t. IsReadBack t.said) (exchanges master slave own others jobs ts) → EachTurn (λ t. IsReadBack t.said) ts
@@ -196,68 +208,83 @@ module _ (measure_of : Side → Measure) (positive : (side : Side) → 0 < (meas
       (as_master others jobs ts
       (behind_exchange me (other me) h others j (choice h jobs).failing (exchanges me (other me) h others jobs ts) back) rest)
 
+  -- a command is taken as it was said
+  order_heard : (o : Order) (told : Option FileDigest) (l : Lists) → IsReadBack (the_order o told) →
+      on_whole OfCommand h awaits.Order (order_said o told) l
+      ≡ on_order h (refusal_of (order_said o told)) (heard h.digests told) (Ok o) l
+  order_heard o told l back =
+      ap₂ (λ t a. on_order h (refusal_of (order_said o told)) (heard h.digests t) a l) back.2 back.1
+
   -- ---- Send, at the slave's
 
-  send_as_slave : (source target user : List ℕ) (temp : Option (List ℕ)) (found : Option File) →
+  send_as_slave : (digests : Bool) (source target user : List ℕ) (temp : Option (List ℕ)) (found : Option File) →
       (verdict : Verdict) → h.verdict target ≡ verdict → (immovable : Bool) → h.immovable target ≡ immovable →
       (next : List Move) (l : Lists) (ts : List Turn) →
-      EachTurn (λ t. IsReadBack t.said) (send_exchange (other me) me source target user temp found verdict immovable next ts) →
+      EachTurn (λ t. IsReadBack t.said) (send_exchange (other me) me digests source target user temp found verdict immovable next ts) →
       Fits h measure_of me (between l awaits.Order) [] ts →
       Fits h measure_of me (between l awaits.Order) []
-      (send_exchange (other me) me source target user temp found verdict immovable next ts)
-  send_as_slave source target user temp None verdict v immovable i next l ts back rest = rest
-  send_as_slave source target user temp (Some file) Never v immovable i next l ts back rest =
+      (send_exchange (other me) me digests source target user temp found verdict immovable next ts)
+  send_as_slave digests source target user temp None verdict v immovable i next l ts back rest = rest
+  send_as_slave digests source target user temp (Some file) Never v immovable i next l ts back rest =
       hear_text {r = replies l awaits.Order (the_answer answer.SendNever ∷ [])} back.0 refl
       (record { not_over = refl; not_bad = refl; not_parted = refl })
-      (ap (λ a. on_order h (refusal_of (order_text (order.Send source target user temp file.mode))) a l) back.0.1 ∙ ap (λ z. on_send z target file.mode l) v) refl refl
+      (order_heard (order.Send source target user temp file.mode) (told_of digests (Some file)) l back.0
+      ∙ ap (λ z. on_send (unless_too_large (h.lenient && is_too_large (heard h.digests (told_of digests (Some file)))) z) target
+      file.mode (heard h.digests (told_of digests (Some file))) l) v) refl refl
       (say back.1.0 rest)
-  send_as_slave source target user temp (Some file) Later v immovable i next l ts back rest =
+  send_as_slave digests source target user temp (Some file) Later v immovable i next l ts back rest =
       hear_text {r = replies l awaits.Order (the_answer answer.SendLater ∷ [])} back.0 refl
       (record { not_over = refl; not_bad = refl; not_parted = refl })
-      (ap (λ a. on_order h (refusal_of (order_text (order.Send source target user temp file.mode))) a l) back.0.1 ∙ ap (λ z. on_send z target file.mode l) v) refl refl
+      (order_heard (order.Send source target user temp file.mode) (told_of digests (Some file)) l back.0
+      ∙ ap (λ z. on_send (unless_too_large (h.lenient && is_too_large (heard h.digests (told_of digests (Some file)))) z) target
+      file.mode (heard h.digests (told_of digests (Some file))) l) v) refl refl
       (say back.1.0 rest)
-  send_as_slave source target user temp (Some file) Yes v false i next l ts back rest =
-      hear_text {r = replies l (awaits.SentFile target file.mode) (the_answer answer.SendYes ∷ [])} back.0 refl
+  send_as_slave digests source target user temp (Some file) Yes v false i next l ts back rest =
+      hear_text {r = replies l (awaits.SentFile target file.mode (heard h.digests (told_of digests (Some file)))) (the_answer answer.SendYes ∷ [])} back.0 refl
       (record { not_over = refl; not_bad = refl; not_parted = refl })
-      (ap (λ a. on_order h (refusal_of (order_text (order.Send source target user temp file.mode))) a l) back.0.1 ∙ ap (λ z. on_send z target file.mode l) v) refl refl
+      (order_heard (order.Send source target user temp file.mode) (told_of digests (Some file)) l back.0
+      ∙ ap₂ (λ b z. on_send (unless_too_large b z) target file.mode (heard h.digests (told_of digests (Some file))) l)
+      (given_is_taken h.lenient h.digests digests file back.1.1.0) v) refl refl
       (say back.1.0
       (hear_text {r = keeps (kept_as target file) (replies l awaits.Order (the_answer answer.DoneYes ∷ []))} back.1.1.0 refl
       (record { not_over = refl; not_bad = refl; not_parted = refl })
-      (ap (λ z. on_sent_file z (kept_as target file) l) i) refl refl
+      (ap (λ z. on_sent_file z (kept_as target file) l) (verdict_is digests target file false i)) refl refl
       (say back.1.1.1.0 rest)))
-  send_as_slave source target user temp (Some file) Yes v true i next l ts back rest =
-      hear_text {r = replies l (awaits.SentFile target file.mode) (the_answer answer.SendYes ∷ [])} back.0 refl
+  send_as_slave digests source target user temp (Some file) Yes v true i next l ts back rest =
+      hear_text {r = replies l (awaits.SentFile target file.mode (heard h.digests (told_of digests (Some file)))) (the_answer answer.SendYes ∷ [])} back.0 refl
       (record { not_over = refl; not_bad = refl; not_parted = refl })
-      (ap (λ a. on_order h (refusal_of (order_text (order.Send source target user temp file.mode))) a l) back.0.1 ∙ ap (λ z. on_send z target file.mode l) v) refl refl
+      (order_heard (order.Send source target user temp file.mode) (told_of digests (Some file)) l back.0
+      ∙ ap₂ (λ b z. on_send (unless_too_large b z) target file.mode (heard h.digests (told_of digests (Some file))) l)
+      (given_is_taken h.lenient h.digests digests file back.1.1.0) v) refl refl
       (say back.1.0
       (hear_text {r = replies l awaits.Order (the_answer answer.DoneNever ∷ [])} back.1.1.0 refl
       (record { not_over = refl; not_bad = refl; not_parted = refl })
-      (ap (λ z. on_sent_file z (kept_as target file) l) i) refl refl
+      (ap (λ z. on_sent_file z (kept_as target file) l) (verdict_is digests target file true i)) refl refl
       (say back.1.1.1.0 rest)))
 
   -- ---- Request, at the slave's
 
   request_as_slave : (source target user : List ℕ) (found : Option File) → to_give h source ≡ found → (immovable : Bool) →
       (next : List Move) (l : Lists) (ts : List Turn) →
-      EachTurn (λ t. IsReadBack t.said) (request_exchange (other me) me source target user found immovable next ts) →
+      EachTurn (λ t. IsReadBack t.said) (request_exchange (other me) me h.digests source target user found immovable next ts) →
       Fits h measure_of me (between l awaits.Order) [] ts →
-      Fits h measure_of me (between l awaits.Order) [] (request_exchange (other me) me source target user found immovable next ts)
+      Fits h measure_of me (between l awaits.Order) [] (request_exchange (other me) me h.digests source target user found immovable next ts)
   request_as_slave source target user None e immovable next l ts back rest =
       hear_text {r = replies l awaits.Order (the_answer answer.GiveNever ∷ [])} back.0 refl
       (record { not_over = refl; not_bad = refl; not_parted = refl })
-      (ap (λ a. on_order h (refusal_of (order_text (order.Request source target user))) a l) back.0.1 ∙ ap (λ f. on_request f l) e) refl refl
+      (order_heard (order.Request source target user) None l back.0 ∙ ap (λ f. on_request h.digests f l) e) refl refl
       (say back.1.0 rest)
   request_as_slave source target user (Some file) e false next l ts back rest =
-      hear_text {r = replies l awaits.GivenFileDone (the_answer (answer.GiveYes file.mode) ∷ the_file file.bytes ∷ [])} back.0 refl
+      hear_text {r = replies l awaits.GivenFileDone (the_giving file.mode (told_of h.digests (Some file)) ∷ the_file file.bytes ∷ [])} back.0 refl
       (record { not_over = refl; not_bad = refl; not_parted = refl })
-      (ap (λ a. on_order h (refusal_of (order_text (order.Request source target user))) a l) back.0.1 ∙ ap (λ f. on_request f l) e) refl refl
+      (order_heard (order.Request source target user) None l back.0 ∙ ap (λ f. on_request h.digests f l) e) refl refl
       (say back.1.0 (say back.1.1.0
       (hear_text {r = replies l awaits.Order []} back.1.1.1.0 refl
       (record { not_over = refl; not_bad = refl; not_parted = refl }) refl refl refl rest)))
   request_as_slave source target user (Some file) e true next l ts back rest =
-      hear_text {r = replies l awaits.GivenFileDone (the_answer (answer.GiveYes file.mode) ∷ the_file file.bytes ∷ [])} back.0 refl
+      hear_text {r = replies l awaits.GivenFileDone (the_giving file.mode (told_of h.digests (Some file)) ∷ the_file file.bytes ∷ [])} back.0 refl
       (record { not_over = refl; not_bad = refl; not_parted = refl })
-      (ap (λ a. on_order h (refusal_of (order_text (order.Request source target user))) a l) back.0.1 ∙ ap (λ f. on_request f l) e) refl refl
+      (order_heard (order.Request source target user) None l back.0 ∙ ap (λ f. on_request h.digests f l) e) refl refl
       (say back.1.0 (say back.1.1.0
       (hear_text {r = replies l awaits.Order []} back.1.1.1.0 refl
       (record { not_over = refl; not_bad = refl; not_parted = refl }) refl refl refl rest)))
@@ -269,7 +296,7 @@ module _ (measure_of : Side → Measure) (positive : (side : Side) → 0 < (meas
       Fits h measure_of me (between l awaits.Order) [] ts →
       Fits h measure_of me (between l awaits.Order) [] (exchange (other me) me others h j next ts)
   job_as_slave others (job.Send source target user temp) next l ts back rest =
-      send_as_slave source target user temp (to_give others (fetched_by source temp)) (h.verdict target) refl
+      send_as_slave others.digests source target user temp (to_give others (fetched_by source temp)) (h.verdict target) refl
       (h.immovable target) refl next l ts back rest
   job_as_slave others (job.Request source target user) next l ts back rest =
       request_as_slave source target user (to_give h source) refl (others.immovable target) next l ts back rest

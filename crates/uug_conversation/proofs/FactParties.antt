@@ -34,6 +34,7 @@ holdings name file exception = record {
   verdict = verdict_by exception;
   immovable = fixed_by exception;
   lenient = false;
+  digests = false;
 }
 
 abbrev pub end_with : List Job → (name : List ℕ) → Option File → Exception → Party

@@ -23,13 +23,13 @@ use Rattle.uug_conversation.proofs.ExchangeLemmas.{FitsReply, Masters, say, hear
 use Rattle.uug_conversation.proofs.TurnLemmas.{Fits, own_says, other_hears}
 use Rattle.uug_conversation.proofs.ReadBackLemmas.{conversation_back}
 
-hung_up_lists : (next : Option Order) (l : Lists) → (on_hang_up next l).state.lists ≡ l
-hung_up_lists None l = refl
-hung_up_lists (Some next) l = refl
+hung_up_lists : (h : Holdings) (next : Option Order) (l : Lists) → (on_hang_up h next l).state.lists ≡ l
+hung_up_lists h None l = refl
+hung_up_lists h (Some next) l = refl
 
-hung_up_keeps : (next : Option Order) (l : Lists) → (on_hang_up next l).keeps ≡ []
-hung_up_keeps None l = refl
-hung_up_keeps (Some next) l = refl
+hung_up_keeps : (h : Holdings) (next : Option Order) (l : Lists) → (on_hang_up h next l).keeps ≡ []
+hung_up_keeps h None l = refl
+hung_up_keeps h (Some next) l = refl
 
 module _ (measure_of : Side → Measure) (positive : (side : Side) → 0 < (measure_of side).size) where
   -- ---- both agree to hang up
@@ -92,13 +92,13 @@ module _ (measure_of : Side → Measure) (positive : (side : Side) → 0 < (meas
   after_at_called : (next : Option Order) (a b : Party) → (choice b.holdings b.jobs).next ≡ next →
       EachTurn (λ t. IsReadBack t.said) (after_hang_up next a b) →
       FitsReply measure_of positive Called b.holdings
-      (on_hang_up next (moved (choice b.holdings b.jobs).failing (at_start b.jobs [] []))) (after_hang_up next a b)
+      (on_hang_up b.holdings next (moved (choice b.holdings b.jobs).failing (at_start b.jobs [] []))) (after_hang_up next a b)
   after_at_called None a b e back =
       agree_as_slave Called b.holdings (moved (choice b.holdings b.jobs).failing (at_start b.jobs [] [])) back
   after_at_called (Some next) a b e back =
       let l = moved (choice b.holdings b.jobs).failing (at_start b.jobs [] []) in
       say measure_of positive Called b.holdings back.0
-      (subst (λ z. FitsReply measure_of positive Called b.holdings (commands l [] (order_or_hang_up z))
+      (subst (λ z. FitsReply measure_of positive Called b.holdings (commands b.holdings l [] (order_or_hang_up z))
       (exchanges Called Caller b.holdings a.holdings b.jobs last_turns)) e
       (as_master measure_of positive Called b.holdings a.holdings b.jobs last_turns back.1
       (last_at_called b.holdings
@@ -110,9 +110,9 @@ module _ (measure_of : Side → Measure) (positive : (side : Side) → 0 < (meas
   hang_up_at_called a b back =
       let c = choice b.holdings b.jobs in
       hear_text measure_of positive Called b.holdings
-      {r = on_hang_up c.next (moved c.failing (at_start b.jobs [] []))} back.0 refl
+      {r = on_hang_up b.holdings c.next (moved c.failing (at_start b.jobs [] []))} back.0 refl
       (record { not_over = refl; not_bad = refl; not_parted = refl }) refl
-      (hung_up_lists c.next (moved c.failing (at_start b.jobs [] []))) (hung_up_keeps c.next _)
+      (hung_up_lists b.holdings c.next (moved c.failing (at_start b.jobs [] []))) (hung_up_keeps b.holdings c.next _)
       (after_at_called c.next a b refl back.1)
 
   -- ---- the whole conversation

@@ -3,13 +3,13 @@ use Rattle.std.proofs.Common.{ℕ, ◌≤◌, List, [], ◌∷◌, All, length}
 use Rattle.std.proofs.lemmas.List.Elements.{All-nil, All-cons, All-head, All-tail}
 use Rattle.uug_talk.specs.Chunks.{Measure}
 use Rattle.uug_talk.specs.Answer.{answer_text}
-use Rattle.uug_talk.specs.Order.{order_text}
+use Rattle.uug_conversation.specs.Told.{giving_said, order_said}
 use Rattle.uug_conversation.specs.Conversation.{conversation}
 use Rattle.uug_conversation.specs.Holdings.{Kept}
 use Rattle.uug_conversation.specs.Jobs.{Move}
 use Rattle.uug_conversation.specs.Messages.{Message, turn_messages, messages, measures}
 use Rattle.uug_conversation.specs.Party.{Party}
-use Rattle.uug_conversation.specs.Turns.{Said, the_order, the_answer, the_file, said_messages, Turn}
+use Rattle.uug_conversation.specs.Turns.{Said, the_order, the_answer, the_giving, the_file, said_messages, Turn}
 use Rattle.uug_conversation.specs.declared.side.Side.{Side}
 use Rattle.uug_conversation.specs.declared.side.Side.TheVariants.{Caller, Called}
 use Rattle.uug_conversation.specs.View.{view, conversation_view, own_messages, party}
@@ -19,8 +19,9 @@ abbrev Fits : ℕ → List ℕ → Type 0
 Fits size message = length message ≤ size
 
 pub said_fit : (measure : Measure) (said : Said) → All (Fits measure.size) (said_messages measure said)
-said_fit measure (the_order order) = command_fits measure (order_text order)
+said_fit measure (the_order order told) = command_fits measure (order_said order told)
 said_fit measure (the_answer answer) = command_fits measure (answer_text answer)
+said_fit measure (the_giving mode told) = command_fits measure (giving_said mode told)
 said_fit measure (the_file bytes) = file_fits measure.size bytes
 
 message_fits : (measures : Side → Measure) (me speaker : Side) (bytes : List ℕ) (moves : List Move) (keeps : List Kept) (ms : List Message) →

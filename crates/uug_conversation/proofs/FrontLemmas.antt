@@ -5,11 +5,11 @@ use Rattle.std.proofs.Common.{◌≡◌, ℕ, zero, suc, ◌+◌, ◌<◌, ◌�
 use Rattle.std.proofs.lemmas.List.{length-append}
 use Rattle.uug_talk.specs.Answer.{answer_text}
 use Rattle.uug_talk.specs.Chunks.{Measure, cut, filling, command_messages}
-use Rattle.uug_talk.specs.Order.{order_text}
+use Rattle.uug_conversation.specs.Told.{giving_said, order_said}
 use Rattle.uug_conversation.specs.Holdings.{Kept}
 use Rattle.uug_conversation.specs.Jobs.{Move}
 use Rattle.uug_conversation.specs.Messages.{Message, turn_messages, messages}
-use Rattle.uug_conversation.specs.Turns.{other, Said, the_order, the_answer, the_file, said_messages, Turn}
+use Rattle.uug_conversation.specs.Turns.{other, Said, the_order, the_answer, the_giving, the_file, said_messages, Turn}
 use Rattle.uug_conversation.specs.declared.side.Side.{Side}
 use Rattle.uug_conversation.specs.declared.side.Side.TheVariants.{Caller, Called}
 use Rattle.uug_conversation.specs.View.{Seen, says, hears, view, floor, moves_after, kept_after}
@@ -101,8 +101,9 @@ some_of_command measure text =
     some_part measure.size (text ++ zeros) (omega (arith, length-append text zeros))
 
 some_message : (measure : Measure) (said : Said) → 0 < length (said_messages measure said)
-some_message measure (the_order order) = some_of_command measure (order_text order)
+some_message measure (the_order order told) = some_of_command measure (order_said order told)
 some_message measure (the_answer answer) = some_of_command measure (answer_text answer)
+some_message measure (the_giving mode told) = some_of_command measure (giving_said mode told)
 some_message measure (the_file bytes) = omega (arith, length-append (cut measure.size bytes) ([] ∷ []))
 
 -- ---- turns

@@ -1,18 +1,21 @@
 -- What a lenient end does with what it can't read, with SN8 and with a file past its limit, and what comes too early: worked
 -- out by hand.
-use Rattle.std.proofs.Common.{◌≡◌, true, false, [], ◌∷◌, ◌++◌, codes, refl}
+use Rattle.std.proofs.Common.{◌≡◌, true, false, [], ◌∷◌, ◌++◌, codes, ℕ, Some, None, Ok, refl}
+use Rattle.uug_digest.specs.declared.file_digest.FileDigest.{FileDigest}
 use Rattle.uug_talk.specs.declared.answer.Answer.TheVariants as answer
+use Rattle.uug_talk.specs.declared.order.Order.{Order}
+use Rattle.uug_talk.specs.declared.order.Order.TheVariants as order
 use Rattle.uug_talk.specs.Gathering.{OfCommand, OfFile}
 use Rattle.uug_conversation.specs.declared.awaits.Awaits.TheVariants as awaits
 use Rattle.uug_conversation.specs.Holdings.{Holdings}
-use Rattle.uug_conversation.specs.Machine.{between, replies, on_text, on_file, on_past_limit, reply_to}
+use Rattle.uug_conversation.specs.Machine.{between, replies, on_order, on_text, on_file, on_past_limit, reply_to}
 use Rattle.uug_conversation.specs.Turns.{the_order, the_answer}
 use Rattle.uug_conversation.proofs.FactParties.{y, six_bytes, send, send_nothing, request}
 use Rattle.uug_conversation.proofs.MachineFacts.{ahead, asking, first_passed, first_struck, has_x, order_of_first, order_of_second, two}
 
 -- has one file, x, and is lenient
 abbrev lenient_x : Holdings
-lenient_x = record { file = has_x.file; verdict = has_x.verdict; immovable = has_x.immovable; lenient = true }
+lenient_x = record { file = has_x.file; verdict = has_x.verdict; immovable = has_x.immovable; lenient = true; digests = has_x.digests }
 
 -- ---- commands that can't be read
 
@@ -27,7 +30,7 @@ record AreUnread : Type 0 where
   nothing : on_text lenient_x awaits.Order [] two ≡ replies two awaits.Bad []
   an_answer : on_text lenient_x awaits.SendAnswer (codes "X a") two ≡ replies two awaits.Bad []
   good : on_text lenient_x awaits.Order (codes "S x y u - D.0 0600") (ahead []) ≡
-      replies (ahead []) (awaits.SentFile y 384) (the_answer answer.SendYes ∷ [])
+      replies (ahead []) (awaits.SentFile y 384 None) (the_answer answer.SendYes ∷ [])
   strict : on_text has_x awaits.Order (codes "X a/* y u -") two ≡ replies two awaits.Bad []
   strict_send : on_text has_x awaits.Order (codes "S x y u") two ≡ replies two awaits.Bad []
 
@@ -47,18 +50,36 @@ unread = record {
   strict_send = refl;
 }
 
+-- ---- a file that is told to be too large
+
+abbrev told_size : ℕ → FileDigest
+told_size n = record { size = n; hash = [] }
+
+abbrev order_of_y : Order
+order_of_y = order.Send (codes "x") y (codes "u") None 384
+
+record AreLarge : Type 0 where
+  larger : on_order lenient_x None (Some (told_size 1048577)) (Ok order_of_y) two ≡ replies two awaits.Order (the_answer answer.SendNever ∷ [])
+  largest : on_order lenient_x None (Some (told_size 1048576)) (Ok order_of_y) two ≡
+      replies two (awaits.SentFile y 384 (Some (told_size 1048576))) (the_answer answer.SendYes ∷ [])
+  strict : on_order has_x None (Some (told_size 1048577)) (Ok order_of_y) two ≡
+      replies two (awaits.SentFile y 384 (Some (told_size 1048577))) (the_answer answer.SendYes ∷ [])
+
+large : AreLarge
+large = record { larger = refl; largest = refl; strict = refl }
+
 -- ---- SN8
 
 record AreHeld : Type 0 where
   struck : on_text lenient_x awaits.SendAnswer (codes "SN8") two ≡
-      replies first_struck awaits.SendAnswer (the_order order_of_second ∷ [])
+      replies first_struck awaits.SendAnswer (the_order order_of_second None ∷ [])
   strict : on_text has_x awaits.SendAnswer (codes "SN8") two ≡
-      replies first_passed awaits.SendAnswer (the_order order_of_second ∷ [])
+      replies first_passed awaits.SendAnswer (the_order order_of_second None ∷ [])
   later : on_text lenient_x awaits.SendAnswer (codes "SN4") two ≡
-      replies first_passed awaits.SendAnswer (the_order order_of_second ∷ [])
+      replies first_passed awaits.SendAnswer (the_order order_of_second None ∷ [])
   other_job : on_text lenient_x awaits.SendAnswer (codes "SN8") (ahead (request ∷ send ∷ [])) ≡
       replies (record { passed = request ∷ []; ahead = send ∷ []; struck = []; failed = [] })
-      awaits.SendAnswer (the_order order_of_first ∷ [])
+      awaits.SendAnswer (the_order order_of_first None ∷ [])
 
 held : AreHeld
 held = record { struck = refl; strict = refl; later = refl; other_job = refl }
@@ -66,15 +87,15 @@ held = record { struck = refl; strict = refl; later = refl; other_job = refl }
 -- ---- a file past its limit
 
 record AreDropped : Type 0 where
-  sent : on_past_limit true OfFile (awaits.SentFile y 384) two ≡ replies two awaits.DroppedSentFile []
+  sent : on_past_limit true OfFile (awaits.SentFile y 384 None) two ≡ replies two awaits.DroppedSentFile []
   sent_on : on_past_limit true OfFile awaits.DroppedSentFile two ≡ replies two awaits.DroppedSentFile []
-  asked : on_past_limit true OfFile (awaits.AskedFile 384) two ≡ replies two awaits.DroppedAskedFile []
+  asked : on_past_limit true OfFile (awaits.AskedFile 384 None) two ≡ replies two awaits.DroppedAskedFile []
   text : on_past_limit true OfCommand awaits.Order two ≡ replies two awaits.Bad []
-  strict : on_past_limit false OfFile (awaits.SentFile y 384) two ≡ replies two awaits.Bad []
+  strict : on_past_limit false OfFile (awaits.SentFile y 384 None) two ≡ replies two awaits.Bad []
   sent_end : on_file lenient_x awaits.DroppedSentFile six_bytes two ≡ replies two awaits.Order (the_answer answer.DoneNever ∷ [])
   asked_end : on_file lenient_x awaits.DroppedAskedFile six_bytes asking ≡
       replies (record { passed = []; ahead = send ∷ []; struck = []; failed = request ∷ send_nothing ∷ [] })
-      awaits.SendAnswer (the_answer answer.DoneNever ∷ the_order order_of_first ∷ [])
+      awaits.SendAnswer (the_answer answer.DoneNever ∷ the_order order_of_first None ∷ [])
 
 dropped : AreDropped
 dropped = record { sent = refl; sent_on = refl; asked = refl; text = refl; strict = refl; sent_end = refl; asked_end = refl }
@@ -85,7 +106,7 @@ record AreEarly : Type 0 where
   sent : reply_to has_x false (between two awaits.SentFileDone) (codes "CY" ++ 0 ∷ []) ≡ replies two awaits.Bad []
   given : reply_to has_x false (between two awaits.GivenFileDone) (codes "CY" ++ 0 ∷ []) ≡ replies two awaits.Bad []
   in_time : reply_to has_x true (between two awaits.SentFileDone) (codes "CY" ++ 0 ∷ []) ≡
-      replies first_struck awaits.SendAnswer (the_order order_of_second ∷ [])
+      replies first_struck awaits.SendAnswer (the_order order_of_second None ∷ [])
   other : reply_to has_x false (between two awaits.NothingMore) (codes "HY" ++ 0 ∷ []) ≡ replies two awaits.NothingMore []
 
 early : AreEarly

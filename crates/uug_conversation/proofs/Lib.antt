@@ -1,6 +1,8 @@
 mod Accord
 mod AlternationLemmas
 mod ChoiceLemmas
+mod ComparedFacts
+pub mod ComparingLemmas
 pub mod ConversationFacts
 mod DialogueLemmas
 pub mod EarlierJobLemmas
@@ -27,5 +29,7 @@ mod SayableLemmas
 pub mod SharingLemmas
 pub mod StoredLemmas
 mod StrictLemmas
+pub mod ToldLemmas
+pub mod TruthLemmas
 mod TurnLemmas
 mod WholeFileLemmas

@@ -12,7 +12,7 @@ use Rattle.uug_conversation.specs.Holdings.{Holdings}
 use Rattle.uug_conversation.specs.Jobs.{Lists, at_start}
 use Rattle.uug_conversation.specs.Machine.{State, Reply, between, replies, keeps, on_text, on_file, step, opening}
 use Rattle.uug_conversation.specs.Runs.{progress_after}
-use Rattle.uug_conversation.specs.Turns.{the_order, the_answer, the_file}
+use Rattle.uug_conversation.specs.Turns.{the_order, the_answer, the_giving, the_file}
 use Rattle.uug_conversation.specs.declared.side.Side.TheVariants.{Caller, Called}
 use Rattle.uug_conversation.proofs.FactParties.{Exception, no_exception, denied, put_off, fixed, holdings, end_with, q, x, y, z, u, six_bytes, small_file, send, send_again, send_nothing, request, text}
 
@@ -47,16 +47,16 @@ order_of_second = order.Send x z u None 420
 pub record AreSendAnswers : Type 0 where
   pub yes : on_text has_x awaits.SendAnswer (codes "SY 0") two ≡ replies two awaits.SentFileDone (the_file six_bytes ∷ [])
   pub never : on_text has_x awaits.SendAnswer (codes "SN2") two ≡
-      replies first_failed awaits.SendAnswer (the_order order_of_second ∷ [])
+      replies first_failed awaits.SendAnswer (the_order order_of_second None ∷ [])
   pub later : on_text has_x awaits.SendAnswer (codes "SN4") two ≡
-      replies first_passed awaits.SendAnswer (the_order order_of_second ∷ [])
+      replies first_passed awaits.SendAnswer (the_order order_of_second None ∷ [])
   pub other_number : on_text has_x awaits.SendAnswer (codes "SN9") two ≡
-      replies first_passed awaits.SendAnswer (the_order order_of_second ∷ [])
+      replies first_passed awaits.SendAnswer (the_order order_of_second None ∷ [])
   pub last : on_text has_x awaits.SendAnswer (codes "SN2") (ahead (send ∷ [])) ≡
-      replies (at_start [] [] (send ∷ [])) awaits.HangUpAnswer (the_order order.HangUp ∷ [])
+      replies (at_start [] [] (send ∷ [])) awaits.HangUpAnswer (the_order order.HangUp None ∷ [])
   pub no_job : on_text has_x awaits.SendAnswer (codes "SY") (ahead []) ≡ replies (ahead []) awaits.Bad []
   pub other_job : on_text has_x awaits.SendAnswer (codes "SY") (ahead (request ∷ [])) ≡ replies (ahead (request ∷ [])) awaits.Bad []
-  pub other_file : on_file has_x (awaits.AskedFile 420) six_bytes (ahead (send ∷ [])) ≡ replies (ahead (send ∷ [])) awaits.Bad []
+  pub other_file : on_file has_x (awaits.AskedFile 420 None) six_bytes (ahead (send ∷ [])) ≡ replies (ahead (send ∷ [])) awaits.Bad []
   pub out_of_turn : on_text has_x awaits.SendAnswer (codes "CY") two ≡ replies two awaits.Bad []
   pub an_order : on_text has_x awaits.SendAnswer (codes "H") two ≡ replies two awaits.Bad []
 
@@ -76,13 +76,13 @@ send_answers = record {
 
 pub record AreSentFileAnswers : Type 0 where
   pub done : on_text has_x awaits.SentFileDone (codes "CY") two ≡
-      replies first_struck awaits.SendAnswer (the_order order_of_second ∷ [])
+      replies first_struck awaits.SendAnswer (the_order order_of_second None ∷ [])
   pub done_master : on_text has_x awaits.SentFileDone (codes "CYM") two ≡
-      replies first_struck awaits.HangUpAnswer (the_order order.HangUp ∷ [])
+      replies first_struck awaits.HangUpAnswer (the_order order.HangUp None ∷ [])
   pub never : on_text has_x awaits.SentFileDone (codes "CN5") two ≡
-      replies first_failed awaits.SendAnswer (the_order order_of_second ∷ [])
+      replies first_failed awaits.SendAnswer (the_order order_of_second None ∷ [])
   pub later : on_text has_x awaits.SentFileDone (codes "CN4") two ≡
-      replies first_passed awaits.SendAnswer (the_order order_of_second ∷ [])
+      replies first_passed awaits.SendAnswer (the_order order_of_second None ∷ [])
   pub no_job : on_text has_x awaits.SentFileDone (codes "CY") (ahead []) ≡ replies (ahead []) awaits.Bad []
   pub other_job : on_text has_x awaits.SentFileDone (codes "CY") (ahead (request ∷ [])) ≡ replies (ahead (request ∷ [])) awaits.Bad []
   pub out_of_turn : on_text has_x awaits.SentFileDone (codes "SY") two ≡ replies two awaits.Bad []
@@ -94,14 +94,14 @@ abbrev pub asking : Lists
 asking = ahead (request ∷ send_nothing ∷ send ∷ [])
 
 pub record AreRequestAnswers : Type 0 where
-  pub yes : on_text has_x awaits.RequestAnswer (codes "RY 0600") asking ≡ replies asking (awaits.AskedFile 384) []
-  pub no_mode : on_text has_x awaits.RequestAnswer (codes "RY") asking ≡ replies asking (awaits.AskedFile 438) []
+  pub yes : on_text has_x awaits.RequestAnswer (codes "RY 0600") asking ≡ replies asking (awaits.AskedFile 384 None) []
+  pub no_mode : on_text has_x awaits.RequestAnswer (codes "RY") asking ≡ replies asking (awaits.AskedFile 438 None) []
   pub never : on_text has_x awaits.RequestAnswer (codes "RN2") asking ≡
       replies (record { passed = []; ahead = send ∷ []; struck = []; failed = request ∷ send_nothing ∷ [] })
-      awaits.SendAnswer (the_order order_of_first ∷ [])
+      awaits.SendAnswer (the_order order_of_first None ∷ [])
   pub later : on_text has_x awaits.RequestAnswer (codes "RN4") asking ≡
       replies (record { passed = request ∷ []; ahead = send ∷ []; struck = []; failed = send_nothing ∷ [] })
-      awaits.SendAnswer (the_order order_of_first ∷ [])
+      awaits.SendAnswer (the_order order_of_first None ∷ [])
   pub bad_mode : on_text has_x awaits.RequestAnswer (codes "RY 8") asking ≡ replies asking awaits.Bad []
   pub out_of_turn : on_text has_x awaits.RequestAnswer (codes "SY") asking ≡ replies asking awaits.Bad []
 
@@ -126,15 +126,15 @@ has_x_but exception = holdings x small_file exception
 
 pub record AreOrders : Type 0 where
   pub send_yes : on_text has_x awaits.Order (codes "S q y u - D.0 0600") (ahead []) ≡
-      replies (ahead []) (awaits.SentFile y 384) (the_answer answer.SendYes ∷ [])
+      replies (ahead []) (awaits.SentFile y 384 None) (the_answer answer.SendYes ∷ [])
   pub send_never : on_text (has_x_but (denied y)) awaits.Order (codes "S q y u - D.0 0600") (ahead []) ≡
       replies (ahead []) awaits.Order (the_answer answer.SendNever ∷ [])
   pub send_later : on_text (has_x_but (put_off y)) awaits.Order (codes "S q y u - D.0 0600") (ahead []) ≡
       replies (ahead []) awaits.Order (the_answer answer.SendLater ∷ [])
   pub source_denied : on_text (has_x_but (denied q)) awaits.Order (codes "S q y u - D.0 0600") (ahead []) ≡
-      replies (ahead []) (awaits.SentFile y 384) (the_answer answer.SendYes ∷ [])
+      replies (ahead []) (awaits.SentFile y 384 None) (the_answer answer.SendYes ∷ [])
   pub request_yes : on_text has_x awaits.Order (codes "R x y u -") (ahead []) ≡
-      replies (ahead []) awaits.GivenFileDone (the_answer (answer.GiveYes 420) ∷ the_file six_bytes ∷ [])
+      replies (ahead []) awaits.GivenFileDone (the_giving 420 None ∷ the_file six_bytes ∷ [])
   pub request_never : on_text has_x awaits.Order (codes "R y x u -") (ahead []) ≡
       replies (ahead []) awaits.Order (the_answer answer.GiveNever ∷ [])
   pub hang_up : on_text has_x awaits.Order (codes "H") (ahead []) ≡
@@ -143,7 +143,7 @@ pub record AreOrders : Type 0 where
       replies (at_start [] [] (send_nothing ∷ [])) awaits.LastHangUp (the_answer answer.HangYes ∷ [])
   pub has_a_job : on_text has_x awaits.Order (codes "H") (ahead (send_nothing ∷ send ∷ [])) ≡
       replies (at_start (send ∷ []) [] (send_nothing ∷ [])) awaits.SendAnswer
-      (the_answer answer.HangNo ∷ the_order order_of_first ∷ [])
+      (the_answer answer.HangNo ∷ the_order order_of_first None ∷ [])
   pub execution : on_text has_x awaits.Order (codes "E x y u - D.0 0644") (ahead []) ≡ replies (ahead []) awaits.Bad []
   pub an_answer : on_text has_x awaits.Order (codes "HY") (ahead []) ≡ replies (ahead []) awaits.Bad []
 
@@ -187,18 +187,18 @@ last_answers = record {
 -- ---- files
 
 pub record AreFiles : Type 0 where
-  pub sent : on_file has_x (awaits.SentFile y 384) six_bytes two ≡
+  pub sent : on_file has_x (awaits.SentFile y 384 None) six_bytes two ≡
       keeps (record { name = y; mode = 384; bytes = six_bytes }) (replies two awaits.Order (the_answer answer.DoneYes ∷ []))
-  pub sent_fixed : on_file (has_x_but (fixed y)) (awaits.SentFile y 384) six_bytes two ≡
+  pub sent_fixed : on_file (has_x_but (fixed y)) (awaits.SentFile y 384 None) six_bytes two ≡
       replies two awaits.Order (the_answer answer.DoneNever ∷ [])
-  pub asked : on_file has_x (awaits.AskedFile 384) six_bytes asking ≡
+  pub asked : on_file has_x (awaits.AskedFile 384 None) six_bytes asking ≡
       keeps (record { name = y; mode = 384; bytes = six_bytes })
       (replies (record { passed = []; ahead = send ∷ []; struck = request ∷ []; failed = send_nothing ∷ [] })
-      awaits.SendAnswer (the_answer answer.DoneYes ∷ the_order order_of_first ∷ []))
-  pub asked_fixed : on_file (has_x_but (fixed y)) (awaits.AskedFile 384) six_bytes asking ≡
+      awaits.SendAnswer (the_answer answer.DoneYes ∷ the_order order_of_first None ∷ []))
+  pub asked_fixed : on_file (has_x_but (fixed y)) (awaits.AskedFile 384 None) six_bytes asking ≡
       replies (record { passed = []; ahead = send ∷ []; struck = []; failed = request ∷ send_nothing ∷ [] })
-      awaits.SendAnswer (the_answer answer.DoneNever ∷ the_order order_of_first ∷ [])
-  pub no_job : on_file has_x (awaits.AskedFile 384) six_bytes (ahead []) ≡ replies (ahead []) awaits.Bad []
+      awaits.SendAnswer (the_answer answer.DoneNever ∷ the_order order_of_first None ∷ [])
+  pub no_job : on_file has_x (awaits.AskedFile 384 None) six_bytes (ahead []) ≡ replies (ahead []) awaits.Bad []
 
 pub files : AreFiles
 files = record { sent = refl; sent_fixed = refl; asked = refl; asked_fixed = refl; no_job = refl }
@@ -221,9 +221,9 @@ pub record AreMessages : Type 0 where
   pub longest : step has_x (gathering awaits.Order (72 ∷ replicate (COMMAND_MAX - 1) 32)) (0 ∷ []) ≡
       replies (ahead []) awaits.LastHangUp (the_answer answer.HangYes ∷ [])
   pub one_more : step has_x (gathering awaits.Order (72 ∷ replicate (COMMAND_MAX - 1) 32)) (32 ∷ 0 ∷ []) ≡ replies (ahead []) awaits.Bad []
-  pub first_piece : step has_x (gathering (awaits.SentFile y 384) []) six_bytes ≡
-      still (gathering (awaits.SentFile y 384) six_bytes)
-  pub last_piece : step has_x (gathering (awaits.SentFile y 384) six_bytes) [] ≡
+  pub first_piece : step has_x (gathering (awaits.SentFile y 384 None) []) six_bytes ≡
+      still (gathering (awaits.SentFile y 384 None) six_bytes)
+  pub last_piece : step has_x (gathering (awaits.SentFile y 384 None) six_bytes) [] ≡
       keeps (record { name = y; mode = 384; bytes = six_bytes })
       (replies (ahead []) awaits.Order (the_answer answer.DoneYes ∷ []))
 
@@ -243,8 +243,8 @@ messages = record {
 
 pub record AreStarts : Type 0 where
   pub caller_start : opening Caller has_x (ahead (send_nothing ∷ send ∷ [])) ≡
-      replies (at_start (send ∷ []) [] (send_nothing ∷ [])) awaits.SendAnswer (the_order order_of_first ∷ [])
-  pub caller_idle : opening Caller has_x (ahead []) ≡ replies (ahead []) awaits.HangUpAnswer (the_order order.HangUp ∷ [])
+      replies (at_start (send ∷ []) [] (send_nothing ∷ [])) awaits.SendAnswer (the_order order_of_first None ∷ [])
+  pub caller_idle : opening Caller has_x (ahead []) ≡ replies (ahead []) awaits.HangUpAnswer (the_order order.HangUp None ∷ [])
   pub called_start : opening Called has_x (ahead (send_nothing ∷ send ∷ [])) ≡
       replies (ahead (send_nothing ∷ send ∷ [])) awaits.Order []
   pub after_master : progress_after Caller (end_with (send ∷ send_again ∷ []) x small_file no_exception)

@@ -1,5 +1,7 @@
 -- Whatever comes, an end only moves its jobs from one list to another.
 use Rattle.std.proofs.Common.{ℕ, nat_lt, Bool, true, false, List, [], ◌∷◌, ◌++◌, length, Option, Some, None, Result, Ok, Err, refl, sym, ap, ◌∙◌, arith}
+use Rattle.uug_digest.specs.Digests.{told_by_answer, told_by_order}
+use Rattle.uug_digest.specs.declared.file_digest.FileDigest.{FileDigest}
 use Rattle.uug_talk.specs.declared.answer.Answer.{Answer}
 use Rattle.uug_talk.specs.declared.answer.Answer.TheVariants as answer
 use Rattle.uug_talk.specs.declared.error.BadText.{BadText}
@@ -14,13 +16,15 @@ use Rattle.uug_conversation.specs.declared.awaits.Awaits.TheVariants as awaits
 use Rattle.uug_conversation.specs.declared.job.Job.{Job}
 use Rattle.uug_conversation.specs.declared.job.Job.TheVariants as job
 use Rattle.uug_conversation.specs.declared.verdict.Verdict.{Verdict}
+use Rattle.uug_conversation.specs.declared.verdict.Verdict.TheVariants.{Yes, Never, Later}
 use Rattle.uug_conversation.specs.Choice.{choice, fetched_by}
 use Rattle.uug_conversation.specs.Holdings.{File, Kept, Holdings, to_give}
 use Rattle.uug_conversation.specs.Jobs.{Lists, at_start, pending, Move, pass, strike, fail, moved, moved_once}
-use Rattle.uug_conversation.specs.Machine.{State, goes_on, on_send, on_request, on_hang_up, on_unread, on_order, on_given_file_done, on_last_hang_up, sends_file, on_send_yes, move_held, on_send_answer, on_sent_file_done, on_sent_job_done, on_request_answer, on_hang_up_answer, on_nothing_more, on_text, on_sent_file, on_asked_file, on_file_of, on_file, on_whole, on_gathered, on_past_limit, on_part, gathered_with, opening, step, comes_early, unless_early, reply_to}
+use Rattle.uug_conversation.specs.Machine.{State, goes_on, on_send, send_verdict, on_request, on_hang_up, on_unread, on_order, on_given_file_done, on_last_hang_up, sends_file, on_send_yes, move_held, on_send_answer, on_sent_file_done, on_sent_job_done, on_request_answer, on_hang_up_answer, on_nothing_more, on_text, file_verdict, on_sent_file, on_asked_file, on_file_of, on_file, on_whole, on_gathered, on_past_limit, on_part, gathered_with, opening, step, comes_early, unless_early, reply_to}
 use Rattle.uug_conversation.specs.Party.{Party}
 use Rattle.uug_conversation.specs.Runs.{Progress, taking, taking_all, opened, progress_after}
 use Rattle.uug_conversation.specs.Sharing.{AreShared, OnlyMoves}
+use Rattle.uug_conversation.specs.Told.{heard}
 use Rattle.uug_conversation.specs.Turns.{Said, the_answer}
 use Rattle.uug_conversation.specs.declared.side.Side.{Side}
 use Rattle.uug_conversation.specs.declared.side.Side.TheVariants.{Caller, Called}
@@ -40,24 +44,28 @@ moves_and_chooses move h l before = record { moves = move ∷ (choice h (moved_o
 
 -- ---- commands
 
-after_send : (v : Verdict) (target : List ℕ) (mode : ℕ) (l : Lists) → OnlyMoves l (on_send v target mode l).state.lists
-after_send v target mode l = grind (arith, stays)
+after_send : (v : Verdict) (target : List ℕ) (mode : ℕ) (told : Option FileDigest) (l : Lists) → OnlyMoves l (on_send v target mode told l).state.lists
+after_send Yes target mode told l = stays l
+after_send Never target mode told l = stays l
+after_send Later target mode told l = stays l
 
-after_request : (file : Option File) (l : Lists) → OnlyMoves l (on_request file l).state.lists
-after_request file l = grind (arith, stays)
+after_request : (digests : Bool) (file : Option File) (l : Lists) → OnlyMoves l (on_request digests file l).state.lists
+after_request digests None l = stays l
+after_request digests (Some file) l = stays l
 
-after_hang_up : (next : Option Order) (moves : List Move) (l : Lists) → OnlyMoves l (on_hang_up next (moved moves l)).state.lists
-after_hang_up None moves l = record { moves = moves; are = refl }
-after_hang_up (Some next) moves l = record { moves = moves; are = refl }
+after_hang_up : (h : Holdings) (next : Option Order) (moves : List Move) (l : Lists) → OnlyMoves l (on_hang_up h next (moved moves l)).state.lists
+after_hang_up h None moves l = record { moves = moves; are = refl }
+after_hang_up h (Some next) moves l = record { moves = moves; are = refl }
 
 after_unread : (lenient : Bool) (refusal : Option Answer) (l : Lists) → OnlyMoves l (on_unread lenient refusal l).state.lists
 after_unread lenient refusal l = grind (arith, stays)
 
-after_order : (h : Holdings) (refusal : Option Answer) (r : Result Order BadText) (l : Lists) → OnlyMoves l (on_order h refusal r l).state.lists
-after_order h refusal (Ok (order.Send source target user temp mode)) l = after_send (h.verdict target) target mode l
-after_order h refusal (Ok (order.Request source target user)) l = after_request (to_give h source) l
-after_order h refusal (Ok order.HangUp) l = after_hang_up (choice h l.ahead).next (choice h l.ahead).failing l
-after_order h refusal (Err fault) l = after_unread h.lenient refusal l
+after_order : (h : Holdings) (refusal : Option Answer) (told : Option FileDigest) (r : Result Order BadText) (l : Lists)
+    → OnlyMoves l (on_order h refusal told r l).state.lists
+after_order h refusal told (Ok (order.Send source target user temp mode)) l = after_send (send_verdict h target told) target mode told l
+after_order h refusal told (Ok (order.Request source target user)) l = after_request h.digests (to_give h source) l
+after_order h refusal told (Ok order.HangUp) l = after_hang_up h (choice h l.ahead).next (choice h l.ahead).failing l
+after_order h refusal told (Err fault) l = after_unread h.lenient refusal l
 
 -- ---- answers
 
@@ -116,23 +124,23 @@ after_sent_job h [] r l = stays l
 after_sent_job h (job.Send source target user temp ∷ jobs) r l = after_sent_file h r l
 after_sent_job h (job.Request source target user ∷ jobs) r l = stays l
 
-after_request_answer : (h : Holdings) (r : Result Answer BadText) (l : Lists) → OnlyMoves l (on_request_answer h r l).state.lists
-after_request_answer h (Ok answer.SendYes) l = stays l
-after_request_answer h (Ok answer.SendNever) l = stays l
-after_request_answer h (Ok answer.SendHeld) l = stays l
-after_request_answer h (Ok answer.SendLater) l = stays l
-after_request_answer h (Ok (answer.GiveYes mode)) l = stays l
-after_request_answer h (Ok answer.GiveNever) l = moves_and_chooses fail h l []
-after_request_answer h (Ok answer.GiveLater) l = moves_and_chooses pass h l []
-after_request_answer h (Ok answer.DoneYes) l = stays l
-after_request_answer h (Ok answer.DoneYesMaster) l = stays l
-after_request_answer h (Ok answer.DoneNever) l = stays l
-after_request_answer h (Ok answer.DoneLater) l = stays l
-after_request_answer h (Ok answer.HangYes) l = stays l
-after_request_answer h (Ok answer.HangNo) l = stays l
-after_request_answer h (Ok answer.WorkNo) l = stays l
-after_request_answer h (Ok answer.RunNever) l = stays l
-after_request_answer h (Err fault) l = stays l
+after_request_answer : (h : Holdings) (told : Option FileDigest) (r : Result Answer BadText) (l : Lists) → OnlyMoves l (on_request_answer h told r l).state.lists
+after_request_answer h told (Ok answer.SendYes) l = stays l
+after_request_answer h told (Ok answer.SendNever) l = stays l
+after_request_answer h told (Ok answer.SendHeld) l = stays l
+after_request_answer h told (Ok answer.SendLater) l = stays l
+after_request_answer h told (Ok (answer.GiveYes mode)) l = stays l
+after_request_answer h told (Ok answer.GiveNever) l = moves_and_chooses fail h l []
+after_request_answer h told (Ok answer.GiveLater) l = moves_and_chooses pass h l []
+after_request_answer h told (Ok answer.DoneYes) l = stays l
+after_request_answer h told (Ok answer.DoneYesMaster) l = stays l
+after_request_answer h told (Ok answer.DoneNever) l = stays l
+after_request_answer h told (Ok answer.DoneLater) l = stays l
+after_request_answer h told (Ok answer.HangYes) l = stays l
+after_request_answer h told (Ok answer.HangNo) l = stays l
+after_request_answer h told (Ok answer.WorkNo) l = stays l
+after_request_answer h told (Ok answer.RunNever) l = stays l
+after_request_answer h told (Err fault) l = stays l
 
 after_hang_up_answer : (r : Result Answer BadText) (l : Lists) → OnlyMoves l (on_hang_up_answer r l).state.lists
 after_hang_up_answer r l = grind (arith, stays)
@@ -141,39 +149,43 @@ after_nothing_more : (r : Result Answer BadText) (l : Lists) → OnlyMoves l (on
 after_nothing_more r l = grind (arith, stays)
 
 after_text : (h : Holdings) (a : Awaits) (text : List ℕ) (l : Lists) → OnlyMoves l (on_text h a text l).state.lists
-after_text h awaits.Order text l = after_order h (refusal_of text) (order_of text) l
+after_text h awaits.Order text l = after_order h (refusal_of text) (heard h.digests (told_by_order text)) (order_of text) l
 after_text h awaits.GivenFileDone text l = after_given_file (answer_of text) l
 after_text h awaits.LastHangUp text l = after_last_hang_up (answer_of text) l
 after_text h awaits.SendAnswer text l = after_send_answer h (answer_of text) l
 after_text h awaits.SentFileDone text l = after_sent_job h l.ahead (answer_of text) l
-after_text h awaits.RequestAnswer text l = after_request_answer h (answer_of text) l
+after_text h awaits.RequestAnswer text l = after_request_answer h (heard h.digests (told_by_answer text)) (answer_of text) l
 after_text h awaits.HangUpAnswer text l = after_hang_up_answer (answer_of text) l
 after_text h awaits.NothingMore text l = after_nothing_more (answer_of text) l
-after_text h (awaits.SentFile target mode) text l = stays l
-after_text h (awaits.AskedFile mode) text l = stays l
+after_text h (awaits.SentFile target mode told) text l = stays l
+after_text h (awaits.AskedFile mode told) text l = stays l
 after_text h awaits.DroppedSentFile text l = stays l
 after_text h awaits.DroppedAskedFile text l = stays l
 after_text h awaits.Bad text l = stays l
 
 -- ---- files
 
-after_kept : (immovable : Bool) (file : Kept) (l : Lists) → OnlyMoves l (on_sent_file immovable file l).state.lists
-after_kept immovable file l = grind (arith, stays)
+after_kept : (verdict : Verdict) (file : Kept) (l : Lists) → OnlyMoves l (on_sent_file verdict file l).state.lists
+after_kept Yes file l = stays l
+after_kept Never file l = stays l
+after_kept Later file l = stays l
 
-after_asked : (h : Holdings) (immovable : Bool) (file : Kept) (l : Lists) → OnlyMoves l (on_asked_file h immovable file l).state.lists
-after_asked h false file l = moves_and_chooses strike h l (the_answer answer.DoneYes ∷ [])
-after_asked h true file l = moves_and_chooses fail h l (the_answer answer.DoneNever ∷ [])
+after_asked : (h : Holdings) (verdict : Verdict) (file : Kept) (l : Lists) → OnlyMoves l (on_asked_file h verdict file l).state.lists
+after_asked h Yes file l = moves_and_chooses strike h l (the_answer answer.DoneYes ∷ [])
+after_asked h Never file l = moves_and_chooses fail h l (the_answer answer.DoneNever ∷ [])
+after_asked h Later file l = moves_and_chooses pass h l (the_answer answer.DoneLater ∷ [])
 
-after_file_of : (h : Holdings) (jobs : List Job) (mode : ℕ) (bytes : List ℕ) (l : Lists) → OnlyMoves l (on_file_of h jobs mode bytes l).state.lists
-after_file_of h [] mode bytes l = stays l
-after_file_of h (job.Send source target user temp ∷ jobs) mode bytes l = stays l
-after_file_of h (job.Request source target user ∷ jobs) mode bytes l =
-    after_asked h (h.immovable target) (record { name = target; mode = mode; bytes = bytes }) l
+after_file_of : (h : Holdings) (jobs : List Job) (mode : ℕ) (told : Option FileDigest) (bytes : List ℕ) (l : Lists)
+    → OnlyMoves l (on_file_of h jobs mode told bytes l).state.lists
+after_file_of h [] mode told bytes l = stays l
+after_file_of h (job.Send source target user temp ∷ jobs) mode told bytes l = stays l
+after_file_of h (job.Request source target user ∷ jobs) mode told bytes l =
+    after_asked h (file_verdict h target told bytes) (record { name = target; mode = mode; bytes = bytes }) l
 
 after_file : (h : Holdings) (a : Awaits) (bytes : List ℕ) (l : Lists) → OnlyMoves l (on_file h a bytes l).state.lists
-after_file h (awaits.SentFile target mode) bytes l =
-    after_kept (h.immovable target) (record { name = target; mode = mode; bytes = bytes }) l
-after_file h (awaits.AskedFile mode) bytes l = after_file_of h l.ahead mode bytes l
+after_file h (awaits.SentFile target mode told) bytes l =
+    after_kept (file_verdict h target told bytes) (record { name = target; mode = mode; bytes = bytes }) l
+after_file h (awaits.AskedFile mode told) bytes l = after_file_of h l.ahead mode told bytes l
 after_file h awaits.DroppedSentFile bytes l = stays l
 after_file h awaits.DroppedAskedFile bytes l = moves_and_chooses fail h l (the_answer answer.DoneNever ∷ [])
 after_file h awaits.Order bytes l = stays l

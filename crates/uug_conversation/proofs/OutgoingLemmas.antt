@@ -4,7 +4,7 @@ use Rattle.std.proofs.lemmas.List.{append_assoc, drop_all, drop-append-le, drop-
 use Rattle.std.proofs.lemmas.List.Elements.{All-append, All-drop, All-head}
 use Rattle.uug_talk.specs.Answer.{answer_text}
 use Rattle.uug_talk.specs.Chunks.{Measure, cut, command_messages}
-use Rattle.uug_talk.specs.Order.{order_text}
+use Rattle.uug_conversation.specs.Told.{giving_said, order_said}
 use Rattle.uug_conversation.specs.declared.reaction.Saying.{Saying}
 use Rattle.uug_conversation.specs.declared.reaction.Saying.TheVariants as saying
 use Rattle.uug_conversation.specs.declared.reaction.Says.{Says}
@@ -13,7 +13,7 @@ use Rattle.uug_conversation.specs.Holdings.{Holdings}
 use Rattle.uug_conversation.specs.Outgoing.{Outgoing, IsSayable, IsWithin, is_silent, messages_from, messages_of, outgoing_messages, sayings_of}
 use Rattle.uug_conversation.specs.Reactions.{all_said, said_by}
 use Rattle.uug_conversation.specs.DialogueState.{is_empty}
-use Rattle.uug_conversation.specs.Turns.{Said, the_order, the_answer, the_file, said_messages, all_messages}
+use Rattle.uug_conversation.specs.Turns.{Said, the_order, the_answer, the_giving, the_file, said_messages, all_messages}
 
 -- ---- from any offset on there is a message
 
@@ -26,8 +26,9 @@ file_has_one [] = refl
 file_has_one (message ∷ messages) = refl
 
 said_has_one : (measure : Measure) (offset : ℕ) (said : Said) → is_empty (messages_from measure offset said) ≡ false
-said_has_one measure offset (the_order order) = command_has_one measure (drop offset (order_text order))
+said_has_one measure offset (the_order order told) = command_has_one measure (drop offset (order_said order told))
 said_has_one measure offset (the_answer answer) = command_has_one measure (drop offset (answer_text answer))
+said_has_one measure offset (the_giving mode told) = command_has_one measure (drop offset (giving_said mode told))
 said_has_one measure offset (the_file bytes) = file_has_one (cut measure.size (drop offset bytes))
 
 front_has_one : (front behind : List (List ℕ)) → is_empty front ≡ false → is_empty (front ++ behind) ≡ false
@@ -47,8 +48,9 @@ silent_is_empty h measure out = silent_by h measure out.offset out.sayings
 -- ---- what is said behind
 
 said_from_start : (measure : Measure) (said : Said) → messages_from measure 0 said ≡ said_messages measure said
-said_from_start measure (the_order order) = refl
+said_from_start measure (the_order order told) = refl
 said_from_start measure (the_answer answer) = refl
+said_from_start measure (the_giving mode told) = refl
 said_from_start measure (the_file bytes) = refl
 
 -- the first one from its start on
@@ -98,14 +100,16 @@ Holds said len items offset = (said ≤ len) × All IsSayable (drop said items) 
 
 within_at_start : (sayings : List Saying) → IsWithin sayings 0
 within_at_start [] = refl
-within_at_start (saying.Order order ∷ more) = omega arith
+within_at_start (saying.Order order told ∷ more) = omega arith
 within_at_start (saying.Answer answer ∷ more) = omega arith
+within_at_start (saying.Giving mode told ∷ more) = omega arith
 within_at_start (saying.File name ∷ more) = tt
 
 within_behind : (sayings more : List Saying) (offset : ℕ) → IsWithin sayings offset → IsWithin (sayings ++ more) offset
 within_behind [] more offset w = subst (λ z. IsWithin more z) (sym w) (within_at_start more)
-within_behind (saying.Order order ∷ sayings) more offset w = w
+within_behind (saying.Order order told ∷ sayings) more offset w = w
 within_behind (saying.Answer answer ∷ sayings) more offset w = w
+within_behind (saying.Giving mode told ∷ sayings) more offset w = w
 within_behind (saying.File name ∷ sayings) more offset w = w
 
 pub holds_more : (said len len_after offset : ℕ) (items more items_after : List Saying) → len ≡ length items →

@@ -1,7 +1,10 @@
 -- Every text of a conversation of sound parties is a command text, and is read back as itself.
-use Rattle.std.proofs.Common.{◌≡◌, ℕ, ◌≤◌, Bool, true, false, List, [], ◌∷◌, length, Option, Some, None, refl}
+use Rattle.std.proofs.Common.{◌≡◌, ℕ, ◌≤◌, Bool, true, false, List, [], ◌∷◌, length, Option, Some, None, refl, arith}
 use Rattle.std.proofs.lemmas.List.Elements.{All-head, All-tail}
 use Rattle.std.specs.List.{All}
+use Rattle.uug_digest.specs.Digests.{IsSend, give_telling_text, order_telling_text}
+use Rattle.uug_digest.specs.declared.file_digest.FileDigest.{FileDigest}
+use Rattle.uug_digest.proofs.TellingLemmas.{IsSized, digest_is_sized, give_command, give_reads, give_tells, give_tells_none, order_command, order_reads, order_tells_it, order_tells_none}
 use Rattle.uug_talk.specs.declared.answer.Answer.{Answer}
 use Rattle.uug_talk.specs.declared.answer.Answer.TheVariants as answer
 use Rattle.uug_talk.specs.declared.gather.TheConstants.{FILE_MAX}
@@ -22,7 +25,8 @@ use Rattle.uug_conversation.specs.Holdings.{File, Holdings, AreModes, to_give}
 use Rattle.uug_conversation.specs.Jobs.{Move}
 use Rattle.uug_conversation.specs.Party.{Party, HasNames, IsSound}
 use Rattle.uug_conversation.specs.ReadBack.{IsReadBack, EachTurn}
-use Rattle.uug_conversation.specs.Turns.{the_order, the_answer, Turn}
+use Rattle.uug_conversation.specs.Told.{told_of}
+use Rattle.uug_conversation.specs.Turns.{the_order, the_answer, the_giving, Turn}
 use Rattle.uug_conversation.specs.declared.side.Side.{Side}
 use Rattle.uug_conversation.specs.declared.side.Side.TheVariants.{Caller, Called}
 use Rattle.uug_conversation.proofs.LimitLemmas.{given_file}
@@ -38,12 +42,32 @@ given_fits h name file e = ((given_file (h.file name) file).0 e).1
 pub given_mode : (h : Holdings) (name : List ℕ) (file : File) → AreModes h → to_give h name ≡ Some file → file.mode ≤ MODE_MAX
 given_mode h name file m e = m name file ((given_file (h.file name) file).0 e).0
 
+-- ---- what is told
+
+abbrev IsSizedTold : Option FileDigest → Type 0
+IsSizedTold None = Unit {0}
+IsSizedTold (Some told) = IsSized told
+
+told_is_sized : (digests : Bool) (file : File) → length file.bytes ≤ FILE_MAX → IsSizedTold (told_of digests (Some file))
+told_is_sized true file small = digest_is_sized file.bytes (omega (arith, small))
+told_is_sized false file small = tt
+
 -- ---- texts
 
-order_back : (order : Order) → OrderHasNames order → HasMode order → IsReadBack (the_order order)
+order_back : (order : Order) → OrderHasNames order → HasMode order → IsReadBack (the_order order None)
 order_back order n m = (
   IsCommandText-order (order_text order) order n refl,
   order_of-spelled (order_text order) order (ReadsOrder-written (order_text order) order n m refl),
+  order_tells_none order n,
+)
+
+telling_back : (order : Order) (told : Option FileDigest) → OrderHasNames order → HasMode order → IsSend order → IsSizedTold told →
+    IsReadBack (the_order order told)
+telling_back order None n m send sized = order_back order n m
+telling_back order (Some told) n m send sized = (
+  order_command order told n sized,
+  order_of-spelled (order_telling_text order told) order (order_reads order told n m sized),
+  order_tells_it order told n m sized send,
 )
 
 answer_back : (answer : Answer) → IsWritten answer → IsReadBack (the_answer answer)
@@ -52,49 +76,68 @@ answer_back answer w = (
   answer_of-spelled (answer_text answer) answer (ReadsAnswer-written (answer_text answer) answer w refl),
 )
 
+giving_back : (mode : ℕ) (told : Option FileDigest) → mode ≤ MODE_MAX → IsSizedTold told → IsReadBack (the_giving mode told)
+giving_back mode None m sized =
+    let text = answer_text (answer.GiveYes mode) in (
+      IsCommandText-answer text (answer.GiveYes mode) m refl,
+      answer_of-spelled text (answer.GiveYes mode) (ReadsAnswer-written text (answer.GiveYes mode) m refl),
+      give_tells_none mode,
+    )
+giving_back mode (Some told) m sized = (
+  give_command mode told m sized,
+  answer_of-spelled (give_telling_text mode told) (answer.GiveYes mode) (give_reads mode told m sized),
+  give_tells mode told sized,
+)
+
 -- ---- exchanges
 
-send_back : (master slave : Side) (source target user : List ℕ) (temp : Option (List ℕ)) (own : Holdings)
+send_back : (master slave : Side) (digests : Bool) (source target user : List ℕ) (temp : Option (List ℕ)) (own : Holdings)
     (found : Option File) → to_give own (fetched_by source temp) ≡ found → AreModes own →
     AreNames source target user × IsCopy temp → (verdict : Verdict) (immovable : Bool) (next : List Move) (rest : List Turn) →
     EachTurn (λ t. IsReadBack t.said) rest →
-    EachTurn (λ t. IsReadBack t.said) (send_exchange master slave source target user temp found verdict immovable next rest)
-send_back master slave source target user temp own None e m n verdict immovable next rest r = r
-send_back master slave source target user temp own (Some file) e m n Never immovable next rest r = (
-  order_back (order.Send source target user temp file.mode) n (given_mode own (fetched_by source temp) file m e),
+    EachTurn (λ t. IsReadBack t.said) (send_exchange master slave digests source target user temp found verdict immovable next rest)
+send_back master slave digests source target user temp own None e m n verdict immovable next rest r = r
+send_back master slave digests source target user temp own (Some file) e m n Never immovable next rest r = (
+  telling_back (order.Send source target user temp file.mode) (told_of digests (Some file)) n
+      (given_mode own (fetched_by source temp) file m e) tt (told_is_sized digests file (given_fits own (fetched_by source temp) file e)),
   (answer_back answer.SendNever tt, r),
 )
-send_back master slave source target user temp own (Some file) e m n Later immovable next rest r = (
-  order_back (order.Send source target user temp file.mode) n (given_mode own (fetched_by source temp) file m e),
+send_back master slave digests source target user temp own (Some file) e m n Later immovable next rest r = (
+  telling_back (order.Send source target user temp file.mode) (told_of digests (Some file)) n
+      (given_mode own (fetched_by source temp) file m e) tt (told_is_sized digests file (given_fits own (fetched_by source temp) file e)),
   (answer_back answer.SendLater tt, r),
 )
-send_back master slave source target user temp own (Some file) e m n Yes false next rest r = (
-  order_back (order.Send source target user temp file.mode) n (given_mode own (fetched_by source temp) file m e),
+send_back master slave digests source target user temp own (Some file) e m n Yes false next rest r = (
+  telling_back (order.Send source target user temp file.mode) (told_of digests (Some file)) n
+      (given_mode own (fetched_by source temp) file m e) tt (told_is_sized digests file (given_fits own (fetched_by source temp) file e)),
   (answer_back answer.SendYes tt, (given_fits own (fetched_by source temp) file e, (answer_back answer.DoneYes tt, r))),
 )
-send_back master slave source target user temp own (Some file) e m n Yes true next rest r = (
-  order_back (order.Send source target user temp file.mode) n (given_mode own (fetched_by source temp) file m e),
+send_back master slave digests source target user temp own (Some file) e m n Yes true next rest r = (
+  telling_back (order.Send source target user temp file.mode) (told_of digests (Some file)) n
+      (given_mode own (fetched_by source temp) file m e) tt (told_is_sized digests file (given_fits own (fetched_by source temp) file e)),
   (answer_back answer.SendYes tt, (given_fits own (fetched_by source temp) file e, (answer_back answer.DoneNever tt, r))),
 )
 
-request_back : (master slave : Side) (source target user : List ℕ) (others : Holdings)
+request_back : (master slave : Side) (digests : Bool) (source target user : List ℕ) (others : Holdings)
     (found : Option File) → to_give others source ≡ found → AreModes others →
     AreNames source target user → (immovable : Bool) (next : List Move) (rest : List Turn) →
     EachTurn (λ t. IsReadBack t.said) rest →
-    EachTurn (λ t. IsReadBack t.said) (request_exchange master slave source target user found immovable next rest)
-request_back master slave source target user others None e m n immovable next rest r =
+    EachTurn (λ t. IsReadBack t.said) (request_exchange master slave digests source target user found immovable next rest)
+request_back master slave digests source target user others None e m n immovable next rest r =
     (order_back (order.Request source target user) n tt, (answer_back answer.GiveNever tt, r))
-request_back master slave source target user others (Some file) e m n false next rest r = (
+request_back master slave digests source target user others (Some file) e m n false next rest r = (
   order_back (order.Request source target user) n tt,
   (
-    answer_back (answer.GiveYes file.mode) (given_mode others source file m e),
+    giving_back file.mode (told_of digests (Some file)) (given_mode others source file m e)
+        (told_is_sized digests file (given_fits others source file e)),
     (given_fits others source file e, (answer_back answer.DoneYes tt, r)),
   ),
 )
-request_back master slave source target user others (Some file) e m n true next rest r = (
+request_back master slave digests source target user others (Some file) e m n true next rest r = (
   order_back (order.Request source target user) n tt,
   (
-    answer_back (answer.GiveYes file.mode) (given_mode others source file m e),
+    giving_back file.mode (told_of digests (Some file)) (given_mode others source file m e)
+        (told_is_sized digests file (given_fits others source file e)),
     (given_fits others source file e, (answer_back answer.DoneNever tt, r)),
   ),
 )
@@ -103,10 +146,10 @@ exchange_back : (master slave : Side) (own others : Holdings) → AreModes own �
     (j : Job) → HasNames j → (next : List Move) (rest : List Turn) → EachTurn (λ t. IsReadBack t.said) rest →
     EachTurn (λ t. IsReadBack t.said) (exchange master slave own others j next rest)
 exchange_back master slave own others m k (job.Send source target user temp) n next rest r =
-    send_back master slave source target user temp own (to_give own (fetched_by source temp)) refl m n
+    send_back master slave own.digests source target user temp own (to_give own (fetched_by source temp)) refl m n
     (others.verdict target) (others.immovable target) next rest r
 exchange_back master slave own others m k (job.Request source target user) n next rest r =
-    request_back master slave source target user others (to_give others source) refl k n (own.immovable target) next rest r
+    request_back master slave others.digests source target user others (to_give others source) refl k n (own.immovable target) next rest r
 
 exchanges_back : (master slave : Side) (own others : Holdings) → AreModes own → AreModes others →
     (jobs : List Job) → All HasNames jobs → (rest : List Turn) → EachTurn (λ t. IsReadBack t.said) rest →

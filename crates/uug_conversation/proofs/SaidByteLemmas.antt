@@ -1,8 +1,16 @@
 -- The messages of a conversation are bytes, where names are names and files hold bytes.
-use Rattle.std.proofs.Common.{◌≡◌, ℕ, zero, suc, ◌+◌, ◌<◌, Bool, true, false, List, [], ◌∷◌, ◌++◌, length, take, drop, replicate, codes, Option, Some, None, All, refl, arith}
+use Rattle.std.proofs.Common.{◌≡◌, ℕ, zero, suc, ◌+◌, ◌<◌, Bool, true, false, subst, List, [], ◌∷◌, ◌++◌, length, take, drop, replicate, codes, Option, Some, None, All, refl, arith}
 use Rattle.std.specs.Bool.{⊤}
 use Rattle.std.specs.List.{join_with_byte}
-use Rattle.std.proofs.lemmas.List.Elements.{All-nil, All-cons, All-head, All-tail, All-append, All-take, All-drop, All-replicate}
+use Rattle.std.proofs.lemmas.Bool.Decides.{nat_tests}
+use Rattle.std.proofs.lemmas.List.Elements.{All-nil, All-cons, All-head, All-tail, All-append, All-take, All-drop, All-replicate, All-weaker}
+use Rattle.std.specs.Int.{to_be_bytes, w32}
+use Rattle.hex.specs.Hex.{IsBytes, encode_lower, is_hex_digit}
+use Rattle.uug_digest.proofs.DigitLemmas.{encoded_digits, size_bytes}
+use Rattle.uug_digest.proofs.HashLemmas.{sha256_bytes}
+use Rattle.uug_digest.proofs.TellingLemmas.{give_joined, order_joined}
+use Rattle.uug_digest.specs.Digests.{digest_text, digest_words}
+use Rattle.uug_digest.specs.declared.file_digest.FileDigest.{FileDigest}
 use Rattle.uug_packet.specs.Bytes.{AreBytes}
 use Rattle.uug_talk.specs.declared.answer.Answer.{Answer}
 use Rattle.uug_talk.specs.declared.answer.Answer.TheVariants as answer
@@ -26,7 +34,8 @@ use Rattle.uug_conversation.specs.Jobs.{Move}
 use Rattle.uug_conversation.specs.Messages.{Message, messages, measures, turn_messages}
 use Rattle.uug_conversation.specs.Party.{HasNames, Party}
 use Rattle.uug_conversation.specs.ReadBack.{EachTurn}
-use Rattle.uug_conversation.specs.Turns.{Said, Turn, said_messages, the_answer, the_file, the_order}
+use Rattle.uug_conversation.specs.Told.{giving_said, order_said, told_of}
+use Rattle.uug_conversation.specs.Turns.{Said, Turn, said_messages, the_answer, the_file, the_giving, the_order}
 use Rattle.uug_conversation.specs.declared.side.Side.{Side}
 use Rattle.uug_conversation.specs.declared.side.Side.TheVariants.{Caller, Called}
 use Rattle.uug_conversation.specs.View.{conversation_view, own_messages, view}
@@ -162,22 +171,69 @@ answer_bytes answer.GiveLater = All-nil IsByte
 answer_bytes answer.DoneYes = letters 67 89 (omega arith) (omega arith)
 answer_bytes answer.DoneYesMaster = All-nil IsByte
 answer_bytes answer.DoneNever = three_letters 67 78 53 (omega arith) (omega arith) (omega arith)
-answer_bytes answer.DoneLater = All-nil IsByte
+answer_bytes answer.DoneLater = three_letters 67 78 52 (omega arith) (omega arith) (omega arith)
 answer_bytes answer.HangYes = letters 72 89 (omega arith) (omega arith)
 answer_bytes answer.HangNo = letters 72 78 (omega arith) (omega arith)
 answer_bytes answer.WorkNo = letters 88 78 (omega arith) (omega arith)
 answer_bytes answer.RunNever = three_letters 69 78 50 (omega arith) (omega arith) (omega arith)
 
+-- ---- what is told
+
+abbrev HasBytes : Option FileDigest → Type 0
+HasBytes None = ⊤
+HasBytes (Some told) = IsBytes told.hash
+
+told_has_bytes : (digests : Bool) (file : File) → HasBytes (told_of digests (Some file))
+told_has_bytes true file = sha256_bytes file.bytes
+told_has_bytes false file = tt
+
+digit_is_byte : (c : ℕ) → is_hex_digit c ≡ true → IsByte c
+digit_is_byte c h = grind (arith, nat_tests)
+
+encoded_bytes : (bytes : List ℕ) → IsBytes bytes → AllBytes (encode_lower bytes)
+encoded_bytes bytes h = All-weaker (λ c. is_hex_digit c ≡ true) IsByte digit_is_byte (encode_lower bytes) (encoded_digits bytes h)
+
+told_bytes : (told : FileDigest) → IsBytes told.hash → AllBytes (digest_text told)
+told_bytes told h = joined_bytes (digest_words told) (
+  letters 34 34 (omega arith) (omega arith),
+  (
+    All-append IsByte (codes "0x") (encode_lower (to_be_bytes w32 told.size)) (letters 48 120 (omega arith) (omega arith))
+        (encoded_bytes (to_be_bytes w32 told.size) (size_bytes told.size)),
+    (
+      All-append IsByte (codes "sha256:") (encode_lower told.hash)
+          (bytewise (codes "sha256:") (omega arith, (omega arith, (omega arith, (omega arith, (omega arith, (omega arith, (omega arith, tt))))))))
+          (encoded_bytes told.hash h),
+      tt,
+    ),
+  ),
+)
+
+behind_text : (text : List ℕ) (told : FileDigest) → AllBytes text → IsBytes told.hash → AllBytes (text ++ 32 ∷ digest_text told)
+behind_text text told all h =
+    All-append IsByte text (32 ∷ digest_text told) all (All-cons IsByte 32 (digest_text told) (omega arith) (told_bytes told h))
+
+order_said_bytes : (order : Order) (told : Option FileDigest) → OrderHasNames order → HasBytes told → AllBytes (order_said order told)
+order_said_bytes order None names h = order_bytes order names
+order_said_bytes order (Some told) names h =
+    subst AllBytes (order_joined order told) (behind_text (order_text order) told (order_bytes order names) h)
+
+giving_said_bytes : (mode : ℕ) (told : Option FileDigest) → HasBytes told → AllBytes (giving_said mode told)
+giving_said_bytes mode None h = answer_bytes (answer.GiveYes mode)
+giving_said_bytes mode (Some told) h =
+    subst AllBytes (give_joined mode told) (behind_text (answer_text (answer.GiveYes mode)) told (answer_bytes (answer.GiveYes mode)) h)
+
 -- ---- what is said
 
 abbrev SaysBytes : Said → Type 0
-SaysBytes (the_order order) = AllBytes (order_text order)
+SaysBytes (the_order order told) = AllBytes (order_said order told)
 SaysBytes (the_answer said) = AllBytes (answer_text said)
+SaysBytes (the_giving mode told) = AllBytes (giving_said mode told)
 SaysBytes (the_file bytes) = AllBytes bytes
 
 said_bytes : (measure : Measure) (said : Said) → SaysBytes said → All AreBytes (said_messages measure said)
-said_bytes measure (the_order order) all = command_bytes measure (order_text order) all
+said_bytes measure (the_order order told) all = command_bytes measure (order_said order told) all
 said_bytes measure (the_answer said) all = command_bytes measure (answer_text said) all
+said_bytes measure (the_giving mode told) all = command_bytes measure (giving_said mode told) all
 said_bytes measure (the_file bytes) all = file_bytes measure.size bytes all
 
 -- ---- turns
@@ -188,47 +244,47 @@ TurnsAreBytes turns = EachTurn (λ t. SaysBytes t.said) turns
 given_bytes : (h : Holdings) (name : List ℕ) (file : File) → HoldsBytes h → to_give h name ≡ Some file → AllBytes file.bytes
 given_bytes h name file holds is = all_bytes file.bytes (holds name file ((given_file (h.file name) file).0 is).0)
 
-send_bytes : (master slave : Side) (source target user : List ℕ) (temp : Option (List ℕ)) (own : Holdings)
+send_bytes : (master slave : Side) (digests : Bool) (source target user : List ℕ) (temp : Option (List ℕ)) (own : Holdings)
     (found : Option File) → to_give own (fetched_by source temp) ≡ found → HoldsBytes own →
     AreNames source target user × IsCopy temp → (verdict : Verdict) (immovable : Bool) (next : List Move) (rest : List Turn) →
     TurnsAreBytes rest →
-    TurnsAreBytes (send_exchange master slave source target user temp found verdict immovable next rest)
-send_bytes master slave source target user temp own None is holds names verdict immovable next rest all = all
-send_bytes master slave source target user temp own (Some file) is holds names Never immovable next rest all =
-    (order_bytes (order.Send source target user temp file.mode) names, (answer_bytes answer.SendNever, all))
-send_bytes master slave source target user temp own (Some file) is holds names Later immovable next rest all =
-    (order_bytes (order.Send source target user temp file.mode) names, (answer_bytes answer.SendLater, all))
-send_bytes master slave source target user temp own (Some file) is holds names Yes false next rest all = (
-  order_bytes (order.Send source target user temp file.mode) names,
+    TurnsAreBytes (send_exchange master slave digests source target user temp found verdict immovable next rest)
+send_bytes master slave digests source target user temp own None is holds names verdict immovable next rest all = all
+send_bytes master slave digests source target user temp own (Some file) is holds names Never immovable next rest all =
+    (order_said_bytes (order.Send source target user temp file.mode) (told_of digests (Some file)) names (told_has_bytes digests file), (answer_bytes answer.SendNever, all))
+send_bytes master slave digests source target user temp own (Some file) is holds names Later immovable next rest all =
+    (order_said_bytes (order.Send source target user temp file.mode) (told_of digests (Some file)) names (told_has_bytes digests file), (answer_bytes answer.SendLater, all))
+send_bytes master slave digests source target user temp own (Some file) is holds names Yes false next rest all = (
+  order_said_bytes (order.Send source target user temp file.mode) (told_of digests (Some file)) names (told_has_bytes digests file),
   (answer_bytes answer.SendYes, (given_bytes own (fetched_by source temp) file holds is, (answer_bytes answer.DoneYes, all))),
 )
-send_bytes master slave source target user temp own (Some file) is holds names Yes true next rest all = (
-  order_bytes (order.Send source target user temp file.mode) names,
+send_bytes master slave digests source target user temp own (Some file) is holds names Yes true next rest all = (
+  order_said_bytes (order.Send source target user temp file.mode) (told_of digests (Some file)) names (told_has_bytes digests file),
   (answer_bytes answer.SendYes, (given_bytes own (fetched_by source temp) file holds is, (answer_bytes answer.DoneNever, all))),
 )
 
-request_bytes : (master slave : Side) (source target user : List ℕ) (others : Holdings) (found : Option File) →
+request_bytes : (master slave : Side) (digests : Bool) (source target user : List ℕ) (others : Holdings) (found : Option File) →
     to_give others source ≡ found → HoldsBytes others → AreNames source target user → (immovable : Bool) (next : List Move)
     (rest : List Turn) → TurnsAreBytes rest →
-    TurnsAreBytes (request_exchange master slave source target user found immovable next rest)
-request_bytes master slave source target user others None is holds names immovable next rest all =
+    TurnsAreBytes (request_exchange master slave digests source target user found immovable next rest)
+request_bytes master slave digests source target user others None is holds names immovable next rest all =
     (order_bytes (order.Request source target user) names, (answer_bytes answer.GiveNever, all))
-request_bytes master slave source target user others (Some file) is holds names false next rest all = (
+request_bytes master slave digests source target user others (Some file) is holds names false next rest all = (
   order_bytes (order.Request source target user) names,
-  (answer_bytes (answer.GiveYes file.mode), (given_bytes others source file holds is, (answer_bytes answer.DoneYes, all))),
+  (giving_said_bytes file.mode (told_of digests (Some file)) (told_has_bytes digests file), (given_bytes others source file holds is, (answer_bytes answer.DoneYes, all))),
 )
-request_bytes master slave source target user others (Some file) is holds names true next rest all = (
+request_bytes master slave digests source target user others (Some file) is holds names true next rest all = (
   order_bytes (order.Request source target user) names,
-  (answer_bytes (answer.GiveYes file.mode), (given_bytes others source file holds is, (answer_bytes answer.DoneNever, all))),
+  (giving_said_bytes file.mode (told_of digests (Some file)) (told_has_bytes digests file), (given_bytes others source file holds is, (answer_bytes answer.DoneNever, all))),
 )
 
 exchange_bytes : (master slave : Side) (own others : Holdings) → HoldsBytes own → HoldsBytes others → (j : Job) → HasNames j →
     (next : List Move) (rest : List Turn) → TurnsAreBytes rest → TurnsAreBytes (exchange master slave own others j next rest)
 exchange_bytes master slave own others holds theirs (job.Send source target user temp) names next rest all =
-    send_bytes master slave source target user temp own (to_give own (fetched_by source temp)) refl holds names
+    send_bytes master slave own.digests source target user temp own (to_give own (fetched_by source temp)) refl holds names
     (others.verdict target) (others.immovable target) next rest all
 exchange_bytes master slave own others holds theirs (job.Request source target user) names next rest all =
-    request_bytes master slave source target user others (to_give others source) refl theirs names (own.immovable target) next rest
+    request_bytes master slave others.digests source target user others (to_give others source) refl theirs names (own.immovable target) next rest
     all
 
 exchanges_bytes : (master slave : Side) (own others : Holdings) → HoldsBytes own → HoldsBytes others → (jobs : List Job) →

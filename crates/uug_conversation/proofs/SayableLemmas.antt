@@ -1,9 +1,12 @@
 -- Whatever one end's machine says can be written.
-use Rattle.std.proofs.Common.{◌≡◌, ℕ, Bool, true, false, List, [], ◌∷◌, ◌++◌, Option, Some, None, Result, Ok, Err, All, refl, subst, arith}
+use Rattle.std.proofs.Common.{◌≡◌, ◌≤◌, ℕ, Bool, true, false, List, [], ◌∷◌, ◌++◌, Option, Some, None, Result, Ok, Err, All, refl, subst, arith}
 use Rattle.std.proofs.lemmas.List.Elements.{All-nil, All-cons}
+use Rattle.uug_digest.specs.Digests.{told_by_answer, told_by_order}
+use Rattle.uug_digest.specs.declared.file_digest.FileDigest.{FileDigest}
 use Rattle.uug_talk.specs.declared.answer.Answer.{Answer}
 use Rattle.uug_talk.specs.declared.answer.Answer.TheVariants as answer
 use Rattle.uug_talk.specs.declared.error.BadText.{BadText}
+use Rattle.uug_talk.specs.declared.mode.TheConstants.{MODE_MAX}
 use Rattle.uug_talk.specs.declared.order.Order.{Order}
 use Rattle.uug_talk.specs.declared.order.Order.TheVariants as order
 use Rattle.uug_talk.specs.Answer.{IsWritten, answer_of}
@@ -24,15 +27,17 @@ use Rattle.uug_conversation.specs.declared.verdict.Verdict.TheVariants.{Yes, Nev
 use Rattle.uug_conversation.specs.Choice.{Choice, choice, fetched_by, send_choice}
 use Rattle.uug_conversation.specs.Holdings.{File, Kept, Holdings, AreModes, to_give}
 use Rattle.uug_conversation.specs.Jobs.{Lists, pass, strike, fail, moved, moved_once}
-use Rattle.uug_conversation.specs.Machine.{Reply, goes_on, order_or_hang_up, on_send, on_request, on_hang_up, on_unread, on_order, on_given_file_done, on_last_hang_up, sends_file, on_send_yes, move_held, on_send_answer, on_sent_file_done, on_sent_job_done, on_request_answer, on_hang_up_answer, on_nothing_more, on_text, on_sent_file, on_asked_file, on_file_of, on_file}
+use Rattle.uug_conversation.specs.Machine.{Reply, goes_on, order_or_hang_up, on_send, send_verdict, on_request, on_hang_up, on_unread, on_order, on_given_file_done, on_last_hang_up, sends_file, on_send_yes, move_held, on_send_answer, on_sent_file_done, on_sent_job_done, on_request_answer, on_hang_up_answer, on_nothing_more, on_text, file_verdict, on_sent_file, on_asked_file, on_file_of, on_file}
 use Rattle.uug_conversation.specs.Outgoing.{IsSayable, sayings_of}
 use Rattle.uug_conversation.specs.Reactions.{all_said, reply_of, said_before, said_by}
-use Rattle.uug_conversation.specs.Turns.{Said, the_order, the_answer, the_file}
+use Rattle.uug_conversation.specs.Told.{heard, told_with}
+use Rattle.uug_conversation.specs.Turns.{Said, the_order, the_answer, the_giving, the_file}
 use Rattle.uug_conversation.proofs.ReadBackLemmas.{given_mode}
 
 abbrev CanBeSaid : Said → Type 0
-CanBeSaid (the_order order) = HasMode order
+CanBeSaid (the_order order told) = HasMode order
 CanBeSaid (the_answer answer) = IsWritten answer
+CanBeSaid (the_giving mode told) = mode ≤ MODE_MAX
 CanBeSaid (the_file bytes) = Unit {0}
 
 abbrev CanAllBeSaid : List Said → Type 0
@@ -57,9 +62,10 @@ refusal_written text = refusal_by_words (words text)
 
 -- ---- what a machine says
 
-commanded : (before : List Said) (next : Order) → CanAllBeSaid before → HasMode next → CanAllBeSaid (before ++ the_order next ∷ [])
-commanded [] next b m = (m, tt)
-commanded (said ∷ before) next b m = (b.0, commanded before next b.1 m)
+commanded : (before : List Said) (next : Order) (told : Option FileDigest) → CanAllBeSaid before → HasMode next →
+    CanAllBeSaid (before ++ the_order next told ∷ [])
+commanded [] next told b m = (m, tt)
+commanded (said ∷ before) next told b m = (b.0, commanded before next told b.1 m)
 
 abbrev HasModeChosen : Option Order → Type 0
 HasModeChosen None = Unit {0}
@@ -84,18 +90,20 @@ module _ (h : Holdings) (modes : AreModes h) where
 
   going_on : (l : Lists) (before : List Said) → CanAllBeSaid before → CanAllBeSaid (goes_on h l before).says
   going_on l before b =
-      commanded before (order_or_hang_up (choice h l.ahead).next) b (hang_up_has (choice h l.ahead).next (choice_has l.ahead))
+      commanded before (order_or_hang_up (choice h l.ahead).next) (told_with h (order_or_hang_up (choice h l.ahead).next)) b
+      (hang_up_has (choice h l.ahead).next (choice_has l.ahead))
 
-  taking_send : (verdict : Verdict) (target : List ℕ) (mode : ℕ) (l : Lists) → CanAllBeSaid (on_send verdict target mode l).says
-  taking_send Yes target mode l = (tt, tt)
-  taking_send Never target mode l = (tt, tt)
-  taking_send Later target mode l = (tt, tt)
+  taking_send : (verdict : Verdict) (target : List ℕ) (mode : ℕ) (told : Option FileDigest) (l : Lists) → CanAllBeSaid (on_send verdict target mode told l).says
+  taking_send Yes target mode told l = (tt, tt)
+  taking_send Never target mode told l = (tt, tt)
+  taking_send Later target mode told l = (tt, tt)
 
-  taking_request : (source : List ℕ) (found : Option File) (l : Lists) → to_give h source ≡ found → CanAllBeSaid (on_request found l).says
+  taking_request : (source : List ℕ) (found : Option File) (l : Lists) → to_give h source ≡ found →
+      CanAllBeSaid (on_request h.digests found l).says
   taking_request source None l e = (tt, tt)
   taking_request source (Some file) l e = (given_mode h source file modes e, (tt, tt))
 
-  taking_hang_up : (next : Option Order) (l : Lists) → HasModeChosen next → CanAllBeSaid (on_hang_up next l).says
+  taking_hang_up : (next : Option Order) (l : Lists) → HasModeChosen next → CanAllBeSaid (on_hang_up h next l).says
   taking_hang_up None l m = (tt, tt)
   taking_hang_up (Some next) l m = (tt, (m, tt))
 
@@ -104,13 +112,13 @@ module _ (h : Holdings) (modes : AreModes h) where
   taking_unread true (Some refusal) l w = (w, tt)
   taking_unread _ _ l w = tt
 
-  taking_order : (refusal : Option Answer) (read : Result Order BadText) (l : Lists) → IsWrittenBefore refusal →
-      CanAllBeSaid (on_order h refusal read l).says
-  taking_order refusal (Ok (order.Send source target user temp mode)) l w = taking_send (h.verdict target) target mode l
-  taking_order refusal (Ok (order.Request source target user)) l w = taking_request source (to_give h source) l refl
-  taking_order refusal (Ok order.HangUp) l w =
+  taking_order : (refusal : Option Answer) (told : Option FileDigest) (read : Result Order BadText) (l : Lists) → IsWrittenBefore refusal →
+      CanAllBeSaid (on_order h refusal told read l).says
+  taking_order refusal told (Ok (order.Send source target user temp mode)) l w = taking_send (send_verdict h target told) target mode told l
+  taking_order refusal told (Ok (order.Request source target user)) l w = taking_request source (to_give h source) l refl
+  taking_order refusal told (Ok order.HangUp) l w =
       taking_hang_up (choice h l.ahead).next (moved (choice h l.ahead).failing l) (choice_has l.ahead)
-  taking_order refusal (Err fault) l w = taking_unread h.lenient refusal l w
+  taking_order refusal told (Err fault) l w = taking_unread h.lenient refusal l w
 
   given_file_done : (read : Result Answer BadText) (l : Lists) → CanAllBeSaid (on_given_file_done read l).says
   given_file_done (Ok answer.DoneYes) l = tt
@@ -149,11 +157,11 @@ module _ (h : Holdings) (modes : AreModes h) where
   sent_job_done (job.Send source target user temp ∷ jobs) read l = sent_file_done read l
   sent_job_done _ read l = tt
 
-  request_answer : (read : Result Answer BadText) (l : Lists) → CanAllBeSaid (on_request_answer h read l).says
-  request_answer (Ok (answer.GiveYes mode)) l = tt
-  request_answer (Ok answer.GiveNever) l = going_on (moved_once fail l) [] tt
-  request_answer (Ok answer.GiveLater) l = going_on (moved_once pass l) [] tt
-  request_answer _ l = tt
+  request_answer : (told : Option FileDigest) (read : Result Answer BadText) (l : Lists) → CanAllBeSaid (on_request_answer h told read l).says
+  request_answer told (Ok (answer.GiveYes mode)) l = tt
+  request_answer told (Ok answer.GiveNever) l = going_on (moved_once fail l) [] tt
+  request_answer told (Ok answer.GiveLater) l = going_on (moved_once pass l) [] tt
+  request_answer told _ l = tt
 
   hang_up_answer : (read : Result Answer BadText) (l : Lists) → CanAllBeSaid (on_hang_up_answer read l).says
   hang_up_answer (Ok answer.HangYes) l = (tt, tt)
@@ -165,33 +173,35 @@ module _ (h : Holdings) (modes : AreModes h) where
   nothing_more _ l = tt
 
   taking_text : (awaited : Awaits) (text : List ℕ) (l : Lists) → CanAllBeSaid (on_text h awaited text l).says
-  taking_text awaits.Order text l = taking_order (refusal_of text) (order_of text) l (refusal_written text)
+  taking_text awaits.Order text l = taking_order (refusal_of text) (heard h.digests (told_by_order text)) (order_of text) l (refusal_written text)
   taking_text awaits.GivenFileDone text l = given_file_done (answer_of text) l
   taking_text awaits.LastHangUp text l = last_hang_up (answer_of text) l
   taking_text awaits.SendAnswer text l = send_answer (answer_of text) l
   taking_text awaits.SentFileDone text l = sent_job_done l.ahead (answer_of text) l
-  taking_text awaits.RequestAnswer text l = request_answer (answer_of text) l
+  taking_text awaits.RequestAnswer text l = request_answer (heard h.digests (told_by_answer text)) (answer_of text) l
   taking_text awaits.HangUpAnswer text l = hang_up_answer (answer_of text) l
   taking_text awaits.NothingMore text l = nothing_more (answer_of text) l
   taking_text _ text l = tt
 
-  sent_file : (immovable : Bool) (file : Kept) (l : Lists) → CanAllBeSaid (on_sent_file immovable file l).says
-  sent_file false file l = (tt, tt)
-  sent_file true file l = (tt, tt)
+  sent_file : (verdict : Verdict) (file : Kept) (l : Lists) → CanAllBeSaid (on_sent_file verdict file l).says
+  sent_file Yes file l = (tt, tt)
+  sent_file Never file l = (tt, tt)
+  sent_file Later file l = (tt, tt)
 
-  asked_file : (immovable : Bool) (file : Kept) (l : Lists) → CanAllBeSaid (on_asked_file h immovable file l).says
-  asked_file false file l = going_on (moved_once strike l) (the_answer answer.DoneYes ∷ []) (tt, tt)
-  asked_file true file l = going_on (moved_once fail l) (the_answer answer.DoneNever ∷ []) (tt, tt)
+  asked_file : (verdict : Verdict) (file : Kept) (l : Lists) → CanAllBeSaid (on_asked_file h verdict file l).says
+  asked_file Yes file l = going_on (moved_once strike l) (the_answer answer.DoneYes ∷ []) (tt, tt)
+  asked_file Never file l = going_on (moved_once fail l) (the_answer answer.DoneNever ∷ []) (tt, tt)
+  asked_file Later file l = going_on (moved_once pass l) (the_answer answer.DoneLater ∷ []) (tt, tt)
 
-  file_of : (jobs : List Job) (mode : ℕ) (bytes : List ℕ) (l : Lists) → CanAllBeSaid (on_file_of h jobs mode bytes l).says
-  file_of (job.Request source target user ∷ jobs) mode bytes l =
-      asked_file (h.immovable target) (record { name = target; mode = mode; bytes = bytes }) l
-  file_of _ mode bytes l = tt
+  file_of : (jobs : List Job) (mode : ℕ) (told : Option FileDigest) (bytes : List ℕ) (l : Lists) → CanAllBeSaid (on_file_of h jobs mode told bytes l).says
+  file_of (job.Request source target user ∷ jobs) mode told bytes l =
+      asked_file (file_verdict h target told bytes) (record { name = target; mode = mode; bytes = bytes }) l
+  file_of _ mode told bytes l = tt
 
   taking_file : (awaited : Awaits) (bytes : List ℕ) (l : Lists) → CanAllBeSaid (on_file h awaited bytes l).says
-  taking_file (awaits.SentFile target mode) bytes l =
-      sent_file (h.immovable target) (record { name = target; mode = mode; bytes = bytes }) l
-  taking_file (awaits.AskedFile mode) bytes l = file_of l.ahead mode bytes l
+  taking_file (awaits.SentFile target mode told) bytes l =
+      sent_file (file_verdict h target told bytes) (record { name = target; mode = mode; bytes = bytes }) l
+  taking_file (awaits.AskedFile mode told) bytes l = file_of l.ahead mode told bytes l
   taking_file awaits.DroppedSentFile bytes l = (tt, tt)
   taking_file awaits.DroppedAskedFile bytes l = going_on (moved_once fail l) (the_answer answer.DoneNever ∷ []) (tt, tt)
   taking_file _ bytes l = tt
@@ -199,8 +209,9 @@ module _ (h : Holdings) (modes : AreModes h) where
 -- ---- what the code says
 
 of_said : (h : Holdings) (s : Saying) → CanBeSaid (said_by h s) → IsSayable s
-of_said h (saying.Order order) m = m
+of_said h (saying.Order order told) m = m
 of_said h (saying.Answer answer) w = w
+of_said h (saying.Giving mode told) m = m
 of_said h (saying.File name) u = tt
 
 of_all_said : (h : Holdings) (says : Says) → CanAllBeSaid (all_said h says) → All IsSayable (sayings_of says)

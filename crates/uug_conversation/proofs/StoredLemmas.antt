@@ -101,7 +101,7 @@ send_own : (measures : Side → Measure) (master : Side) (e : Ends) (jobs others
     HoldsOf measures master (OwnBehind e jobs others_ahead behind.failing) rest →
     HoldsOf measures master
     (OwnBehind e (job.Send source target user temp ∷ jobs) others_ahead (send_choice source target user temp offered behind).failing)
-    (send_exchange master (other master) source target user temp offered verdict immovable behind.failing rest)
+    (send_exchange master (other master) e.own.digests source target user temp offered verdict immovable behind.failing rest)
 send_own measures master e jobs ahead source target user temp None verdict immovable behind rest given inside more = more
 send_own measures master e jobs ahead source target user temp (Some file) Never immovable behind rest given inside more =
     master_says (none, none) (slave_says (none, none) more)
@@ -144,7 +144,7 @@ request_own : (measures : Side → Measure) (master : Side) (e : Ends) (jobs oth
     to_give e.others source ≡ offered → struck_by (next ++ []) jobs ≡ [] →
     HoldsOf measures master (OwnBehind e jobs others_ahead next) rest →
     HoldsOf measures master (OwnBehind e (job.Request source target user ∷ jobs) others_ahead [])
-    (request_exchange master (other master) source target user offered immovable next rest)
+    (request_exchange master (other master) e.others.digests source target user offered immovable next rest)
 request_own measures master e jobs ahead source target user None immovable next rest given nothing more =
     master_says (none, none) (slave_says (none, none) more)
 request_own measures master e jobs ahead source target user (Some file) false next rest given nothing more =

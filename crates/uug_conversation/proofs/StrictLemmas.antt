@@ -1,5 +1,7 @@
 -- An end that is not lenient: what it can't read fits no turn, and it never awaits the rest of a file.
-use Rattle.std.proofs.Common.{◌≡◌, ℕ, nat_lt, Bool, true, false, List, [], ◌∷◌, length, Option, Some, None, Result, Ok, Err, refl, ap, ◌∙◌}
+use Rattle.std.proofs.Common.{◌≡◌, ℕ, nat_lt, Bool, true, false, ◌&&◌, List, [], ◌∷◌, length, Option, Some, None, Result, Ok, Err, refl, ap, ◌∙◌}
+use Rattle.uug_digest.specs.Digests.{told_by_answer, told_by_order}
+use Rattle.uug_digest.specs.declared.file_digest.FileDigest.{FileDigest}
 use Rattle.uug_talk.specs.declared.answer.Answer.{Answer}
 use Rattle.uug_talk.specs.declared.answer.Answer.TheVariants as answer
 use Rattle.uug_talk.specs.declared.error.BadText.{BadText}
@@ -20,7 +22,8 @@ use Rattle.uug_conversation.specs.declared.verdict.Verdict.TheVariants.{Yes, Nev
 use Rattle.uug_conversation.specs.Choice.{choice, fetched_by}
 use Rattle.uug_conversation.specs.Holdings.{File, Kept, Holdings, to_give}
 use Rattle.uug_conversation.specs.Jobs.{Lists, pass, strike, fail, moved, moved_once}
-use Rattle.uug_conversation.specs.Machine.{State, Reply, awaits_answer_to, order_or_hang_up, goes_on, on_send, on_request, on_hang_up, on_unread, on_order, on_given_file_done, on_last_hang_up, sends_file, on_send_yes, move_held, on_send_answer, on_sent_file_done, on_sent_job_done, on_request_answer, on_hang_up_answer, on_nothing_more, on_text, on_sent_file, on_asked_file, on_file_of, on_file, on_whole, on_gathered, is_dropped, on_past_limit, on_part, gathered_with, opening, out_of_turn, step}
+use Rattle.uug_conversation.specs.Machine.{State, Reply, awaits_answer_to, order_or_hang_up, goes_on, on_send, send_verdict, on_request, on_hang_up, on_unread, on_order, on_given_file_done, on_last_hang_up, sends_file, on_send_yes, move_held, on_send_answer, on_sent_file_done, on_sent_job_done, on_request_answer, on_hang_up_answer, on_nothing_more, on_text, file_verdict, on_sent_file, on_asked_file, on_file_of, on_file, on_whole, on_gathered, is_dropped, on_past_limit, on_part, gathered_with, opening, out_of_turn, step}
+use Rattle.uug_conversation.specs.Told.{heard, is_too_large, unless_too_large}
 use Rattle.uug_conversation.specs.Turns.{Said, the_answer}
 
 -- ---- what it can't read, and SN8
@@ -32,7 +35,7 @@ strict_unread (Some refusal) l = refl
 pub unread_ends : (h : Holdings) (text : List ℕ) (fault : BadText) (l : Lists) → h.lenient ≡ false → order_of text ≡ Err fault →
     on_text h awaits.Order text l ≡ out_of_turn l
 unread_ends h text fault l strict e =
-    ap (λ read. on_order h (refusal_of text) read l) e
+    ap (λ read. on_order h (refusal_of text) (heard h.digests (told_by_order text)) read l) e
     ∙ ap (λ (b : Bool). on_unread b (refusal_of text) l) strict
     ∙ strict_unread (refusal_of text) l
 
@@ -45,6 +48,18 @@ held_stays h text l strict e =
     ap (λ read. on_send_answer h read l) e
     ∙ ap (λ (b : Bool). goes_on h (moved_once (move_held b l.ahead) l) []) strict
     ∙ ap (λ move. goes_on h (moved_once move l) []) (strict_held l.ahead)
+
+-- ---- it asks its spool alone
+
+strict_verdict : (too_large : Bool) (verdict : Verdict) → unless_too_large (false && too_large) verdict ≡ verdict
+strict_verdict too_large Yes = refl
+strict_verdict too_large Never = refl
+strict_verdict too_large Later = refl
+
+pub spool_decides : (h : Holdings) (target : List ℕ) (told : Option FileDigest) → h.lenient ≡ false → send_verdict h target told ≡ h.verdict target
+spool_decides h target told strict =
+    ap (λ (b : Bool). unless_too_large (b && is_too_large told) (h.verdict target)) strict
+    ∙ strict_verdict (is_too_large told) (h.verdict target)
 
 -- ---- it awaits the rest of no file
 
@@ -59,28 +74,29 @@ order_drops_none order.HangUp = refl
 going_on : (h : Holdings) (l : Lists) (before : List Said) → DropsNone (goes_on h l before)
 going_on h l before = order_drops_none (order_or_hang_up (choice h l.ahead).next)
 
-send : (verdict : Verdict) (target : List ℕ) (mode : ℕ) (l : Lists) → DropsNone (on_send verdict target mode l)
-send Yes target mode l = refl
-send Never target mode l = refl
-send Later target mode l = refl
+send : (verdict : Verdict) (target : List ℕ) (mode : ℕ) (told : Option FileDigest) (l : Lists) → DropsNone (on_send verdict target mode told l)
+send Yes target mode told l = refl
+send Never target mode told l = refl
+send Later target mode told l = refl
 
-request : (found : Option File) (l : Lists) → DropsNone (on_request found l)
-request None l = refl
-request (Some file) l = refl
+request : (digests : Bool) (found : Option File) (l : Lists) → DropsNone (on_request digests found l)
+request digests None l = refl
+request digests (Some file) l = refl
 
-hang_up : (next : Option Order) (l : Lists) → DropsNone (on_hang_up next l)
-hang_up None l = refl
-hang_up (Some next) l = order_drops_none next
+hang_up : (h : Holdings) (next : Option Order) (l : Lists) → DropsNone (on_hang_up h next l)
+hang_up h None l = refl
+hang_up h (Some next) l = order_drops_none next
 
 unread : (lenient : Bool) (refusal : Option Answer) (l : Lists) → DropsNone (on_unread lenient refusal l)
 unread true (Some refusal) l = refl
 unread _ _ l = refl
 
-an_order : (h : Holdings) (refusal : Option Answer) (read : Result Order BadText) (l : Lists) → DropsNone (on_order h refusal read l)
-an_order h refusal (Ok (order.Send source target user temp mode)) l = send (h.verdict target) target mode l
-an_order h refusal (Ok (order.Request source target user)) l = request (to_give h source) l
-an_order h refusal (Ok order.HangUp) l = hang_up (choice h l.ahead).next (moved (choice h l.ahead).failing l)
-an_order h refusal (Err fault) l = unread h.lenient refusal l
+an_order : (h : Holdings) (refusal : Option Answer) (told : Option FileDigest) (read : Result Order BadText) (l : Lists)
+    → DropsNone (on_order h refusal told read l)
+an_order h refusal told (Ok (order.Send source target user temp mode)) l = send (send_verdict h target told) target mode told l
+an_order h refusal told (Ok (order.Request source target user)) l = request h.digests (to_give h source) l
+an_order h refusal told (Ok order.HangUp) l = hang_up h (choice h l.ahead).next (moved (choice h l.ahead).failing l)
+an_order h refusal told (Err fault) l = unread h.lenient refusal l
 
 given_file_done : (read : Result Answer BadText) (l : Lists) → DropsNone (on_given_file_done read l)
 given_file_done (Ok answer.DoneYes) l = refl
@@ -119,11 +135,11 @@ sent_job_done : (h : Holdings) (jobs : List Job) (read : Result Answer BadText) 
 sent_job_done h (job.Send source target user temp ∷ jobs) read l = sent_file_done h read l
 sent_job_done h _ read l = refl
 
-request_answer : (h : Holdings) (read : Result Answer BadText) (l : Lists) → DropsNone (on_request_answer h read l)
-request_answer h (Ok (answer.GiveYes mode)) l = refl
-request_answer h (Ok answer.GiveNever) l = going_on h (moved_once fail l) []
-request_answer h (Ok answer.GiveLater) l = going_on h (moved_once pass l) []
-request_answer h _ l = refl
+request_answer : (h : Holdings) (told : Option FileDigest) (read : Result Answer BadText) (l : Lists) → DropsNone (on_request_answer h told read l)
+request_answer h told (Ok (answer.GiveYes mode)) l = refl
+request_answer h told (Ok answer.GiveNever) l = going_on h (moved_once fail l) []
+request_answer h told (Ok answer.GiveLater) l = going_on h (moved_once pass l) []
+request_answer h told _ l = refl
 
 hang_up_answer : (read : Result Answer BadText) (l : Lists) → DropsNone (on_hang_up_answer read l)
 hang_up_answer (Ok answer.HangYes) l = refl
@@ -135,33 +151,35 @@ nothing_more (Ok answer.HangYes) l = refl
 nothing_more _ l = refl
 
 a_text : (h : Holdings) (awaited : Awaits) (text : List ℕ) (l : Lists) → DropsNone (on_text h awaited text l)
-a_text h awaits.Order text l = an_order h (refusal_of text) (order_of text) l
+a_text h awaits.Order text l = an_order h (refusal_of text) (heard h.digests (told_by_order text)) (order_of text) l
 a_text h awaits.GivenFileDone text l = given_file_done (answer_of text) l
 a_text h awaits.LastHangUp text l = last_hang_up (answer_of text) l
 a_text h awaits.SendAnswer text l = send_answer h (answer_of text) l
 a_text h awaits.SentFileDone text l = sent_job_done h l.ahead (answer_of text) l
-a_text h awaits.RequestAnswer text l = request_answer h (answer_of text) l
+a_text h awaits.RequestAnswer text l = request_answer h (heard h.digests (told_by_answer text)) (answer_of text) l
 a_text h awaits.HangUpAnswer text l = hang_up_answer (answer_of text) l
 a_text h awaits.NothingMore text l = nothing_more (answer_of text) l
 a_text h _ text l = refl
 
-sent_file : (immovable : Bool) (file : Kept) (l : Lists) → DropsNone (on_sent_file immovable file l)
-sent_file false file l = refl
-sent_file true file l = refl
+sent_file : (verdict : Verdict) (file : Kept) (l : Lists) → DropsNone (on_sent_file verdict file l)
+sent_file Yes file l = refl
+sent_file Never file l = refl
+sent_file Later file l = refl
 
-asked_file : (h : Holdings) (immovable : Bool) (file : Kept) (l : Lists) → DropsNone (on_asked_file h immovable file l)
-asked_file h false file l = going_on h (moved_once strike l) (the_answer answer.DoneYes ∷ [])
-asked_file h true file l = going_on h (moved_once fail l) (the_answer answer.DoneNever ∷ [])
+asked_file : (h : Holdings) (verdict : Verdict) (file : Kept) (l : Lists) → DropsNone (on_asked_file h verdict file l)
+asked_file h Yes file l = going_on h (moved_once strike l) (the_answer answer.DoneYes ∷ [])
+asked_file h Never file l = going_on h (moved_once fail l) (the_answer answer.DoneNever ∷ [])
+asked_file h Later file l = going_on h (moved_once pass l) (the_answer answer.DoneLater ∷ [])
 
-file_of : (h : Holdings) (jobs : List Job) (mode : ℕ) (bytes : List ℕ) (l : Lists) → DropsNone (on_file_of h jobs mode bytes l)
-file_of h (job.Request source target user ∷ jobs) mode bytes l =
-    asked_file h (h.immovable target) (record { name = target; mode = mode; bytes = bytes }) l
-file_of h _ mode bytes l = refl
+file_of : (h : Holdings) (jobs : List Job) (mode : ℕ) (told : Option FileDigest) (bytes : List ℕ) (l : Lists) → DropsNone (on_file_of h jobs mode told bytes l)
+file_of h (job.Request source target user ∷ jobs) mode told bytes l =
+    asked_file h (file_verdict h target told bytes) (record { name = target; mode = mode; bytes = bytes }) l
+file_of h _ mode told bytes l = refl
 
 a_file : (h : Holdings) (awaited : Awaits) (bytes : List ℕ) (l : Lists) → DropsNone (on_file h awaited bytes l)
-a_file h (awaits.SentFile target mode) bytes l =
-    sent_file (h.immovable target) (record { name = target; mode = mode; bytes = bytes }) l
-a_file h (awaits.AskedFile mode) bytes l = file_of h l.ahead mode bytes l
+a_file h (awaits.SentFile target mode told) bytes l =
+    sent_file (file_verdict h target told bytes) (record { name = target; mode = mode; bytes = bytes }) l
+a_file h (awaits.AskedFile mode told) bytes l = file_of h l.ahead mode told bytes l
 a_file h awaits.DroppedSentFile bytes l = refl
 a_file h awaits.DroppedAskedFile bytes l = going_on h (moved_once fail l) (the_answer answer.DoneNever ∷ [])
 a_file h _ bytes l = refl

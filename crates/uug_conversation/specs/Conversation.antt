@@ -25,7 +25,7 @@ both_agree master slave = plain slave (the_answer HangYes) ∷ plain master (the
 
 -- the called end's last turn as master: the caller has no job left that it could offer
 abbrev pub last_turns : List Turn
-last_turns = plain Called (the_order HangUp) ∷ both_agree Called Caller
+last_turns = plain Called (the_order HangUp None) ∷ both_agree Called Caller
 
 -- how the called end answers the caller's H: where it has a job to offer it says HN, and is master then
 abbrev pub after_hang_up : Option Order → (a b : Party) → List Turn
@@ -36,7 +36,7 @@ after_hang_up (Some order) a b =
 -- the caller's last turn as master: the called end makes its choice when it has taken it
 abbrev pub hang_up : (a b : Party) → List Turn
 hang_up a b =
-    moving Caller (the_order HangUp) (choice b.holdings b.jobs).failing ∷
+    moving Caller (the_order HangUp None) (choice b.holdings b.jobs).failing ∷
     after_hang_up (choice b.holdings b.jobs).next a b
 
 -- the conversation of a caller and a called end

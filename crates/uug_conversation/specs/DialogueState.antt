@@ -1,15 +1,17 @@
 -- What one end keeps of its conversation: the one-sided machine, what it has still to say, and what its spool kept (this
 -- project's profile). What waits when a message fitted no turn is never sent: the end has ended then.
-use Rattle.std.specs.Prelude.{ℕ, Bool, true, false, ◌&&◌, not, nat_le, List, [], ◌∷◌, ◌++◌, length, Option, Some, None}
+use Rattle.std.specs.Prelude.{ℕ, Bool, true, false, ◌&&◌, nat_le, List, [], ◌∷◌, ◌++◌, length, Option, Some, None}
 use Rattle.uug_talk.specs.Chunks.{Measure}
 use Rattle.uug_talk.specs.Gathering.{Gathering, limit_of}
 use Rattle.uug_conversation.specs.declared.awaits.Awaits.{Awaits}
 use Rattle.uug_conversation.specs.declared.awaits.Awaits.TheVariants as awaits
+use Rattle.uug_conversation.specs.declared.verdict.Verdict.{Verdict}
+use Rattle.uug_conversation.specs.declared.verdict.Verdict.TheVariants.{Yes}
 use Rattle.uug_conversation.specs.Holdings.{Kept, Holdings}
 use Rattle.uug_conversation.specs.Jobs.{Lists}
 use Rattle.uug_conversation.specs.Keeper.{Keeper}
 use Rattle.uug_conversation.specs.Machine.{State, Reply, between, gathered_with, reply_to, opening}
-use Rattle.uug_conversation.specs.Reactions.{FileAwaited, file_awaited}
+use Rattle.uug_conversation.specs.Reactions.{FileAwaited, awaited_verdict, file_awaited}
 use Rattle.uug_conversation.specs.Runs.{is_over, is_bad}
 use Rattle.uug_conversation.specs.Turns.{all_messages}
 use Rattle.uug_conversation.specs.declared.side.Side.{Side}
@@ -60,10 +62,15 @@ has_parted_by awaits.NothingMore none_waits = true
 has_parted_by awaits.LastHangUp none_waits = none_waits
 has_parted_by _ none_waits = false
 
--- the awaited file is whole with this message, within its limit, and can be put in its place
+abbrev pub is_yes : Verdict → Bool
+is_yes Yes = true
+is_yes _ = false
+
+-- the awaited file is whole with this message, within its limit, the one that was told of, and can be put in its place
 abbrev pub is_kept_now : Holdings → Gathering → Option FileAwaited → Bool
 is_kept_now h g None = false
-is_kept_now h g (Some file) = (g.whole && nat_le (length g.bytes) (limit_of g.kind)) && not (h.immovable file.name)
+is_kept_now h g (Some file) =
+    (g.whole && nat_le (length g.bytes) (limit_of g.kind)) && is_yes (awaited_verdict h file g.bytes)
 
 abbrev pub asks_spool : Holdings → State → (message : List ℕ) → Bool
 asks_spool h s message = is_kept_now h (gathered_with s message) (file_awaited s.awaits s.lists.ahead)

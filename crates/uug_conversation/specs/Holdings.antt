@@ -1,4 +1,4 @@
--- What a spool gives and accepts, and whether its end is lenient (this project's profile). It does not change in a session.
+-- What a spool gives and accepts, and whether its end is lenient, and tells and compares digests (this project's profile). It does not change in a session.
 use Rattle.std.specs.Prelude.{◌≡◌, ℕ, ◌≤◌, Bool, List, length, nat_le, Option, Some, None, if◌then◌else◌}
 use Rattle.uug_conversation.specs.declared.verdict.Verdict.{Verdict}
 use Rattle.uug_talk.specs.declared.gather.TheConstants.{FILE_MAX}
@@ -25,6 +25,8 @@ pub record Holdings : Type 0 where
   pub immovable : List ℕ → Bool
   -- whether the end refuses what it can't read, and goes on
   pub lenient : Bool
+  -- whether it tells digests of its files, and compares those that it is told
+  pub digests : Bool
 
 -- a mode is at most octal 7777
 abbrev pub AreModes : Holdings → Type 0

@@ -2,6 +2,7 @@ pub mod Alternation
 pub mod Backlog
 pub mod Choice
 pub mod Code
+pub mod Comparing
 pub mod Conversation
 pub mod Count
 pub mod DialogueState
@@ -27,5 +28,6 @@ pub mod ReadBack
 pub mod Runs
 pub mod Sharing
 pub mod Sides
+pub mod Told
 pub mod Turns
 pub mod View

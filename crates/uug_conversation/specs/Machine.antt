@@ -1,7 +1,9 @@
 -- One end of a conversation, which doesn't know the other's jobs or holdings: what it does with each message that it
 -- takes (Taylor UUCP manual, "UUCP Protocol"; what becomes of a job, and what is out of turn, is this project's profile;
 -- so is all that a lenient end does in place of ending).
-use Rattle.std.specs.Prelude.{ℕ, nat_lt, Bool, true, false, List, [], ◌∷◌, ◌++◌, length, Option, Some, None, Result, Ok, Err}
+use Rattle.std.specs.Prelude.{ℕ, nat_lt, Bool, true, false, ◌&&◌, List, [], ◌∷◌, ◌++◌, length, Option, Some, None, Result, Ok, Err}
+use Rattle.uug_digest.specs.Digests.{told_by_answer, told_by_order}
+use Rattle.uug_digest.specs.declared.file_digest.FileDigest.{FileDigest}
 use Rattle.uug_talk.specs.declared.answer.Answer.{Answer}
 use Rattle.uug_talk.specs.declared.answer.Answer.TheVariants as answer
 use Rattle.uug_talk.specs.declared.error.BadText.{BadText}
@@ -20,7 +22,8 @@ use Rattle.uug_conversation.specs.declared.verdict.Verdict.TheVariants.{Yes, Nev
 use Rattle.uug_conversation.specs.Choice.{Choice, choice, fetched_by}
 use Rattle.uug_conversation.specs.Holdings.{File, Kept, Holdings, to_give}
 use Rattle.uug_conversation.specs.Jobs.{Lists, Move, pass, strike, fail, moved, moved_once}
-use Rattle.uug_conversation.specs.Turns.{Said, the_order, the_answer, the_file}
+use Rattle.uug_conversation.specs.Told.{fits, heard, is_too_large, outcome, told_of, told_with, unless_too_large}
+use Rattle.uug_conversation.specs.Turns.{Said, the_order, the_answer, the_giving, the_file}
 use Rattle.uug_conversation.specs.declared.side.Side.{Side}
 use Rattle.uug_conversation.specs.declared.side.Side.TheVariants.{Caller, Called}
 
@@ -58,48 +61,54 @@ awaits_answer_to (order.Send source target user temp mode) = awaits.SendAnswer
 awaits_answer_to (order.Request source target user) = awaits.RequestAnswer
 awaits_answer_to order.HangUp = awaits.HangUpAnswer
 
-abbrev pub commands : Lists → (before : List Said) → Order → Reply
-commands l before next = replies l (awaits_answer_to next) (before ++ the_order next ∷ [])
+-- with what it tells of its file
+abbrev pub commands : Holdings → Lists → (before : List Said) → Order → Reply
+commands h l before next = replies l (awaits_answer_to next) (before ++ the_order next (told_with h next) ∷ [])
 
-abbrev pub chooses : Choice → Lists → (before : List Said) → Reply
-chooses c l before = commands (moved c.failing l) before (order_or_hang_up c.next)
+abbrev pub chooses : Holdings → Choice → Lists → (before : List Said) → Reply
+chooses h c l before = commands h (moved c.failing l) before (order_or_hang_up c.next)
 
 -- the end chooses its next job, and says its command behind what it says before that
 abbrev pub goes_on : Holdings → Lists → (before : List Said) → Reply
-goes_on h l before = chooses (choice h l.ahead) l before
+goes_on h l before = chooses h (choice h l.ahead) l before
 
 -- ---- a slave takes a command
 
 -- S, by the verdict on its target
-abbrev pub on_send : Verdict → (target : List ℕ) → (mode : ℕ) → Lists → Reply
-on_send Yes target mode l = replies l (awaits.SentFile target mode) (the_answer answer.SendYes ∷ [])
-on_send Never target mode l = replies l awaits.Order (the_answer answer.SendNever ∷ [])
-on_send Later target mode l = replies l awaits.Order (the_answer answer.SendLater ∷ [])
+abbrev pub on_send : Verdict → (target : List ℕ) → (mode : ℕ) → (told : Option FileDigest) → Lists → Reply
+on_send Yes target mode told l = replies l (awaits.SentFile target mode told) (the_answer answer.SendYes ∷ [])
+on_send Never target mode told l = replies l awaits.Order (the_answer answer.SendNever ∷ [])
+on_send Later target mode told l = replies l awaits.Order (the_answer answer.SendLater ∷ [])
 
--- R, by the file that it asks for
-abbrev pub on_request : Option File → Lists → Reply
-on_request None l = replies l awaits.Order (the_answer answer.GiveNever ∷ [])
-on_request (Some file) l =
-    replies l awaits.GivenFileDone (the_answer (answer.GiveYes file.mode) ∷ the_file file.bytes ∷ [])
+-- a lenient end refuses a file that it is told to be too large
+abbrev pub send_verdict : Holdings → (target : List ℕ) → (told : Option FileDigest) → Verdict
+send_verdict h target told = unless_too_large (h.lenient && is_too_large told) (h.verdict target)
+
+-- R, by the file that it asks for, and by whether digests are told
+abbrev pub on_request : (digests : Bool) → Option File → Lists → Reply
+on_request digests None l = replies l awaits.Order (the_answer answer.GiveNever ∷ [])
+on_request digests (Some file) l =
+    replies l awaits.GivenFileDone (the_giving file.mode (told_of digests (Some file)) ∷ the_file file.bytes ∷ [])
 
 -- H, by the choice of a job: where there is one, the roles are exchanged
-abbrev pub on_hang_up : Option Order → Lists → Reply
-on_hang_up None l = replies l awaits.LastHangUp (the_answer answer.HangYes ∷ [])
-on_hang_up (Some next) l = commands l (the_answer answer.HangNo ∷ []) next
+abbrev pub on_hang_up : Holdings → Option Order → Lists → Reply
+on_hang_up h None l = replies l awaits.LastHangUp (the_answer answer.HangYes ∷ [])
+on_hang_up h (Some next) l = commands h l (the_answer answer.HangNo ∷ []) next
 
-abbrev pub on_choice : Choice → Lists → Reply
-on_choice c l = on_hang_up c.next (moved c.failing l)
+abbrev pub on_choice : Holdings → Choice → Lists → Reply
+on_choice h c l = on_hang_up h c.next (moved c.failing l)
 
 -- what can't be read, by what refuses it: a lenient end goes on
 abbrev pub on_unread : (lenient : Bool) → (refusal : Option Answer) → Lists → Reply
 on_unread true (Some refusal) l = replies l awaits.Order (the_answer refusal ∷ [])
 on_unread _ _ l = out_of_turn l
 
-abbrev pub on_order : Holdings → (refusal : Option Answer) → Result Order BadText → Lists → Reply
-on_order h refusal (Ok (order.Send source target user temp mode)) l = on_send (h.verdict target) target mode l
-on_order h refusal (Ok (order.Request source target user)) l = on_request (to_give h source) l
-on_order h refusal (Ok order.HangUp) l = on_choice (choice h l.ahead) l
-on_order h refusal (Err fault) l = on_unread h.lenient refusal l
+-- a command, by what refuses it and what it tells of its file
+abbrev pub on_order : Holdings → (refusal : Option Answer) → (told : Option FileDigest) → Result Order BadText → Lists → Reply
+on_order h refusal told (Ok (order.Send source target user temp mode)) l = on_send (send_verdict h target told) target mode told l
+on_order h refusal told (Ok (order.Request source target user)) l = on_request h.digests (to_give h source) l
+on_order h refusal told (Ok order.HangUp) l = on_choice h (choice h l.ahead) l
+on_order h refusal told (Err fault) l = on_unread h.lenient refusal l
 
 -- ---- a slave takes an answer
 
@@ -141,7 +150,7 @@ on_send_answer h _ l = out_of_turn l
 -- What became of the file that it sent. With CYM the other end wants to be master: no further job is chosen.
 abbrev pub on_sent_file_done : Holdings → Result Answer BadText → Lists → Reply
 on_sent_file_done h (Ok answer.DoneYes) l = goes_on h (moved_once strike l) []
-on_sent_file_done h (Ok answer.DoneYesMaster) l = commands (moved_once strike l) [] order.HangUp
+on_sent_file_done h (Ok answer.DoneYesMaster) l = commands h (moved_once strike l) [] order.HangUp
 on_sent_file_done h (Ok answer.DoneNever) l = goes_on h (moved_once fail l) []
 on_sent_file_done h (Ok answer.DoneLater) l = goes_on h (moved_once pass l) []
 on_sent_file_done h _ l = out_of_turn l
@@ -151,11 +160,12 @@ abbrev pub on_sent_job_done : Holdings → List Job → Result Answer BadText �
 on_sent_job_done h (job.Send source target user temp ∷ jobs) read l = on_sent_file_done h read l
 on_sent_job_done h _ read l = out_of_turn l
 
-abbrev pub on_request_answer : Holdings → Result Answer BadText → Lists → Reply
-on_request_answer h (Ok (answer.GiveYes mode)) l = replies l (awaits.AskedFile mode) []
-on_request_answer h (Ok answer.GiveNever) l = goes_on h (moved_once fail l) []
-on_request_answer h (Ok answer.GiveLater) l = goes_on h (moved_once pass l) []
-on_request_answer h _ l = out_of_turn l
+-- by what it tells of the file
+abbrev pub on_request_answer : Holdings → (told : Option FileDigest) → Result Answer BadText → Lists → Reply
+on_request_answer h told (Ok (answer.GiveYes mode)) l = replies l (awaits.AskedFile mode told) []
+on_request_answer h told (Ok answer.GiveNever) l = goes_on h (moved_once fail l) []
+on_request_answer h told (Ok answer.GiveLater) l = goes_on h (moved_once pass l) []
+on_request_answer h told _ l = out_of_turn l
 
 -- where the roles are exchanged, the end is the slave then
 abbrev pub on_hang_up_answer : Result Answer BadText → Lists → Reply
@@ -172,41 +182,47 @@ on_nothing_more _ l = out_of_turn l
 -- ---- a whole text
 
 abbrev pub on_text : Holdings → Awaits → List ℕ → Lists → Reply
-on_text h awaits.Order text l = on_order h (refusal_of text) (order_of text) l
+on_text h awaits.Order text l = on_order h (refusal_of text) (heard h.digests (told_by_order text)) (order_of text) l
 on_text h awaits.GivenFileDone text l = on_given_file_done (answer_of text) l
 on_text h awaits.LastHangUp text l = on_last_hang_up (answer_of text) l
 on_text h awaits.SendAnswer text l = on_send_answer h (answer_of text) l
 on_text h awaits.SentFileDone text l = on_sent_job_done h l.ahead (answer_of text) l
-on_text h awaits.RequestAnswer text l = on_request_answer h (answer_of text) l
+on_text h awaits.RequestAnswer text l = on_request_answer h (heard h.digests (told_by_answer text)) (answer_of text) l
 on_text h awaits.HangUpAnswer text l = on_hang_up_answer (answer_of text) l
 on_text h awaits.NothingMore text l = on_nothing_more (answer_of text) l
 on_text h _ text l = out_of_turn l
 
--- ---- a whole file, by whether it can't be put in its place
+-- ---- a whole file, by whether it is kept
 
 abbrev pub keeps : Kept → Reply → Reply
 keeps file reply = record reply { keeps = file ∷ [] }
 
+-- whether a file is kept, by what was told of it
+abbrev pub file_verdict : Holdings → (target : List ℕ) → (told : Option FileDigest) → (bytes : List ℕ) → Verdict
+file_verdict h target told bytes = outcome (fits told bytes) (h.immovable target)
+
 -- the file that was sent to a slave
-abbrev pub on_sent_file : (immovable : Bool) → Kept → Lists → Reply
-on_sent_file false file l = keeps file (replies l awaits.Order (the_answer answer.DoneYes ∷ []))
-on_sent_file true file l = replies l awaits.Order (the_answer answer.DoneNever ∷ [])
+abbrev pub on_sent_file : Verdict → Kept → Lists → Reply
+on_sent_file Yes file l = keeps file (replies l awaits.Order (the_answer answer.DoneYes ∷ []))
+on_sent_file Never file l = replies l awaits.Order (the_answer answer.DoneNever ∷ [])
+on_sent_file Later file l = replies l awaits.Order (the_answer answer.DoneLater ∷ [])
 
 -- the file that a master asked for
-abbrev pub on_asked_file : Holdings → (immovable : Bool) → Kept → Lists → Reply
-on_asked_file h false file l = keeps file (goes_on h (moved_once strike l) (the_answer answer.DoneYes ∷ []))
-on_asked_file h true file l = goes_on h (moved_once fail l) (the_answer answer.DoneNever ∷ [])
+abbrev pub on_asked_file : Holdings → Verdict → Kept → Lists → Reply
+on_asked_file h Yes file l = keeps file (goes_on h (moved_once strike l) (the_answer answer.DoneYes ∷ []))
+on_asked_file h Never file l = goes_on h (moved_once fail l) (the_answer answer.DoneNever ∷ [])
+on_asked_file h Later file l = goes_on h (moved_once pass l) (the_answer answer.DoneLater ∷ [])
 
 -- it is that of the job in front
-abbrev pub on_file_of : Holdings → List Job → (mode : ℕ) → (bytes : List ℕ) → Lists → Reply
-on_file_of h (job.Request source target user ∷ jobs) mode bytes l =
-    on_asked_file h (h.immovable target) (record { name = target; mode = mode; bytes = bytes }) l
-on_file_of h _ mode bytes l = out_of_turn l
+abbrev pub on_file_of : Holdings → List Job → (mode : ℕ) → (told : Option FileDigest) → (bytes : List ℕ) → Lists → Reply
+on_file_of h (job.Request source target user ∷ jobs) mode told bytes l =
+    on_asked_file h (file_verdict h target told bytes) (record { name = target; mode = mode; bytes = bytes }) l
+on_file_of h _ mode told bytes l = out_of_turn l
 
 abbrev pub on_file : Holdings → Awaits → List ℕ → Lists → Reply
-on_file h (awaits.SentFile target mode) bytes l =
-    on_sent_file (h.immovable target) (record { name = target; mode = mode; bytes = bytes }) l
-on_file h (awaits.AskedFile mode) bytes l = on_file_of h l.ahead mode bytes l
+on_file h (awaits.SentFile target mode told) bytes l =
+    on_sent_file (file_verdict h target told bytes) (record { name = target; mode = mode; bytes = bytes }) l
+on_file h (awaits.AskedFile mode told) bytes l = on_file_of h l.ahead mode told bytes l
 on_file h awaits.DroppedSentFile bytes l = replies l awaits.Order (the_answer answer.DoneNever ∷ [])
 on_file h awaits.DroppedAskedFile bytes l = goes_on h (moved_once fail l) (the_answer answer.DoneNever ∷ [])
 on_file h _ bytes l = out_of_turn l
@@ -215,8 +231,8 @@ on_file h _ bytes l = out_of_turn l
 
 -- whether a text or a file is awaited
 abbrev pub kind_awaited : Awaits → Kind
-kind_awaited (awaits.SentFile target mode) = OfFile
-kind_awaited (awaits.AskedFile mode) = OfFile
+kind_awaited (awaits.SentFile target mode told) = OfFile
+kind_awaited (awaits.AskedFile mode told) = OfFile
 kind_awaited awaits.DroppedSentFile = OfFile
 kind_awaited awaits.DroppedAskedFile = OfFile
 kind_awaited _ = OfCommand
@@ -233,8 +249,8 @@ on_gathered true kind h s bytes = on_whole kind h s.awaits bytes s.lists
 
 -- the rest of a file that is past its limit, of which nothing is kept
 abbrev pub dropped : Awaits → Awaits
-dropped (awaits.SentFile target mode) = awaits.DroppedSentFile
-dropped (awaits.AskedFile mode) = awaits.DroppedAskedFile
+dropped (awaits.SentFile target mode told) = awaits.DroppedSentFile
+dropped (awaits.AskedFile mode told) = awaits.DroppedAskedFile
 dropped awaited = awaited
 
 abbrev pub is_dropped : Awaits → Bool

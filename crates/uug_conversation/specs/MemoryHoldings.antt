@@ -19,9 +19,11 @@ pub record MemoryHoldings : Type 0 where
   pub stored : List Kept
   -- it refuses what it can't read, and goes on
   pub lenient : Bool
+  -- it tells digests of its files, and compares those that it is told
+  pub digests : Bool
 
 abbrev pub no_holdings : MemoryHoldings
-no_holdings = record { files = []; denied = []; postponed = []; immovable = []; stored = []; lenient = false }
+no_holdings = record { files = []; denied = []; postponed = []; immovable = []; stored = []; lenient = false; digests = false }
 
 -- whether a name is among these
 abbrev pub has_name : List (List ℕ) → List ℕ → Bool
@@ -44,6 +46,7 @@ holdings_of m = record {
   verdict = verdict_on m.denied m.postponed;
   immovable = has_name m.immovable;
   lenient = m.lenient;
+  digests = m.digests;
 }
 
 -- ---- how the program keeps them
@@ -59,4 +62,5 @@ held_by m = record {
   immovable = m.immovable.items;
   stored = map kept_of m.stored.items;
   lenient = m.lenient;
+  digests = m.digests;
 }

@@ -8,7 +8,7 @@ use Rattle.uug_talk.specs.declared.order.Order.{Order}
 use Rattle.uug_talk.specs.declared.order.Order.TheVariants as order
 use Rattle.uug_conversation.specs.Choice.{fetched_by}
 use Rattle.uug_conversation.specs.Holdings.{File, Holdings, to_give}
-use Rattle.uug_conversation.specs.Turns.{Said, the_order, the_answer, the_file, Turn}
+use Rattle.uug_conversation.specs.Turns.{Said, the_order, the_answer, the_giving, the_file, Turn}
 use Rattle.uug_conversation.specs.declared.side.Side.{Side}
 use Rattle.uug_conversation.specs.declared.side.Side.TheVariants.{Caller, Called}
 
@@ -39,8 +39,9 @@ if_spoken Called Caller said = []
 if_spoken Called Called said = said
 
 abbrev pub command_of : Said → List Order
-command_of (the_order order) = order ∷ []
+command_of (the_order order told) = order ∷ []
 command_of (the_answer answer) = []
+command_of (the_giving mode told) = []
 command_of (the_file bytes) = []
 
 -- the commands that a side says, in order
@@ -65,7 +66,8 @@ hang_up_answer_of speaker _ = []
 
 abbrev pub hang_up_answers_in : Side → Said → List HangUpAnswer
 hang_up_answers_in speaker (the_answer answer) = hang_up_answer_of speaker answer
-hang_up_answers_in speaker (the_order order) = []
+hang_up_answers_in speaker (the_order order told) = []
+hang_up_answers_in speaker (the_giving mode told) = []
 hang_up_answers_in speaker (the_file bytes) = []
 
 -- the answers to H in these turns, in order

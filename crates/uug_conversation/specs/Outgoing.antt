@@ -3,14 +3,16 @@
 use Rattle.std.specs.Prelude.{◌≡◌, ℕ, ◌≤◌, Bool, true, false, List, [], ◌∷◌, ◌++◌, length, drop, map}
 use Rattle.uug_talk.specs.Answer.{IsWritten, answer_text}
 use Rattle.uug_talk.specs.Chunks.{Measure, command_messages, file_messages}
-use Rattle.uug_talk.specs.Order.{HasMode, order_text}
+use Rattle.uug_talk.specs.Order.{HasMode}
+use Rattle.uug_talk.specs.declared.mode.TheConstants.{MODE_MAX}
 use Rattle.uug_conversation.specs.declared.reaction.Saying.{Saying}
 use Rattle.uug_conversation.specs.declared.reaction.Saying.TheVariants as saying
 use Rattle.uug_conversation.specs.declared.reaction.Says.{Says}
 use Rattle.uug_conversation.specs.declared.reaction.Says.TheVariants.{Nothing, One, Two}
 use Rattle.uug_conversation.specs.Holdings.{Holdings}
 use Rattle.uug_conversation.specs.Reactions.{said_by}
-use Rattle.uug_conversation.specs.Turns.{Said, the_order, the_answer, the_file, all_messages}
+use Rattle.uug_conversation.specs.Told.{giving_said, order_said}
+use Rattle.uug_conversation.specs.Turns.{Said, the_order, the_answer, the_giving, the_file, all_messages}
 
 pub record Outgoing : Type 0 where
   -- what is to be said, in order
@@ -22,8 +24,9 @@ pub record Outgoing : Type 0 where
 
 -- the messages of a text or a file from an offset on
 abbrev pub messages_from : Measure → (offset : ℕ) → Said → List (List ℕ)
-messages_from measure offset (the_order order) = command_messages measure (drop offset (order_text order))
+messages_from measure offset (the_order order told) = command_messages measure (drop offset (order_said order told))
 messages_from measure offset (the_answer answer) = command_messages measure (drop offset (answer_text answer))
+messages_from measure offset (the_giving mode told) = command_messages measure (drop offset (giving_said mode told))
 messages_from measure offset (the_file bytes) = file_messages measure.size (drop offset bytes)
 
 -- the messages that follow one, by whether it is the last
@@ -54,13 +57,15 @@ is_silent (first ∷ more) = false
 
 -- a command or an answer that can be written
 abbrev pub IsSayable : Saying → Type 0
-IsSayable (saying.Order order) = HasMode order
+IsSayable (saying.Order order told) = HasMode order
 IsSayable (saying.Answer answer) = IsWritten answer
+IsSayable (saying.Giving mode told) = mode ≤ MODE_MAX
 IsSayable (saying.File name) = Unit {0}
 
 -- the offset lies in the first text; where nothing is to be said, nothing of it was sent
 abbrev pub IsWithin : List Saying → (offset : ℕ) → Type 0
 IsWithin [] offset = offset ≡ 0
-IsWithin (saying.Order order ∷ more) offset = offset ≤ length (order_text order)
+IsWithin (saying.Order order told ∷ more) offset = offset ≤ length (order_said order told)
 IsWithin (saying.Answer answer ∷ more) offset = offset ≤ length (answer_text answer)
+IsWithin (saying.Giving mode told ∷ more) offset = offset ≤ length (giving_said mode told)
 IsWithin (saying.File name ∷ more) offset = Unit {0}

@@ -1,5 +1,6 @@
 -- What the code of one end's machine answers, as what the end says.
-use Rattle.std.specs.Prelude.{◌≡◌, ℕ, ◌≤◌, ◌++◌, Bool, true, false, List, [], ◌∷◌, Option, Some, None}
+use Rattle.std.specs.Prelude.{◌≡◌, ℕ, ◌≤◌, ◌++◌, List, [], ◌∷◌, Option, Some, None}
+use Rattle.uug_digest.specs.declared.file_digest.FileDigest.{FileDigest}
 use Rattle.uug_talk.specs.declared.answer.Answer.{Answer}
 use Rattle.uug_talk.specs.declared.answer.Answer.TheVariants as answer
 use Rattle.uug_talk.specs.declared.mode.TheConstants.{MODE_MAX}
@@ -14,11 +15,13 @@ use Rattle.uug_conversation.specs.declared.reaction.Saying.{Saying}
 use Rattle.uug_conversation.specs.declared.reaction.Saying.TheVariants as saying
 use Rattle.uug_conversation.specs.declared.reaction.Says.{Says}
 use Rattle.uug_conversation.specs.declared.reaction.Says.TheVariants.{Nothing, One, Two}
+use Rattle.uug_conversation.specs.declared.verdict.Verdict.{Verdict}
+use Rattle.uug_conversation.specs.declared.verdict.Verdict.TheVariants.{Yes, Never, Later}
 use Rattle.uug_conversation.specs.Choice.{fetched_by}
 use Rattle.uug_conversation.specs.Holdings.{File, Kept, Holdings, to_give, kept_file}
-use Rattle.uug_conversation.specs.Jobs.{Lists, Move, strike, fail, moved_once}
-use Rattle.uug_conversation.specs.Machine.{Reply, between, replies, out_of_turn, goes_on, awaits_answer_to}
-use Rattle.uug_conversation.specs.Turns.{Said, the_order, the_answer, the_file}
+use Rattle.uug_conversation.specs.Jobs.{Lists, Move, pass, strike, fail, moved_once}
+use Rattle.uug_conversation.specs.Machine.{Reply, between, replies, out_of_turn, goes_on, awaits_answer_to, file_verdict}
+use Rattle.uug_conversation.specs.Turns.{Said, the_order, the_answer, the_giving, the_file}
 
 -- what is in a file, or nothing
 abbrev pub bytes_given : Option File → List ℕ
@@ -27,8 +30,9 @@ bytes_given (Some file) = file.bytes
 
 -- a file is known by its name
 abbrev pub said_by : Holdings → Saying → Said
-said_by h (saying.Order order) = the_order order
+said_by h (saying.Order order told) = the_order order told
 said_by h (saying.Answer answer) = the_answer answer
+said_by h (saying.Giving mode told) = the_giving mode told
 said_by h (saying.File name) = the_file (bytes_given (to_give h name))
 
 abbrev pub all_said : Holdings → Says → List Said
@@ -50,10 +54,10 @@ fits_no_turn = says_nothing awaits.Bad
 abbrev pub gives_answer : Awaits → Answer → Reaction
 gives_answer awaited answer = record { awaits = awaited; says = One (saying.Answer answer) }
 
-abbrev pub gives_order : Option Answer → Order → Reaction
-gives_order None order = record { awaits = awaits_answer_to order; says = One (saying.Order order) }
-gives_order (Some answer) order =
-    record { awaits = awaits_answer_to order; says = Two (saying.Answer answer) (saying.Order order) }
+abbrev pub gives_order : Option Answer → Order → (told : Option FileDigest) → Reaction
+gives_order None order told = record { awaits = awaits_answer_to order; says = One (saying.Order order told) }
+gives_order (Some answer) order told =
+    record { awaits = awaits_answer_to order; says = Two (saying.Answer answer) (saying.Order order told) }
 
 -- an answer in front of a command
 abbrev pub said_before : Option Answer → List Said
@@ -69,41 +73,48 @@ abbrev pub offer : Holdings → Job → Option Order
 offer h (job.Send source target user temp) = send_offer source target user temp (to_give h (fetched_by source temp))
 offer h (job.Request source target user) = Some (order.Request source target user)
 
--- ---- a whole file, in the order in which the code goes about it: the name under which it is to be kept, and its mode;
--- whether it was; what is said then
+-- ---- a whole file, in the order in which the code goes about it: the name under which it is to be kept, its mode, and what
+-- was told of it; whether it was kept; what is said then
 
 pub record FileAwaited : Type 0 where
   pub name : List ℕ
   pub mode : ℕ
+  pub told : Option FileDigest
 
-abbrev pub file_of_first : List Job → (mode : ℕ) → Option FileAwaited
-file_of_first (job.Request source target user ∷ jobs) mode = Some (record { name = target; mode = mode })
-file_of_first _ mode = None
+abbrev pub file_of_first : List Job → (mode : ℕ) → (told : Option FileDigest) → Option FileAwaited
+file_of_first (job.Request source target user ∷ jobs) mode told = Some (record { name = target; mode = mode; told = told })
+file_of_first _ mode told = None
 
 abbrev pub file_awaited : Awaits → List Job → Option FileAwaited
-file_awaited (awaits.SentFile target mode) jobs = Some (record { name = target; mode = mode })
-file_awaited (awaits.AskedFile mode) jobs = file_of_first jobs mode
+file_awaited (awaits.SentFile target mode told) jobs = Some (record { name = target; mode = mode; told = told })
+file_awaited (awaits.AskedFile mode told) jobs = file_of_first jobs mode told
 file_awaited _ jobs = None
 
--- a file is awaited, and can be put in its place
-abbrev pub IsMovable : Holdings → Option FileAwaited → Type 0
-IsMovable h None = ⊥
-IsMovable h (Some file) = h.immovable file.name ≡ false
+-- whether that file is kept, where it has these bytes
+abbrev pub awaited_verdict : Holdings → FileAwaited → (bytes : List ℕ) → Verdict
+awaited_verdict h file bytes = file_verdict h file.name file.told bytes
 
-abbrev pub done_or_never : (immovable : Bool) → Answer
-done_or_never false = answer.DoneYes
-done_or_never true = answer.DoneNever
+-- a file is awaited, and one of these bytes is kept
+abbrev pub MayBeKept : Holdings → Option FileAwaited → (bytes : List ℕ) → Type 0
+MayBeKept h None bytes = ⊥
+MayBeKept h (Some file) bytes = awaited_verdict h file bytes ≡ Yes
 
-abbrev pub struck_or_failed : (immovable : Bool) → Move
-struck_or_failed false = strike
-struck_or_failed true = fail
+abbrev pub done_answer : Verdict → Answer
+done_answer Yes = answer.DoneYes
+done_answer Never = answer.DoneNever
+done_answer Later = answer.DoneLater
 
-abbrev pub on_kept : Holdings → Awaits → (immovable : Bool) → Lists → Reply
-on_kept h (awaits.SentFile target mode) immovable l =
-    replies l awaits.Order (the_answer (done_or_never immovable) ∷ [])
-on_kept h (awaits.AskedFile mode) immovable l =
-    goes_on h (moved_once (struck_or_failed immovable) l) (the_answer (done_or_never immovable) ∷ [])
-on_kept h _ immovable l = out_of_turn l
+abbrev pub done_move : Verdict → Move
+done_move Yes = strike
+done_move Never = fail
+done_move Later = pass
+
+abbrev pub on_kept : Holdings → Awaits → Verdict → Lists → Reply
+on_kept h (awaits.SentFile target mode told) verdict l =
+    replies l awaits.Order (the_answer (done_answer verdict) ∷ [])
+on_kept h (awaits.AskedFile mode told) verdict l =
+    goes_on h (moved_once (done_move verdict) l) (the_answer (done_answer verdict) ∷ [])
+on_kept h _ verdict l = out_of_turn l
 
 -- where no file is awaited that could be kept
 abbrev pub on_none_kept : Holdings → Awaits → Lists → Reply
@@ -111,21 +122,21 @@ on_none_kept h awaits.DroppedSentFile l = replies l awaits.Order (the_answer ans
 on_none_kept h awaits.DroppedAskedFile l = goes_on h (moved_once fail l) (the_answer answer.DoneNever ∷ [])
 on_none_kept h _ l = out_of_turn l
 
-abbrev pub kept_unless : (immovable : Bool) → Kept → List Kept
-kept_unless false file = file ∷ []
-kept_unless true file = []
+abbrev pub kept_on : Verdict → Kept → List Kept
+kept_on Yes file = file ∷ []
+kept_on _ file = []
 
--- the file that is awaited was kept, or can't be put in its place; where none is awaited, none is kept
-abbrev pub IsKept : Holdings → Option FileAwaited → (bytes : List ℕ) → (immovable : Option Bool) → (before after : List Kept) → Type 0
+-- the file that is awaited was kept, or why it was not; where none is awaited, none is kept
+abbrev pub IsKept : Holdings → Option FileAwaited → (bytes : List ℕ) → Option Verdict → (before after : List Kept) → Type 0
 IsKept h None bytes None before after = after ≡ before
-IsKept h (Some file) bytes (Some immovable) before after =
-    (h.immovable file.name ≡ immovable) × (after ≡ before ++ kept_unless immovable (kept_file file.name file.mode bytes))
+IsKept h (Some file) bytes (Some verdict) before after =
+    (awaited_verdict h file bytes ≡ verdict) × (after ≡ before ++ kept_on verdict (kept_file file.name file.mode bytes))
 IsKept h _ bytes _ before after = ⊥
 
 -- a file's mode is one that can be kept
 abbrev pub HasModeInRange : Awaits → Type 0
-HasModeInRange (awaits.SentFile target mode) = mode ≤ MODE_MAX
-HasModeInRange (awaits.AskedFile mode) = mode ≤ MODE_MAX
+HasModeInRange (awaits.SentFile target mode told) = mode ≤ MODE_MAX
+HasModeInRange (awaits.AskedFile mode told) = mode ≤ MODE_MAX
 HasModeInRange _ = Unit {0}
 
 abbrev pub HasModeAnswered : Answer → Type 0

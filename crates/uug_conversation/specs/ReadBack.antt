@@ -1,15 +1,21 @@
--- What is said in a conversation comes back: it may be cut into messages, and is read as what was said (Taylor UUCP
--- manual, "UUCP Protocol").
+-- What is said in a conversation comes back: it may be cut into messages, is read as what was said (Taylor UUCP manual, "UUCP
+-- Protocol"), and tells what was told of its file.
 use Rattle.std.specs.Prelude.{◌≡◌, ◌≤◌, List, [], ◌∷◌, length, Ok}
+use Rattle.uug_digest.specs.Digests.{told_by_answer, told_by_order}
 use Rattle.uug_talk.specs.declared.gather.TheConstants.{FILE_MAX}
 use Rattle.uug_talk.specs.Answer.{answer_of, answer_text}
 use Rattle.uug_talk.specs.Chunks.{IsCommandText}
-use Rattle.uug_talk.specs.Order.{order_of, order_text}
-use Rattle.uug_conversation.specs.Turns.{Said, the_order, the_answer, the_file, Turn}
+use Rattle.uug_talk.specs.Order.{order_of}
+use Rattle.uug_talk.specs.declared.answer.Answer.TheVariants.{GiveYes}
+use Rattle.uug_conversation.specs.Told.{giving_said, order_said}
+use Rattle.uug_conversation.specs.Turns.{Said, the_order, the_answer, the_giving, the_file, Turn}
 
 abbrev pub IsReadBack : Said → Type 0
-IsReadBack (the_order order) = IsCommandText (order_text order) × (order_of (order_text order) ≡ Ok order)
+IsReadBack (the_order order told) = IsCommandText (order_said order told) × (order_of (order_said order told) ≡ Ok order)
+    × (told_by_order (order_said order told) ≡ told)
 IsReadBack (the_answer answer) = IsCommandText (answer_text answer) × (answer_of (answer_text answer) ≡ Ok answer)
+IsReadBack (the_giving mode told) = IsCommandText (giving_said mode told) × (answer_of (giving_said mode told) ≡ Ok (GiveYes mode))
+    × (told_by_answer (giving_said mode told) ≡ told)
 IsReadBack (the_file bytes) = length bytes ≤ FILE_MAX
 
 -- P holds of each turn

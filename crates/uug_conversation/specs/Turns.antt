@@ -1,30 +1,34 @@
 -- The turns of a conversation (Taylor UUCP manual, "UUCP Protocol").
-use Rattle.std.specs.Prelude.{ℕ, List, [], ◌∷◌, ◌++◌}
+use Rattle.std.specs.Prelude.{ℕ, List, [], ◌∷◌, ◌++◌, Option}
+use Rattle.uug_digest.specs.declared.file_digest.FileDigest.{FileDigest}
 use Rattle.uug_conversation.specs.declared.side.Side.{Side}
 use Rattle.uug_conversation.specs.declared.side.Side.TheVariants.{Caller, Called}
 use Rattle.uug_talk.specs.declared.answer.Answer.{Answer}
 use Rattle.uug_talk.specs.declared.order.Order.{Order}
 use Rattle.uug_talk.specs.Answer.{answer_text}
 use Rattle.uug_talk.specs.Chunks.{Measure, command_messages, file_messages}
-use Rattle.uug_talk.specs.Order.{order_text}
 use Rattle.uug_conversation.specs.Holdings.{Kept}
 use Rattle.uug_conversation.specs.Jobs.{Move}
+use Rattle.uug_conversation.specs.Told.{giving_said, order_said}
 
 -- the other end of a session
 abbrev pub other : Side → Side
 other Caller = Called
 other Called = Caller
 
--- what is said in one turn
+-- what is said in one turn: a command, with what is told of its file; an answer; RY, with the file's mode and what is told of the
+-- file; a file
 pub data Said : Type 0 where
-  the_order : Order → Said
+  the_order : Order → (told : Option FileDigest) → Said
   the_answer : Answer → Said
+  the_giving : (mode : ℕ) → (told : Option FileDigest) → Said
   the_file : (bytes : List ℕ) → Said
 
 -- the messages in which it goes out, cut so
 abbrev pub said_messages : Measure → Said → List (List ℕ)
-said_messages measure (the_order order) = command_messages measure (order_text order)
+said_messages measure (the_order order told) = command_messages measure (order_said order told)
 said_messages measure (the_answer answer) = command_messages measure (answer_text answer)
+said_messages measure (the_giving mode told) = command_messages measure (giving_said mode told)
 said_messages measure (the_file bytes) = file_messages measure.size bytes
 
 -- the messages of several turns of one end

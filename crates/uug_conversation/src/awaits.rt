@@ -2,6 +2,7 @@ ghost use Rattle.std.specs.Prelude.{IsTrue, ◌≡◌, ◌↔◌};
 ghost use Rattle.uug_talk.specs.Gathering.{OfFile};
 ghost use Rattle.uug_conversation.specs.Machine.{comes_early, kind_awaited};
 
+use uug_digest::FileDigest;
 use uug_talk::Name;
 
 /// What an end awaits of the other in a conversation.
@@ -15,6 +16,8 @@ pub enum Awaits {
         target: Name,
         /// The file's mode.
         mode: u16,
+        /// What was told of it.
+        told: Option<FileDigest>,
     },
     /// What became of the file that was given to the master.
     GivenFileDone,
@@ -30,6 +33,8 @@ pub enum Awaits {
     AskedFile {
         /// The file's mode.
         mode: u16,
+        /// What was told of it.
+        told: Option<FileDigest>,
     },
     /// The rest of a file that is past the limit, sent by the master. Nothing of it is kept.
     DroppedSentFile,

@@ -1,19 +1,22 @@
-ghost use Rattle.std.specs.Prelude.{◌≡◌};
+ghost use Rattle.std.specs.Prelude.{◌≡◌, ◌≤◌, length, IfSome};
 ghost use Rattle.uug_conversation.specs.Choice.{choice, fetched_by};
 ghost use Rattle.uug_conversation.specs.FileView.{shown_file};
 ghost use Rattle.uug_conversation.specs.Holdings.{to_give};
 ghost use Rattle.uug_conversation.specs.Jobs.{moved};
 ghost use Rattle.uug_conversation.specs.Reactions.{offer, send_offer};
+ghost use Rattle.uug_conversation.specs.Told.{told_of, told_with};
 
 use crate::job::Job;
 use crate::queue::Queue;
 use crate::spool::{FileView, Spool};
 use std::alloc::Allocator;
+use uug_digest::FileDigest;
 use uug_talk::{FILE_MAX, Name, Order};
 
 /// The file of this name that may be sent, if there is one.
 pub(crate) fn to_give<'a, S: Spool>(spool: &'a S, name: &Name) -> Option<FileView<'a>>
-    ensures { shown_file result ≡ to_give (S.holdings spool.now) name.now }
+    ensures file { shown_file result ≡ to_give (S.holdings spool.now) name.now }
+    ensures limit { IfSome result (λ file. length file.bytes.now ≤ FILE_MAX) }
 {
     let file = spool.fetch(name)?;
     if file.bytes.len() <= FILE_MAX {
@@ -30,6 +33,28 @@ pub(crate) fn fetched_by<'a>(source: &'a Name, temp: &'a Option<Name>) -> &'a Na
     match temp {
         Some(temp) => temp,
         None => source,
+    }
+}
+
+/// What is told of the file of this name, where this end tells digests.
+pub(crate) fn told_of<S: Spool>(spool: &S, name: &Name) -> Option<FileDigest>
+    ensures { result ≡ told_of (S.holdings spool.now).digests
+        (to_give (S.holdings spool.now) name.now) }
+{
+    if !spool.tells_digests() {
+        return None;
+    }
+    let file = to_give(spool, name)?;
+    Some(FileDigest::of(file.bytes))
+}
+
+/// What is told with a command: of the file that it sends.
+pub(crate) fn told_with<S: Spool>(spool: &S, order: &Order) -> Option<FileDigest>
+    ensures { result ≡ told_with (S.holdings spool.now) order.now }
+{
+    match order {
+        Order::Send { source, temp, .. } => told_of(spool, fetched_by(source, temp)),
+        Order::Request { .. } | Order::HangUp => None,
     }
 }
 

@@ -1,16 +1,21 @@
 //! Laws over the conversation of two ends and the one-sided machine. The functions do nothing.
-ghost use Rattle.std.specs.Prelude.{◌≡◌, ◌≢◌, ◌↔◌, ℕ, ◌<◌, ◌≤◌, false, List, [], length, Some, None, Ok, Err};
+ghost use Rattle.std.specs.Prelude.{◌≡◌, ◌≢◌, ◌↔◌, ℕ, ◌<◌, ◌≤◌, true, false, List, [], length, Option, Some, None, Ok, Err};
+ghost use Rattle.uug_conversation.specs.Comparing.{AllFit, TellsTruly, told_awaited};
 ghost use Rattle.uug_conversation.specs.Conversation.{conversation};
 ghost use Rattle.uug_conversation.specs.DialogueState.{DialogueState, replied, taking};
 ghost use Rattle.uug_conversation.specs.Holdings.{File, Holdings, to_give};
 ghost use Rattle.uug_conversation.specs.Jobs.{Lists, moved_once, pass};
-ghost use Rattle.uug_conversation.specs.Machine.{State, gathered_with, goes_on, is_dropped, kind_awaited, on_past_limit, on_text, opening, out_of_turn, step};
+ghost use Rattle.uug_conversation.specs.Machine.{State, gathered_with, goes_on, is_dropped, kind_awaited, on_past_limit, on_text, opening, out_of_turn, send_verdict, step};
 ghost use Rattle.uug_conversation.specs.Party.{Party, IsSound};
 ghost use Rattle.uug_conversation.specs.ReadBack.{EachTurn, IsReadBack};
 ghost use Rattle.uug_conversation.specs.Runs.{IsAt, progress_at};
 ghost use Rattle.uug_conversation.specs.declared.side.Side.{Side};
-ghost use Rattle.uug_conversation.specs.declared.awaits.Awaits.TheVariants.{GivenFileDone, Order, SendAnswer, SentFileDone};
+ghost use Rattle.uug_conversation.specs.declared.awaits.Awaits.TheVariants.{GivenFileDone, Order, RequestAnswer, SendAnswer, SentFileDone};
+ghost use Rattle.uug_conversation.specs.Told.{fits, heard, told_of, told_with};
+ghost use Rattle.uug_digest.specs.Digests.{digest_of, told_by_answer, told_by_order};
+ghost use Rattle.uug_digest.specs.declared.file_digest.FileDigest.{FileDigest};
 ghost use Rattle.uug_talk.specs.declared.answer.Answer.TheVariants.{SendHeld};
+ghost use Rattle.uug_talk.specs.declared.order.Order.{Order as Command};
 ghost use Rattle.uug_talk.specs.declared.error.BadText.{BadText};
 ghost use Rattle.uug_talk.specs.Answer.{answer_of};
 ghost use Rattle.uug_talk.specs.Gathering.{limit_of};
@@ -63,8 +68,8 @@ pub fn what_comes_early_fits_no_turn()
         ≡ replied talk.measure talk.waiting talk.kept (step h talk.machine message) }
 {}
 
-/// An end that is not lenient ends with what it can't read, takes SN8 as any other refusal for now, and awaits the rest of
-/// no file.
+/// An end that is not lenient ends with what it can't read, takes SN8 as any other refusal for now, refuses no file for what it
+/// is told of its size, and awaits the rest of no file.
 pub fn lenient_is_a_setting()
     ensures unread { (h : Holdings) (text : List ℕ) (fault : BadText) (l : Lists) → h.lenient ≡ false
         → order_of text ≡ Err fault → on_text h Order text l ≡ out_of_turn l }
@@ -74,10 +79,46 @@ pub fn lenient_is_a_setting()
     ensures long { (h : Holdings) (s : State) (message : List ℕ) → let g = gathered_with s message in
         h.lenient ≡ false → limit_of g.kind < length g.bytes
         → step h s message ≡ out_of_turn s.lists }
+    ensures large { (h : Holdings) (target : List ℕ) (told : Option FileDigest) → h.lenient ≡ false
+        → send_verdict h target told ≡ h.verdict target }
     ensures opens { (side : Side) (h : Holdings) (l : Lists)
         → is_dropped (opening side h l).state.awaits ≡ false }
     ensures drops_none { (h : Holdings) (s : State) (message : List ℕ) → h.lenient ≡ false
         → is_dropped s.awaits ≡ false → is_dropped (step h s message).state.awaits ≡ false }
+{}
+
+/// Whatever comes to an end: what it keeps, where a digest was told of it, has that digest; and what was told was read in the
+/// command or the answer that was taken.
+pub fn kept_files_fit()
+    // What fits is told of exactly these bytes.
+    ensures fits { (told : FileDigest) (bytes : List ℕ)
+        → (fits (Some told) bytes ≡ true) ↔ (told ≡ digest_of bytes) }
+    ensures kept { (h : Holdings) (s : State) (message : List ℕ) (told : FileDigest)
+        → told_awaited s.awaits ≡ Some told → AllFit told (step h s message).keeps }
+    ensures sent { (h : Holdings) (text : List ℕ) (l : Lists) (told : FileDigest)
+        → told_awaited (on_text h Order text l).state.awaits ≡ Some told
+        → heard h.digests (told_by_order text) ≡ Some told }
+    ensures asked { (h : Holdings) (text : List ℕ) (l : Lists) (told : FileDigest)
+        → told_awaited (on_text h RequestAnswer text l).state.awaits ≡ Some told
+        → heard h.digests (told_by_answer text) ≡ Some told }
+{}
+
+/// Whatever comes to an end: what it tells with a command, or in front of a file, is told of the file that its spool gives.
+pub fn what_is_told_is_so()
+    ensures answered { (h : Holdings) (s : State) (message : List ℕ)
+        → TellsTruly h (step h s message).says }
+    ensures opened { (side : Side) (h : Holdings) (l : Lists)
+        → TellsTruly h (opening side h l).says }
+{}
+
+/// An end that has not the setting tells no digest, and hears none.
+pub fn digests_are_a_setting()
+    ensures ordered { (h : Holdings) (order : Command) → h.digests ≡ false
+        → told_with h order ≡ None }
+    ensures given { (h : Holdings) (file : Option File) → h.digests ≡ false
+        → told_of h.digests file ≡ None }
+    ensures heard { (h : Holdings) (told : Option FileDigest) → h.digests ≡ false
+        → heard h.digests told ≡ None }
 {}
 
 /// Every text of a conversation may be cut into messages, and is read as what was said; no file is too large.

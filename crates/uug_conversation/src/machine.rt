@@ -2,21 +2,24 @@ ghost use Rattle.std.specs.Prelude.{◌≡◌, ◌≤◌, [], IfOk};
 ghost use Rattle.uug_conversation.specs.Choice.{choice};
 ghost use Rattle.uug_conversation.specs.Jobs.{Lists, moved_once, pass, strike, fail};
 ghost use Rattle.uug_conversation.specs.Holdings.{Holdings};
-ghost use Rattle.uug_conversation.specs.Machine.{goes_on, on_send, on_request, on_hang_up, on_choice, on_unread, on_order, on_given_file_done, on_last_hang_up, sends_file, on_send_yes, move_held, on_send_answer, on_sent_file_done, on_sent_job_done, on_request_answer, on_hang_up_answer, on_nothing_more, on_text};
+ghost use Rattle.uug_conversation.specs.Machine.{goes_on, on_send, send_verdict, on_request, on_hang_up, on_choice, on_unread, on_order, on_given_file_done, on_last_hang_up, sends_file, on_send_yes, move_held, on_send_answer, on_sent_file_done, on_sent_job_done, on_request_answer, on_hang_up_answer, on_nothing_more, on_text};
 ghost use Rattle.uug_conversation.specs.Holdings.{to_give};
-ghost use Rattle.uug_conversation.specs.Reactions.{reply_of, said_before, HasModeInRange, HasModeAnswered};
+ghost use Rattle.uug_conversation.specs.Reactions.{reply_of, said_before, gives_order, HasModeInRange, HasModeAnswered};
+ghost use Rattle.uug_conversation.specs.Told.{heard, is_too_large, told_with};
+ghost use Rattle.uug_digest.specs.Digests.{told_by_answer, told_by_order};
 ghost use Rattle.uug_talk.specs.Order.{HasMode};
 ghost use Rattle.uug_talk.specs.declared.mode.TheConstants.{MODE_MAX};
 
 use crate::awaits::Awaits;
-use crate::choice::{choose, fetched_by, to_give};
+use crate::choice::{choose, fetched_by, to_give, told_of, told_with};
 use crate::job::Job;
 use crate::queue::Queue;
 use crate::reaction::{Reaction, Saying, Says};
 use crate::spool::Spool;
 use crate::verdict::Verdict;
 use std::alloc::Allocator;
-use uug_talk::{Answer, BadText, Name, Order, read_answer, read_order, refusal_of};
+use uug_digest::{FileDigest, told_by_answer, told_by_order};
+use uug_talk::{Answer, BadText, FILE_MAX, Name, Order, read_answer, read_order, refusal_of};
 
 /// The end is master: it chooses its next job and says its command, behind an answer where there is one to give.
 pub(crate) fn go_on<A: Allocator, S: Spool>(
@@ -29,7 +32,15 @@ pub(crate) fn go_on<A: Allocator, S: Spool>(
     ensures mode { HasModeInRange result.awaits }
 {
     let order = choose(queue, spool).unwrap_or(Order::HangUp);
-    Reaction::commands(before, order)
+    commands(spool, before, order)
+}
+
+// A command with what is told of its file, behind an answer where there is one to give.
+fn commands<S: Spool>(spool: &S, before: Option<Answer>, order: Order) -> Reaction
+    ensures { result ≡ gives_order before order (told_with (S.holdings spool.now) order) }
+{
+    let told = told_with(spool, &order);
+    Reaction::commands(before, order, told)
 }
 
 /// What an end does with a whole text, by what it awaits.
@@ -44,12 +55,18 @@ pub(crate) fn on_text<A: Allocator, S: Spool>(
     ensures mode { HasModeInRange result.awaits }
 {
     match awaits {
-        Awaits::Order => on_order(queue, spool, refusal_of(text), &read_order(text)),
+        Awaits::Order => {
+            let told = heard_by_order(spool, text);
+            on_order(queue, spool, refusal_of(text), told, &read_order(text))
+        }
         Awaits::GivenFileDone => on_given_file_done(read_answer(text)),
         Awaits::LastHangUp => on_last_hang_up(read_answer(text)),
         Awaits::SendAnswer => on_send_answer(queue, spool, read_answer(text)),
         Awaits::SentFileDone => on_sent_job_done(queue, spool, read_answer(text)),
-        Awaits::RequestAnswer => on_request_answer(queue, spool, read_answer(text)),
+        Awaits::RequestAnswer => {
+            let told = heard_by_answer(spool, text);
+            on_request_answer(queue, spool, told, read_answer(text))
+        }
         Awaits::HangUpAnswer => on_hang_up_answer(read_answer(text)),
         Awaits::NothingMore => on_nothing_more(read_answer(text)),
         Awaits::SentFile { .. }
@@ -60,20 +77,43 @@ pub(crate) fn on_text<A: Allocator, S: Spool>(
     }
 }
 
+// What this end hears that a command tells of its file: nothing where it compares no digests.
+fn heard_by_order<S: Spool>(spool: &S, text: &[u8]) -> Option<FileDigest>
+    ensures { result ≡ heard (S.holdings spool.now).digests (told_by_order text.now) }
+{
+    if spool.tells_digests() {
+        told_by_order(text)
+    } else {
+        None
+    }
+}
+
+// The same of what an answer tells of its file.
+fn heard_by_answer<S: Spool>(spool: &S, text: &[u8]) -> Option<FileDigest>
+    ensures { result ≡ heard (S.holdings spool.now).digests (told_by_answer text.now) }
+{
+    if spool.tells_digests() {
+        told_by_answer(text)
+    } else {
+        None
+    }
+}
+
 fn on_order<A: Allocator, S: Spool>(
     queue: &mut Queue<A>,
     spool: &S,
     refusal: Option<Answer>,
+    told: Option<FileDigest>,
     order: &Result<Order, BadText>,
 ) -> Reaction
-    ensures reply { on_order (S.holdings spool.now) refusal order.now queue.old
+    ensures reply { on_order (S.holdings spool.now) refusal told order.now queue.old
         ≡ reply_of (S.holdings spool.now) queue.new result [] }
     ensures mode { IfOk order.now (λ o. HasMode o) → HasModeInRange result.awaits }
 {
     match order {
-        Ok(Order::Send { target, mode, .. }) => on_send(spool, *target, *mode),
+        Ok(Order::Send { target, mode, .. }) => on_send(spool, *target, *mode, told),
         Ok(Order::Request { source, .. }) => on_request(spool, *source),
-        Ok(Order::HangUp) => on_hang_up(choose(queue, spool)),
+        Ok(Order::HangUp) => on_hang_up(spool, choose(queue, spool)),
         Err(_) => on_unread(spool, refusal),
     }
 }
@@ -90,20 +130,43 @@ fn on_unread<S: Spool>(spool: &S, refusal: Option<Answer>) -> Reaction
     }
 }
 
-fn on_send<S: Spool>(spool: &S, target: Name, mode: u16) -> Reaction
-    ensures reply { (l : Lists) → on_send ((S.holdings spool.now).verdict target) target mode l
+fn on_send<S: Spool>(spool: &S, target: Name, mode: u16, told: Option<FileDigest>) -> Reaction
+    ensures reply { (l : Lists)
+        → on_send (send_verdict (S.holdings spool.now) target told) target mode told l
         ≡ reply_of (S.holdings spool.now) l result [] }
     ensures mode { mode ≤ MODE_MAX → HasModeInRange result.awaits }
 {
-    match spool.may_keep(&target) {
-        Verdict::Yes => Reaction::answers(Awaits::SentFile { target, mode }, Answer::SendYes),
+    match send_verdict(spool, &target, &told) {
+        Verdict::Yes => {
+            Reaction::answers(Awaits::SentFile { target, mode, told }, Answer::SendYes)
+        }
         Verdict::Never => Reaction::answers(Awaits::Order, Answer::SendNever),
         Verdict::Later => Reaction::answers(Awaits::Order, Answer::SendLater),
     }
 }
 
+// Whether the file of a command is taken: a lenient end refuses one that it is told to be too large.
+fn send_verdict<S: Spool>(spool: &S, target: &Name, told: &Option<FileDigest>) -> Verdict
+    ensures { result ≡ send_verdict (S.holdings spool.now) target.now told.now }
+{
+    match spool.may_keep(target) {
+        Verdict::Yes if spool.is_lenient() && is_too_large(told) => Verdict::Never,
+        verdict => verdict,
+    }
+}
+
+fn is_too_large(told: &Option<FileDigest>) -> bool
+    ensures { result ≡ is_too_large told.now }
+{
+    match told {
+        Some(told) => FILE_MAX < told.size as usize,
+        None => false,
+    }
+}
+
 fn on_request<S: Spool>(spool: &S, source: Name) -> Reaction
-    ensures reply { (l : Lists) → on_request (to_give (S.holdings spool.now) source) l
+    ensures reply { (l : Lists) → on_request (S.holdings spool.now).digests
+        (to_give (S.holdings spool.now) source) l
         ≡ reply_of (S.holdings spool.now) l result [] }
     ensures mode { HasModeInRange result.awaits }
 {
@@ -111,7 +174,7 @@ fn on_request<S: Spool>(spool: &S, source: Name) -> Reaction
         Some(file) => Reaction {
             awaits: Awaits::GivenFileDone,
             says: Says::Two(
-                Saying::Answer(Answer::GiveYes(file.mode)),
+                Saying::Giving(file.mode, told_of(spool, &source)),
                 Saying::File(source),
             ),
         },
@@ -120,12 +183,13 @@ fn on_request<S: Spool>(spool: &S, source: Name) -> Reaction
 }
 
 // The roles are exchanged where this end has a job to offer.
-fn on_hang_up(next: Option<Order>) -> Reaction
-    ensures reply { (h : Holdings) (l : Lists) → on_hang_up next l ≡ reply_of h l result [] }
+fn on_hang_up<S: Spool>(spool: &S, next: Option<Order>) -> Reaction
+    ensures reply { (l : Lists) → on_hang_up (S.holdings spool.now) next l
+        ≡ reply_of (S.holdings spool.now) l result [] }
     ensures mode { HasModeInRange result.awaits }
 {
     match next {
-        Some(order) => Reaction::commands(Some(Answer::HangNo), order),
+        Some(order) => commands(spool, Some(Answer::HangNo), order),
         None => Reaction::answers(Awaits::LastHangUp, Answer::HangYes),
     }
 }
@@ -248,7 +312,7 @@ fn on_sent_file_done<A: Allocator, S: Spool>(
         }
         Ok(Answer::DoneYesMaster) => {
             queue.strike_first();
-            Reaction::commands(None, Order::HangUp)
+            Reaction::commands(None, Order::HangUp, None)
         }
         Ok(Answer::DoneNever) => {
             queue.fail_first();
@@ -265,14 +329,15 @@ fn on_sent_file_done<A: Allocator, S: Spool>(
 fn on_request_answer<A: Allocator, S: Spool>(
     queue: &mut Queue<A>,
     spool: &S,
+    told: Option<FileDigest>,
     answer: Result<Answer, BadText>,
 ) -> Reaction
-    ensures reply { on_request_answer (S.holdings spool.now) answer queue.old
+    ensures reply { on_request_answer (S.holdings spool.now) told answer queue.old
         ≡ reply_of (S.holdings spool.now) queue.new result [] }
     ensures mode { IfOk answer (λ a. HasModeAnswered a) → HasModeInRange result.awaits }
 {
     match answer {
-        Ok(Answer::GiveYes(mode)) => Reaction::quiet(Awaits::AskedFile { mode }),
+        Ok(Answer::GiveYes(mode)) => Reaction::quiet(Awaits::AskedFile { mode, told }),
         Ok(Answer::GiveNever) => {
             queue.fail_first();
             go_on(queue, spool, None)

@@ -19,6 +19,7 @@ pub struct MemorySpool<A: Allocator> {
     immovable: Vec<Name, A>,
     stored: Vec<Stored<A>, A>,
     lenient: bool,
+    digests: bool,
     alloc: A,
 }
 
@@ -34,6 +35,7 @@ impl<A: Allocator + Copy> MemorySpool<A> {
             immovable: Vec::new(alloc),
             stored: Vec::new(alloc),
             lenient: false,
+            digests: false,
             alloc,
         }
     }
@@ -88,6 +90,13 @@ impl<A: Allocator + Copy> MemorySpool<A> {
         self.lenient = lenient;
     }
 
+    /// Whether its end tells digests of its files, and compares those that it is told.
+    pub fn set_digests(&mut self, digests: bool)
+        ensures { held_by self.new ≡ record (held_by self.old) { digests = digests } }
+    {
+        self.digests = digests;
+    }
+
     /// The files that were kept, in the order in which they were.
     pub fn stored(&self) -> &[Stored<A>]
         ensures { map kept_of result.now ≡ (held_by self.now).stored }
@@ -129,6 +138,10 @@ impl<A: Allocator + Copy> Spool for MemorySpool<A> {
 
     fn is_lenient(&self) -> bool {
         self.lenient
+    }
+
+    fn tells_digests(&self) -> bool {
+        self.digests
     }
 
     fn faults(&self) -> u64 {

@@ -1,14 +1,17 @@
 ghost use Rattle.std.specs.Prelude.{◌≡◌, ◌≢◌, ◌+◌, ◌<◌, ◌≤◌, [], ◌∷◌, false, length, drop};
 ghost use Rattle.uug_talk.specs.Answer.{IsWritten, answer_text};
-ghost use Rattle.uug_talk.specs.Order.{HasMode, order_text};
+ghost use Rattle.uug_talk.specs.Order.{HasMode};
+ghost use Rattle.uug_talk.specs.declared.mode.TheConstants.{MODE_MAX};
 ghost use Rattle.uug_talk.specs.Chunks.{IsCommandText, command_messages, file_messages};
 ghost use Rattle.uug_talk.specs.MessagesLeft.{messages_left};
 ghost use Rattle.uug_conversation.specs.Outgoing.{IsSayable, IsWithin, messages_from, unless_last};
 ghost use Rattle.uug_conversation.specs.Reactions.{said_by};
+ghost use Rattle.uug_conversation.specs.Told.{giving_said, order_said};
 
 use crate::choice::to_give;
 use crate::reaction::Saying;
 use crate::spool::Spool;
+use uug_digest::{FileDigest, give_telling, order_telling};
 use uug_talk::laws::{file_goes_on, messages_fit};
 use uug_talk::{Answer, Chunks, FILE_MAX, MESSAGE_MAX, Message, Order, write_answer, write_order};
 
@@ -36,8 +39,9 @@ pub(crate) fn part_of<S: Spool>(
     ensures limit { result ≡ false → offset < FILE_MAX }
 {
     match saying {
-        Saying::Order(order) => part_of_order(order, size, short, offset, message),
+        Saying::Order(order, told) => part_of_order(order, told, size, short, offset, message),
         Saying::Answer(answer) => part_of_answer(answer, size, short, offset, message),
+        Saying::Giving(mode, told) => part_of_giving(*mode, told, size, short, offset, message),
         Saying::File(name) => match to_give(spool, name) {
             Some(file) => part_of_file(file.bytes, size, offset, message),
             None => part_of_file(&[], size, offset, message),
@@ -49,25 +53,29 @@ pub(crate) fn part_of<S: Spool>(
 #[inline(never)]
 fn part_of_order(
     order: &Order,
+    told: &Option<FileDigest>,
     size: usize,
     short: bool,
     offset: usize,
     message: &mut Message,
 ) -> bool
     requires writable { HasMode order.now }
-    requires within { offset ≤ length (order_text order.now) }
+    requires within { offset ≤ length (order_said order.now told.now) }
     requires some { 0 < size }
     requires fits { size ≤ MESSAGE_MAX }
     ensures messages { command_messages (record { size = size; short = short })
-        (drop offset (order_text order.now))
+        (drop offset (order_said order.now told.now))
         ≡ message.new.items ∷ unless_last result
         (command_messages (record { size = size; short = short })
-        (drop (offset + size) (order_text order.now))) }
+        (drop (offset + size) (order_said order.now told.now))) }
     ensures size { length message.new.items ≤ size }
-    ensures next { result ≡ false → offset + size ≤ length (order_text order.now) }
+    ensures next { result ≡ false → offset + size ≤ length (order_said order.now told.now) }
     ensures limit { result ≡ false → offset < FILE_MAX }
 {
-    part_of_text(&write_order(order), size, short, offset, message)
+    match told {
+        Some(told) => part_of_text(&order_telling(order, told), size, short, offset, message),
+        None => part_of_text(&write_order(order), size, short, offset, message),
+    }
 }
 
 /// The same of an answer.
@@ -93,6 +101,38 @@ fn part_of_answer(
     ensures limit { result ≡ false → offset < FILE_MAX }
 {
     part_of_text(&write_answer(answer), size, short, offset, message)
+}
+
+/// The same of the answer RY, with what is told of its file.
+#[inline(never)]
+fn part_of_giving(
+    mode: u16,
+    told: &Option<FileDigest>,
+    size: usize,
+    short: bool,
+    offset: usize,
+    message: &mut Message,
+) -> bool
+    requires writable { mode ≤ MODE_MAX }
+    requires within { offset ≤ length (giving_said mode told.now) }
+    requires some { 0 < size }
+    requires fits { size ≤ MESSAGE_MAX }
+    ensures messages { command_messages (record { size = size; short = short })
+        (drop offset (giving_said mode told.now))
+        ≡ message.new.items ∷ unless_last result
+        (command_messages (record { size = size; short = short })
+        (drop (offset + size) (giving_said mode told.now))) }
+    ensures size { length message.new.items ≤ size }
+    ensures next { result ≡ false → offset + size ≤ length (giving_said mode told.now) }
+    ensures limit { result ≡ false → offset < FILE_MAX }
+{
+    match told {
+        Some(told) => part_of_text(&give_telling(mode, told), size, short, offset, message),
+        None => {
+            let text = write_answer(&Answer::GiveYes(mode));
+            part_of_text(&text, size, short, offset, message)
+        }
+    }
 }
 
 fn part_of_text(text: &[u8], size: usize, short: bool, offset: usize, message: &mut Message) -> bool

@@ -3,13 +3,16 @@ ghost use Rattle.uug_conversation.specs.Machine.{awaits_answer_to};
 ghost use Rattle.uug_conversation.specs.Reactions.{says_nothing, fits_no_turn, gives_answer, gives_order};
 
 use crate::awaits::Awaits;
+use uug_digest::FileDigest;
 use uug_talk::{Answer, Name, Order};
 
-/// What is said in one turn. A file is known by the name under which the spool gives it.
+/// What is said in one turn: a command with what is told of its file, an answer, RY with the file's mode and what is told of it,
+/// or a file. That is known by the name under which the spool gives it.
 #[derive(Clone, Copy)]
 pub(crate) enum Saying {
-    Order(Order),
+    Order(Order, Option<FileDigest>),
     Answer(Answer),
+    Giving(u16, Option<FileDigest>),
     File(Name),
 }
 
@@ -53,13 +56,13 @@ impl Reaction {
         }
     }
 
-    /// A command, behind an answer where there is one to give.
-    pub(crate) fn commands(before: Option<Answer>, order: Order) -> Self
-        ensures { result ≡ gives_order before order }
+    /// A command with what is told of its file, behind an answer where there is one to give.
+    pub(crate) fn commands(before: Option<Answer>, order: Order, told: Option<FileDigest>) -> Self
+        ensures { result ≡ gives_order before order told }
     {
         let says = match before {
-            Some(answer) => Says::Two(Saying::Answer(answer), Saying::Order(order)),
-            None => Says::One(Saying::Order(order)),
+            Some(answer) => Says::Two(Saying::Answer(answer), Saying::Order(order, told)),
+            None => Says::One(Saying::Order(order, told)),
         };
         Reaction {
             awaits: awaits_answer_to(&order),

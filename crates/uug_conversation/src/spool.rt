@@ -65,6 +65,10 @@ pub trait Spool {
     fn is_lenient(&self) -> bool
         ensures { result ≡ (holdings self.now).lenient };
 
+    /// Whether this end tells digests of its files, and compares those that it is told.
+    fn tells_digests(&self) -> bool
+        ensures { result ≡ (holdings self.now).digests };
+
     /// How many times the device has failed. At the greatest number the count stands.
     fn faults(&self) -> u64
         ensures { result ≡ faults self.now };

@@ -1,8 +1,11 @@
-ghost use Rattle.std.specs.Prelude.{◌≡◌, ◌≢◌, ◌≤◌, ◌<◌, ◌⊎◌, ◌++◌, ℕ, List, [], ◌∷◌, Bool, false, All, IfOk, OnOk, OnErr};
+ghost use Rattle.std.specs.Prelude.{◌≡◌, ◌≢◌, ◌≤◌, ◌<◌, ◌⊎◌, ◌++◌, ℕ, List, [], ◌∷◌, true, Some, All, IfOk, OnOk, OnErr};
 ghost use Rattle.uug_conversation.specs.Holdings.{Kept, kept_file};
 ghost use Rattle.uug_conversation.specs.Machine.{on_file};
 ghost use Rattle.uug_conversation.specs.Outgoing.{IsSayable, sayings_of};
-ghost use Rattle.uug_conversation.specs.Reactions.{reply_of, file_awaited, on_kept, on_none_kept, kept_unless, HasModeInRange, IsKept, IsMovable};
+ghost use Rattle.uug_conversation.specs.Jobs.{moved_once};
+ghost use Rattle.uug_conversation.specs.Reactions.{reply_of, file_awaited, on_kept, on_none_kept, kept_on, done_answer, done_move, HasModeInRange, IsKept, MayBeKept};
+ghost use Rattle.uug_conversation.specs.Told.{fits, outcome};
+ghost use Rattle.uug_conversation.specs.declared.verdict.Verdict.TheVariants.{Yes};
 
 use crate::awaits::Awaits;
 use crate::job::Job;
@@ -10,7 +13,9 @@ use crate::machine::go_on;
 use crate::queue::Queue;
 use crate::reaction::Reaction;
 use crate::spool::{KeepFault, Spool};
+use crate::verdict::Verdict;
 use std::alloc::Allocator;
+use uug_digest::FileDigest;
 use uug_talk::{Answer, MODE_MAX, Name};
 
 /// Why a whole file was neither kept nor refused.
@@ -20,84 +25,122 @@ pub enum FileFault {
     Memory,
 }
 
-/// Keeps a file, or finds that it can't be put in its place: then the answer is true.
-fn keep<S: Spool>(spool: &mut S, name: &Name, mode: u16, bytes: &[u8]) -> Result<bool, FileFault>
+/// Whether a file of these bytes is the one that was told of. Where nothing was told, any is.
+fn fits(told: &Option<FileDigest>, bytes: &[u8]) -> bool
+    ensures { result ≡ fits told.now bytes.now }
+{
+    match told {
+        Some(told) => told.is_of(bytes),
+        None => true,
+    }
+}
+
+/// Keeps a file, and says whether it did: not now where it isn't the one that was told of, which is looked at first, and
+/// never where it can't be put in its place.
+fn keep<S: Spool>(
+    spool: &mut S,
+    name: &Name,
+    mode: u16,
+    told: &Option<FileDigest>,
+    bytes: &[u8],
+) -> Result<Verdict, FileFault>
     requires { mode ≤ MODE_MAX }
     ensures holdings { S.holdings spool.new ≡ S.holdings spool.old }
-    ensures immovable { IfOk result (λ immovable.
-        (S.holdings spool.old).immovable name.now ≡ immovable) }
-    ensures kept { IfOk result (λ immovable.
+    ensures verdict { IfOk result (λ verdict.
+        outcome (fits told.now bytes.now) ((S.holdings spool.old).immovable name.now)
+        ≡ verdict) }
+    ensures kept { IfOk result (λ verdict.
         S.kept spool.new
-        ≡ S.kept spool.old ++ kept_unless immovable (kept_file name.now mode bytes.now)) }
+        ≡ S.kept spool.old ++ kept_on verdict (kept_file name.now mode bytes.now)) }
     ensures err { OnErr result (S.kept spool.new ≡ S.kept spool.old) }
-    ensures only { OnErr result ((S.holdings spool.old).immovable name.now ≡ false) }
+    ensures only { OnErr result
+        (outcome (fits told.now bytes.now) ((S.holdings spool.old).immovable name.now) ≡ Yes) }
     ensures stands { result ≢ Err FileFault.Device → S.faults spool.new ≡ S.faults spool.old }
     ensures device { result ≡ Err FileFault.Device
         → (S.faults spool.old < S.faults spool.new) ⊎ (S.faults spool.old ≡ u64.MAX) }
     ensures count { S.faults spool.old ≤ S.faults spool.new }
 {
+    if !fits(told, bytes) {
+        return Ok(Verdict::Later);
+    }
     match spool.keep(name, mode, bytes) {
-        Ok(()) => Ok(false),
-        Err(KeepFault::Refused) => Ok(true),
+        Ok(()) => Ok(Verdict::Yes),
+        Err(KeepFault::Refused) => Ok(Verdict::Never),
         Err(KeepFault::Device) => Err(FileFault::Device),
         Err(KeepFault::Memory) => Err(FileFault::Memory),
     }
 }
 
-/// Keeps the file that is awaited, or finds that it can't be put in its place; or no file is awaited.
+/// Keeps the file that is awaited, and says whether it did; or no file is awaited.
 fn keep_awaited<A: Allocator, S: Spool>(
     queue: &Queue<A>,
     spool: &mut S,
     awaits: &Awaits,
     bytes: &[u8],
-) -> Result<Option<bool>, FileFault>
+) -> Result<Option<Verdict>, FileFault>
     requires { HasModeInRange awaits.now }
     ensures holdings { S.holdings spool.new ≡ S.holdings spool.old }
-    ensures kept { IfOk result (λ immovable.
+    ensures kept { IfOk result (λ verdict.
         IsKept (S.holdings spool.old) (file_awaited awaits.now queue.now.ahead) bytes.now
-        immovable (S.kept spool.old) (S.kept spool.new)) }
+        verdict (S.kept spool.old) (S.kept spool.new)) }
     ensures err { OnErr result (S.kept spool.new ≡ S.kept spool.old) }
     ensures only { OnErr result
-        (IsMovable (S.holdings spool.old) (file_awaited awaits.now queue.now.ahead)) }
+        (MayBeKept (S.holdings spool.old) (file_awaited awaits.now queue.now.ahead) bytes.now) }
     ensures stands { result ≢ Err FileFault.Device → S.faults spool.new ≡ S.faults spool.old }
     ensures device { result ≡ Err FileFault.Device
         → (S.faults spool.old < S.faults spool.new) ⊎ (S.faults spool.old ≡ u64.MAX) }
     ensures count { S.faults spool.old ≤ S.faults spool.new }
 {
     match awaits {
-        Awaits::SentFile { target, mode } => Ok(Some(keep(spool, target, *mode, bytes)?)),
-        Awaits::AskedFile { mode } => match queue.first() {
-            Some(Job::Request { target, .. }) => Ok(Some(keep(spool, target, *mode, bytes)?)),
+        Awaits::SentFile { target, mode, told } => {
+            Ok(Some(keep(spool, target, *mode, told, bytes)?))
+        }
+        Awaits::AskedFile { mode, told } => match queue.first() {
+            Some(Job::Request { target, .. }) => {
+                Ok(Some(keep(spool, target, *mode, told, bytes)?))
+            }
             _ => Ok(None),
         },
         _ => Ok(None),
     }
 }
 
-/// What an end does when the file was kept, or could not be put in its place.
+fn done_answer(verdict: Verdict) -> Answer
+    ensures { result ≡ done_answer verdict }
+{
+    match verdict {
+        Verdict::Yes => Answer::DoneYes,
+        Verdict::Never => Answer::DoneNever,
+        Verdict::Later => Answer::DoneLater,
+    }
+}
+
+fn move_done<A: Allocator>(queue: &mut Queue<A>, verdict: Verdict)
+    ensures { queue.new ≡ moved_once (done_move verdict) queue.old }
+{
+    match verdict {
+        Verdict::Yes => queue.strike_first(),
+        Verdict::Never => queue.fail_first(),
+        Verdict::Later => queue.pass_first(),
+    }
+}
+
+/// What an end does by whether the file was kept.
 fn on_kept<A: Allocator, S: Spool>(
     queue: &mut Queue<A>,
     spool: &S,
     awaits: Awaits,
-    immovable: bool,
+    verdict: Verdict,
 ) -> Reaction
-    ensures reply { on_kept (S.holdings spool.now) awaits immovable queue.old
+    ensures reply { on_kept (S.holdings spool.now) awaits verdict queue.old
         ≡ reply_of (S.holdings spool.now) queue.new result [] }
     ensures mode { HasModeInRange result.awaits }
 {
-    let answer = if immovable {
-        Answer::DoneNever
-    } else {
-        Answer::DoneYes
-    };
+    let answer = done_answer(verdict);
     match awaits {
         Awaits::SentFile { .. } => Reaction::answers(Awaits::Order, answer),
         Awaits::AskedFile { .. } => {
-            if immovable {
-                queue.fail_first();
-            } else {
-                queue.strike_first();
-            }
+            move_done(queue, verdict);
             go_on(queue, spool, Some(answer))
         }
         _ => Reaction::out_of_turn(),
@@ -124,7 +167,7 @@ fn on_none_kept<A: Allocator, S: Spool>(
     }
 }
 
-/// What an end does with a whole file, by what it awaits. Where it can be kept, it is. `Memory` and `Device` are the
+/// What an end does with a whole file, by what it awaits. Where it may be kept, it is. `Memory` and `Device` are the
 /// spool's; after them nothing is kept and no job has moved.
 pub(crate) fn on_file<A: Allocator, S: Spool>(
     queue: &mut Queue<A>,
@@ -143,16 +186,16 @@ pub(crate) fn on_file<A: Allocator, S: Spool>(
         ≡ S.kept spool.old ++ (on_file (S.holdings spool.old) awaits bytes.now queue.old).keeps) }
     ensures jobs_stay { OnErr result (queue.new ≡ queue.old) }
     ensures none_kept { OnErr result (S.kept spool.new ≡ S.kept spool.old) }
-    // The spool was asked only where a file is awaited that can be put in its place.
+    // The spool was asked only where a file is awaited that this one fits, and that can be put in its place.
     ensures only { OnErr result
-        (IsMovable (S.holdings spool.old) (file_awaited awaits queue.old.ahead)) }
+        (MayBeKept (S.holdings spool.old) (file_awaited awaits queue.old.ahead) bytes.now) }
     ensures stands { result ≢ Err FileFault.Device → S.faults spool.new ≡ S.faults spool.old }
     ensures device { result ≡ Err FileFault.Device
         → (S.faults spool.old < S.faults spool.new) ⊎ (S.faults spool.old ≡ u64.MAX) }
     ensures count { S.faults spool.old ≤ S.faults spool.new }
 {
     match keep_awaited(queue, spool, &awaits, bytes)? {
-        Some(immovable) => Ok(on_kept(queue, spool, awaits, immovable)),
+        Some(verdict) => Ok(on_kept(queue, spool, awaits, verdict)),
         None => Ok(on_none_kept(queue, spool, &awaits)),
     }
 }

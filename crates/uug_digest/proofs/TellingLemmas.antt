@@ -1,20 +1,25 @@
 -- A text that tells of its file is read as it was, and tells that.
-use Rattle.std.proofs.Common.{◌≡◌, ◌≢◌, ℕ, ◌<◌, ◌^◌, true, false, List, [], ◌∷◌, ◌++◌, length, codes, All, Some, None, refl, sym, ap, ap₂, subst, ◌∙◌, append_assoc, arith}
+use Rattle.std.proofs.Common.{◌≡◌, ◌≢◌, ℕ, ◌<◌, ◌≤◌, ◌^◌, true, false, List, [], ◌∷◌, ◌++◌, length, codes, All, Some, None, refl, sym, ap, ap₂, subst, ◌∙◌, append_assoc, length-append, arith}
 use Rattle.std.proofs.lemmas.Bool.Decides.{nat_tests}
 use Rattle.std.proofs.lemmas.List.Elements.{All-append, All-cons, All-from_recursion, All-weaker}
 use Rattle.std.specs.Int.{to_be_bytes, w32}
 use Rattle.std.specs.List.{AllByRecursion}
 use Rattle.std.specs.Result.{result_ok}
-use Rattle.hex.specs.Hex.{IsBytes, encode_lower, is_hex_digit}
+use Rattle.hex.proofs.HexLemmas.{length-encode_with}
+use Rattle.hex.specs.Hex.{IsBytes, encode_lower, is_hex_digit, lower_digits}
 use Rattle.uug_digest.proofs.DigitLemmas.{digit_no_space, digit_not_zero, encoded_back, encoded_digits, size_back, size_bytes}
-use Rattle.uug_digest.specs.Digests.{IsSend, both_told, digest_in, digest_text, digest_words, give_telling_text, order_telling_text, told_by_answer, told_by_answer_words, told_by_order, told_by_order_words}
+use Rattle.uug_digest.proofs.HashLemmas.{sha256_bytes, sha256_length}
+use Rattle.uug_digest.specs.Digests.{IsSend, both_told, digest_in, digest_of, digest_text, digest_words, give_telling_text, order_telling_text, told_by_answer, told_by_answer_words, told_by_order, told_by_order_words}
 use Rattle.uug_digest.specs.declared.file_digest.FileDigest.{FileDigest}
 use Rattle.uug_talk.proofs.JoinedLemmas.{HasNoZero, IsWord, IsWord-name, no_zero-joined, words-joined}
-use Rattle.uug_talk.specs.Answer.{SpellsAnswer, answer_text, answer_words}
+use Rattle.uug_talk.proofs.WriteLemmas.{IsCommandText-answer, IsCommandText-order, ReadsAnswer-written, ReadsOrder-written, short_order}
+use Rattle.uug_talk.specs.Answer.{ReadsAnswer, SpellsAnswer, answer_text, answer_words}
+use Rattle.uug_talk.specs.Chunks.{IsCommandText}
 use Rattle.uug_talk.specs.Mode.{mode_digits}
-use Rattle.uug_talk.specs.Order.{HasNames, SpellsOrder, order_text, order_words}
+use Rattle.uug_talk.specs.Order.{HasMode, HasNames, ReadsOrder, SpellsOrder, order_text, order_words}
 use Rattle.uug_talk.specs.Words.{is_space, joined, words}
 use Rattle.uug_talk.specs.declared.answer.Answer.TheVariants.{GiveYes}
+use Rattle.uug_talk.specs.declared.mode.TheConstants.{MODE_MAX}
 use Rattle.uug_talk.specs.declared.order.Order.{Order}
 use Rattle.uug_talk.specs.declared.order.Order.TheVariants.{Send, Request, HangUp}
 
@@ -23,6 +28,9 @@ pub record IsSized (told : FileDigest) : Type 0 where
   pub size : told.size < 2 ^ 32
   pub bytes : IsBytes told.hash
   pub length : length told.hash ≡ 32
+
+pub digest_is_sized : (bytes : List ℕ) → length bytes < 2 ^ 32 → IsSized (digest_of bytes)
+digest_is_sized bytes h = record { size = h; bytes = sha256_bytes bytes; length = sha256_length bytes }
 
 -- ---- joined words
 
@@ -99,6 +107,20 @@ pub no_zero_told : (text : List ℕ) (told : FileDigest) → HasNoZero text → 
 no_zero_told text told h k =
     All-append (λ b. b ≢ 0) text (32 ∷ digest_text told) h
     (All-cons (λ b. b ≢ 0) 32 (digest_text told) (some 32 (omega arith)) (digest_no_zero told k))
+
+digest_text_length : (told : FileDigest) → length told.hash ≡ 32 → length (digest_text told) ≡ 85
+digest_text_length told h =
+    let size = length-encode_with lower_digits (to_be_bytes w32 told.size) in
+    let hash = length-encode_with lower_digits told.hash in
+    simp length-append (omega (arith, size, hash, h))
+
+-- a short text, and behind it what is told, may be cut into messages
+told_command : (text : List ℕ) (told : FileDigest) → length text ≤ 2048 → HasNoZero text → IsSized told
+    → IsCommandText (text ++ 32 ∷ digest_text told)
+told_command text told short no_zero k = record {
+  short = omega (arith, short, length-append text (32 ∷ digest_text told), digest_text_length told k.length);
+  no_zero = no_zero_told text told no_zero k;
+}
 
 pub digest_back : (told : FileDigest) → IsSized told → digest_in (digest_words told) ≡ Some told
 digest_back told h = ap₂ both_told (size_back told.size h.size) (ap result_ok (encoded_back told.hash 32 h.bytes h.length))
@@ -209,6 +231,33 @@ pub order_tells : (order : Order) (told : FileDigest) → SpellsOrder (words (or
 order_tells order told s k h =
     ap told_by_order_words (order_read order told (names_of _ order s) k) ∙ told_behind order told h ∙ digest_back told k
 
+pub order_command : (order : Order) (told : FileDigest) → HasNames order → IsSized told → IsCommandText (order_telling_text order told)
+order_command order told h k =
+    subst IsCommandText (order_joined order told)
+    (told_command (order_text order) told (omega (arith, short_order order h)) (IsCommandText-order (order_text order) order h refl).no_zero k)
+
+pub order_reads : (order : Order) (told : FileDigest) → HasNames order → HasMode order → IsSized told
+    → ReadsOrder (order_telling_text order told) order
+order_reads order told h m k = record {
+  within = (order_command order told h k).short;
+  spelled = order_spelled order told (ReadsOrder-written (order_text order) order h m refl).spelled k;
+}
+
+pub order_tells_it : (order : Order) (told : FileDigest) → HasNames order → HasMode order → IsSized told → IsSend order
+    → told_by_order (order_telling_text order told) ≡ Some told
+order_tells_it order told h m k send = order_tells order told (ReadsOrder-written (order_text order) order h m refl).spelled k send
+
+-- with no words behind it
+none_behind : (order : Order) → told_by_order_words (order_words order) ≡ None
+none_behind (Send source target user None mode) = refl
+none_behind (Send source target user (Some temp) mode) = refl
+none_behind (Request source target user) = refl
+none_behind HangUp = refl
+
+pub order_tells_none : (order : Order) → HasNames order → told_by_order (order_text order) ≡ None
+order_tells_none order h =
+    ap told_by_order_words (words-joined (order_words order) (order_words_are_words order h)) ∙ none_behind order
+
 -- ---- the answer RY
 
 give_words_are_words : (mode : ℕ) → AllByRecursion IsWord (answer_words (GiveYes mode))
@@ -236,3 +285,18 @@ give_spelled mode told s k =
 
 pub give_tells : (mode : ℕ) (told : FileDigest) → IsSized told → told_by_answer (give_telling_text mode told) ≡ Some told
 give_tells mode told k = ap told_by_answer_words (give_read mode told k) ∙ digest_back told k
+
+pub give_command : (mode : ℕ) (told : FileDigest) → mode ≤ MODE_MAX → IsSized told → IsCommandText (give_telling_text mode told)
+give_command mode told m k =
+    let plain = IsCommandText-answer (answer_text (GiveYes mode)) (GiveYes mode) m refl in
+    subst IsCommandText (give_joined mode told)
+    (told_command (answer_text (GiveYes mode)) told (omega arith) plain.no_zero k)
+
+pub give_reads : (mode : ℕ) (told : FileDigest) → mode ≤ MODE_MAX → IsSized told → ReadsAnswer (give_telling_text mode told) (GiveYes mode)
+give_reads mode told m k = record {
+  within = (give_command mode told m k).short;
+  spelled = give_spelled mode told (ReadsAnswer-written (answer_text (GiveYes mode)) (GiveYes mode) m refl).spelled k;
+}
+
+pub give_tells_none : (mode : ℕ) → told_by_answer (answer_text (GiveYes mode)) ≡ None
+give_tells_none mode = ap told_by_answer_words (words-joined (answer_words (GiveYes mode)) (give_words_are_words mode))

@@ -19,7 +19,7 @@ local : AreLocal
 local = record { plain = refl; public = refl; root = refl; tilde = refl; public_alone = refl; root_alone = refl }
 
 abbrev source : List ℕ → Option File
-source name = (local_holdings false (folder_holdings (λ name. false) (kept_file (codes "y") 420 (codes "hi") ∷ []))).file name
+source name = (local_holdings false false (folder_holdings (λ name. false) (kept_file (codes "y") 420 (codes "hi") ∷ []))).file name
 
 abbrev hi : Option File
 hi = Some (record { mode = 420; bytes = codes "hi" })
@@ -36,13 +36,13 @@ given = record { plain = refl; public = refl; root = refl; other = refl; nameles
 
 -- whatever the folder has
 record LeadOut (h : Holdings) : Type 0 where
-  up : (local_holdings false h).file (codes "../x") ≡ None
-  deep : (local_holdings false h).file (codes "/etc/x") ≡ None
-  public_deep : (local_holdings false h).file (codes "~/a/x") ≡ None
-  home : (local_holdings false h).file (codes "~user/x") ≡ None
-  twice : (local_holdings false h).file (codes "//x") ≡ None
-  hidden : (local_holdings false h).file (codes ".x") ≡ None
-  public_hidden : (local_holdings false h).file (codes "~/.x") ≡ None
+  up : (local_holdings false false h).file (codes "../x") ≡ None
+  deep : (local_holdings false false h).file (codes "/etc/x") ≡ None
+  public_deep : (local_holdings false false h).file (codes "~/a/x") ≡ None
+  home : (local_holdings false false h).file (codes "~user/x") ≡ None
+  twice : (local_holdings false false h).file (codes "//x") ≡ None
+  hidden : (local_holdings false false h).file (codes ".x") ≡ None
+  public_hidden : (local_holdings false false h).file (codes "~/.x") ≡ None
 
 lead_out : (h : Holdings) → LeadOut h
 lead_out h = record {
@@ -56,7 +56,7 @@ lead_out h = record {
 }
 
 abbrev verdict : List ℕ → Verdict
-verdict name = (local_holdings false (folder_holdings (λ name. false) [])).verdict name
+verdict name = (local_holdings false false (folder_holdings (λ name. false) [])).verdict name
 
 record AreTaken : Type 0 where
   plain : verdict (codes "y") ≡ Yes
@@ -88,7 +88,7 @@ taken = record {
 
 -- a folder that bars one name
 abbrev immovable : List ℕ → Bool
-immovable name = (local_holdings false (folder_holdings (λ other. bytes_eq other (codes "f")) [])).immovable name
+immovable name = (local_holdings false false (folder_holdings (λ other. bytes_eq other (codes "f")) [])).immovable name
 
 record AreBarred : Type 0 where
   plain : immovable (codes "f") ≡ true

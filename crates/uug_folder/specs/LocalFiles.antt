@@ -9,3 +9,5 @@ pub record LocalFiles (F A : Type 0) : Type 0 where
   pub names : List (List ℕ)
   -- its end refuses what it can't read, and goes on
   pub lenient : Bool
+  -- it tells digests of its files, and compares those that it is told
+  pub digests : Bool

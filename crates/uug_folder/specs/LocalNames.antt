@@ -42,12 +42,13 @@ immovable_by h (Some name) = h.immovable name
 
 -- A file is given and taken as the folder gives and takes its name there; so none whose name there has a slash left, or a
 -- dot in front.
-abbrev pub local_holdings : (lenient : Bool) → Holdings → Holdings
-local_holdings lenient h = record {
+abbrev pub local_holdings : (lenient digests : Bool) → Holdings → Holdings
+local_holdings lenient digests h = record {
   file = λ name. file_by h (local_source name);
   verdict = λ name. verdict_by h (local_name name);
   immovable = λ name. immovable_by h (local_name name);
   lenient = lenient;
+  digests = digests;
 }
 
 -- the files that were kept, each under the name under which it came
@@ -62,7 +63,7 @@ StandUnder names files = map local_name names ≡ map (λ (file : Kept). Some fi
 
 -- where the folder bars these names
 abbrev pub holdings_here : {F A : Type 0} → (barred : F → List ℕ → Bool) → LocalFiles F A → Holdings
-holdings_here barred s = local_holdings s.lenient (folder_holdings (barred s.files.folder) (map kept_of s.files.files))
+holdings_here barred s = local_holdings s.lenient s.digests (folder_holdings (barred s.files.folder) (map kept_of s.files.files))
 
 abbrev pub kept_here : {F A : Type 0} → LocalFiles F A → List Kept
 kept_here s = renamed s.names (map kept_of s.files.stored)

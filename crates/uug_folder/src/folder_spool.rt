@@ -116,6 +116,10 @@ impl<F: Folder, A: Allocator + Copy> Spool for FolderSpool<F, A> {
         false
     }
 
+    fn tells_digests(&self) -> bool {
+        false
+    }
+
     fn faults(&self) -> u64 {
         self.folder.faults()
     }

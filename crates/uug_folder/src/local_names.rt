@@ -20,6 +20,7 @@ pub struct LocalNames<F: Folder, A: Allocator> {
     files: FolderSpool<F, A>,
     names: Vec<Name, A>,
     lenient: bool,
+    digests: bool,
 }
 
 impl<F: Folder, A: Allocator> Model for LocalNames<F, A> {
@@ -34,6 +35,7 @@ impl<F: Folder, A: Allocator> Model for LocalNames<F, A> {
       files = s.files;
       names = s.names.items;
       lenient = s.lenient;
+      digests = s.digests;
     } };
 
     // Each file that was kept stands in the folder under the name there of the one under which it came.
@@ -41,15 +43,17 @@ impl<F: Folder, A: Allocator> Model for LocalNames<F, A> {
 }
 
 impl<F: Folder, A: Allocator + Copy> LocalNames<F, A> {
-    /// The spool over a folder that has kept nothing, of an end that is not lenient. It takes no memory.
+    /// The spool over a folder that has kept nothing, of an end that is not lenient, and tells no digests. It takes no
+    /// memory.
     pub fn new(alloc: A, files: FolderSpool<F, A>) -> Self
         requires { files.stored ≡ [] }
-        ensures { result ≡ record { files = files; names = []; lenient = false } }
+        ensures { result ≡ record { files = files; names = []; lenient = false; digests = false } }
     {
         LocalNames {
             files,
             names: Vec::new(alloc),
             lenient: false,
+            digests: false,
         }
     }
 
@@ -58,6 +62,13 @@ impl<F: Folder, A: Allocator + Copy> LocalNames<F, A> {
         ensures { self.new ≡ record self.old { lenient = lenient } }
     {
         self.lenient = lenient;
+    }
+
+    /// Whether its end tells digests of its files, and compares those that it is told.
+    pub fn set_digests(&mut self, digests: bool)
+        ensures { self.new ≡ record self.old { digests = digests } }
+    {
+        self.digests = digests;
     }
 
     /// The files, under the names that they have in the folder: each that was kept stands there under the name that is
@@ -108,11 +119,15 @@ impl<F: Folder, A: Allocator + Copy> Spool for LocalNames<F, A> {
         self.lenient
     }
 
+    fn tells_digests(&self) -> bool {
+        self.digests
+    }
+
     fn faults(&self) -> u64 {
         self.files.faults()
     }
 
-    ghost modes = { λ s. local_modes s.lenient
+    ghost modes = { λ s. local_modes s.lenient s.digests
         (folder_holdings (F.barred s.files.folder) (map kept_of s.files.files))
         (modes_in_range s.files.files) };
 }

@@ -8,7 +8,7 @@ use Rattle.uug_follow.specs.Losses.{next_message, passed_with}
 use Rattle.uug_follow.specs.Watched.{nothing_yet}
 use Rattle.uug_follow.specs.declared.passed.Passed.{Passed}
 use Rattle.uug_follow.specs.declared.transfer.News.TheVariants.{Begins, Ends}
-use Rattle.uug_follow.specs.declared.transfer.Outcome.TheVariants.{Done}
+use Rattle.uug_follow.specs.declared.transfer.Outcome.TheVariants.{Done, TooLarge, Differs}
 use Rattle.uug_follow.specs.declared.transfer.Transfer.{Transfer}
 use Rattle.uug_follow.specs.declared.transfer.Wish.TheVariants.{Send, Request}
 use Rattle.uug_follow.specs.declared.way.Way.TheVariants.{Out, In}
@@ -54,9 +54,11 @@ theirs = record { way = In; wish = Request; source = codes "~/q"; target = codes
 record AreLines : Type 0 where
   begins : news_line 3 0 (Begins ours) ≡ codes "uucpair: 3 s: send x y\n"
   ends : news_line 12 9 (Ends theirs Done 400) ≡ codes "uucpair: 12 s: peer's request ~/q q: done 400 bytes in 9 s\n"
+  differs : news_line 12 9 (Ends ours Differs 400) ≡ codes "uucpair: 12 s: send x y: wrong digest 400 bytes in 9 s\n"
+  too_large : news_line 1 0 (Ends ours TooLarge 0) ≡ codes "uucpair: 1 s: send x y: too large 0 bytes in 0 s\n"
   goes_on : progress_line 5 ours 64 ≡ codes "uucpair: 5 s: send x: 64 bytes"
   all : counts_line (codes "wrote") 1234 (of 1 2 3 4).counts ≡ codes "uucpair: wrote 1234 bytes rejects 2 repeats 3 damaged 4\n"
 
 lines : AreLines
 unfolding digits
-lines = record { begins = refl; ends = refl; goes_on = refl; all = refl }
+lines = record { begins = refl; ends = refl; differs = refl; too_large = refl; goes_on = refl; all = refl }

@@ -5,7 +5,7 @@ use Rattle.uug_follow.specs.declared.passed.Counts.{Counts}
 use Rattle.uug_follow.specs.declared.transfer.News.{News}
 use Rattle.uug_follow.specs.declared.transfer.News.TheVariants.{Begins, Ends}
 use Rattle.uug_follow.specs.declared.transfer.Outcome.{Outcome}
-use Rattle.uug_follow.specs.declared.transfer.Outcome.TheVariants.{Done, Never, Later}
+use Rattle.uug_follow.specs.declared.transfer.Outcome.TheVariants.{Done, Never, TooLarge, Later, Differs}
 use Rattle.uug_follow.specs.declared.transfer.Transfer.{Transfer}
 use Rattle.uug_follow.specs.declared.transfer.Wish.{Wish}
 use Rattle.uug_follow.specs.declared.transfer.Wish.TheVariants.{Send, Request}
@@ -23,7 +23,9 @@ wish_word Request = codes "request"
 abbrev pub outcome_word : Outcome → List ℕ
 outcome_word Done = codes "done"
 outcome_word Never = codes "refused"
+outcome_word TooLarge = codes "too large"
 outcome_word Later = codes "put off"
+outcome_word Differs = codes "wrong digest"
 
 -- uucpair: SECOND s: and whose job it is, with the file that it is of
 abbrev pub job_words : ℕ → Transfer → List ℕ

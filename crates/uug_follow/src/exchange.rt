@@ -4,12 +4,15 @@ ghost use Rattle.uug_follow.specs.Losses.{bytes_with};
 
 use crate::transfer::{News, Outcome, Transfer};
 use crate::way::Way;
-use uug_talk::{Answer, Order, read_answer, read_order};
+use uug_digest::{FileDigest, told_by_answer, told_by_order};
+use uug_talk::{Answer, FILE_MAX, Order, read_answer, read_order};
 
 /// The job that is on, and how far its file has come.
 #[derive(Clone, Copy)]
 pub(crate) struct Exchange {
     job: Option<Transfer>,
+    /// What was told of its file.
+    told: Option<FileDigest>,
     /// Which way a file goes now.
     file: Option<Way>,
     /// So many bytes of the job's file have passed, up to the greatest number that fits.
@@ -23,6 +26,7 @@ impl Exchange {
     pub(crate) fn new(is_lenient: bool) -> Self {
         Exchange {
             job: None,
+            told: None,
             file: None,
             bytes: 0,
             is_lenient,
@@ -52,20 +56,27 @@ impl Exchange {
     /// A whole text has passed this way.
     pub(crate) fn take_text(&mut self, way: Way, text: &[u8]) -> Option<News> {
         match read_order(text) {
-            Ok(order) => self.begin(way, &order),
-            Err(_) => self.take_answer(read_answer(text).ok()?),
+            Ok(order) => self.begin(way, &order, told_by_order(text)),
+            Err(_) => {
+                let answer = read_answer(text).ok()?;
+                if let Answer::GiveYes(_) = answer {
+                    self.told = told_by_answer(text);
+                }
+                self.take_answer(answer)
+            }
         }
     }
 
-    /// One of the ends has said this.
-    fn begin(&mut self, way: Way, order: &Order) -> Option<News> {
+    /// One of the ends has said this, and told this of the file.
+    fn begin(&mut self, way: Way, order: &Order, told: Option<FileDigest>) -> Option<News> {
         self.job = Transfer::of(way, order);
+        self.told = told;
         self.bytes = 0;
         let job = self.job?;
         Some(News::Begins(job))
     }
 
-    /// One of the ends has answered so.
+    /// One of the ends has answered so. Of a file of which a digest was told, CN4 says that another one came.
     fn take_answer(&mut self, answer: Answer) -> Option<News> {
         match answer {
             Answer::SendYes | Answer::GiveYes(_) => {
@@ -73,12 +84,22 @@ impl Exchange {
                 None
             }
             Answer::DoneYes | Answer::DoneYesMaster => self.end(Outcome::Done),
+            Answer::SendNever if self.is_too_large() => self.end(Outcome::TooLarge),
             Answer::SendNever | Answer::GiveNever | Answer::DoneNever => self.end(Outcome::Never),
             Answer::SendHeld if self.is_lenient => self.end(Outcome::Done),
+            Answer::DoneLater if self.told.is_some() => self.end(Outcome::Differs),
             Answer::SendHeld | Answer::SendLater | Answer::GiveLater | Answer::DoneLater => {
                 self.end(Outcome::Later)
             }
             Answer::HangYes | Answer::HangNo | Answer::WorkNo | Answer::RunNever => None,
+        }
+    }
+
+    /// Whether more was told of the file than an end takes.
+    fn is_too_large(&self) -> bool {
+        match &self.told {
+            Some(told) => FILE_MAX < told.size as usize,
+            None => false,
         }
     }
 

@@ -144,6 +144,8 @@ fn outcome_word(outcome: Outcome) -> &'static str
     match outcome {
         Outcome::Done => "done",
         Outcome::Never => "refused",
+        Outcome::TooLarge => "too large",
         Outcome::Later => "put off",
+        Outcome::Differs => "wrong digest",
     }
 }

@@ -50,8 +50,12 @@ pub enum Outcome {
     Done,
     /// It will never be sent, given, or put in its place.
     Never,
+    /// It was told that its file has more bytes than an end takes, and is refused for good.
+    TooLarge,
     /// It may be later.
     Later,
+    /// What came is not the file that was told of: it may be later, and nothing of it was kept.
+    Differs,
 }
 
 /// What became of a job.

@@ -1,7 +1,7 @@
 -- What an end has in its log of sessions and jobs, so that a wrong definition does not check.
 use Rattle.std.proofs.Common.{◌≡◌, ◌∷◌, [], codes, Some, refl}
 use Rattle.uug_conversation.specs.declared.side.Side.TheVariants.{Caller, Called}
-use Rattle.uug_follow.specs.declared.transfer.Outcome.TheVariants.{Done, Never, Later}
+use Rattle.uug_follow.specs.declared.transfer.Outcome.TheVariants.{Done, Never, TooLarge, Later, Differs}
 use Rattle.uug_follow.specs.declared.transfer.Transfer.{Transfer}
 use Rattle.uug_follow.specs.declared.transfer.Wish.{Wish}
 use Rattle.uug_follow.specs.declared.transfer.Wish.TheVariants.{Send, Request}
@@ -22,7 +22,9 @@ record AreLogged : Type 0 where
   their_file : job_entry (job In Send) Done 20 ≡ receives (codes "y") (Some 20)
   a_file_for_them : job_entry (job In Request) Done 20 ≡ sends (codes "~/x") 20
   refused : job_entry (job Out Send) Never 20 ≡ fault (codes "send ~/x y: refused")
+  too_large : job_entry (job In Send) TooLarge 0 ≡ fault (codes "send ~/x y: too large")
   put_off : job_entry (job In Request) Later 0 ≡ fault (codes "request ~/x y: put off")
+  differs : job_entry (job In Send) Differs 20 ≡ fault (codes "send ~/x y: wrong digest")
   a_word : end_text (codes "hungup") [] ≡ codes "hungup"
   and_why : end_text (codes "gaveup") (codes "heard nothing") ≡ codes "gaveup: heard nothing"
 
@@ -36,7 +38,9 @@ logged = record {
   their_file = refl;
   a_file_for_them = refl;
   refused = refl;
+  too_large = refl;
   put_off = refl;
+  differs = refl;
   a_word = refl;
   and_why = refl;
 }

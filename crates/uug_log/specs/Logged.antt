@@ -5,7 +5,7 @@ use Rattle.uug_conversation.specs.declared.side.Side.{Side}
 use Rattle.uug_conversation.specs.declared.side.Side.TheVariants.{Caller, Called}
 use Rattle.uug_follow.specs.Lines.{outcome_word, wish_word}
 use Rattle.uug_follow.specs.declared.transfer.Outcome.{Outcome}
-use Rattle.uug_follow.specs.declared.transfer.Outcome.TheVariants.{Done, Never, Later}
+use Rattle.uug_follow.specs.declared.transfer.Outcome.TheVariants.{Done, Never, TooLarge, Later, Differs}
 use Rattle.uug_follow.specs.declared.transfer.Transfer.{Transfer}
 use Rattle.uug_follow.specs.declared.transfer.Wish.{Wish}
 use Rattle.uug_follow.specs.declared.transfer.Wish.TheVariants.{Send, Request}
@@ -52,7 +52,9 @@ done_entry false source target bytes = receives (escaped target) (Some bytes)
 abbrev pub job_entry : Transfer → Outcome → (bytes : ℕ) → Entry
 job_entry job Done bytes = done_entry (is_sent job.way job.wish) job.source job.target bytes
 job_entry job Never bytes = fault (unfinished job Never)
+job_entry job TooLarge bytes = fault (unfinished job TooLarge)
 job_entry job Later bytes = fault (unfinished job Later)
+job_entry job Differs bytes = fault (unfinished job Differs)
 
 -- how a session or a run ended badly
 abbrev pub end_text : (word said : List ℕ) → List ℕ

@@ -43,7 +43,7 @@ pub fn job_line<A: Allocator + Copy>(
 {
     match outcome {
         Outcome::Done => done_line(alloc, head, job, bytes),
-        Outcome::Never | Outcome::Later => {
+        Outcome::Never | Outcome::TooLarge | Outcome::Later | Outcome::Differs => {
             let text = unfinished(alloc, job, outcome)?;
             log_line(alloc, head, &LogEvent::Fault(text.as_bytes()))
         }
@@ -117,7 +117,9 @@ fn outcome_word(outcome: Outcome) -> &'static str
     match outcome {
         Outcome::Done => "done",
         Outcome::Never => "refused",
+        Outcome::TooLarge => "too large",
         Outcome::Later => "put off",
+        Outcome::Differs => "wrong digest",
     }
 }
 

@@ -1,5 +1,5 @@
 -- What reports show, and the statuses that they give, computed from the definitions: a wrong rule in them does not check.
-use Rattle.std.proofs.Common.{◌≡◌, ℕ, List, [], ◌∷◌, codes, Some, None, refl}
+use Rattle.std.proofs.Common.{◌≡◌, true, ℕ, List, [], ◌∷◌, codes, Some, None, refl}
 use Rattle.uug_session.specs.declared.end.End.TheVariants.{Done, HungUp}
 use Rattle.uug_conversation.specs.declared.job.Job.{Job}
 use Rattle.uug_conversation.specs.declared.job.Job.TheVariants.{Send, Request}
@@ -15,7 +15,7 @@ use Rattle.uug_line.specs.Told.{EndNow, SpelledEnd, SpelledReport}
 use Rattle.uug_conversation.specs.Sides.{AtBoth}
 use Rattle.uug_script.specs.ReportText.{RunResult}
 use Rattle.uug_talk.specs.Lines.{ended}
-use Rattle.uug_play.specs.declared.reasons.Reason.TheVariants.{NoFile, NoFileThere, Refused, NoPlace, NoPlaceThere, PutOff, Over, GoesOn}
+use Rattle.uug_play.specs.declared.reasons.Reason.TheVariants.{NoFile, NoFileThere, Refused, NoPlace, NoPlaceThere, PutOff, Differs, Over, GoesOn}
 use Rattle.uug_play.specs.Numbers.{result_of, status_of_result}
 use Rattle.uug_play.specs.Reasons.{failed_reason, pending_reason, reason_line}
 
@@ -157,6 +157,22 @@ put_off = refl
 -- the target is put off, not the file
 over : pending_reason (Ended HungUp) choosy (sends (codes "z") (codes "x")) ≡ Over
 over = refl
+
+-- of an end that was there to the end, and compares digests
+abbrev comparing : Holdings
+comparing = record choosy { digests = true }
+
+differs : pending_reason (Ended Done) comparing (sends (codes "x") (codes "w")) ≡ Differs
+differs = refl
+
+differs_here : pending_reason (Ended Done) comparing (Request (codes "x") (codes "w") (codes "u")) ≡ Differs
+differs_here = refl
+
+over_before : pending_reason (Ended HungUp) comparing (sends (codes "x") (codes "w")) ≡ Over
+over_before = refl
+
+over_uncompared : pending_reason (Ended Done) choosy (sends (codes "x") (codes "w")) ≡ Over
+over_uncompared = refl
 
 goes_on : pending_reason Closing choosy (Request (codes "z") (codes "z") (codes "u")) ≡ GoesOn
 goes_on = refl

@@ -1,9 +1,11 @@
 -- Why the jobs of an end are not done, told from a report and from what the spools of both ends give and accept (this
 -- project's profile). Which answers fail a job and which put it off is in the turns of one job (Taylor UUCP manual, "UUCP
 -- Protocol").
-use Rattle.std.specs.Prelude.{ℕ, List, [], ◌∷◌, ◌++◌, codes, Option, Some, None}
+use Rattle.std.specs.Prelude.{ℕ, Bool, List, [], ◌∷◌, ◌++◌, codes, Option, Some, None, if◌then◌else◌}
 use Rattle.uug_conversation.specs.declared.job.Job.{Job}
 use Rattle.uug_conversation.specs.declared.job.Job.TheVariants.{Send, Request}
+use Rattle.uug_session.specs.declared.end.End.{End}
+use Rattle.uug_session.specs.declared.end.End.TheVariants.{Done}
 use Rattle.uug_session.specs.declared.phase.Phase.{Phase}
 use Rattle.uug_session.specs.declared.phase.Phase.TheVariants.{Hail, Starting, Talking, Closing, Ended}
 use Rattle.uug_conversation.specs.declared.verdict.Verdict.{Verdict}
@@ -20,7 +22,7 @@ use Rattle.uug_line.specs.Told.{EndNow, SpelledReport}
 use Rattle.uug_script.specs.JobWords.{job_text}
 use Rattle.uug_talk.specs.Lines.{ended}
 use Rattle.uug_play.specs.declared.reasons.Reason.{Reason}
-use Rattle.uug_play.specs.declared.reasons.Reason.TheVariants.{NoFile, NoFileThere, Refused, NoPlace, NoPlaceThere, PutOff, Over, GoesOn}
+use Rattle.uug_play.specs.declared.reasons.Reason.TheVariants.{NoFile, NoFileThere, Refused, NoPlace, NoPlaceThere, PutOff, Differs, Over, GoesOn}
 
 -- ---- of a job that was given up
 
@@ -43,21 +45,27 @@ failed_reason own others (Request source target user) = failed_request (to_give 
 
 -- ---- of a job that is pending
 
-abbrev pub pending_in : Phase → Reason
-pending_in Hail = GoesOn
-pending_in Starting = GoesOn
-pending_in Talking = GoesOn
-pending_in Closing = GoesOn
-pending_in (Ended end) = Over
+-- A session that ended well came to each job. Where the other end compares digests, one that is left was put off by them.
+abbrev pub ended_reason : (digests : Bool) → End → Reason
+ended_reason digests Done = if digests then Differs else Over
+ended_reason digests _ = Over
 
-abbrev pub pending_send : Verdict → Phase → Reason
-pending_send Later phase = PutOff
-pending_send Yes phase = pending_in phase
-pending_send Never phase = pending_in phase
+-- by whether the other end tells digests, and compares those that it is told
+abbrev pub pending_in : (digests : Bool) → Phase → Reason
+pending_in digests Hail = GoesOn
+pending_in digests Starting = GoesOn
+pending_in digests Talking = GoesOn
+pending_in digests Closing = GoesOn
+pending_in digests (Ended end) = ended_reason digests end
+
+abbrev pub pending_send : Verdict → (digests : Bool) → Phase → Reason
+pending_send Later digests phase = PutOff
+pending_send Yes digests phase = pending_in digests phase
+pending_send Never digests phase = pending_in digests phase
 
 abbrev pub pending_reason : Phase → (others : Holdings) → Job → Reason
-pending_reason phase others (Send source target user temp) = pending_send (others.verdict target) phase
-pending_reason phase others (Request source target user) = pending_in phase
+pending_reason phase others (Send source target user temp) = pending_send (others.verdict target) others.digests phase
+pending_reason phase others (Request source target user) = pending_in others.digests phase
 
 -- ---- as it is written
 
@@ -68,6 +76,7 @@ reason_words Refused = codes "refused by the other end"
 reason_words NoPlace = codes "can't be put in its place"
 reason_words NoPlaceThere = codes "can't be put in its place at the other end"
 reason_words PutOff = codes "put off: the other end takes it later"
+reason_words Differs = codes "put off: the file that came is not the one that was told of"
 reason_words Over = codes "not done: the session ended before"
 reason_words GoesOn = codes "not done: the session goes on"
 

@@ -10,7 +10,7 @@ ghost use Rattle.uug_play.specs.Reasons.{end_reasons, failed_lines, failed_reaso
 use std::alloc::{AllocError, Allocator};
 use uug_line::{Report, Side};
 use uug_script::add_job_words;
-use uug_session::{FileView, Job, MemorySpool, Node, Phase, Spool, Verdict};
+use uug_session::{End, FileView, Job, MemorySpool, Node, Phase, Spool, Verdict};
 use uug_talk::{FILE_MAX, Name};
 
 /// Why a job is not done.
@@ -28,6 +28,8 @@ pub enum Reason {
     NoPlaceThere,
     /// It is pending: the other end takes a file of this name at another time.
     PutOff,
+    /// It is pending: what came is not the file that was told of.
+    Differs,
     /// It is pending: the session ended before it was done.
     Over,
     /// It is pending: the session goes on.
@@ -44,6 +46,7 @@ fn reason_words(reason: Reason) -> &'static str
         Reason::NoPlace => "can't be put in its place",
         Reason::NoPlaceThere => "can't be put in its place at the other end",
         Reason::PutOff => "put off: the other end takes it later",
+        Reason::Differs => "put off: the file that came is not the one that was told of",
         Reason::Over => "not done: the session ended before",
         Reason::GoesOn => "not done: the session goes on",
     }
@@ -111,21 +114,22 @@ fn failed_reason<A: Allocator + Copy>(
     }
 }
 
-fn pending_in(phase: Phase) -> Reason
-    ensures { result ≡ pending_in phase }
+fn pending_in(digests: bool, phase: Phase) -> Reason
+    ensures { result ≡ pending_in digests phase }
 {
     match phase {
+        Phase::Ended(End::Done) if digests => Reason::Differs,
         Phase::Ended(_) => Reason::Over,
         _ => Reason::GoesOn,
     }
 }
 
-fn pending_send(verdict: Verdict, phase: Phase) -> Reason
-    ensures { result ≡ pending_send verdict phase }
+fn pending_send(verdict: Verdict, digests: bool, phase: Phase) -> Reason
+    ensures { result ≡ pending_send verdict digests phase }
 {
     match verdict {
         Verdict::Later => Reason::PutOff,
-        Verdict::Yes | Verdict::Never => pending_in(phase),
+        Verdict::Yes | Verdict::Never => pending_in(digests, phase),
     }
 }
 
@@ -133,9 +137,10 @@ fn pending_send(verdict: Verdict, phase: Phase) -> Reason
 fn pending_reason<A: Allocator + Copy>(job: &Job, phase: Phase, other: &MemorySpool<A>) -> Reason
     ensures { result ≡ pending_reason phase (holdings_of (held_by other.now)) job.now }
 {
+    let digests = other.tells_digests();
     match job {
-        Job::Send { target, .. } => pending_send(other.may_keep(target), phase),
-        Job::Request { .. } => pending_in(phase),
+        Job::Send { target, .. } => pending_send(other.may_keep(target), digests, phase),
+        Job::Request { .. } => pending_in(digests, phase),
     }
 }
 

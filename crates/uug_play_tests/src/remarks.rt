@@ -18,7 +18,7 @@ const REMARKS: &[(&[u8], &str)] = &[
     ),
     (
         b"caller a 2 32",
-        "the end is set up, numbered, quiet, short or lenient already, or has 1024 jobs",
+        "the end is set up, numbered, quiet, short, lenient or telling digests already, or has 1024 jobs",
     ),
     (b"caller a 2", "packet size is missing"),
     (b"caller a 2 32 x", "unexpected word x"),
@@ -37,6 +37,7 @@ const REMARKS: &[(&[u8], &str)] = &[
     ),
     (b"quiet", "side is missing"),
     (b"lenient", "side is missing"),
+    (b"digest", "side is missing"),
     (b"quiet caller 1", "unexpected word 1"),
     (b"short", "side is missing"),
     (b"short caller 1", "unexpected word 1"),

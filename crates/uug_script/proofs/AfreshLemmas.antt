@@ -9,8 +9,8 @@ use Rattle.uug_script.specs.declared.fault.ScriptFault.{ScriptFault}
 use Rattle.uug_script.specs.declared.script.Script.{Script}
 use Rattle.uug_talk.specs.Chained.{◌>>=◌}
 use Rattle.uug_script.specs.IsScript.{LinesAdd, no_line, line_more, IsScript, BeginsAfresh, EndBegins}
-use Rattle.uug_script.specs.Meaning.{EndMeaning, place, file, job, deny, later, immovable, number, quiet, short, lenient, LineMeaning, nothing, of_end, event, flow}
-use Rattle.uug_script.specs.Script.{Place, EndSaid, Said, nothing_said, numbered, placed, quieted, shortened, made_lenient, place_at, end_added, added, with_caller, with_called, EndSays, ScriptSays, end_completed}
+use Rattle.uug_script.specs.Meaning.{EndMeaning, place, file, job, deny, later, immovable, number, quiet, short, lenient, digest, LineMeaning, nothing, of_end, event, flow}
+use Rattle.uug_script.specs.Script.{Place, EndSaid, Said, nothing_said, numbered, placed, quieted, shortened, made_lenient, made_telling, place_at, end_added, added, with_caller, with_called, EndSays, ScriptSays, end_completed}
 use Rattle.uug_script.specs.ScriptOf.{script_said}
 use Rattle.uug_script.proofs.WordTableLemmas.{bind_some}
 
@@ -48,6 +48,10 @@ lenient_fresh : (b : Bool) (before after : EndSaid) → Fresh before → made_le
 lenient_fresh true before after h e = absurd cc
 lenient_fresh false before after h e = fresh_as (record before { held = record before.held { lenient = true } }) after (record { passed = h.passed; struck = h.struck; failed = h.failed; stored = h.stored }) e
 
+telling_fresh : (b : Bool) (before after : EndSaid) → Fresh before → made_telling b before ≡ Some after → Fresh after
+telling_fresh true before after h e = absurd cc
+telling_fresh false before after h e = fresh_as (record before { held = record before.held { digests = true } }) after (record { passed = h.passed; struck = h.struck; failed = h.failed; stored = h.stored }) e
+
 end_fresh : (m : EndMeaning) (before after : EndSaid) → Fresh before → end_added m before ≡ Some after → Fresh after
 end_fresh (place name a) before after h e = placed_fresh (place_at name a) before.place before after h e
 end_fresh (file f) before after h e = fresh_as _ after (record { passed = h.passed; struck = h.struck; failed = h.failed; stored = h.stored }) e
@@ -62,6 +66,7 @@ end_fresh (number n) before after h e = numbered_fresh n before.number before af
 end_fresh quiet before after h e = quieted_fresh before.quiet before after h e
 end_fresh short before after h e = shortened_fresh before.short before after h e
 end_fresh lenient before after h e = lenient_fresh before.held.lenient before after h e
+end_fresh digest before after h e = telling_fresh before.held.digests before after h e
 
 both_as : (x after : Said) → BothFresh x → Some x ≡ Some after → BothFresh after
 both_as x after h e = let same : x ≡ after = cc in subst BothFresh same h

@@ -15,7 +15,7 @@ use Rattle.uug_line.specs.declared.verdict.LineVerdict.TheVariants.{Clean, Foole
 use Rattle.uug_talk.specs.Lines.{lines, ended}
 use Rattle.uug_script.specs.declared.field.Field.TheVariants as fields
 use Rattle.uug_script.specs.Complaints.{missing, too_many, unknown, wrong}
-use Rattle.uug_script.specs.Meaning.{event, lenient, number, of_end, quiet, short}
+use Rattle.uug_script.specs.Meaning.{digest, event, lenient, number, of_end, quiet, short}
 use Rattle.uug_script.specs.ReadLine.{line_of}
 use Rattle.uug_script.specs.ReportText.{RunResult, report_text, stored_line, verdict_line}
 use Rattle.uug_script.specs.Script.{ScriptSays, flow_events}
@@ -102,9 +102,16 @@ a_lenient_end = refl
 lenient_of_no_side : line_of (codes "lenient") ≡ Err (missing fields.Side)
 lenient_of_no_side = refl
 
+a_telling_end : line_of (codes "digest caller") ≡ Ok (of_end Caller digest)
+a_telling_end = refl
+
 -- that an end is lenient is said once of each end
 twice_lenient : script_of (both_ends ++ ended (codes "lenient caller") ++ ended (codes "lenient called") ++ codes "lenient caller") ≡ Err 5
 twice_lenient = refl
+
+-- and that it tells digests
+twice_telling : script_of (both_ends ++ ended (codes "digest caller") ++ ended (codes "digest called") ++ codes "digest caller") ≡ Err 5
+twice_telling = refl
 
 a_tab : line_of (9 ∷ codes "call") ≡ Err (unknown (9 ∷ codes "call"))
 a_tab = refl

@@ -35,6 +35,8 @@ pub data EndMeaning : Type 0 where
   short : EndMeaning
   -- it refuses what it can't read, and goes on
   lenient : EndMeaning
+  -- it tells digests of its files, and compares those that it is told
+  digest : EndMeaning
 
 pub data LineMeaning : Type 0 where
   nothing : LineMeaning
@@ -72,6 +74,7 @@ end_meaning (end_line.Number n) = Some (number n)
 end_meaning end_line.Quiet = Some quiet
 end_meaning end_line.Short = Some short
 end_meaning end_line.Lenient = Some lenient
+end_meaning end_line.Digest = Some digest
 
 abbrev pub line_meaning : Statement → Option LineMeaning
 line_meaning line.Nothing = Some nothing

@@ -15,6 +15,7 @@ pub mod TwoEndsLemmas
 pub mod ArrivingLemmas
 pub mod CleanLineLemmas
 pub mod CourseLemmas
+mod ComparedLemmas
 pub mod EngineLemmas
 pub mod NodeCallLemmas
 pub mod NodeItemLemmas

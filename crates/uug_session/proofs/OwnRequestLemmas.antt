@@ -2,6 +2,8 @@
 use Rattle.std.proofs.Common.{◌≡◌, ℕ, nat_lt, Bool, true, false, List, [], ◌∷◌, ◌++◌, length, Option, Some, None, Result, Ok, Err, refl, sym, ap, subst, ◌∙◌, append_assoc}
 use Rattle.std.proofs.lemmas.List.{append-nil}
 use Rattle.uug_talk.specs.Chunks.{Measure}
+use Rattle.uug_digest.specs.Digests.{told_by_answer, told_by_order}
+use Rattle.uug_digest.specs.declared.file_digest.FileDigest.{FileDigest}
 use Rattle.uug_talk.specs.declared.answer.Answer.{Answer}
 use Rattle.uug_talk.specs.declared.answer.Answer.TheVariants as answer
 use Rattle.uug_talk.specs.declared.error.BadText.{BadText}
@@ -23,11 +25,12 @@ use Rattle.uug_session.specs.EndStep.{EndState, Identity, EndEvent, end_step}
 use Rattle.uug_session.specs.Engine.{EngineState, end_of}
 use Rattle.uug_conversation.specs.Holdings.{File, Kept, Holdings, to_give}
 use Rattle.uug_conversation.specs.Jobs.{Lists, pass, fail, move_first, moved, moved_once}
-use Rattle.uug_conversation.specs.Machine.{State, Reply, goes_on, on_send, on_request, on_hang_up, on_unread, on_order, on_given_file_done, on_last_hang_up, sends_file, on_send_yes, move_held, on_send_answer, on_sent_job_done, on_request_answer, on_hang_up_answer, on_nothing_more, on_text, on_sent_file, on_asked_file, on_file_of, on_file, on_whole, on_gathered, on_past_limit, on_part, gathered_with, opening, step, comes_early, unless_early, reply_to}
+use Rattle.uug_conversation.specs.Machine.{State, Reply, goes_on, on_send, send_verdict, on_request, on_hang_up, on_unread, on_order, on_given_file_done, on_last_hang_up, sends_file, on_send_yes, move_held, on_send_answer, on_sent_job_done, on_request_answer, on_hang_up_answer, on_nothing_more, on_text, file_verdict, on_sent_file, on_asked_file, on_file_of, on_file, on_whole, on_gathered, on_past_limit, on_part, gathered_with, opening, step, comes_early, unless_early, reply_to}
 use Rattle.uug_session.specs.Node.{NodeState, effect_of, struck_jobs}
 use Rattle.uug_session.specs.NodeArriving.{NodeEnd, TakesAll, hearer_of, node_taker}
 use Rattle.uug_conversation.specs.OwnRequests.{OwnRequestEntries, none, not_asked_for, asked_for, sent, KeepsWhatItAskedFor}
 use Rattle.uug_conversation.specs.DialogueState.{DialogueState, end_keeper, is_empty, opened_with, taking}
+use Rattle.uug_conversation.specs.Told.{heard}
 use Rattle.uug_conversation.specs.Turns.{Said, the_answer}
 use Rattle.uug_conversation.specs.declared.side.Side.{Side}
 use Rattle.uug_conversation.specs.declared.side.Side.TheVariants.{Caller, Called}
@@ -117,28 +120,29 @@ fails h l before = subst (λ s. KeepsIn s (goes_on h (moved_once fail l) before)
 
 -- ---- commands
 
-after_send : (v : Verdict) (target : List ℕ) (mode : ℕ) (l : Lists) → KeepsIn l.struck (on_send v target mode l)
-after_send Yes target mode l = quiet l.struck
-after_send Never target mode l = quiet l.struck
-after_send Later target mode l = quiet l.struck
+after_send : (v : Verdict) (target : List ℕ) (mode : ℕ) (told : Option FileDigest) (l : Lists) → KeepsIn l.struck (on_send v target mode told l)
+after_send Yes target mode told l = quiet l.struck
+after_send Never target mode told l = quiet l.struck
+after_send Later target mode told l = quiet l.struck
 
-after_request : (file : Option File) (l : Lists) → KeepsIn l.struck (on_request file l)
-after_request None l = quiet l.struck
-after_request (Some file) l = quiet l.struck
+after_request : (digests : Bool) (file : Option File) (l : Lists) → KeepsIn l.struck (on_request digests file l)
+after_request digests None l = quiet l.struck
+after_request digests (Some file) l = quiet l.struck
 
-after_hang_up : (next : Option Order) (l after : Lists) → after.struck ≡ l.struck → KeepsIn l.struck (on_hang_up next after)
-after_hang_up None l after same = same_then l.struck after.struck [] [] same refl
-after_hang_up (Some next) l after same = same_then l.struck after.struck [] [] same refl
+after_hang_up : (h : Holdings) (next : Option Order) (l after : Lists) → after.struck ≡ l.struck → KeepsIn l.struck (on_hang_up h next after)
+after_hang_up h None l after same = same_then l.struck after.struck [] [] same refl
+after_hang_up h (Some next) l after same = same_then l.struck after.struck [] [] same refl
 
 after_unread : (lenient : Bool) (refusal : Option Answer) (l : Lists) → KeepsIn l.struck (on_unread lenient refusal l)
 after_unread true (Some refusal) l = quiet l.struck
 after_unread _ _ l = quiet l.struck
 
-after_order : (h : Holdings) (refusal : Option Answer) (r : Result Order BadText) (l : Lists) → KeepsIn l.struck (on_order h refusal r l)
-after_order h refusal (Ok (order.Send source target user temp mode)) l = after_send (h.verdict target) target mode l
-after_order h refusal (Ok (order.Request source target user)) l = after_request (to_give h source) l
-after_order h refusal (Ok order.HangUp) l = after_hang_up (choice h l.ahead).next l (moved (choice h l.ahead).failing l) (chosen h l)
-after_order h refusal (Err fault) l = after_unread h.lenient refusal l
+after_order : (h : Holdings) (refusal : Option Answer) (told : Option FileDigest) (r : Result Order BadText) (l : Lists)
+    → KeepsIn l.struck (on_order h refusal told r l)
+after_order h refusal told (Ok (order.Send source target user temp mode)) l = after_send (send_verdict h target told) target mode told l
+after_order h refusal told (Ok (order.Request source target user)) l = after_request h.digests (to_give h source) l
+after_order h refusal told (Ok order.HangUp) l = after_hang_up h (choice h l.ahead).next l (moved (choice h l.ahead).failing l) (chosen h l)
+after_order h refusal told (Err fault) l = after_unread h.lenient refusal l
 
 -- ---- answers
 
@@ -197,11 +201,12 @@ after_sent_job h (job.Send source target user temp ∷ jobs) p s f (Ok answer.Do
 after_sent_job h (job.Send source target user temp ∷ jobs) p s f _ = quiet s
 after_sent_job h _ p s f r = quiet s
 
-after_request_answer : (h : Holdings) (r : Result Answer BadText) (l : Lists) → KeepsIn l.struck (on_request_answer h r l)
-after_request_answer h (Ok (answer.GiveYes mode)) l = quiet l.struck
-after_request_answer h (Ok answer.GiveNever) l = fails h l []
-after_request_answer h (Ok answer.GiveLater) l = passes h l []
-after_request_answer h _ l = quiet l.struck
+after_request_answer : (h : Holdings) (told : Option FileDigest) (r : Result Answer BadText) (l : Lists)
+    → KeepsIn l.struck (on_request_answer h told r l)
+after_request_answer h told (Ok (answer.GiveYes mode)) l = quiet l.struck
+after_request_answer h told (Ok answer.GiveNever) l = fails h l []
+after_request_answer h told (Ok answer.GiveLater) l = passes h l []
+after_request_answer h told _ l = quiet l.struck
 
 after_hang_up_answer : (r : Result Answer BadText) (l : Lists) → KeepsIn l.struck (on_hang_up_answer r l)
 after_hang_up_answer (Ok answer.HangYes) l = quiet l.struck
@@ -213,46 +218,50 @@ after_nothing_more (Ok answer.HangYes) l = quiet l.struck
 after_nothing_more _ l = quiet l.struck
 
 after_text : (h : Holdings) (a : Awaits) (text : List ℕ) (l : Lists) → KeepsIn l.struck (on_text h a text l)
-after_text h awaits.Order text l = after_order h (refusal_of text) (order_of text) l
+after_text h awaits.Order text l = after_order h (refusal_of text) (heard h.digests (told_by_order text)) (order_of text) l
 after_text h awaits.GivenFileDone text l = after_given_file (answer_of text) l
 after_text h awaits.LastHangUp text l = after_last_hang_up (answer_of text) l
 after_text h awaits.SendAnswer text l = after_send_answer h (answer_of text) l
 after_text h awaits.SentFileDone text l = after_sent_job h l.ahead l.passed l.struck l.failed (answer_of text)
-after_text h awaits.RequestAnswer text l = after_request_answer h (answer_of text) l
+after_text h awaits.RequestAnswer text l = after_request_answer h (heard h.digests (told_by_answer text)) (answer_of text) l
 after_text h awaits.HangUpAnswer text l = after_hang_up_answer (answer_of text) l
 after_text h awaits.NothingMore text l = after_nothing_more (answer_of text) l
 after_text h _ text l = quiet l.struck
 
 -- ---- files
 
-after_kept : (immovable : Bool) (file : Kept) (l : Lists) → KeepsIn l.struck (on_sent_file immovable file l)
-after_kept false file l = record {
+after_kept : (verdict : Verdict) (file : Kept) (l : Lists) → KeepsIn l.struck (on_sent_file verdict file l)
+after_kept Yes file l = record {
   struck_since = [];
   kept_since = file ∷ [];
   strikes = sym (append-nil l.struck);
   keeps = refl;
   own = not_asked_for none;
 }
-after_kept true file l = quiet l.struck
+after_kept Never file l = quiet l.struck
+after_kept Later file l = quiet l.struck
 
-after_asked : (h : Holdings) (immovable : Bool) (source target user bytes : List ℕ) (mode : ℕ) (jobs p s f : List Job)
-    → KeepsIn s (on_asked_file h immovable (record { name = target; mode = mode; bytes = bytes }) (lists p (job.Request source target user ∷ jobs) s f))
-after_asked h false source target user bytes mode jobs p s f = record {
+after_asked : (h : Holdings) (verdict : Verdict) (source target user bytes : List ℕ) (mode : ℕ) (jobs p s f : List Job)
+    → KeepsIn s (on_asked_file h verdict (record { name = target; mode = mode; bytes = bytes }) (lists p (job.Request source target user ∷ jobs) s f))
+after_asked h Yes source target user bytes mode jobs p s f = record {
   struck_since = job.Request source target user ∷ [];
   kept_since = record { name = target; mode = mode; bytes = bytes } ∷ [];
   strikes = choice_strikes_nothing h jobs p (s ++ job.Request source target user ∷ []) f;
   keeps = refl;
   own = asked_for refl none;
 }
-after_asked h true source target user bytes mode jobs p s f = fails h (lists p (job.Request source target user ∷ jobs) s f) (the_answer answer.DoneNever ∷ [])
+after_asked h Never source target user bytes mode jobs p s f = fails h (lists p (job.Request source target user ∷ jobs) s f) (the_answer answer.DoneNever ∷ [])
+after_asked h Later source target user bytes mode jobs p s f = passes h (lists p (job.Request source target user ∷ jobs) s f) (the_answer answer.DoneLater ∷ [])
 
-after_file_of : (h : Holdings) (jobs p s f : List Job) (mode : ℕ) (bytes : List ℕ) → KeepsIn s (on_file_of h jobs mode bytes (lists p jobs s f))
-after_file_of h (job.Request source target user ∷ jobs) p s f mode bytes = after_asked h (h.immovable target) source target user bytes mode jobs p s f
-after_file_of h _ p s f mode bytes = quiet s
+after_file_of : (h : Holdings) (jobs p s f : List Job) (mode : ℕ) (told : Option FileDigest) (bytes : List ℕ)
+    → KeepsIn s (on_file_of h jobs mode told bytes (lists p jobs s f))
+after_file_of h (job.Request source target user ∷ jobs) p s f mode told bytes =
+    after_asked h (file_verdict h target told bytes) source target user bytes mode jobs p s f
+after_file_of h _ p s f mode told bytes = quiet s
 
 after_file : (h : Holdings) (a : Awaits) (bytes : List ℕ) (l : Lists) → KeepsIn l.struck (on_file h a bytes l)
-after_file h (awaits.SentFile target mode) bytes l = after_kept (h.immovable target) (record { name = target; mode = mode; bytes = bytes }) l
-after_file h (awaits.AskedFile mode) bytes l = after_file_of h l.ahead l.passed l.struck l.failed mode bytes
+after_file h (awaits.SentFile target mode told) bytes l = after_kept (file_verdict h target told bytes) (record { name = target; mode = mode; bytes = bytes }) l
+after_file h (awaits.AskedFile mode told) bytes l = after_file_of h l.ahead l.passed l.struck l.failed mode told bytes
 after_file h awaits.DroppedSentFile bytes l = quiet l.struck
 after_file h awaits.DroppedAskedFile bytes l = fails h l (the_answer answer.DoneNever ∷ [])
 after_file h _ bytes l = quiet l.struck

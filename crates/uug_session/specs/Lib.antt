@@ -1,5 +1,6 @@
 pub mod Arriving
 pub mod Code
+pub mod Compared
 pub mod EndStep
 pub mod Engine
 pub mod Finding

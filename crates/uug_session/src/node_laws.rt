@@ -3,6 +3,7 @@ ghost use Rattle.std.specs.Prelude.{◌≡◌, ℕ, List, Option};
 ghost use Rattle.uug_link.specs.Announced.{Announced};
 ghost use Rattle.uug_link.specs.Entries.{EntryValue};
 ghost use Rattle.uug_conversation.specs.declared.job.Job.{Job};
+ghost use Rattle.uug_session.specs.Compared.{Compares};
 ghost use Rattle.uug_session.specs.Engine.{BeginsSession, Does, EngineState, HasFailed, all_ahead, bare, end_of, entry_of, hung_up, stage_late, with_stage};
 ghost use Rattle.uug_session.specs.EndStep.{EndEvent, Identity, begins_session, line_lost, time_ran_out, unmoved};
 ghost use Rattle.uug_conversation.specs.Holdings.{Holdings, Kept};
@@ -13,7 +14,7 @@ ghost use Rattle.uug_session.specs.NumberStanding.{KeepsNumber, NumberStands};
 ghost use Rattle.uug_conversation.specs.OwnRequests.{KeepsWhatItAskedFor};
 ghost use Rattle.uug_conversation.specs.Sharing.{HaveSameJobs, OnlyMoves, all_jobs};
 ghost use Rattle.uug_conversation.specs.DialogueState.{unopened};
-ghost use Rattle.uug_conversation.specs.DialogueValue.{dialogue_has_parted};
+ghost use Rattle.uug_conversation.specs.DialogueValue.{dialogue_has_parted, dialogue_of};
 
 /// What is told of a call without the spool is the end's step beside it.
 pub fn calls_are_steps()
@@ -84,6 +85,22 @@ pub fn struck_requests_were_kept()
         → KeepsWhatItAskedFor struck struck_after kept kept_after }
     // The next session begins with what was struck.
     ensures again { (l : Lists) → (all_ahead l).struck ≡ l.struck }
+{}
+
+/// Whatever comes to a node, each message that it takes is so: what is kept of a file of which a digest was told has that digest,
+/// and what the node tells itself is told of the file that its spool gives.
+pub fn kept_files_fit()
+    // Each event that happens to an end.
+    ensures event { (h : Holdings) (kept : List Kept) (event : EndEvent) (e : EngineState)
+        → Compares e.identity.side h (dialogue_of h kept e.dialogue)
+        (effect_of h kept event e).state.keeper }
+    // All that is found in bytes that come, in whatever pieces.
+    ensures taken { (h : Holdings) (kept kept_after : List Kept) (most faults later : ℕ)
+        (bytes : List ℕ)
+        (before after : NodeState)
+        → TakesAll h kept kept_after (HasFailed most faults later) bytes before after
+        → Compares before.engine.identity.side h (dialogue_of h kept before.engine.dialogue)
+        (dialogue_of h kept_after after.engine.dialogue) }
 {}
 
 /// Whatever an end is called with: from the start of its session its number is as it was, until the caller is let in, or hears

@@ -26,6 +26,8 @@ pub struct SpoolCall<'a> {
     pub port: &'a str,
     /// Whether it refuses what it can't read, and goes on.
     pub is_lenient: bool,
+    /// Whether it tells digests of its files, and compares those that it is told.
+    pub tells_digests: bool,
     /// What it leaves out of what it emits.
     pub thinning: Thinning,
     /// So many bytes at most have the files together of the jobs that it offers in a session.

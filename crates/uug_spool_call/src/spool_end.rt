@@ -111,11 +111,13 @@ fn files_over<'a, 'p, R: Files<File = File>, A: Allocator + Copy>(
     files: Vec<Stored<A>, A>,
 ) -> SpoolFiles<'a, 'p, R, A>
     ensures lenient { result.lenient ≡ call.now.is_lenient }
+    ensures digests { result.digests ≡ call.now.tells_digests }
     ensures files { result.files.files ≡ files.items }
 {
     let folder = SpoolFolder::new(SpoolDisk::new(alloc, rt, paths), came);
     let mut spool = LocalNames::new(alloc, FolderSpool::new(alloc, files, folder));
     spool.set_lenient(call.is_lenient);
+    spool.set_digests(call.tells_digests);
     spool
 }
 

@@ -1,5 +1,5 @@
 pub mod FrontLemmas
 pub mod SpoolLockLemmas
 mod NumberRemarkFacts
-pub mod FailedRemarkFacts
+mod JobRemarkFacts
 mod LineEndFacts

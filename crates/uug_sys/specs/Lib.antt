@@ -1,4 +1,4 @@
-pub mod FailedRemarks
+pub mod JobRemarks
 pub mod NumberRemarks
 pub mod Callers
 pub mod UnreadRemarks

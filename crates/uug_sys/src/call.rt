@@ -5,9 +5,9 @@ ghost use Rattle.uug_stream.specs.Streams.{CountsFault};
 ghost use Rattle.uug_task.specs.Tasks.{IsTask};
 
 use crate::answer::answer_at;
-use crate::failed_remark::remark_failed;
 use crate::failing_line::{FailingLine, remark_failure};
 use crate::hailed_line::HailedLine;
+use crate::job_remark::{remark_failed, remark_put_off};
 use crate::number_remark::remark_numbers;
 use crate::numbers::{meet, read_numbers};
 use crate::parts::{failure_of, read_parts};
@@ -36,7 +36,7 @@ use uug_transfer::{EndLine, GreetedLine, LineMonitor, LineName, SessionObserver}
 /// folder is locked before anything in it is read: `InUse` says that another run holds it. An end that is called lets it go
 /// while it waits, and locks it again when its line is up. The jobs, the number and the files are read then; whether the
 /// jobs and the number can be read is seen before the line opens. The answer is the program's status; `remark` says which
-/// numbers of their conversations the ends have where they differ, and why jobs have failed, and `why` which call of the
+/// numbers of their conversations the ends have where they differ, and why jobs have failed or were put off, and `why` which call of the
 /// system failed first, if one did.
 pub fn call_run<A, R, W, O, B>(
     alloc: A,
@@ -535,7 +535,9 @@ where
     let node = end.buffered.node();
     let phase = node.phase();
     // A remark for which there is no memory is left out.
-    let _ = remark_failed(alloc, remark, node.spool(), node.queue().failed());
+    let queue = node.queue();
+    let _ = remark_failed(alloc, remark, node.spool(), queue.failed());
+    let _ = remark_put_off(alloc, remark, phase, task.tells_digests, queue.pending());
     drop(end);
     let _ = remark_numbers(alloc, remark, phase, numbers.begins, numbers.heard);
     answer

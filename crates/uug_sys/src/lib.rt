@@ -4,11 +4,11 @@
 mod answer;
 mod call;
 mod doorkeeper;
-mod failed_remark;
 mod failing_line;
 mod hailed_line;
 mod hearing;
 mod held_output;
+mod job_remark;
 mod last_text;
 mod number_remark;
 mod numbers;

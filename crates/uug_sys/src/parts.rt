@@ -94,6 +94,7 @@ fn make_parts<'a, A: Allocator + Copy, R: Files + Alloc + Clone + Drop>(
     ensures jobs { IfOk result (λ parts. parts.jobs.file.file ≡ jobs.entry.file.file) }
     ensures queue { IfOk result (λ parts. IsFrontOf parts.jobs.before.items parts.queue) }
     ensures lenient { IfOk result (λ parts. parts.spool.lenient ≡ task.now.is_lenient) }
+    ensures digests { IfOk result (λ parts. parts.spool.digests ≡ task.now.tells_digests) }
     ensures files { IfOk result (λ parts. parts.spool.files.files ≡ given.files.items) }
     ensures number { IfOk result (λ parts. parts.number.file.faults.count ≡ 0) }
 {
@@ -123,11 +124,13 @@ fn make_spool<'a, A: Allocator + Copy, R: Files + Alloc + Clone + Drop>(
     files: Vec<Stored<A>, A>,
 ) -> Result<SystemSpool<'a, R, A>, AllocError>
     ensures lenient { IfOk result (λ spool. spool.lenient ≡ task.now.is_lenient) }
+    ensures digests { IfOk result (λ spool. spool.digests ≡ task.now.tells_digests) }
     ensures files { IfOk result (λ spool. spool.files.files ≡ files.items) }
 {
     let folder = SystemFolder::looking(alloc, rt, task.end_dir())?;
     let files = FolderSpool::new(alloc, files, folder);
     let mut spool = LocalNames::new(alloc, files);
     spool.set_lenient(task.is_lenient);
+    spool.set_digests(task.tells_digests);
     Ok(spool)
 }

@@ -544,6 +544,7 @@ fn said_of<'a>(task: &CallTask<'a>) -> SpoolCall<'a>
         stats: task.stats,
         port: task.line,
         is_lenient: task.is_lenient,
+        tells_digests: task.tells_digests,
         thinning: task.thinning(),
         most: task.most,
         is_loud: task.is_loud,

@@ -58,7 +58,7 @@ reads_written GiveLater h = absurd h
 reads_written DoneYes h = refl
 reads_written DoneYesMaster h = absurd h
 reads_written DoneNever h = refl
-reads_written DoneLater h = absurd h
+reads_written DoneLater h = refl
 reads_written HangYes h = refl
 reads_written HangNo h = refl
 reads_written WorkNo h = refl
@@ -81,7 +81,7 @@ spells_written GiveLater h = absurd h
 spells_written DoneYes h = (([], [], refl), no_third 67 89 77)
 spells_written DoneYesMaster h = absurd h
 spells_written DoneNever h = ([], [], refl)
-spells_written DoneLater h = absurd h
+spells_written DoneLater h = ((52 ∷ [], [], refl), other_third 67 78 53 52 (omega arith))
 spells_written HangYes h = ([], [], refl)
 spells_written HangNo h = ([], [], refl)
 spells_written WorkNo h = ([], [], refl)
@@ -98,7 +98,7 @@ short_written GiveLater h = absurd h
 short_written DoneYes h = omega arith
 short_written DoneYesMaster h = absurd h
 short_written DoneNever h = omega arith
-short_written DoneLater h = absurd h
+short_written DoneLater h = omega arith
 short_written HangYes h = omega arith
 short_written HangNo h = omega arith
 short_written WorkNo h = omega arith
@@ -179,7 +179,7 @@ spells_order (Request source target user) h m = record {
 spells_order HangUp h m = ([], refl)
 
 -- the longest command has its letter, four names, an option with its dash, a mode and six spaces
-short_order : (order : Order) → HasNames order → length (order_text order) ≤ 4 * NAME_MAX + 13
+pub short_order : (order : Order) → HasNames order → length (order_text order) ≤ 4 * NAME_MAX + 13
 short_order (Send source target user None mode) h =
     simp length-append (omega (arith, h.0.0.short, h.0.1.short, h.0.2.short))
 short_order (Send source target user (Some temp) mode) h =
@@ -220,7 +220,7 @@ answer_no_zero GiveLater h = absurd h
 answer_no_zero DoneYes h = no_zero-two 67 89 (omega arith) (omega arith)
 answer_no_zero DoneYesMaster h = absurd h
 answer_no_zero DoneNever h = no_zero-three 67 78 53 (omega arith) (omega arith) (omega arith)
-answer_no_zero DoneLater h = absurd h
+answer_no_zero DoneLater h = no_zero-three 67 78 52 (omega arith) (omega arith) (omega arith)
 answer_no_zero HangYes h = no_zero-two 72 89 (omega arith) (omega arith)
 answer_no_zero HangNo h = no_zero-two 72 78 (omega arith) (omega arith)
 answer_no_zero WorkNo h = no_zero-two 88 78 (omega arith) (omega arith)

@@ -59,15 +59,14 @@ abbrev pub IsRefusedAnswer : BadText → List ℕ → Type 0
 IsRefusedAnswer fault.TooLong text = COMMAND_MAX < length text
 IsRefusedAnswer f text = (length text ≤ COMMAND_MAX) × RefusedLetters f (words text)
 
--- Writing. A refusal that a later try may change is written as SN4.
+-- Writing. A refusal that a later try may change is written as SN4, or CN4.
 
--- what is written: four answers are only read
+-- what is written: three answers are only read
 abbrev pub IsWritten : Answer → Type 0
 IsWritten (GiveYes mode) = mode ≤ MODE_MAX
 IsWritten SendHeld = ⊥
 IsWritten GiveLater = ⊥
 IsWritten DoneYesMaster = ⊥
-IsWritten DoneLater = ⊥
 IsWritten _ = Unit {0}
 
 abbrev pub answer_words : Answer → List (List ℕ)
@@ -78,6 +77,7 @@ answer_words (GiveYes mode) = codes "RY" ∷ mode_digits mode ∷ []
 answer_words GiveNever = codes "RN2" ∷ []
 answer_words DoneYes = codes "CY" ∷ []
 answer_words DoneNever = codes "CN5" ∷ []
+answer_words DoneLater = codes "CN4" ∷ []
 answer_words HangYes = codes "HY" ∷ []
 answer_words HangNo = codes "HN" ∷ []
 answer_words WorkNo = codes "XN" ∷ []

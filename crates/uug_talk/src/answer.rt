@@ -48,15 +48,14 @@ pub enum Answer {
 }
 
 impl Answer {
-    /// Whether it can be written: it is none of the four answers that are only read, and a mode is at
+    /// Whether it can be written: it is none of the three answers that are only read, and a mode is at
     /// most `MODE_MAX`.
     pub fn is_writable(&self) -> bool
         ensures { IsTrue result ↔ IsWritten self.now }
     {
         match self {
             Answer::GiveYes(mode) => *mode <= MODE_MAX,
-            Answer::SendHeld | Answer::GiveLater | Answer::DoneYesMaster | Answer::DoneLater =>
-                false,
+            Answer::SendHeld | Answer::GiveLater | Answer::DoneYesMaster => false,
             _ => true,
         }
     }
@@ -117,7 +116,7 @@ fn given_mode(rest: &[u8]) -> Result<u16, BadText>
     }
 }
 
-/// The text of an answer, without its zero byte. Four answers are only read; `is_writable` tells.
+/// The text of an answer, without its zero byte. Three answers are only read; `is_writable` tells.
 pub fn write_answer(answer: &Answer) -> ArrayVec<u8, WRITTEN_MAX>
     requires { IsWritten answer.now }
     ensures text { result.items ≡ answer_text answer.now }
@@ -145,12 +144,12 @@ fn spell_answer(answer: &Answer) -> Text
         Answer::GiveNever => short_text(b"RN2"),
         Answer::DoneYes => short_text(b"CY"),
         Answer::DoneNever => short_text(b"CN5"),
+        Answer::DoneLater => short_text(b"CN4"),
         Answer::HangYes => short_text(b"HY"),
         Answer::HangNo => short_text(b"HN"),
         Answer::WorkNo => short_text(b"XN"),
         Answer::RunNever => short_text(b"EN2"),
-        Answer::SendHeld | Answer::GiveLater | Answer::DoneYesMaster | Answer::DoneLater =>
-            unreachable!(),
+        Answer::SendHeld | Answer::GiveLater | Answer::DoneYesMaster => unreachable!(),
     }
 }
 

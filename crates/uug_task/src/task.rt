@@ -57,6 +57,8 @@ pub struct CallTask<'a> {
     pub is_short: bool,
     /// Whether it refuses what it can't read, and goes on.
     pub is_lenient: bool,
+    /// Whether it tells digests of its files, and compares those that it is told.
+    pub tells_digests: bool,
     /// Whether it acknowledges each data packet on its own.
     pub is_every_ack: bool,
     /// Whether it begins to keep a number of its conversations, where it keeps none yet.

@@ -5,6 +5,7 @@
 
 mod answers;
 mod faulty;
+mod forged;
 mod greetings;
 mod hostile;
 mod lengths;
@@ -51,6 +52,8 @@ enum Given<'a> {
     Job(Task<'a>),
     /// It refuses what it can't read, and goes on.
     Lenient,
+    /// It tells digests, and compares those that it is told.
+    Digests,
 }
 
 /// What an end has when all is over, each kind in order.
@@ -121,6 +124,10 @@ fn give_to_spool<A: Allocator + Copy>(
         Given::Immovable(file) => spool.immovable(name(rt, file)),
         Given::Lenient => {
             spool.set_lenient(true);
+            Ok(())
+        }
+        Given::Digests => {
+            spool.set_digests(true);
             Ok(())
         }
         Given::Job(_) => Ok(()),

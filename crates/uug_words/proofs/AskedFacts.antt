@@ -90,6 +90,10 @@ answer_is_lenient : is_given (entries_of answer_words) (codes "strict") ≡ fals
 unfolding clap_on_literals
 answer_is_lenient = refl
 
+answer_tells_digests : is_given (entries_of answer_words) (codes "no-digest") ≡ false
+unfolding clap_on_literals
+answer_tells_digests = refl
+
 answer_has_wait : number_in (entries_of answer_words) (codes "wait") ≡ Some 60
 unfolding clap_on_literals
 answer_has_wait = refl

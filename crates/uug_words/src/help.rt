@@ -50,6 +50,8 @@ pub const PLAY: &str =
   short SIDE               the end's commands are short: their last packet ends with
                            the zero byte, in place of zeros up to the packet size
   lenient SIDE             the end refuses what it can't read, and goes on
+  digest SIDE              the end tells digests of its files, and compares those
+                           that it is told
   pass SIDE N              the next N bytes on the way to the side arrive
   drop SIDE N              they are lost
   flip SIDE HH             the bits HH of the next byte are inverted

@@ -206,6 +206,11 @@ fn with_talk<'a>(alloc: Global, command: Command<'a>) -> Result<Command<'a>, All
         ))?
         .arg(flag(
             alloc,
+            "no-digest",
+            "Tells no digests of its files, and compares none",
+        ))?
+        .arg(flag(
+            alloc,
             "every-ack",
             "Acknowledges each data packet on its own, also those that come at once",
         ))

@@ -69,6 +69,10 @@ impl<A: Allocator + Copy> Spool for FaultySpool<A> {
         false
     }
 
+    fn tells_digests(&self) -> bool {
+        false
+    }
+
     fn faults(&self) -> u64 {
         self.faults
     }

@@ -26,8 +26,12 @@ impl Journal for Notes {
                 self.bytes = self.bytes.saturating_add(*bytes);
                 match outcome {
                     Outcome::Done => self.done = self.done.saturating_add(1),
-                    Outcome::Never => self.refused = self.refused.saturating_add(1),
-                    Outcome::Later => self.put_off = self.put_off.saturating_add(1),
+                    Outcome::Never | Outcome::TooLarge => self.refused = self
+                        .refused
+                        .saturating_add(1),
+                    Outcome::Later | Outcome::Differs => {
+                        self.put_off = self.put_off.saturating_add(1);
+                    }
                 }
             }
         }
@@ -254,6 +258,13 @@ const SEND_Q: Said = (Way::Out, b"S q z u - q 0644\0");
 
 const OTHERS_SEND: Said = (Way::In, b"S p w u - p 0644\0");
 
+/// The digest that is told of a file, in pieces of one packet each.
+const HASH: &[u8] = b"sha256:0123456789abcdef012345678";
+
+const HASH_GOES_ON: &[u8] = b"9abcdef0123456789abcdef012345678";
+
+const HASH_ENDS: &[u8] = b"9abcdef\0";
+
 /// What goes over the line in a session with several jobs, and the lines that are told of it.
 const ORDERS: &[(&[Said], &str)] = &[
     // a job begins after another has ended, and its bytes are counted from none
@@ -325,6 +336,76 @@ const ORDERS: &[(&[Said], &str)] = &[
         uucpair: 0 s: peer's send p w: done 1 bytes in 0 s\n\
         uucpair: 0 s: peer's request x y\n\
         uucpair: 0 s: peer's request x y: done 0 bytes in 0 s\n",
+    ),
+    // CN4 says that another file came, of which a digest was told: at the end that takes it ..
+    (
+        &[
+            (Way::In, b"S p w u - p 0644 \"\" 0x2 "),
+            (Way::In, HASH),
+            (Way::In, HASH_GOES_ON),
+            (Way::In, HASH_ENDS),
+            (Way::Out, b"SY\0"),
+            (Way::In, b"de"),
+            (Way::In, b""),
+            (Way::Out, b"CN4\0"),
+        ],
+        "uucpair: 0 s: peer's send p w\n\
+        uucpair: 0 s: peer's send p w: wrong digest 2 bytes in 0 s\n",
+    ),
+    // .. and at that of whose job it is. Nothing of it is left at the next one
+    (
+        &[
+            (Way::Out, b"S x y u - x 0644 \"\" 0x2 "),
+            (Way::Out, HASH),
+            (Way::Out, HASH_GOES_ON),
+            (Way::Out, HASH_ENDS),
+            (Way::In, b"SY\0"),
+            (Way::Out, b"de"),
+            (Way::Out, b""),
+            (Way::In, b"CN4\0"),
+            SEND_Q,
+            (Way::In, b"SY\0"),
+            (Way::Out, b""),
+            (Way::In, b"CN4\0"),
+        ],
+        "uucpair: 0 s: send x y\n\
+        uucpair: 0 s: send x y: wrong digest 2 bytes in 0 s\n\
+        uucpair: 0 s: send q z\n\
+        uucpair: 0 s: send q z: put off 0 bytes in 0 s\n",
+    ),
+    // RY tells of a file that is asked for
+    (
+        &[
+            REQUEST,
+            (Way::In, b"RY 0644 \"\" 0x2 "),
+            (Way::In, HASH),
+            (Way::In, HASH_GOES_ON),
+            (Way::In, HASH_ENDS),
+            (Way::In, b"de"),
+            (Way::In, b""),
+            (Way::Out, b"CN4\0"),
+        ],
+        "uucpair: 0 s: request x y\n\
+        uucpair: 0 s: request x y: wrong digest 2 bytes in 0 s\n",
+    ),
+    // more bytes are told of than an end takes, and then as many as it takes
+    (
+        &[
+            (Way::In, b"S p w u - p 0644 \"\" 0x100001 "),
+            (Way::In, HASH),
+            (Way::In, HASH_GOES_ON),
+            (Way::In, HASH_ENDS),
+            (Way::Out, b"SN2\0"),
+            (Way::In, b"S p w u - p 0644 \"\" 0x100000 "),
+            (Way::In, HASH),
+            (Way::In, HASH_GOES_ON),
+            (Way::In, HASH_ENDS),
+            (Way::Out, b"SN2\0"),
+        ],
+        "uucpair: 0 s: peer's send p w\n\
+        uucpair: 0 s: peer's send p w: too large 0 bytes in 0 s\n\
+        uucpair: 0 s: peer's send p w\n\
+        uucpair: 0 s: peer's send p w: refused 0 bytes in 0 s\n",
     ),
     // of one that is followed by another before it is answered no end is told
     (

@@ -1,5 +1,5 @@
 use Rattle.uug_conversation.proofs.LimitLemmas.{past_strict_limit}
-use Rattle.uug_conversation.proofs.StrictLemmas.{unread_ends, held_stays, opening_drops_none, step_drops_none}
+use Rattle.uug_conversation.proofs.StrictLemmas.{unread_ends, held_stays, spool_decides, opening_drops_none, step_drops_none}
 use Rattle.uug_conversation.proofs.laws.lenient_is_a_setting.Goals as goal
 
 pub returns-clause-unread : goal.returns-clause-unread
@@ -10,6 +10,9 @@ returns-clause-held c = held_stays
 
 pub returns-clause-long : goal.returns-clause-long
 returns-clause-long c = past_strict_limit
+
+pub returns-clause-large : goal.returns-clause-large
+returns-clause-large c = spool_decides
 
 pub returns-clause-opens : goal.returns-clause-opens
 returns-clause-opens c = opening_drops_none

@@ -1,6 +1,6 @@
 use Rattle.std.proofs.Common.{◌≡◌, ◌++◌, drop, string_bytes}
-use Rattle.uug_sys.specs.FailedRemarks.{failed_remark}
-use Rattle.uug_sys.proofs.failed_remark.add_failed.Given as goal
+use Rattle.uug_sys.specs.JobRemarks.{failed_remark}
+use Rattle.uug_sys.proofs.job_remark.add_failed.Given as goal
 
 -- with the jobs that are left, a line for each is appended
 abbrev pub invariant-loop-job : goal.invariant-loop-job
