@@ -27,10 +27,6 @@ new_passing_work
 as_user=()
 [ "$(id -u)" -ne 0 ] || as_user=(setpriv --reuid 65534 --regid 65534 --clear-groups)
 
-other() {
-    [ "$1" = a ] && echo b || echo a
-}
-
 # long_path: of the folder of the end that `at` names, so that names of up to 80 bytes have room behind it.
 long_path() {
     local path=$work

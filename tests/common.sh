@@ -39,6 +39,11 @@ new_shared_work() {
     program=$work/program
 }
 
+# other END: of the ends a and b.
+other() {
+    [ "$1" = a ] && echo b || echo a
+}
+
 passed=0
 failed=0
 

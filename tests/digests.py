@@ -16,7 +16,7 @@ import tempfile
 sys.dont_write_bytecode = True
 sys.path.insert(0, os.path.dirname(os.path.abspath(__file__)))
 
-from held import INITA, INITB, INITC, ROOT, RR, Held, control, data, framed, greet, read_text
+from held import INITA, INITB, INITC, RR, Held, control, data, framed, greet, program_named, read_text
 from relay import HEADER, checksum, size_at
 from two_sockets import listening
 
@@ -289,7 +289,7 @@ ROWS = [
 
 
 def main():
-    program = os.path.abspath(sys.argv[1]) if len(sys.argv) > 1 else os.path.join(ROOT, "crates/uucpair/out/uucpair")
+    program = program_named()
     failed = 0
     for row in ROWS:
         with tempfile.TemporaryDirectory() as work:

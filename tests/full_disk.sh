@@ -32,10 +32,6 @@ clean_up() {
 }
 trap clean_up EXIT
 
-other() {
-    [ "$1" = a ] && echo b || echo a
-}
-
 # new_folders: of both ends. That of the one with the fault is a small disk of its own.
 new_folders() {
     local end

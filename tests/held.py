@@ -26,6 +26,11 @@ RJ, RR, INITC, INITB, INITA = 2, 4, 5, 6, 7
 FILE = bytes(range(256)) * 1_024
 
 
+def program_named():
+    """The program that the command line names, or the one that is built here."""
+    return os.path.abspath(sys.argv[1]) if len(sys.argv) > 1 else os.path.join(ROOT, "crates/uucpair/out/uucpair")
+
+
 def control(kind, number):
     byte = kind << 3 | number
     word = (0xAAAA - byte) & 0xFFFF
@@ -236,7 +241,7 @@ SCENES = [storm, junk, junk_in_greeting, never_reads, byte_by_byte]
 
 
 def main():
-    program = sys.argv[1] if len(sys.argv) > 1 else os.path.join(ROOT, "crates/uucpair/out/uucpair")
+    program = program_named()
     wanted = sys.argv[2:] or [scene.__name__ for scene in SCENES]
     good, tried = 0, 0
     for scene in SCENES:

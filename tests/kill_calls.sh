@@ -35,10 +35,6 @@ new_work
 started=()
 trap 'kill -9 "${started[@]}" 2>/dev/null || true' EXIT
 
-other() {
-    [ "$1" = a ] && echo b || echo a
-}
-
 # give END NAME SIZE: makes a file, and puts it into `send`.
 give() {
     write_file "$work/$1/files/$2" "$3"

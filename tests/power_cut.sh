@@ -34,10 +34,6 @@ clean_up() {
 }
 trap clean_up EXIT
 
-other() {
-    [ "$1" = a ] && echo b || echo a
-}
-
 # mount_disk END: its folder is its disk. What its journal has is done first.
 mount_disk() {
     mkdir -p "$work/$1"
@@ -80,15 +76,15 @@ new_folders() {
 
 # cut_power END..: their power goes now.
 cut_power() {
-    local end
+    local end stopped=()
     for end in "$@"; do
-        kill -STOP "${pids[$end]}" 2>/dev/null || return 0
+        ! kill -STOP "${pids[$end]}" 2>/dev/null || stopped+=("$end")
     done
-    for end in "$@"; do
+    for end in "${stopped[@]}"; do
         cp --sparse=always "$work/$end.disk" "$work/$end.cut"
         kill -9 "${pids[$end]}" 2>/dev/null || true
     done
-    cuts=$((cuts + 1))
+    [ "${#stopped[@]}" -eq 0 ] || cuts=$((cuts + 1))
 }
 
 # session: one call over the slow line, in which power may go. Sets `statuses`.

@@ -13,7 +13,7 @@ import tempfile
 sys.dont_write_bytecode = True
 sys.path.insert(0, os.path.dirname(os.path.abspath(__file__)))
 
-from held import INITA, INITB, INITC, ROOT, Held, control, data, drain, framed, greet
+from held import INITA, INITB, INITC, Held, control, data, drain, framed, greet, program_named
 from relay import checksum
 
 LONG = b"X " + b"y" * 70
@@ -71,7 +71,7 @@ ROWS = [
 
 
 def main():
-    program = os.path.abspath(sys.argv[1]) if len(sys.argv) > 1 else os.path.join(ROOT, "crates/uucpair/out/uucpair")
+    program = program_named()
     failed = 0
     for number, (row, report, said) in enumerate(ROWS):
         with tempfile.TemporaryDirectory() as work:
