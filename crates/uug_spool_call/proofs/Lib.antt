@@ -1,3 +1,4 @@
 pub mod PathLemmas
+pub mod PublicFileLemmas
 pub mod ReportedLemmas
 mod PublicNameFacts

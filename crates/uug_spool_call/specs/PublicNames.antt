@@ -1,11 +1,12 @@
 -- The public folder, and how names in it are written in the jobs of a spool (that it stands beside the spool, and that a job has its path, is Taylor UUCP's; the rest is this project's profile).
 use Rattle.std.specs.Borrow.{Bor}
-use Rattle.std.specs.List.{ends_with, starts_with}
+use Rattle.std.specs.List.{ends_with, list_all, starts_with}
 use Rattle.std.specs.Option.{option_map, unwrap_or}
 use Rattle.std.specs.Path.{rsplit_once, slash}
-use Rattle.std.specs.Prelude.{◌&&◌, ◌==◌, ◌-◌, ℕ, Bool, true, false, List, ◌++◌, length, take, drop, map, codes, nat_eq, Option, Some, None, Result, Ok, Err, if◌then◌else◌}
+use Rattle.std.specs.Prelude.{◌&&◌, ◌==◌, ◌≡◌, ◌-◌, ℕ, Bool, true, false, List, ◌++◌, length, take, drop, map, codes, nat_eq, Option, Some, None, Result, Ok, Err, if◌then◌else◌}
 use Rattle.uug_conversation.specs.declared.job.Job.{Job}
 use Rattle.uug_conversation.specs.declared.job.Job.TheVariants.{Request, Send}
+use Rattle.uug_conversation.specs.declared.stored.Stored.{Stored}
 use Rattle.uug_mailbox.specs.declared.open_line.OpenLine.{OpenLine}
 use Rattle.uug_spool.specs.SpoolNames.{spot_of}
 use Rattle.uug_spool.specs.declared.spool_names.Barred.{Barred}
@@ -69,6 +70,16 @@ is_public (Err why) = false
 -- one is given under its name where a file of that name would come there
 abbrev pub is_given : (name : List ℕ) → Bool
 is_given name = is_public (spot_of name)
+
+-- as everybody may read it: octal 644
+abbrev pub is_public_file : {A : Type 0} → Stored A → Bool
+is_public_file file = is_given file.name && file.mode == 420
+
+-- What an end gives of its jobs stays in front, and behind it come such files.
+pub record AddsPublic {A : Type 0} (files files_after : List (Stored A)) : Type 0 where
+  pub more : List (Stored A)
+  pub is_all : files_after ≡ files ++ more
+  pub are_public : list_all is_public_file more ≡ true
 
 -- ---- the jobs
 

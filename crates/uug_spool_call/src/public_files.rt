@@ -1,12 +1,13 @@
 //! The files of the public folder that the other system may ask for.
-ghost use Rattle.std.specs.Prelude.{◌≡◌};
+ghost use Rattle.std.specs.Prelude.{◌≡◌, OnOk};
 ghost use Rattle.uug_spool.specs.SpoolNames.{spot_of};
-ghost use Rattle.uug_spool_call.specs.PublicNames.{is_given};
+ghost use Rattle.uug_spool_call.specs.PublicNames.{AddsPublic, is_given};
 
 use crate::work::{size_of, stored};
 use std::alloc::{AllocError, Allocator};
 use std::fs::File;
 use std::rt::Files;
+use uug_failure::RunFault;
 use uug_session::{Side, Stored};
 use uug_spool::{Room, spot_of};
 use uug_spool_disk::{SpoolPaths, is_known, list_room, read_public};
@@ -27,19 +28,21 @@ pub(crate) fn add_public<A: Allocator + Copy, R: Files<File = File> + Alloc + Cl
     side: Side,
     paths: &SpoolPaths<A>,
     most: u64,
-) -> Result<(), AllocError> {
+) -> Result<(), AllocError>
+    ensures adds { OnOk result (AddsPublic files.old.items files.new.items) }
+{
     if side == Side::Called && !is_known(alloc, rt, paths)? {
         return Ok(());
     }
-    // Without its names there is none to be given.
-    let Ok(names) = list_room(alloc, rt, paths, Room::Public) else {
-        return Ok(());
+    let names = match list_room(alloc, rt, paths, Room::Public) {
+        Ok(names) => names,
+        // Without its names there is none to be given.
+        Err(RunFault::System(_)) => return Ok(()),
+        Err(RunFault::Tool(_)) => return Err(AllocError),
     };
     let mut room = most.saturating_sub(size_of(files.as_slice()));
     for name in names.iter().take(PUBLIC_NAMES_MAX) {
-        if is_given(name) {
-            add_file(files, alloc, rt, paths, name, &mut room)?;
-        }
+        add_file(files, alloc, rt, paths, name, &mut room)?;
     }
     Ok(())
 }
@@ -55,7 +58,7 @@ fn is_given(name: &Name) -> bool
     }
 }
 
-/// Adds a file, if there is room for it.
+/// Adds the file of this name, if it may be given and there is room for it.
 fn add_file<A: Allocator + Copy, R: Files<File = File>>(
     files: &mut Vec<Stored<A>, A>,
     alloc: A,
@@ -63,7 +66,12 @@ fn add_file<A: Allocator + Copy, R: Files<File = File>>(
     paths: &SpoolPaths<A>,
     name: &Name,
     room: &mut u64,
-) -> Result<(), AllocError> {
+) -> Result<(), AllocError>
+    ensures adds { OnOk result (AddsPublic files.old.items files.new.items) }
+{
+    if !is_given(name) {
+        return Ok(());
+    }
     let most = FILE_MAX.min(usize::try_from(*room).unwrap_or(FILE_MAX));
     if let Some(bytes) = read_public(alloc, rt, paths, name, most)? {
         *room = room.saturating_sub(bytes.len() as u64);

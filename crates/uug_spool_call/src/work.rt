@@ -136,8 +136,8 @@ fn data_names<A: Allocator + Copy, R: Files + Alloc + Clone + Drop>(
     Ok(names)
 }
 
-/// Adds the lines and the files of a C. file, if there is room for them. One that is gone by now is none, and one that can't be read
-/// is put off.
+/// Adds what waits in a C. file, if there is room for it. One that is gone by now is none, and one that can't be read is put off, as
+/// is one with a file that a person named and that can't be read now.
 fn add_commands<A: Allocator + Copy, R: Files>(
     work: &mut Work<A>,
     alloc: A,
@@ -150,40 +150,51 @@ fn add_commands<A: Allocator + Copy, R: Files>(
 ) -> Result<bool, RunFault>
     ensures { IfErr result IsFolderFault }
 {
-    let spot = Spot {
-        room: Room::Commands,
-        name: *name,
-    };
-    let text = match read_spot(alloc, rt, paths, &spot, COMMANDS_MAX) {
-        Ok(Some(text)) => text,
+    let mut more = match read_commands(alloc, rt, paths, me, name, there) {
+        Ok(Some(more)) => more,
         Ok(None) => return Ok(true),
         Err(fault) => {
             put_off(&mut work.unread, name, fault)?;
             return Ok(true);
         }
     };
-    let mut more = Work::none(alloc);
-    add_files(&mut more, alloc, rt, paths, me, text.as_slice(), there)?;
-    let unread = names_of(alloc, more.unread.as_slice())?;
-    let public = paths.public().as_bytes();
-    more.lines = lines_in(
-        alloc,
-        name,
-        text.as_slice(),
-        there,
-        unread.as_slice(),
-        public,
-    )?;
     let size = size_of(more.files.as_slice());
     let is_first = work.lines.is_empty();
     if !is_first && (size > *room || work.lines.len().saturating_add(more.lines.len()) > JOBS_MAX) {
         return Ok(false);
     }
     *room = room.saturating_sub(size);
-    more.names.reserve(1)?;
-    more.names.push_reserved(*name);
     append(work, &mut more)?;
     Ok(true)
+}
+
+/// What waits in a C. file, if it is there.
+fn read_commands<A: Allocator + Copy, R: Files>(
+    alloc: A,
+    rt: &R,
+    paths: &SpoolPaths<A>,
+    me: &Name,
+    name: &Name,
+    there: &[Name],
+) -> Result<Option<Work<A>>, RunFault>
+    ensures { IfErr result IsFolderFault }
+{
+    let spot = Spot {
+        room: Room::Commands,
+        name: *name,
+    };
+    let Some(text) = read_spot(alloc, rt, paths, &spot, COMMANDS_MAX)? else {
+        return Ok(None);
+    };
+    let text = text.as_slice();
+    let mut more = Work::none(alloc);
+    add_files(&mut more, alloc, rt, paths, me, text, there)?;
+    let unread = names_of(alloc, more.unread.as_slice())?;
+    let public = paths.public().as_bytes();
+    more.lines = lines_in(alloc, name, text, there, unread.as_slice(), public)?;
+    more.names.reserve(1)?;
+    more.names.push_reserved(*name);
+    Ok(Some(more))
 }
 
 /// Appends what waits in one C. file to what waits in those before.
@@ -399,7 +410,7 @@ fn add_line<A: Allocator + Copy, R: Files>(
 }
 
 /// Adds the file that a line sends: its copy, or the file that a person named. A copy that can't be read is put off; what a person
-/// named is gone then, as far as this system is concerned. Whether there is one.
+/// named, and this program may not read, is gone, as far as this system is concerned. Whether there is one.
 fn add_sent<A: Allocator + Copy, R: Files>(
     work: &mut Work<A>,
     alloc: A,
@@ -415,7 +426,7 @@ fn add_sent<A: Allocator + Copy, R: Files>(
         return Ok(false);
     };
     let found = if !has_option(fields.options, b'C') {
-        Ok(read_source(alloc, rt, fields.source, FILE_MAX))
+        Ok(read_source(alloc, rt, paths, fields.source, FILE_MAX)?)
     } else if there
         .iter()
         .any(|other| other.as_bytes() == name.as_bytes())
@@ -459,6 +470,8 @@ fn add_text<A: Allocator + Copy>(
 /// A file to give.
 pub(crate) fn stored<A: Allocator>(name: Name, mode: u16, bytes: Vec<u8, A>) -> Stored<A>
     requires { mode ≤ MODE_MAX }
+    ensures name { result.name ≡ name }
+    ensures mode { result.mode ≡ mode }
 {
     Stored { name, mode, bytes }
 }

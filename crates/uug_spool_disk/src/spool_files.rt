@@ -1,5 +1,6 @@
 //! What stands in the folders of a spool.
-ghost use Rattle.std.specs.Prelude.{◌<◌, ◌≤◌, IfErr, IfOk, IfSome, length};
+ghost use Rattle.std.specs.Prelude.{◌<◌, ◌≡◌, ◌≢◌, ◌≤◌, IfErr, IfOk, IfSome, IsErr, length};
+ghost use Rattle.std.specs.IoError.{error_kind};
 ghost use Rattle.uug_failure.specs.Faults.{IsFolderFault};
 
 use crate::spool_paths::SpoolPaths;
@@ -90,7 +91,11 @@ pub fn is_there<A: Allocator + Copy, R: Files>(
     ensures { IfErr result IsFolderFault }
 {
     let path = paths.file(alloc, spot)?;
-    Ok(fs::symlink_metadata(rt, path.as_str()).is_ok())
+    match fs::symlink_metadata(rt, path.as_str()) {
+        Ok(_) => Ok(true),
+        Err(error) if error.kind() == ErrorKind::NotFound => Ok(false),
+        Err(error) => Err(RunFault::of(&error, paths.end_dir(), Resource::Dir)),
+    }
 }
 
 /// Whether the spool has a folder of the system.
@@ -127,25 +132,40 @@ pub fn read_spot<A: Allocator + Copy, R: Files>(
     }
 }
 
-/// The bytes of the file that a person named, unless it can't be read, or has more than so many. What has a relative path is in
-/// no folder that is known.
-pub fn read_source<A: Allocator, R: Files>(
+/// The bytes of the file that a person named, unless there is none that may be read, or it has more than so many. What has a
+/// relative path is in no folder that is known.
+pub fn read_source<A: Allocator + Copy, R: Files>(
     alloc: A,
     rt: &R,
+    paths: &SpoolPaths<A>,
     path: &[u8],
     most: usize,
-) -> Option<Vec<u8, A>>
+) -> Result<Option<Vec<u8, A>>, RunFault>
     requires { most < u64.MAX }
-    ensures { IfSome result (λ bytes. length bytes.items ≤ most) }
+    ensures within { IfOk result (λ found. IfSome found (λ bytes. length bytes.items ≤ most)) }
+    ensures no_other { IfErr result IsFolderFault }
 {
-    let path = str::from_utf8(path).ok()?;
-    if !path.starts_with('/') {
-        return None;
-    }
+    let path = match str::from_utf8(path) {
+        Ok(path) if path.starts_with('/') => path,
+        _ => return Ok(None),
+    };
     match read_file(alloc, rt, path, most) {
-        Ok(found) => found,
-        Err(_) => None,
+        Ok(found) => Ok(found),
+        Err(error) if is_out_of_reach(error.kind()) => Ok(None),
+        Err(error) => Err(RunFault::of(&error, paths.end_dir(), Resource::Dir)),
     }
+}
+
+/// Whether an error of this kind says that no file which this program may read is at a path.
+fn is_out_of_reach(kind: ErrorKind) -> bool {
+    matches!(
+        kind,
+        ErrorKind::NotFound
+            | ErrorKind::NotADirectory
+            | ErrorKind::PermissionDenied
+            | ErrorKind::FilesystemLoop
+            | ErrorKind::InvalidFilename
+    )
 }
 
 /// The bytes of the file of this name in the public folder, if it is a regular one that everybody may read, and has so many at
@@ -168,8 +188,18 @@ pub fn read_public<A: Allocator + Copy, R: Files<File = File>>(
     let Some(file) = open_plain(rt, path.as_str()) else {
         return Ok(None);
     };
-    match read_within(alloc, file, most) {
+    readable(read_within(alloc, file, most))
+}
+
+/// What was read, or nothing where the system did not let it be read. Where memory was refused, nothing is known of the file.
+fn readable<T>(read: io::Result<Option<T>>) -> Result<Option<T>, AllocError>
+    ensures found { IfOk read (λ found. result ≡ Ok found) }
+    ensures memory { IfErr read (λ error. error_kind error ≡ ErrorKind.OutOfMemory → IsErr result) }
+    ensures refused { IfErr read (λ error. error_kind error ≢ ErrorKind.OutOfMemory → result ≡ Ok None) }
+{
+    match read {
         Ok(found) => Ok(found),
+        Err(error) if error.kind() == ErrorKind::OutOfMemory => Err(AllocError),
         Err(_) => Ok(None),
     }
 }
