@@ -5,15 +5,15 @@
 
 Two ends move files both ways, and one of them, under `strace`, has its first call of a name refused; then the second one, and so
 on, each once, and each with all calls of that name behind it. Sessions without refusals follow, until nothing waits. Each file
-has to come whole, and each mail once; a job that is given up has to be told of. A row has so many trials, and
+has to come whole, and each mail once. A row has so many trials, and
 
-    lost    jobs that are gone, with nothing that came and nothing that is told
-    told    jobs that were given up, and told of
+    lost    jobs to send a file, which is there, that were given up or are gone; and those to ask for one that are gone untold
+    told    jobs to ask for a file that were given up, and told of, as where the other end can't read it
     twice   mails that came again
     stuck   trials that waited for something in the end
 
 The last line has the sums, and the status is 1 where anything was lost, came twice or got stuck. Rows of which all are zero are
-left out. PROGRAM is crates/uucpair/out/uucpair where none is named, KIND is `folders` or `spools`. It needs strace.
+left out. PROGRAM is crates/uucpair/out/uucpair where none is named, KIND is `folders`, `spools` or `stopped`. It needs strace.
 """
 import collections
 import concurrent.futures
@@ -24,9 +24,15 @@ import sys
 import tempfile
 import time
 
-ROOT = os.path.dirname(os.path.dirname(os.path.abspath(__file__)))
+sys.dont_write_bytecode = True
+sys.path.insert(0, os.path.dirname(os.path.abspath(__file__)))
+
+from held import program_named
+
 SESSIONS_MAX = 4
 SECONDS_MAX = 30
+# A trial mostly waits: for the end whose other one could not begin.
+TRIALS_AT_ONCE = 4 * os.cpu_count()
 # Of the process itself; and `close`: a call that strace refuses is not made, so what a program has closed would stay open.
 PASSED_OVER = {
     "arch_prctl", "clock_gettime", "clock_nanosleep", "close", "execve", "exit", "exit_group", "futex", "getpid", "getrandom",
@@ -56,10 +62,20 @@ def read(path):
         return b""
 
 
-class Folders:
+class Scene:
+    """Two ends, and what waits at them."""
+
+    def prepare(self, program):
+        """What goes before the session in which calls are refused."""
+
+    def collect(self):
+        """What becomes of what a session has brought."""
+
+
+class Folders(Scene):
     """Two folders: each end sends and asks for files."""
 
-    NAMES = ("a", "b")
+    NAMES = VICTIMS = ("a", "b")
     JOBS = {"a": ("send x x u", "send y y u", "request r r u"), "b": ("send z z u", "request q q u")}
     GIVEN = {"a": "xyq", "b": "rz"}
 
@@ -74,9 +90,6 @@ class Folders:
     def words(self, end):
         return [f"{self.work}/{end}", "--me", end, "--peer", "b" if end == "a" else "a"]
 
-    def collect(self):
-        pass
-
     def waits(self):
         return any(read(f"{self.work}/{end}/jobs") for end in self.NAMES)
 
@@ -90,14 +103,14 @@ class Folders:
                 taker = end if word == "request" else {"a": "b", "b": "a"}[end]
                 if read(f"{self.work}/{taker}/got/{name}") == contents(name) or job in pending:
                     continue
-                (told if job in failed else lost).append(f"{end}: {job}")
+                (told if word == "request" and job in failed else lost).append(f"{end}: {job}")
         return lost, told, []
 
 
-class Spools:
+class Spools(Scene):
     """Two spools: each node sends a file, one that is a copy and a mail, and asks for a file."""
 
-    NAMES = ("alpha", "beta")
+    NAMES = VICTIMS = ("alpha", "beta")
     KINDS = ("plain", "copy", "open")
 
     def __init__(self, work):
@@ -154,13 +167,38 @@ class Spools:
             }
             for name, whole in came.items():
                 if not whole:
-                    (told if name in failed else lost).append(f"{node}: {name}")
+                    (told if name.startswith("asked") and name in failed else lost).append(f"{node}: {name}")
             if self.mails[node] > 1:
                 twice.append(node)
         return lost, told, twice
 
 
-KINDS = {"folders": Folders, "spools": Spools}
+class Stopped(Spools):
+    """The same spools. The end that answers was killed when a mail stood whole beside its marker, before that came to its place."""
+
+    VICTIMS = ("beta",)
+    renames = None
+
+    def prepare(self, program):
+        front = ("strace", "-f", "-qq", "-o", "/dev/null", "-e", "trace=rename", "-e", f"inject=rename:signal=SIGKILL:when={self.renames}")
+        session(program, self, "beta", front)
+
+    def is_between(self):
+        return all(os.path.exists(f"{self.work}/beta/spool/{room}/alpha/D.alphaN0003") for room in (".Temp", ".Received"))
+
+    @classmethod
+    def find_moment(cls, program):
+        """Finds behind how many renamings it stands so."""
+        for cls.renames in range(1, 20):
+            with tempfile.TemporaryDirectory() as work:
+                scene = cls(work)
+                scene.prepare(program)
+                if scene.is_between():
+                    return
+        raise SystemExit("refused_calls.py: no mail is between its arrival and its place")
+
+
+KINDS = {"folders": Folders, "spools": Spools, "stopped": Stopped}
 
 
 def start(program, front, verb, scene, name):
@@ -202,6 +240,7 @@ def counted(program, kind, victim):
     """How often an end makes each call in a session without refusals."""
     with tempfile.TemporaryDirectory() as work:
         scene = KINDS[kind](work)
+        scene.prepare(program)
         session(program, scene, victim, ("strace", "-f", "-qq", "-o", f"{work}/calls"))
         if scene.waits():
             raise SystemExit("refused_calls.py: a session without refusals leaves jobs: " + read(f"{work}/said.{victim}").decode())
@@ -218,6 +257,7 @@ def tried(program, kind, victim, call, when):
     work = tempfile.mkdtemp()
     try:
         scene = KINDS[kind](work)
+        scene.prepare(program)
         refusal = f"inject={call}:error={REFUSALS.get(call, 'EIO')}:when={when}"
         well = session(program, scene, victim, ("strace", "-f", "-qq", "-o", "/dev/null", "-e", f"trace={call}", "-e", refusal))
         for _ in range(SESSIONS_MAX):
@@ -237,7 +277,9 @@ def tried(program, kind, victim, call, when):
 def rows(program, kinds, only):
     """Each call of each end, and how often it makes it."""
     for kind in kinds:
-        for victim in KINDS[kind].NAMES:
+        if kind == "stopped":
+            Stopped.find_moment(program)
+        for victim in KINDS[kind].VICTIMS:
             for call, count in sorted(counted(program, kind, victim).items()):
                 if not only or call in only:
                     yield kind, victim, call, count
@@ -252,10 +294,10 @@ def shown(count, row):
 
 
 def main():
-    program = os.path.abspath(sys.argv[1]) if len(sys.argv) > 1 else os.path.join(ROOT, "crates/uucpair/out/uucpair")
+    program = program_named()
     kinds, only = sys.argv[2:3] or list(KINDS), set(sys.argv[3:])
     sums, trials = Row(0, 0, 0, 0), 0
-    with concurrent.futures.ThreadPoolExecutor(os.cpu_count()) as pool:
+    with concurrent.futures.ThreadPoolExecutor(TRIALS_AT_ONCE) as pool:
         for kind, victim, call, count in rows(program, kinds, only):
             for lasting in ("", "+"):
                 moments = [f"{i}{lasting}" for i in range(1, count + 1)]
