@@ -8,7 +8,7 @@
 #     programs   files both ways, a file that is too long, `uustat` and `uulog`
 #     gone       `uustat -k` while its job waits, and then in a session
 #     asked      uucico asks for files of the program's public folder, and for others
-#     unread     data that the program can't read, at a place whose time is another
+#     unread     data that the program can't read, and a C. file that is too long, at a place whose time is another
 #     full       the program's spool is on a disk that is full
 #     folders    each folder of the program's node in turn can't be written, or not even be seen
 #     anew       mail while sessions are cut; then alpha's spool is made anew, so that its numbers begin anew
@@ -212,9 +212,10 @@ asked() {
     rate=$slow
 }
 
-# unread PART: beta can't read the data of a mail: the others go, and this one does once it can be read
+# unread PART: beta can't read the data of a mail, nor a C. file that is too long: the others go, and this one does once it can be
+# read
 unread() {
-    local data begun
+    local data begun long
     rate=$fast
     new_nodes
     mail beta 1 500
@@ -223,11 +224,15 @@ unread() {
     chmod 600 "$data"
     mail beta 2 500
     mail alpha 1 500
+    long=$work/beta/spool/alpha/C./C.Nlong
+    yes '' | head -c 1048577 | as_uucp tee "$long" >/dev/null
     begun=$(TZ=Asia/Tokyo date +%Y-%m-%d)
     TZ=Asia/Tokyo session "$1"
-    is "the others went" [ "$(queued alpha)$(queued beta)" = 01 ]
+    is "the others went" [ "$(queued alpha)$(queued beta)" = 02 ]
     is "the log says why" grep -q "^uucico alpha - .*${data##*/} is put off: permission denied" "$work/beta/log/Log"
     is "the log has the time of the place" grep -q "^uucico alpha - ($begun $(TZ=Asia/Tokyo date +%H):" "$work/beta/log/Log"
+    is "the log says that one is too long" grep -q "^uucico alpha - .*C.Nlong is put off: over 1048576 bytes" "$work/beta/log/Log"
+    rm "$long"
     chown uucp:uucp "$data"
     finish "$1" 2
     judge "unread, $1"

@@ -8,7 +8,8 @@ on, each once, and each with all calls of that name behind it. Sessions without 
 has to come whole, and each mail once. A row has so many trials, and
 
     lost    jobs to send a file, which is there, that were given up or are gone; and those to ask for one that are gone untold
-    told    jobs to ask for a file that were given up, and told of, as where the other end can't read it
+    told    jobs to ask for a file that were given up, and told of, as where the other end can't read it; over spools the log of that
+            end names the file, too
     twice   mails that came again
     stuck   trials that waited for something in the end
 
@@ -165,9 +166,11 @@ class Spools(Scene):
                 f"asked-{other}": read(f"{self.work}/{node}/pub/asked-{other}") == contents(f"open-{other}"),
                 f"D.{node}N0003": self.mails[node] > 0,
             }
+            log = read(f"{self.work}/{other}/Log").decode()
             for name, whole in came.items():
                 if not whole:
-                    (told if name.startswith("asked") and name in failed else lost).append(f"{node}: {name}")
+                    is_told = name.startswith("asked") and name in failed and " is not given: " in log
+                    (told if is_told else lost).append(f"{node}: {name}")
             if self.mails[node] > 1:
                 twice.append(node)
         return lost, told, twice

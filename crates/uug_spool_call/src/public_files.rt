@@ -1,9 +1,10 @@
 //! The files of the public folder that the other system may ask for.
-ghost use Rattle.std.specs.Prelude.{◌≡◌, OnOk};
+ghost use Rattle.std.specs.Prelude.{◌<◌, ◌≡◌, true, IfErr, OnOk};
+ghost use Rattle.uug_failure.specs.Faults.{IsFolderFault};
 ghost use Rattle.uug_spool.specs.SpoolNames.{spot_of};
 ghost use Rattle.uug_spool_call.specs.PublicNames.{AddsPublic, is_given};
 
-use crate::work::{size_of, stored};
+use crate::work::{Unread, note_unread, size_of, stored};
 use std::alloc::{AllocError, Allocator};
 use std::fs::File;
 use std::rt::Files;
@@ -20,16 +21,19 @@ const PUBLIC_NAMES_MAX: usize = 1024;
 const GIVEN_MODE: u16 = 0o644;
 
 /// Adds the files of the public folder to those that an end gives, where it calls, or the spool has a folder of the caller: each
-/// that everybody may read, as long as all have so many bytes together at most.
+/// that everybody may read, as long as all have so many bytes together at most. One that the system fails to read is noted, and so
+/// is the folder.
 pub(crate) fn add_public<A: Allocator + Copy, R: Files<File = File> + Alloc + Clone + Drop>(
     files: &mut Vec<Stored<A>, A>,
+    ungiven: &mut Vec<Unread, A>,
     alloc: A,
     rt: &R,
     side: Side,
     paths: &SpoolPaths<A>,
     most: u64,
-) -> Result<(), AllocError>
+) -> Result<(), RunFault>
     ensures adds { OnOk result (AddsPublic files.old.items files.new.items) }
+    ensures no_other { IfErr result IsFolderFault }
 {
     if side == Side::Called && !is_known(alloc, rt, paths)? {
         return Ok(());
@@ -37,14 +41,24 @@ pub(crate) fn add_public<A: Allocator + Copy, R: Files<File = File> + Alloc + Cl
     let names = match list_room(alloc, rt, paths, Room::Public) {
         Ok(names) => names,
         // Without its names there is none to be given.
-        Err(RunFault::System(_)) => return Ok(()),
-        Err(RunFault::Tool(_)) => return Err(AllocError),
+        Err(fault) => {
+            note_unread(ungiven, &public_folder(), fault)?;
+            return Ok(());
+        }
     };
     let mut room = most.saturating_sub(size_of(files.as_slice()));
     for name in names.iter().take(PUBLIC_NAMES_MAX) {
-        add_file(files, alloc, rt, paths, name, &mut room)?;
+        add_file(files, ungiven, alloc, rt, paths, name, &mut room)?;
     }
     Ok(())
+}
+
+/// What the public folder is called in the names of jobs.
+fn public_folder() -> Name {
+    let Ok(name) = Name::new(b"~") else {
+        unreachable!();
+    };
+    name
 }
 
 /// Whether the file of this name in the public folder may be given. One with the name of a file of the spool is none: that is given
@@ -61,22 +75,59 @@ fn is_given(name: &Name) -> bool
 /// Adds the file of this name, if it may be given and there is room for it.
 fn add_file<A: Allocator + Copy, R: Files<File = File>>(
     files: &mut Vec<Stored<A>, A>,
+    ungiven: &mut Vec<Unread, A>,
     alloc: A,
     rt: &R,
     paths: &SpoolPaths<A>,
     name: &Name,
     room: &mut u64,
-) -> Result<(), AllocError>
+) -> Result<(), RunFault>
     ensures adds { OnOk result (AddsPublic files.old.items files.new.items) }
+    ensures no_other { IfErr result IsFolderFault }
 {
     if !is_given(name) {
         return Ok(());
     }
     let most = FILE_MAX.min(usize::try_from(*room).unwrap_or(FILE_MAX));
-    if let Some(bytes) = read_public(alloc, rt, paths, name, most)? {
-        *room = room.saturating_sub(bytes.len() as u64);
-        files.reserve(1)?;
-        files.push_reserved(stored(*name, GIVEN_MODE, bytes));
-    }
+    let Some(bytes) = read_given(ungiven, alloc, rt, paths, name, most)? else {
+        return Ok(());
+    };
+    *room = room.saturating_sub(bytes.len() as u64);
+    give(files, name, bytes)?;
     Ok(())
+}
+
+/// Adds a file of the public folder.
+fn give<A: Allocator>(
+    files: &mut Vec<Stored<A>, A>,
+    name: &Name,
+    bytes: Vec<u8, A>,
+) -> Result<(), AllocError>
+    requires { is_given name.now ≡ true }
+    ensures { OnOk result (AddsPublic files.old.items files.new.items) }
+{
+    files.reserve(1)?;
+    files.push_reserved(stored(*name, GIVEN_MODE, bytes));
+    Ok(())
+}
+
+/// The bytes of a file of the public folder, if it may be given. One that the system fails to read is noted.
+fn read_given<A: Allocator + Copy, R: Files<File = File>>(
+    ungiven: &mut Vec<Unread, A>,
+    alloc: A,
+    rt: &R,
+    paths: &SpoolPaths<A>,
+    name: &Name,
+    most: usize,
+) -> Result<Option<Vec<u8, A>>, RunFault>
+    requires { most < u64.MAX }
+    ensures { IfErr result IsFolderFault }
+{
+    match read_public(alloc, rt, paths, name, most) {
+        Ok(found) => Ok(found),
+        Err(fault) => {
+            note_unread(ungiven, name, fault)?;
+            Ok(None)
+        }
+    }
 }

@@ -101,7 +101,10 @@ where
     };
     let clock = LocalClock::read(rt);
     let begun = begin_call(alloc, rt, call, paths, &clock);
-    tell_unread(alloc, rt, call, paths, &clock, end.unread.as_slice());
+    let put_off = end.unread.as_slice();
+    tell_unread(alloc, rt, call, paths, &clock, put_off, "is put off");
+    let ungiven = end.ungiven.as_slice();
+    tell_unread(alloc, rt, call, paths, &clock, ungiven, "is not given");
     let session = run_end(alloc, &mut end, line, limits);
     let is_left = !end.unread.is_empty();
     let answer = answer_of(
@@ -175,7 +178,15 @@ fn begin<'a, 'p, A: Allocator + Copy, R: Files<File = File> + Alloc + Clone + Dr
             return Err(fault);
         }
     };
-    add_public(&mut work.files, alloc, rt, call.side, paths, most)?;
+    add_public(
+        &mut work.files,
+        &mut work.ungiven,
+        alloc,
+        rt,
+        call.side,
+        paths,
+        most,
+    )?;
     Ok(SpoolEnd::begin(alloc, rt, call, place, paths, came, work)?)
 }
 

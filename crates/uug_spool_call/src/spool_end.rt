@@ -37,6 +37,8 @@ pub(crate) struct SpoolEnd<'a, 'p, R: Files<File = File>, A: Allocator + Copy> {
     pub(crate) executions: Vec<Execution, A>,
     /// What is put off since it can't be read.
     pub(crate) unread: Vec<Unread, A>,
+    /// What is not given since it can't be read.
+    pub(crate) ungiven: Vec<Unread, A>,
 }
 
 impl<'a, 'p, R: Files<File = File>, A: Allocator + Copy> SpoolEnd<'a, 'p, R, A> {
@@ -55,6 +57,7 @@ impl<'a, 'p, R: Files<File = File>, A: Allocator + Copy> SpoolEnd<'a, 'p, R, A> 
         ensures names { IfOk result (λ end. end.names ≡ work.names) }
         ensures executions { IfOk result (λ end. end.executions ≡ work.executions) }
         ensures unread { IfOk result (λ end. end.unread ≡ work.unread) }
+        ensures ungiven { IfOk result (λ end. end.ungiven ≡ work.ungiven) }
         ensures begun { IfOk result (λ end. HasBegunAt call.now.side place
             (at_start (take JOBS_MAX (jobs_of work.lines.items)) [] []) (node_in end.buffered)) }
     {
@@ -72,6 +75,7 @@ impl<'a, 'p, R: Files<File = File>, A: Allocator + Copy> SpoolEnd<'a, 'p, R, A> 
             files,
             executions,
             unread,
+            ungiven,
         } = work;
         let spool = files_over(alloc, rt, call, paths, came, files);
         match at_line(alloc, call, place, queue, spool) {
@@ -81,12 +85,14 @@ impl<'a, 'p, R: Files<File = File>, A: Allocator + Copy> SpoolEnd<'a, 'p, R, A> 
                 names,
                 executions,
                 unread,
+                ungiven,
             }),
             Err(AllocError) => {
                 drop(lines);
                 drop(names);
                 drop(executions);
                 drop(unread);
+                drop(ungiven);
                 Err(AllocError)
             }
         }

@@ -103,7 +103,7 @@ pub fn tell_locked<A: Allocator + Copy, R: Files<File = File> + Clock + Env + Al
     }
 }
 
-/// Tells, in the log and to a person who listens, of each file that can't be read: what it is for is put off.
+/// Tells, in the log and to a person who listens, of each file that can't be read, what becomes of it.
 pub(crate) fn tell_unread<A: Allocator + Copy, R: Files<File = File> + Clock + Eprint>(
     alloc: A,
     rt: &R,
@@ -111,9 +111,10 @@ pub(crate) fn tell_unread<A: Allocator + Copy, R: Files<File = File> + Clock + E
     paths: &SpoolPaths<A>,
     clock: &LocalClock,
     unread: &[Unread],
+    becomes: &str,
 ) {
     for one in unread {
-        let Ok(line) = unread_line(alloc, one) else {
+        let Ok(line) = unread_line(alloc, one, becomes) else {
             continue;
         };
         let line = line.as_str();
@@ -125,10 +126,14 @@ pub(crate) fn tell_unread<A: Allocator + Copy, R: Files<File = File> + Clock + E
     }
 }
 
-/// The line that says which file can't be read, and why.
-fn unread_line<A: Allocator + Copy>(alloc: A, one: &Unread) -> Result<String<A>, AllocError> {
+/// The line that says what becomes of a file that can't be read, and why it can't.
+fn unread_line<A: Allocator + Copy>(
+    alloc: A,
+    one: &Unread,
+    becomes: &str,
+) -> Result<String<A>, AllocError> {
     let name = one.name.as_str();
-    let what = format!(in alloc; "{name} is put off")?;
+    let what = format!(in alloc; "{name} {becomes}")?;
     let failure = SystemFailure::on(Resource::Input, one.cause);
     reason_line(alloc, what.as_str(), "", "", "", failure)
 }

@@ -19,7 +19,7 @@ use uug_spool::{
     Command, Fields, Room, SentFile, Spot, data_spot, execution_temp, execution_text, grade_of,
     has_option, read_command, work_order,
 };
-use uug_spool_disk::{SpoolPaths, list_room, read_source, read_spot};
+use uug_spool_disk::{SpoolPaths, list_room, read_source, read_spot, read_whole};
 use uug_talk::{FILE_MAX, NAME_MAX, Name, split_line};
 
 /// The most bytes of a C. file.
@@ -28,7 +28,7 @@ const COMMANDS_MAX: usize = 1_048_576;
 /// Only this system may read the text of a command that is run with a file.
 const TEXT_MODE: u16 = 0o600;
 
-/// A C. file, or the data of a job, that can't be read now, and why.
+/// A file that can't be read now, and why: a C. file, the data of a job, or one of the public folder.
 #[derive(Clone, Copy)]
 pub(crate) struct Unread {
     pub(crate) name: Name,
@@ -46,6 +46,8 @@ pub(crate) struct Work<A: Allocator> {
     pub(crate) executions: Vec<Execution, A>,
     /// What is put off since it can't be read.
     pub(crate) unread: Vec<Unread, A>,
+    /// What is not given since it can't be read.
+    pub(crate) ungiven: Vec<Unread, A>,
 }
 
 impl<A: Allocator + Copy> Work<A> {
@@ -57,6 +59,7 @@ impl<A: Allocator + Copy> Work<A> {
             files: Vec::new(alloc),
             executions: Vec::new(alloc),
             unread: Vec::new(alloc),
+            ungiven: Vec::new(alloc),
         }
     }
 }
@@ -154,7 +157,7 @@ fn add_commands<A: Allocator + Copy, R: Files>(
         Ok(Some(more)) => more,
         Ok(None) => return Ok(true),
         Err(fault) => {
-            put_off(&mut work.unread, name, fault)?;
+            note_unread(&mut work.unread, name, fault)?;
             return Ok(true);
         }
     };
@@ -168,7 +171,7 @@ fn add_commands<A: Allocator + Copy, R: Files>(
     Ok(true)
 }
 
-/// What waits in a C. file, if it is there.
+/// What waits in a C. file, if it is there. One that is too long is a fault.
 fn read_commands<A: Allocator + Copy, R: Files>(
     alloc: A,
     rt: &R,
@@ -183,7 +186,7 @@ fn read_commands<A: Allocator + Copy, R: Files>(
         room: Room::Commands,
         name: *name,
     };
-    let Some(text) = read_spot(alloc, rt, paths, &spot, COMMANDS_MAX)? else {
+    let Some(text) = read_whole(alloc, rt, paths, &spot, COMMANDS_MAX)? else {
         return Ok(None);
     };
     let text = text.as_slice();
@@ -207,8 +210,8 @@ fn append<A: Allocator>(work: &mut Work<A>, more: &mut Work<A>) -> Result<(), Al
     Ok(())
 }
 
-/// Puts a file off that the system did not let be read. Where memory was refused nothing goes on.
-fn put_off<A: Allocator>(
+/// Notes a file that the system did not let be read. Where memory was refused nothing goes on.
+pub(crate) fn note_unread<A: Allocator>(
     unread: &mut Vec<Unread, A>,
     name: &Name,
     fault: RunFault,
@@ -443,7 +446,7 @@ fn add_sent<A: Allocator + Copy, R: Files>(
         }
         Ok(None) => Ok(false),
         Err(fault) => {
-            put_off(&mut work.unread, &name, fault)?;
+            note_unread(&mut work.unread, &name, fault)?;
             Ok(false)
         }
     }

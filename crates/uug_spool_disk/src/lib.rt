@@ -10,5 +10,7 @@ mod spool_paths;
 pub use call_files::{append_line, process_number, read_status_file, write_status_file};
 pub use moments::seconds_since_1970;
 pub use spool_disk::{Arrived, SpoolDisk};
-pub use spool_files::{is_known, is_there, list_room, read_public, read_source, read_spot};
+pub use spool_files::{
+    is_known, is_there, list_room, read_public, read_source, read_spot, read_whole,
+};
 pub use spool_paths::SpoolPaths;

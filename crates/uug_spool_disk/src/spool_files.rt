@@ -1,16 +1,17 @@
 //! What stands in the folders of a spool.
-ghost use Rattle.std.specs.Prelude.{◌<◌, ◌≡◌, ◌≢◌, ◌≤◌, IfErr, IfOk, IfSome, IsErr, length};
+ghost use Rattle.std.specs.Prelude.{◌<◌, ◌≡◌, ◌≢◌, ◌≤◌, false, true, Err, IfErr, IfOk, IfSome, IsErr, None, Ok, Some, length};
 ghost use Rattle.std.specs.IoError.{error_kind};
 ghost use Rattle.uug_failure.specs.Faults.{IsFolderFault};
+ghost use Rattle.uug_spool_disk.specs.Reach.{is_out_of_reach};
 
 use crate::spool_paths::SpoolPaths;
 use std::alloc::{AllocError, Allocator};
-use std::fs::{DirEntry, File, OpenFile, ReadDir};
+use std::fs::{DirEntry, File, Metadata, OpenFile, ReadDir};
 use std::io::{ErrorKind, Read};
 use std::os::unix::fs::MetadataExt;
 use std::rt::Files;
 use std::{fs, io};
-use uug_failure::{Resource, RunFault};
+use uug_failure::{Cause, Resource, RunFault};
 use uug_spool::{Room, Spot};
 use uug_talk::Name;
 
@@ -91,10 +92,22 @@ pub fn is_there<A: Allocator + Copy, R: Files>(
     ensures { IfErr result IsFolderFault }
 {
     let path = paths.file(alloc, spot)?;
-    match fs::symlink_metadata(rt, path.as_str()) {
+    match is_found(fs::symlink_metadata(rt, path.as_str())) {
+        Ok(is_there) => Ok(is_there),
+        Err(error) => Err(RunFault::of(&error, paths.end_dir(), Resource::Dir)),
+    }
+}
+
+/// Whether what was looked at is there. Only where the system says that nothing is, it is not.
+fn is_found(seen: io::Result<Metadata>) -> io::Result<bool>
+    ensures found { IfOk seen (λ _. result ≡ Ok true) }
+    ensures gone { IfErr seen (λ error. error_kind error ≡ ErrorKind.NotFound → result ≡ Ok false) }
+    ensures failed { IfErr seen (λ error. error_kind error ≢ ErrorKind.NotFound → IsErr result) }
+{
+    match seen {
         Ok(_) => Ok(true),
         Err(error) if error.kind() == ErrorKind::NotFound => Ok(false),
-        Err(error) => Err(RunFault::of(&error, paths.end_dir(), Resource::Dir)),
+        Err(error) => Err(error),
     }
 }
 
@@ -103,13 +116,15 @@ pub fn is_known<A: Allocator + Copy, R: Files>(
     alloc: A,
     rt: &R,
     paths: &SpoolPaths<A>,
-) -> Result<bool, AllocError> {
+) -> Result<bool, RunFault>
+    ensures { IfErr result IsFolderFault }
+{
     let spool = paths.spool();
     let system = paths.system().as_str();
     let path = format!(in alloc; "{spool}/{system}")?;
-    match fs::metadata(rt, path.as_str()) {
-        Ok(metadata) => Ok(metadata.is_dir()),
-        Err(_) => Ok(false),
+    match is_found(fs::metadata(rt, path.as_str())) {
+        Ok(is_there) => Ok(is_there),
+        Err(error) => Err(RunFault::of(&error, paths.end_dir(), Resource::Dir)),
     }
 }
 
@@ -132,6 +147,42 @@ pub fn read_spot<A: Allocator + Copy, R: Files>(
     }
 }
 
+/// The bytes of a file of the spool, unless there is none. One that has more than so many is a fault.
+pub fn read_whole<A: Allocator + Copy, R: Files>(
+    alloc: A,
+    rt: &R,
+    paths: &SpoolPaths<A>,
+    spot: &Spot,
+    most: usize,
+) -> Result<Option<Vec<u8, A>>, RunFault>
+    requires { most < u64.MAX }
+    ensures within { IfOk result (λ found. IfSome found (λ bytes. length bytes.items ≤ most)) }
+    ensures no_other { IfErr result IsFolderFault }
+{
+    let path = paths.file(alloc, spot)?;
+    let read = match read_regular(alloc, rt, path.as_str(), most) {
+        Ok(read) => read,
+        Err(error) => return Err(RunFault::of(&error, paths.end_dir(), Resource::Dir)),
+    };
+    match whole_of(read) {
+        Ok(found) => Ok(found),
+        Err(cause) => Err(RunFault::System(paths.end_dir().failure(Resource::Dir, cause))),
+    }
+}
+
+/// What was read, nothing where no file is there, or that it is too much.
+fn whole_of<T>(read: Result<T, Unfit>) -> Result<Option<T>, Cause>
+    ensures found { IfOk read (λ bytes. result ≡ Ok (Some bytes)) }
+    ensures no_file { read ≡ Err Unfit.NoFile → result ≡ Ok None }
+    ensures too_much { read ≡ Err Unfit.TooMuch → result ≡ Err Cause.TooMuch }
+{
+    match read {
+        Ok(bytes) => Ok(Some(bytes)),
+        Err(Unfit::NoFile) => Ok(None),
+        Err(Unfit::TooMuch) => Err(Cause::TooMuch),
+    }
+}
+
 /// The bytes of the file that a person named, unless there is none that may be read, or it has more than so many. What has a
 /// relative path is in no folder that is known.
 pub fn read_source<A: Allocator + Copy, R: Files>(
@@ -149,15 +200,29 @@ pub fn read_source<A: Allocator + Copy, R: Files>(
         Ok(path) if path.starts_with('/') => path,
         _ => return Ok(None),
     };
-    match read_file(alloc, rt, path, most) {
+    match within_reach(read_file(alloc, rt, path, most)) {
         Ok(found) => Ok(found),
-        Err(error) if is_out_of_reach(error.kind()) => Ok(None),
         Err(error) => Err(RunFault::of(&error, paths.end_dir(), Resource::Dir)),
     }
 }
 
+/// What was read, or nothing where no file that this program may read is there.
+fn within_reach<T>(read: io::Result<Option<T>>) -> io::Result<Option<T>>
+    ensures found { IfOk read (λ found. result ≡ Ok found) }
+    ensures gone { IfErr read (λ error. is_out_of_reach (error_kind error) ≡ true → result ≡ Ok None) }
+    ensures failed { IfErr read (λ error. is_out_of_reach (error_kind error) ≡ false → IsErr result) }
+{
+    match read {
+        Ok(found) => Ok(found),
+        Err(error) if is_out_of_reach(error.kind()) => Ok(None),
+        Err(error) => Err(error),
+    }
+}
+
 /// Whether an error of this kind says that no file which this program may read is at a path.
-fn is_out_of_reach(kind: ErrorKind) -> bool {
+fn is_out_of_reach(kind: ErrorKind) -> bool
+    ensures { result ≡ is_out_of_reach kind }
+{
     matches!(
         kind,
         ErrorKind::NotFound
@@ -176,51 +241,54 @@ pub fn read_public<A: Allocator + Copy, R: Files<File = File>>(
     paths: &SpoolPaths<A>,
     name: &Name,
     most: usize,
-) -> Result<Option<Vec<u8, A>>, AllocError>
+) -> Result<Option<Vec<u8, A>>, RunFault>
     requires { most < u64.MAX }
     ensures within { IfOk result (λ found. IfSome found (λ bytes. length bytes.items ≤ most)) }
+    ensures no_other { IfErr result IsFolderFault }
 {
     let spot = Spot {
         room: Room::Public,
         name: *name,
     };
     let path = paths.file(alloc, &spot)?;
-    let Some(file) = open_plain(rt, path.as_str()) else {
-        return Ok(None);
-    };
-    readable(read_within(alloc, file, most))
+    match within_reach(read_plain(alloc, rt, path.as_str(), most)) {
+        Ok(found) => Ok(found),
+        Err(error) => Err(RunFault::of(&error, paths.end_dir(), Resource::Dir)),
+    }
 }
 
-/// What was read, or nothing where the system did not let it be read. Where memory was refused, nothing is known of the file.
-fn readable<T>(read: io::Result<Option<T>>) -> Result<Option<T>, AllocError>
-    ensures found { IfOk read (λ found. result ≡ Ok found) }
-    ensures memory { IfErr read (λ error. error_kind error ≡ ErrorKind.OutOfMemory → IsErr result) }
-    ensures refused { IfErr read (λ error. error_kind error ≢ ErrorKind.OutOfMemory → result ≡ Ok None) }
+/// The bytes of a regular file that everybody may read, unless there is none, or it has more than so many.
+fn read_plain<A: Allocator, R: Files<File = File>>(
+    alloc: A,
+    rt: &R,
+    path: &str,
+    most: usize,
+) -> io::Result<Option<Vec<u8, A>>>
+    requires { most < u64.MAX }
+    ensures within { IfOk result (λ found. IfSome found (λ bytes. length bytes.items ≤ most)) }
 {
-    match read {
-        Ok(found) => Ok(found),
-        Err(error) if error.kind() == ErrorKind::OutOfMemory => Err(AllocError),
-        Err(_) => Ok(None),
+    match open_plain(rt, path)? {
+        Some(file) => read_within(alloc, file, most),
+        None => Ok(None),
     }
 }
 
 /// Opens a regular file that everybody may read. What another one has put in its place meanwhile, as a link, is none.
-fn open_plain<R: Files<File = File>>(rt: &R, path: &str) -> Option<File> {
-    let seen = fs::symlink_metadata(rt, path).ok()?;
+fn open_plain<R: Files<File = File>>(rt: &R, path: &str) -> io::Result<Option<File>> {
+    let seen = fs::symlink_metadata(rt, path)?;
     if !seen.is_file() || seen.mode() & ALL_MAY_READ == 0 {
-        return None;
+        return Ok(None);
     }
-    let file = File::open(rt, path).ok()?;
-    let opened = file.metadata().ok()?;
+    let file = File::open(rt, path)?;
+    let opened = file.metadata()?;
     if opened.dev() == seen.dev() && opened.ino() == seen.ino() {
-        Some(file)
+        Ok(Some(file))
     } else {
-        None
+        Ok(None)
     }
 }
 
-/// The bytes of the regular file at a path, unless there is none, or it has more than so many. No pipe is opened, which would
-/// wait for a writer.
+/// The bytes of the regular file at a path, unless there is none, or it has more than so many.
 pub(crate) fn read_file<A: Allocator, R: Files>(
     alloc: A,
     rt: &R,
@@ -230,13 +298,41 @@ pub(crate) fn read_file<A: Allocator, R: Files>(
     requires { most < u64.MAX }
     ensures within { IfOk result (λ found. IfSome found (λ bytes. length bytes.items ≤ most)) }
 {
+    match read_regular(alloc, rt, path, most)? {
+        Ok(bytes) => Ok(Some(bytes)),
+        Err(_) => Ok(None),
+    }
+}
+
+/// Why a path has no bytes.
+#[derive(Clone, Copy)]
+enum Unfit {
+    /// No regular file is there.
+    NoFile,
+    /// There are too many.
+    TooMuch,
+}
+
+/// The bytes of the regular file at a path, or why there are none. No pipe is opened, which would wait for a writer.
+fn read_regular<A: Allocator, R: Files>(
+    alloc: A,
+    rt: &R,
+    path: &str,
+    most: usize,
+) -> io::Result<Result<Vec<u8, A>, Unfit>>
+    requires { most < u64.MAX }
+    ensures within { IfOk result (λ read. IfOk read (λ bytes. length bytes.items ≤ most)) }
+{
     match fs::metadata(rt, path) {
         Ok(metadata) if metadata.is_file() => (),
-        Ok(_) => return Ok(None),
-        Err(error) if error.kind() == ErrorKind::NotFound => return Ok(None),
+        Ok(_) => return Ok(Err(Unfit::NoFile)),
+        Err(error) if error.kind() == ErrorKind::NotFound => return Ok(Err(Unfit::NoFile)),
         Err(error) => return Err(error),
     }
-    read_within(alloc, File::open(rt, path)?, most)
+    match read_within(alloc, File::open(rt, path)?, most)? {
+        Some(bytes) => Ok(Ok(bytes)),
+        None => Ok(Err(Unfit::TooMuch)),
+    }
 }
 
 /// All that comes from a reader, unless it is more than so many bytes.

@@ -42,7 +42,7 @@ abbrev pub put_off_lines : (digests : Bool) → List Job → List ℕ
 put_off_lines digests [] = []
 put_off_lines digests (job ∷ more) = job_line job (put_off_words digests job) ++ put_off_lines digests more
 
--- Where a session ended as done its pending jobs are told as put off, also those that it hung up before it had offered them.
+-- Where a session ended as done its pending jobs are told as put off, also those that were not offered because the other end hung up.
 abbrev pub put_off_remark : Phase → (digests : Bool) → (pending : List Job) → List ℕ
 put_off_remark (Ended Done) digests pending = put_off_lines digests pending
 put_off_remark _ digests pending = []

@@ -1,0 +1,12 @@
+-- Which of the system's errors say that no file which this program may read is at a path (this project's profile).
+use Rattle.std.specs.Prelude.{Bool, true, false}
+use Rattle.std.specs.declared.io.ErrorKind.{ErrorKind}
+use Rattle.std.specs.declared.io.ErrorKind.TheVariants as kinds
+
+abbrev pub is_out_of_reach : ErrorKind → Bool
+is_out_of_reach kinds.NotFound = true
+is_out_of_reach kinds.NotADirectory = true
+is_out_of_reach kinds.PermissionDenied = true
+is_out_of_reach kinds.FilesystemLoop = true
+is_out_of_reach kinds.InvalidFilename = true
+is_out_of_reach _ = false
